@@ -1,0 +1,96 @@
+//! A list that contracts see as the list of its items, and the two answers for want of memory.
+ghost use Rattle.std.specs.Prelude.{◌≡◌, [], ◌∷◌, ◌++◌, ◌<◌, ◌≤◌, ◌↔◌, length, slice_get, OnOk, IfErr, OnErr, IsNone, IsTrue};
+ghost use Rattle.std.specs.Option.{option_copied};
+
+use std::alloc::Global;
+use std::marker::Model;
+
+/// No memory was left. What was asked for did not happen.
+#[derive(Drop)]
+pub struct OutOfMemory;
+
+/// The item that found no room, handed back.
+#[derive(Drop)]
+pub struct NotPushed<T>(pub T);
+
+/// A growing list, as `Vec`, seen by contracts as the list of its items alone.
+#[derive(Drop)]
+pub struct Items<T> {
+    items: Vec<T>,
+}
+
+impl<T> Model for Items<T> {
+    ghost use Rattle.std.specs.Prelude.{List};
+    ghost use Rattle.std.specs.Coded.{coded_list};
+
+    ghost Value = { List T };
+
+    ghost coded = { coded_list T.code };
+
+    ghost view = { λ it. it.items.items };
+}
+
+impl<T> Items<T> {
+    /// The empty list. Takes no memory.
+    pub fn new(alloc: Global) -> Items<T>
+        ensures { result ≡ [] }
+    {
+        Items {
+            items: Vec::new(alloc),
+        }
+    }
+
+    /// Appends an item, or hands it back where there is no memory.
+    pub fn push(&mut self, item: T) -> Result<(), NotPushed<T>>
+        ensures ok { OnOk result (self.new ≡ self.old ++ item ∷ []) }
+        ensures unchanged { OnErr result (self.new ≡ self.old) }
+        ensures handed_back { IfErr result (λ e. e.0 ≡ item) }
+    {
+        match self.items.push(item) {
+            Ok(()) => Ok(()),
+            Err(refused) => Err(NotPushed(refused.value)),
+        }
+    }
+
+    pub fn len(&self) -> usize
+        ensures { result ≡ length self.now }
+    {
+        self.items.len()
+    }
+
+    pub fn is_empty(&self) -> bool
+        ensures { IsTrue result ↔ (self.now ≡ []) }
+    {
+        self.items.is_empty()
+    }
+
+    /// The item at an index, counted from 0.
+    pub fn get(&self, i: usize) -> Option<&T>
+        ensures value { option_copied result ≡ slice_get self.now i }
+        ensures none { IsNone result ↔ (length self.now ≤ i) }
+    {
+        self.items.get(i)
+    }
+
+    /// The same list; takes no memory.
+    pub fn from_vec(v: Vec<T>) -> Items<T>
+        ensures { result ≡ v.items }
+    {
+        Items { items: v }
+    }
+
+    /// The same list; takes no memory.
+    pub fn into_vec(self) -> Vec<T>
+        ensures { result.items ≡ self }
+    {
+        let Items { items } = self;
+        items
+    }
+
+    /// The same list; takes no memory.
+    pub fn as_slice(&self) -> &[T]
+        ensures { result.now ≡ self.now }
+    {
+        self.items.as_slice()
+    }
+}
