@@ -2,7 +2,19 @@
 #![tactic(auto)]
 
 mod items;
+mod ledger;
+mod shape;
+mod table;
 mod text;
+mod value;
 
 pub use items::{Items, NotPushed, OutOfMemory};
+pub use ledger::Ledger;
+pub use shape::{
+    Def, DefaultSource, EnumDef, EnumRepr, Field, FieldRef, FormatProxy, HookId, KnownPointer,
+    PointerDef, ProxyDef, ScalarKind, Shape, ShapeId, StructDef, StructKind, ValidatorDef,
+    VariantDef,
+};
+pub use table::ShapeTable;
 pub use text::Text;
+pub use value::{Dyn, Value};

@@ -41,7 +41,7 @@ the_items_listed X xs = list-listed X xs
 abbrev in_memory : Former {0}
 in_memory =
     via (vec.the_former this Global) Inside
-        (λ X fields. fields.items) (λ X v. record { items = v }) (λ X fields. refl) (λ X v. refl)
+    (λ X fields. fields.items) (λ X v. record { items = v }) (λ X fields. refl) (λ X v. refl)
 
 module _ (From To : RattleType) (along : From.Denot → To.Denot) where
   -- over either element type it lies and owns alike, the elements one by one
@@ -49,11 +49,11 @@ module _ (From To : RattleType) (along : From.Denot → To.Denot) where
       → Alike (contract.the_row From) (contract.the_row To) ((the_former this).map From.Denot To.Denot along)
   the_places elements =
       view_places in_memory (list this) view (λ X Y f u. refl) (λ X u. refl)
-          From.Denot To.Denot along (contract.the_row From).coded (contract.the_row To).coded
-          (invariant From.Denot) (invariant To.Denot) (λ u p q. refl) (λ u p q. refl) (λ u e. tt) (λ u e. tt)
-          (over (inside.the_row From)) (over (inside.the_row To))
-          (struct_places (inside.the_type From) (inside.the_type To) (vec.mapped along, tt) _ (λ d. refl) refl
-              (laid _ _ _ (vec.the_places global.the_row ghosts From To along elements), tt))
+      From.Denot To.Denot along (contract.the_row From).coded (contract.the_row To).coded
+      (invariant From.Denot) (invariant To.Denot) (λ u p q. refl) (λ u p q. refl) (λ u e. tt) (λ u e. tt)
+      (over (inside.the_row From)) (over (inside.the_row To))
+      (struct_places (inside.the_type From) (inside.the_type To) (vec.mapped along, tt) _ (λ d. refl) refl
+      (laid _ _ _ (vec.the_places global.the_row ghosts From To along elements), tt))
 
   -- and it has the same code
   pub the_codes_placed : Recodes From To along

@@ -1,0 +1,191 @@
+//! The description of one type: its definition and what its author said of it.
+use crate::{Items, Text, Value};
+
+/// The number of a shape in its table.
+#[derive(Clone, Copy, PartialEq, Eq)]
+pub struct ShapeId(pub u32);
+
+/// The number of a hook, which a `Hooks` gives its meaning.
+#[derive(Clone, Copy, PartialEq, Eq)]
+pub struct HookId(pub u32);
+
+/// A field of a struct (`variant` is None) or of an enum's variant.
+#[derive(Clone, Copy, PartialEq, Eq)]
+pub struct FieldRef {
+    pub shape: ShapeId,
+    pub variant: Option<u32>,
+    pub index: u32,
+}
+
+/// One type. A shape with a `preset` has a default, whose template the preset is.
+#[derive(Drop)]
+pub struct Shape {
+    pub name: Text,
+    pub def: Def,
+    pub preset: Option<Value>,
+    pub default_attr: bool,
+    pub inner: Option<ShapeId>,
+    pub builder: Option<ShapeId>,
+    pub convert: Option<HookId>,
+    pub parse: Option<HookId>,
+    pub parse_bytes: Option<HookId>,
+    pub proxy: Option<ProxyDef>,
+    pub format_proxies: Items<FormatProxy>,
+    pub invariant: Option<HookId>,
+    pub metadata: bool,
+    pub deny_unknown: bool,
+    pub transparent: bool,
+    pub bytes_ok: bool,
+}
+
+/// What values of a shape are made of.
+#[derive(Drop)]
+pub enum Def {
+    Scalar(ScalarKind),
+    Str,
+    Opaque,
+    Struct(StructDef),
+    Enum(EnumDef),
+    Option(ShapeId),
+    Result(ShapeId, ShapeId),
+    List(ShapeId),
+    Map(ShapeId, ShapeId),
+    Set(ShapeId),
+    Array(ShapeId, u32),
+    Pointer(PointerDef),
+    Slice(ShapeId),
+    Dynamic,
+    Undefined,
+    Other,
+}
+
+/// The scalars. `ISize` and `USize` have 64 bits.
+#[derive(Clone, Copy, PartialEq, Eq)]
+pub enum ScalarKind {
+    Bool,
+    Char,
+    I8,
+    I16,
+    I32,
+    I64,
+    I128,
+    ISize,
+    U8,
+    U16,
+    U32,
+    U64,
+    U128,
+    USize,
+    String,
+    CowStr,
+}
+
+#[derive(Drop)]
+pub struct StructDef {
+    pub kind: StructKind,
+    pub fields: Items<Field>,
+}
+
+#[derive(Clone, Copy, PartialEq, Eq)]
+pub enum StructKind {
+    Struct,
+    Tuple,
+    TupleStruct,
+    Unit,
+}
+
+#[derive(Drop)]
+pub struct EnumDef {
+    pub repr: EnumRepr,
+    pub variants: Items<VariantDef>,
+}
+
+#[derive(Clone, Copy, PartialEq, Eq)]
+pub enum EnumRepr {
+    Rust,
+    RustNPO,
+    U8,
+    U16,
+    U32,
+    U64,
+    USize,
+    I8,
+    I16,
+    I32,
+    I64,
+    ISize,
+}
+
+/// A variant. One marked `other` is never found by its name.
+#[derive(Drop)]
+pub struct VariantDef {
+    pub name: Text,
+    pub rename: Option<Text>,
+    pub kind: StructKind,
+    pub fields: Items<Field>,
+    pub discriminant: Option<i64>,
+    pub other: bool,
+}
+
+/// A field. Its effective name is `rename` where given, else `name`; it is marked where `default` is given.
+#[derive(Drop)]
+pub struct Field {
+    pub name: Text,
+    pub rename: Option<Text>,
+    pub alias: Option<Text>,
+    pub shape: ShapeId,
+    pub default: Option<DefaultSource>,
+    pub skip: bool,
+    pub flatten: bool,
+    pub proxy: Option<ProxyDef>,
+    pub format_proxies: Items<FormatProxy>,
+    pub validators: Items<ValidatorDef>,
+}
+
+/// Where a marked field's default comes from: a template of its own, or its shape's preset.
+#[derive(Drop)]
+pub enum DefaultSource {
+    Custom(Value),
+    FromTrait,
+}
+
+/// A stand-in shape whose values a hook converts.
+#[derive(Drop)]
+pub struct ProxyDef {
+    pub source: ShapeId,
+    pub convert: HookId,
+}
+
+#[derive(Drop)]
+pub struct FormatProxy {
+    pub format: Text,
+    pub proxy: ProxyDef,
+}
+
+/// A test of a field's value. Lengths count bytes.
+#[derive(Drop)]
+pub enum ValidatorDef {
+    Custom(HookId),
+    Min(i64),
+    Max(i64),
+    MinLength(u64),
+    MaxLength(u64),
+    Url,
+    Regex(Text),
+    Contains(Text),
+}
+
+#[derive(Drop)]
+pub struct PointerDef {
+    pub known: Option<KnownPointer>,
+    pub pointee: Option<ShapeId>,
+    pub constructible: bool,
+}
+
+#[derive(Clone, Copy, PartialEq, Eq)]
+pub enum KnownPointer {
+    Box,
+    Arc,
+    Rc,
+    SharedReference,
+}

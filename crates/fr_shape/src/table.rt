@@ -1,0 +1,50 @@
+//! The table of all shapes, which ids are numbers in.
+ghost use Rattle.std.specs.Prelude.{◌≡◌, ◌↔◌, ◌≤◌, length, slice_get, IsNone, OnSome};
+ghost use Rattle.std.specs.Option.{option_copied};
+
+use crate::{Items, Shape, ShapeId};
+use std::alloc::Global;
+use std::marker::Model;
+
+/// A table of shapes. Contracts see the list of them.
+#[derive(Drop)]
+pub struct ShapeTable {
+    shapes: Items<Shape>,
+}
+
+impl Model for ShapeTable {
+    ghost use Rattle.std.specs.Prelude.{List};
+    ghost use Rattle.std.specs.Coded.{coded_list};
+    ghost use Rattle.fr_shape.specs.declared.shape.Shape.{Shape};
+    ghost use Rattle.fr_shape.specs.contracts.shape.Shape as shape;
+
+    ghost Value = { List Shape };
+
+    ghost coded = { coded_list shape.the_row.coded };
+
+    ghost view = { λ t. t.shapes };
+}
+
+impl ShapeTable {
+    /// The table of these shapes. Takes no memory; `alloc` is what later calls would allocate from.
+    pub fn new(_alloc: Global, shapes: Items<Shape>) -> ShapeTable
+        ensures { result ≡ shapes }
+    {
+        ShapeTable { shapes }
+    }
+
+    /// How many shapes there are.
+    pub fn len(&self) -> usize
+        ensures { result ≡ length self.now }
+    {
+        self.shapes.len()
+    }
+
+    /// The shape of this number.
+    pub fn get(&self, id: ShapeId) -> Option<&Shape>
+        ensures value { option_copied result ≡ slice_get self.now id.0 }
+        ensures none { IsNone result ↔ (length self.now ≤ id.0) }
+    {
+        self.shapes.get(id.0 as usize)
+    }
+}
