@@ -1,6 +1,7 @@
 //! Types known at run time, the values that fit them, and the ledger of released tokens.
 #![tactic(auto)]
 
+mod error;
 mod items;
 mod ledger;
 mod shape;
@@ -8,6 +9,10 @@ mod table;
 mod text;
 mod value;
 
+pub use error::{
+    AllocError, Expected, InitCall, Invariant, Operation, PlanFault, Reason, ReflectErrorKind,
+    TrackerKind, TryFromFault,
+};
 pub use items::{Items, NotPushed, OutOfMemory};
 pub use ledger::Ledger;
 pub use shape::{

@@ -1,0 +1,13 @@
+//! The commands of a script: one variant for each consuming call of the builder.
+use fr_shape::{Items, ShapeId, Value};
+
+/// A call of the builder with its arguments.
+#[derive(Drop)]
+pub enum Command {
+    BeginNthField(u32),
+    Set(ShapeId, Value),
+    End,
+}
+
+/// Calls in the order in which they are made.
+pub type Script = Items<Command>;
