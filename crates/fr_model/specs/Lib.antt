@@ -1,0 +1,10 @@
+pub mod Complete
+pub mod Journal
+pub mod Places
+pub mod Removed
+pub mod Run
+pub mod Scripts
+pub mod Settled
+pub mod Step
+pub mod Tree
+pub mod Well

@@ -1,0 +1,50 @@
+-- Places: lists of child numbers from the root, and what a table says of the shapes along them.
+use Rattle.std.specs.Prelude.{ℕ, zero, suc, List, [], ◌∷◌, length, slice_get, Option, Some, None}
+use Rattle.fr_shape.specs.declared.shape.Def.{Def}
+use Rattle.fr_shape.specs.declared.shape.Field.{Field}
+use Rattle.fr_shape.specs.Look.{Table, def_of}
+use Rattle.fr_shape.specs.Val.{Val, Vals, product, no_vals, first}
+
+abbrev pub Place : Type 0
+Place = List ℕ
+
+-- how many children a place of a definition has: one a field of a struct
+abbrev pub count_children : Def → ℕ
+count_children (Def.Struct struct) = length struct.fields
+count_children _ = 0
+
+abbrev pub child_count : Table → ℕ → ℕ
+child_count table s = count_children (def_of table s)
+
+abbrev pub shape_of_field : Option Field → ℕ
+shape_of_field (Some field) = field.shape.0
+shape_of_field None = 0
+
+abbrev pub shape_of_child : Def → ℕ → ℕ
+shape_of_child (Def.Struct struct) i = shape_of_field (slice_get struct.fields i)
+shape_of_child _ i = 0
+
+-- the shape of child i of a place: that of the field of this number (0 where there is no such child)
+abbrev pub child_shape : Table → ℕ → ℕ → ℕ
+child_shape table s i = shape_of_child (def_of table s) i
+
+-- the shape of the place that lies so below a place of shape s
+abbrev pub shape_at : Table → ℕ → Place → ℕ
+shape_at table s [] = s
+shape_at table s (i ∷ place) = shape_at table (child_shape table s i) place
+
+-- the value of this number among some (a placeholder past their end)
+abbrev pub vals_nth : Vals → ℕ → Val
+vals_nth no_vals i = Val.unit
+vals_nth (first v vs) zero = v
+vals_nth (first v vs) (suc i) = vals_nth vs i
+
+-- the part that a value gives to its child i
+abbrev pub part : Val → ℕ → Val
+part (product vs) i = vals_nth vs i
+part v i = v
+
+-- the part that a value gives to the place that lies so below it
+abbrev pub part_at : Val → Place → Val
+part_at v [] = v
+part_at v (i ∷ place) = part_at (part v i) place

@@ -1,0 +1,9 @@
+-- What an exit owes to the tokens of a script.
+use Rattle.std.specs.Prelude.{◌≡◌, ℕ, ◌+◌, ◌<◌, List, slice_index}
+
+-- Each token of the script stands once in the answered value or was released once, never both; every other count is
+-- unchanged; and the answered value holds no token from elsewhere.
+pub record IsSettled (brought : ℕ → ℕ) (before : List ℕ) (answered : ℕ → ℕ) (after : List ℕ) : Type 0 where
+  pub each : (t : ℕ) → 0 < brought t → answered t + slice_index after t ≡ slice_index before t + 1
+  pub others : (t : ℕ) → brought t ≡ 0 → slice_index after t ≡ slice_index before t
+  pub none_from_elsewhere : (t : ℕ) → brought t ≡ 0 → answered t ≡ 0

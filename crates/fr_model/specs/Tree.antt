@@ -1,0 +1,105 @@
+-- What is being built, as one tree, and the state of a builder.
+use Rattle.std.specs.Prelude.{ℕ, zero, suc, ◌+◌, min, [], ◌∷◌}
+use Rattle.fr_shape.specs.Val.{Val, Vals, no_vals, first}
+use Rattle.fr_shape.specs.Tokens.{occurs}
+use Rattle.fr_shape.specs.Look.{Table}
+use Rattle.fr_model.specs.Places.{Place, child_shape}
+
+-- as what a place is begun
+pub data Form : Type 0 where
+  as_struct : Form
+
+-- A place: never entered; entered, with nothing put in; holding a value; or begun, with a tree for each child.
+mutual
+  pub data Tree : Type 0 where
+    hole : Tree
+    entered : Tree
+    whole : Val → Tree
+    begun : Form → Trees → Tree
+
+  pub data Trees : Type 0 where
+    no_trees : Trees
+    branch : Tree → Trees → Trees
+
+-- the tree of this number (a hole past the end)
+abbrev pub tree_nth : ℕ → Trees → Tree
+tree_nth i no_trees = hole
+tree_nth zero (branch t ts) = t
+tree_nth (suc i) (branch t ts) = tree_nth i ts
+
+-- the trees with the one of this number changed
+abbrev pub change_nth : ℕ → (Tree → Tree) → Trees → Trees
+change_nth i change no_trees = no_trees
+change_nth zero change (branch t ts) = branch (change t) ts
+change_nth (suc i) change (branch t ts) = branch t (change_nth i change ts)
+
+abbrev pub child_tree : ℕ → Tree → Tree
+child_tree i (begun form ts) = tree_nth i ts
+child_tree i _ = hole
+
+-- the tree that stands at a place
+abbrev pub tree_at : Place → Tree → Tree
+tree_at [] t = t
+tree_at (i ∷ place) t = tree_at place (child_tree i t)
+
+abbrev pub change_child : ℕ → (Tree → Tree) → Tree → Tree
+change_child i change (begun form ts) = begun form (change_nth i change ts)
+change_child i change t = t
+
+-- the tree with what stands at a place changed
+abbrev pub change_at : Place → (Tree → Tree) → Tree → Tree
+change_at [] change t = change t
+change_at (i ∷ place) change t = change_child i (λ child. change_at place change child) t
+
+-- the shape of child i of a place of shape s that is begun so
+abbrev pub child_as : Table → ℕ → Form → ℕ → ℕ
+child_as table s as_struct i = child_shape table s i
+
+abbrev pub shape_below : Table → ℕ → ℕ → Tree → ℕ
+shape_below table s i (begun form ts) = child_as table s form i
+shape_below table s i _ = s
+
+-- the shape of the place that lies so in a tree whose top has shape s
+abbrev pub shape_in : Table → ℕ → Place → Tree → ℕ
+shape_in table s [] t = s
+shape_in table s (i ∷ place) t = shape_in table (shape_below table s i t) place (child_tree i t)
+
+-- as many trees as values, each holding its value
+abbrev pub wholes : Vals → Trees
+wholes no_vals = no_trees
+wholes (first v vs) = branch (whole v) (wholes vs)
+
+-- so many holes
+abbrev pub holes : ℕ → Trees
+holes zero = no_trees
+holes (suc n) = branch hole (holes n)
+
+abbrev pub count_trees : Trees → ℕ
+count_trees no_trees = zero
+count_trees (branch t ts) = suc (count_trees ts)
+
+-- how often a token stands in a tree: in all its values together
+abbrev mutual
+  pub tree_occurs : Tree → ℕ → ℕ
+  tree_occurs hole t = 0
+  tree_occurs entered t = 0
+  tree_occurs (whole v) t = occurs v t
+  tree_occurs (begun form ts) t = trees_occur ts t
+
+  pub trees_occur : Trees → ℕ → ℕ
+  trees_occur no_trees t = 0
+  trees_occur (branch tree ts) t = tree_occurs tree t + trees_occur ts t
+
+-- A builder's state: the tree, the place at which it works, and how many of its calls have succeeded (a count that
+-- stands still at 4294967295).
+pub record State : Type 0 where
+  pub tree : Tree
+  pub cursor : Place
+  pub calls : ℕ
+
+abbrev pub one_more_call : ℕ → ℕ
+one_more_call calls = min (calls + 1) 4294967295
+
+-- a builder of which nothing was asked yet
+abbrev pub initial : State
+initial = record { tree = entered; cursor = []; calls = 0 }
