@@ -4,6 +4,7 @@
 mod items;
 mod ledger;
 mod shape;
+mod shaped;
 mod table;
 mod text;
 mod value;
@@ -15,6 +16,7 @@ pub use shape::{
     PointerDef, ProxyDef, ScalarKind, Shape, ShapeId, StructDef, StructKind, ValidatorDef,
     VariantDef,
 };
+pub use shaped::Shaped;
 pub use table::ShapeTable;
 pub use text::Text;
 pub use value::{Dyn, Value};
