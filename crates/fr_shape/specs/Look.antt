@@ -4,6 +4,9 @@ use Rattle.std.specs.Prelude.{ℕ, zero, suc, ◌<◌, List, length, slice_get, 
 use Rattle.fr_shape.specs.declared.shape.Shape.{Shape}
 use Rattle.fr_shape.specs.declared.shape.ShapeId.{ShapeId}
 use Rattle.fr_shape.specs.declared.shape.Def.{Def}
+use Rattle.fr_shape.specs.declared.shape.VariantDef.{VariantDef}
+use Rattle.fr_shape.specs.declared.shape.Field.{Field}
+use Rattle.fr_shape.specs.declared.shape.FieldRef.{FieldRef}
 
 -- a table as contracts see it
 abbrev pub Table : Type 0
@@ -42,3 +45,17 @@ settled_in table (suc n) id = behind (def_of table id) (inner_of table id) (λ w
 -- the same, however long the chain is; Other where the chain ends or comes round without one
 abbrev pub settled : Table → ℕ → Def
 settled table id = settled_in table (length table) id
+
+abbrev pub field_of_variant : Option VariantDef → ℕ → Option Field
+field_of_variant (Some variant) index = slice_get variant.fields index
+field_of_variant None index = None
+
+-- the field of this number of a struct, or of an enum's variant
+abbrev pub field_in : Def → (variant : Option ℕ) → (index : ℕ) → Option Field
+field_in (Def.Struct struct) None index = slice_get struct.fields index
+field_in (Def.Enum enumeration) (Some i) index = field_of_variant (slice_get enumeration.variants i) index
+field_in _ _ index = None
+
+-- the field that is meant
+abbrev pub field_at : Table → FieldRef → Option Field
+field_at table meant = field_in (def_of table meant.shape.0) meant.variant meant.index

@@ -5,6 +5,7 @@ mod error;
 mod items;
 mod ledger;
 mod shape;
+mod shaped;
 mod table;
 mod text;
 mod value;
@@ -20,6 +21,7 @@ pub use shape::{
     PointerDef, ProxyDef, ScalarKind, Shape, ShapeId, StructDef, StructKind, ValidatorDef,
     VariantDef,
 };
+pub use shaped::Shaped;
 pub use table::ShapeTable;
 pub use text::Text;
 pub use value::{Dyn, Value};

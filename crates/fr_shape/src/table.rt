@@ -1,8 +1,9 @@
 //! The table of all shapes, which ids are numbers in.
 ghost use Rattle.std.specs.Prelude.{◌≡◌, ◌↔◌, ◌≤◌, length, slice_get, IsNone, OnSome};
 ghost use Rattle.std.specs.Option.{option_copied};
+ghost use Rattle.fr_shape.specs.Look.{field_at};
 
-use crate::{Items, Shape, ShapeId};
+use crate::{Def, Field, FieldRef, Items, Shape, ShapeId};
 use std::alloc::Global;
 use std::marker::Model;
 
@@ -46,5 +47,28 @@ impl ShapeTable {
         ensures none { IsNone result ↔ (length self.now ≤ id.0) }
     {
         self.shapes.get(id.0 as usize)
+    }
+
+    /// The field meant, of a struct or of a variant.
+    pub fn field(&self, f: FieldRef) -> Option<&Field>
+        ensures { option_copied result ≡ field_at self.now f }
+    {
+        match self.get(f.shape) {
+            None => None,
+            Some(shape) => match &shape.def {
+                Def::Struct(struct_def) => match f.variant {
+                    None => struct_def.fields.get(f.index as usize),
+                    Some(_) => None,
+                },
+                Def::Enum(enum_def) => match f.variant {
+                    None => None,
+                    Some(variant) => match enum_def.variants.get(variant as usize) {
+                        None => None,
+                        Some(variant) => variant.fields.get(f.index as usize),
+                    },
+                },
+                _ => None,
+            },
+        }
     }
 }
