@@ -53,22 +53,13 @@ impl ShapeTable {
     pub fn field(&self, f: FieldRef) -> Option<&Field>
         ensures { option_copied result ≡ field_at self.now f }
     {
-        match self.get(f.shape) {
-            None => None,
-            Some(shape) => match &shape.def {
-                Def::Struct(struct_def) => match f.variant {
-                    None => struct_def.fields.get(f.index as usize),
-                    Some(_) => None,
-                },
-                Def::Enum(enum_def) => match f.variant {
-                    None => None,
-                    Some(variant) => match enum_def.variants.get(variant as usize) {
-                        None => None,
-                        Some(variant) => variant.fields.get(f.index as usize),
-                    },
-                },
-                _ => None,
-            },
+        let shape = self.get(f.shape)?;
+        match (&shape.def, f.variant) {
+            (Def::Struct(described), None) => described.fields.get(f.index as usize),
+            (Def::Enum(described), Some(variant)) => {
+                described.variants.get(variant as usize)?.fields.get(f.index as usize)
+            }
+            _ => None,
         }
     }
 }
