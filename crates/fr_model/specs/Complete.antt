@@ -3,18 +3,13 @@ use Rattle.std.specs.Prelude.{ℕ, suc, Option, Some, None}
 use Rattle.fr_shape.specs.declared.shape.Def.{Def}
 use Rattle.fr_shape.specs.declared.error.ReflectErrorKind.{ReflectErrorKind}
 use Rattle.fr_shape.specs.Look.{Table, def_of}
-use Rattle.fr_shape.specs.Val.{Val, Vals, product, no_vals, first}
+use Rattle.fr_shape.specs.Val.{Val, Vals, no_vals}
+use Rattle.fr_model.specs.Places.{one_more, product_of}
 use Rattle.fr_model.specs.Tree.{Form, as_struct, Tree, hole, entered, whole, begun, Trees, no_trees, branch, child_as}
-
--- a value and the ones after it, where all are there
-abbrev pub one_more : Option Val → Option Vals → Option Vals
-one_more (Some v) (Some vs) = Some (first v vs)
-one_more _ _ = None
 
 -- the value that a begun place makes of its children's, where all are there
 abbrev pub made : Form → Option Vals → Option Val
-made as_struct (Some vs) = Some (product vs)
-made as_struct None = None
+made as_struct children = product_of children
 
 -- The value that a place makes: a whole place its own; a begun struct the product of its children's, where each
 -- makes one. A hole makes none, and neither does a place that was only entered.

@@ -5,6 +5,7 @@ pub mod Removed
 pub mod Run
 pub mod Scripts
 pub mod Settled
+pub mod StateCode
 pub mod Step
 pub mod Tree
 pub mod Well

@@ -1,5 +1,5 @@
 -- Places: lists of child numbers from the root, and what a table says of the shapes along them.
-use Rattle.std.specs.Prelude.{ℕ, zero, suc, List, [], ◌∷◌, length, slice_get, Option, Some, None}
+use Rattle.std.specs.Prelude.{ℕ, zero, suc, Bool, true, false, List, [], ◌∷◌, length, slice_get, Option, Some, None}
 use Rattle.fr_shape.specs.declared.shape.Def.{Def}
 use Rattle.fr_shape.specs.declared.shape.Field.{Field}
 use Rattle.fr_shape.specs.Look.{Table, def_of}
@@ -8,7 +8,17 @@ use Rattle.fr_shape.specs.Val.{Val, Vals, product, no_vals, first}
 abbrev pub Place : Type 0
 Place = List ℕ
 
--- how many children a place of a definition has: one a field of a struct
+abbrev pub is_root : Place → Bool
+is_root [] = true
+is_root (i ∷ place) = false
+
+-- the place above (the root's is itself)
+abbrev pub up : Place → Place
+up [] = []
+up (i ∷ []) = []
+up (i ∷ j ∷ place) = i ∷ up (j ∷ place)
+
+-- how many children a place of a definition has: one for each field of a struct
 abbrev pub count_children : Def → ℕ
 count_children (Def.Struct struct) = length struct.fields
 count_children _ = 0
@@ -24,11 +34,12 @@ abbrev pub shape_of_child : Def → ℕ → ℕ
 shape_of_child (Def.Struct struct) i = shape_of_field (slice_get struct.fields i)
 shape_of_child _ i = 0
 
--- the shape of child i of a place: that of the field of this number (0 where there is no such child)
+-- the shape of child i of a place: that of the field of this number. Where there is no such child it is 0, which no
+-- definition asks for.
 abbrev pub child_shape : Table → ℕ → ℕ → ℕ
 child_shape table s i = shape_of_child (def_of table s) i
 
--- the shape of the place that lies so below a place of shape s
+-- the shape of the place that this way leads to, from a place of shape s
 abbrev pub shape_at : Table → ℕ → Place → ℕ
 shape_at table s [] = s
 shape_at table s (i ∷ place) = shape_at table (child_shape table s i) place
@@ -39,12 +50,22 @@ vals_nth no_vals i = Val.unit
 vals_nth (first v vs) zero = v
 vals_nth (first v vs) (suc i) = vals_nth vs i
 
--- the part that a value gives to its child i
+-- the part that a value gives to its child i (a value without children gives itself)
 abbrev pub part : Val → ℕ → Val
 part (product vs) i = vals_nth vs i
 part v i = v
 
--- the part that a value gives to the place that lies so below it
+-- the part that a value gives to the place that this way leads to
 abbrev pub part_at : Val → Place → Val
 part_at v [] = v
 part_at v (i ∷ place) = part_at (part v i) place
+
+-- a value and the ones after it, where all are there
+abbrev pub one_more : Option Val → Option Vals → Option Vals
+one_more (Some v) (Some vs) = Some (first v vs)
+one_more _ _ = None
+
+-- the product of some values, where all are there
+abbrev pub product_of : Option Vals → Option Val
+product_of (Some vs) = Some (product vs)
+product_of None = None

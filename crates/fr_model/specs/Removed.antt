@@ -1,4 +1,4 @@
--- The tokens that a command drops: the ledger rises by exactly these.
+-- The tokens that a command drops: the ledger rises by exactly these, want of memory aside.
 use Rattle.std.specs.Prelude.{ℕ, ◌+◌, Result, Ok, Err}
 use Rattle.fr_shape.specs.declared.error.ReflectErrorKind.{ReflectErrorKind}
 use Rattle.fr_shape.specs.Look.{Table}

@@ -1,4 +1,4 @@
--- The run of a whole script: its steps in order, and then `build`.
+-- The run of a whole script over a served table: its steps in order, and then `build`.
 use Rattle.std.specs.Prelude.{ℕ, ◌+◌, List, [], ◌∷◌, Result, Ok, Err}
 use Rattle.fr_shape.specs.declared.error.ReflectErrorKind.{ReflectErrorKind}
 use Rattle.fr_shape.specs.Look.{Table}

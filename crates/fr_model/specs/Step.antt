@@ -1,5 +1,6 @@
--- What each command does to a builder's state, or which refusal it meets: one function a command.
-use Rattle.std.specs.Prelude.{ℕ, ◌==◌, Bool, true, false, [], ◌∷◌, ◌++◌, length, nat_lt, Option, Some, None, Result, Ok, Err, if◌then◌else◌}
+-- What each command does to a builder's state, or which refusal it meets: one function for each command. The words
+-- here mean what they say at tables that are served; a contract that cites them asks for one.
+use Rattle.std.specs.Prelude.{ℕ, ◌==◌, [], ◌∷◌, ◌++◌, length, nat_lt, Option, Some, None, Result, Ok, Err, if◌then◌else◌}
 use Rattle.fr_shape.specs.declared.shape.Def.{Def}
 use Rattle.fr_shape.specs.declared.error.ReflectErrorKind.{ReflectErrorKind}
 use Rattle.fr_shape.specs.declared.error.Operation.{Operation}
@@ -8,15 +9,9 @@ use Rattle.fr_shape.specs.Look.{Table, def_of}
 use Rattle.fr_shape.specs.Val.{Val, product}
 use Rattle.fr_shape.specs.View.{view}
 use Rattle.fr_model.specs.declared.command.Command.{Command}
-use Rattle.fr_model.specs.Places.{Place, child_count}
+use Rattle.fr_model.specs.Places.{is_root, up, child_count}
 use Rattle.fr_model.specs.Tree.{as_struct, Tree, hole, entered, whole, begun, wholes, holes, change_child, change_at, tree_at, shape_in, State, one_more_call}
 use Rattle.fr_model.specs.Complete.{complete, lack, missing_value}
-
--- the place above
-abbrev pub up : Place → Place
-up [] = []
-up (i ∷ []) = []
-up (i ∷ j ∷ place) = i ∷ up (j ∷ place)
 
 -- the new state, unless there is something to refuse
 abbrev pub unless_refused : Option ReflectErrorKind → State → Result State ReflectErrorKind
@@ -29,7 +24,7 @@ operation_failed s operation = ReflectErrorKind.OperationFailed (record { 0 = s 
 abbrev pub violates : Invariant → ReflectErrorKind
 violates invariant = ReflectErrorKind.InvariantViolation invariant
 
--- begin_nth_field: a struct with a field of that number
+-- begin_nth_field is refused but at a struct with a field of that number
 abbrev pub field_refusal : Def → ℕ → Option Operation
 field_refusal (Def.Struct struct) i =
     if nat_lt i (length struct.fields) then None else Some Operation.FieldIndexOutOfBounds
@@ -63,7 +58,7 @@ begin_nth_field table s state i =
       calls = one_more_call state.calls;
     })
 
--- set: a value of the place's shape; it takes the place of all that stood there
+-- set is refused but with a value of the place's own shape; the value takes the place of all that stood there
 abbrev pub set_refusal : ℕ → ℕ → Option ReflectErrorKind
 set_refusal s given =
     if s == given then None else Some (ReflectErrorKind.WrongShape (record { 0 = s }) (record { 0 = given }))
@@ -93,10 +88,6 @@ ended table s state (Some v) =
       calls = one_more_call state.calls;
     })
 ended table s state None = Err (cause table s (tree_at state.cursor state.tree))
-
-abbrev pub is_root : Place → Bool
-is_root [] = true
-is_root (i ∷ place) = false
 
 -- end: not at the root; the place is completed and becomes whole, and the cursor goes up
 abbrev pub end : Table → ℕ → State → Result State ReflectErrorKind

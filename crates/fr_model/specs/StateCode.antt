@@ -1,0 +1,49 @@
+-- The code of a builder's state, for the models above: a tree is stored as a value that gives it back.
+use Rattle.std.specs.Prelude.{◌≡◌, ℕ, List, refl}
+use Rattle.std.specs.Coded.{Coded, code_by, coded×, coded_ℕ, coded_list}
+use mathlib.Core.Path.{ap, ◌∙◌}
+use Rattle.fr_shape.specs.Code.{val_code}
+use Rattle.fr_shape.specs.Val.{Val, Vals, unit, none, some, product, no_vals, first}
+use Rattle.fr_model.specs.Tree.{as_struct, Tree, hole, entered, whole, begun, Trees, no_trees, branch, State}
+
+abbrev mutual
+  pub stored : Tree → Val
+  stored hole = none
+  stored entered = unit
+  stored (whole v) = some v
+  stored (begun as_struct ts) = product (all_stored ts)
+
+  pub all_stored : Trees → Vals
+  all_stored no_trees = no_vals
+  all_stored (branch t ts) = first (stored t) (all_stored ts)
+
+abbrev mutual
+  pub restored : Val → Tree
+  restored none = hole
+  restored (some v) = whole v
+  restored (product vs) = begun as_struct (all_restored vs)
+  restored _ = entered
+
+  pub all_restored : Vals → Trees
+  all_restored no_vals = no_trees
+  all_restored (first v vs) = branch (restored v) (all_restored vs)
+
+abbrev mutual
+  pub stored_comes_back : (t : Tree) → restored (stored t) ≡ t
+  stored_comes_back hole = refl
+  stored_comes_back entered = refl
+  stored_comes_back (whole v) = refl
+  stored_comes_back (begun as_struct ts) = ap (begun as_struct) (all_stored_come_back ts)
+
+  pub all_stored_come_back : (ts : Trees) → all_restored (all_stored ts) ≡ ts
+  all_stored_come_back no_trees = refl
+  all_stored_come_back (branch t ts) =
+      ap (λ u. branch u (all_restored (all_stored ts))) (stored_comes_back t) ∙ ap (branch t) (all_stored_come_back ts)
+
+abbrev pub tree_code : Coded Tree
+tree_code = code_by Val val_code stored restored stored_comes_back
+
+abbrev pub state_code : Coded State
+state_code =
+    code_by (Tree × (List ℕ × ℕ)) (coded× tree_code (coded× (coded_list coded_ℕ) coded_ℕ))
+    (λ s. (s.tree, (s.cursor, s.calls))) (λ p. record { tree = p.0; cursor = p.1.0; calls = p.1.1 }) (λ s. refl)

@@ -1,0 +1,2 @@
+pub mod CompleteLaws
+pub mod StackLaws

@@ -1,0 +1,4 @@
+pub mod Builder
+pub mod BuiltValue
+pub mod Children
+pub mod Stack

@@ -1,0 +1,90 @@
+-- The open places of a builder as one tree. Only the contracts inside this crate speak of them.
+use Rattle.std.specs.Prelude.{◌≡◌, ℕ, suc, ◌+◌, true, List, [], ◌∷◌, map, length, Option, Some, None, slice_get}
+use Rattle.fr_shape.specs.declared.value.Value.{Value}
+use Rattle.fr_shape.specs.declared.shape.Def.{Def}
+use Rattle.fr_shape.specs.Look.{Table, def_of}
+use Rattle.fr_shape.specs.Val.{Val, unit}
+use Rattle.fr_shape.specs.View.{view, vals_view}
+use Rattle.fr_shape.specs.Tokens.{vals_occur}
+use Rattle.fr_shape.specs.Fits.{fits}
+use Rattle.fr_model.specs.Places.{Place, child_shape}
+use Rattle.fr_model.specs.Tree.{as_struct, Tree, hole, entered, whole, begun, Trees, no_trees, branch, change_nth}
+use Rattle.fr_partial.specs.declared.frame.Piece.{Piece}
+use Rattle.fr_partial.specs.declared.frame.Frame.{Frame}
+use Rattle.fr_partial.specs.declared.frame.Parent.{Parent}
+
+-- a child's place: a placeholder stands for a hole
+abbrev pub slot : Val → Tree
+slot unit = hole
+slot v = whole v
+
+abbrev pub slots : List Value → Trees
+slots [] = no_trees
+slots (v ∷ vs) = branch (slot (view v)) (slots vs)
+
+-- what stands at the place at which the builder works
+abbrev pub node : Piece → Tree
+node Piece.Entered = entered
+node (Piece.Whole v) = whole (view v)
+node (Piece.Begun children) = begun as_struct (slots children.items)
+
+-- a place above, with this at its open child
+abbrev pub around : Parent → Tree → Tree
+around parent t = begun as_struct (change_nth parent.child (λ old. t) (slots parent.children.items))
+
+-- the whole tree, the root's place first among those above
+abbrev pub rebuild : List Parent → Tree → Tree
+rebuild [] t = t
+rebuild (parent ∷ parents) t = around parent (rebuild parents t)
+
+-- the way from the root to the place
+abbrev pub opens : List Parent → Place
+opens parents = map (λ (parent : Parent). parent.child) parents
+
+-- a struct with that many fields
+abbrev pub IsStructOf : Def → ℕ → Type 0
+IsStructOf (Def.Struct struct) count = length struct.fields ≡ count
+IsStructOf _ count = ⊥
+
+-- a child is not there yet, or fits its shape
+abbrev pub IsChild : Table → ℕ → Val → Type 0
+IsChild table s unit = Unit {0}
+IsChild table s v = fits table s v ≡ true
+
+-- children number i and up of a place of shape s
+abbrev pub AreChildren : Table → ℕ → ℕ → List Value → Type 0
+AreChildren table s i [] = Unit {0}
+AreChildren table s i (v ∷ vs) = IsChild table (child_shape table s i) (view v) × AreChildren table s (suc i) vs
+
+abbrev pub IsPiece : Table → ℕ → Piece → Type 0
+IsPiece table s Piece.Entered = Unit {0}
+IsPiece table s (Piece.Whole v) = fits table s (view v) ≡ true
+IsPiece table s (Piece.Begun children) =
+    IsStructOf (def_of table s) (length children.items) × AreChildren table s 0 children.items
+
+-- a value that isn't there yet
+abbrev pub IsPlaceholder : Option Value → Type 0
+IsPlaceholder (Some v) = view v ≡ unit
+IsPlaceholder None = ⊥
+
+-- a place above: a begun struct whose open child isn't there
+pub record IsParent (table : Table) (s : ℕ) (parent : Parent) : Type 0 where
+  pub shape : parent.shape.0 ≡ s
+  pub struct : IsStructOf (def_of table s) (length parent.children.items)
+  pub children : AreChildren table s 0 parent.children.items
+  pub absent : IsPlaceholder (slice_get parent.children.items parent.child)
+
+pub record IsFrame (table : Table) (s : ℕ) (frame : Frame) : Type 0 where
+  pub shape : frame.shape.0 ≡ s
+  pub piece : IsPiece table s frame.piece
+
+-- the places from one of shape s down to the one at which the builder works
+abbrev pub IsChain : Table → ℕ → List Parent → Frame → Type 0
+IsChain table s [] frame = IsFrame table s frame
+IsChain table s (parent ∷ parents) frame =
+    IsParent table s parent × IsChain table (child_shape table s parent.child) parents frame
+
+-- how often the places above hold a token
+abbrev pub parents_hold : List Parent → ℕ → ℕ
+parents_hold [] t = 0
+parents_hold (parent ∷ parents) t = vals_occur (vals_view parent.children.items) t + parents_hold parents t

@@ -1,0 +1,73 @@
+//! The builder.
+ghost use Rattle.std.specs.Prelude.{◌≡◌, IfOk, IsOk};
+ghost use Rattle.fr_shape.specs.Look.{IsIn};
+ghost use Rattle.fr_shape.specs.Served.{IsServed};
+ghost use Rattle.fr_model.specs.Tree.{initial};
+
+use crate::frame::{Frame, Parent, Piece};
+use fr_shape::{OutOfMemory, ShapeId, ShapeTable};
+use std::alloc::Global;
+use std::marker::Model;
+
+/// A builder of one value of a shape of `table`. Each consuming call spends it and answers it again, or is refused;
+/// a refusal has released every token that it held. It has no `Drop`: `build` or `abandon` ends it.
+pub struct Partial<'t> {
+    pub(crate) alloc: Global,
+    pub(crate) table: &'t ShapeTable,
+    pub(crate) root: ShapeId,
+    /// The places above the one at which it works, the root first.
+    pub(crate) parents: Vec<Parent>,
+    pub(crate) frame: Frame,
+    pub(crate) calls: u32,
+}
+
+impl<'t> Model for Partial<'t> {
+    ghost use Rattle.fr_partial.specs.Builder.{Builder, builder_code};
+
+    ghost Value = { Builder };
+
+    ghost coded = { builder_code };
+
+    ghost use Rattle.fr_partial.specs.Stack.{rebuild, node, opens, IsChain};
+
+    ghost view = { λ p. record {
+      shapes = p.table.now;
+      root = p.root.0;
+      state = record {
+        tree = rebuild p.parents.items (node p.frame.piece);
+        cursor = opens p.parents.items;
+        calls = p.calls;
+      };
+    } };
+
+    ghost invariant = { λ p. IsChain p.table.now p.root.0 p.parents.items p.frame };
+}
+
+impl<'t> Partial<'t> {
+    /// A builder of a value of this shape, at which nothing was put yet. It needs no memory today; the error is for
+    /// the plan that it will hold.
+    pub fn alloc_shape(
+        alloc: Global,
+        table: &'t ShapeTable,
+        id: ShapeId,
+    ) -> Result<Partial<'t>, OutOfMemory>
+        requires shape { IsIn table.now id.0 }
+        requires served { IsServed table.now }
+        ensures shapes { IfOk result (λ p. p.shapes ≡ table.now) }
+        ensures root { IfOk result (λ p. p.root ≡ id.0) }
+        ensures state { IfOk result (λ p. p.state ≡ initial) }
+        ensures succeeds { IsOk result }
+    {
+        Ok(Partial {
+            alloc,
+            table,
+            root: id,
+            parents: Vec::new(alloc),
+            frame: Frame {
+                shape: id,
+                piece: Piece::Entered,
+            },
+            calls: 0,
+        })
+    }
+}
