@@ -3,6 +3,7 @@
 
 mod items;
 mod ledger;
+mod releasing;
 mod shape;
 mod shaped;
 mod table;
@@ -11,6 +12,7 @@ mod value;
 
 pub use items::{Items, NotPushed, OutOfMemory};
 pub use ledger::Ledger;
+pub use releasing::release;
 pub use shape::{
     Def, DefaultSource, EnumDef, EnumRepr, Field, FieldRef, FormatProxy, HookId, KnownPointer,
     PointerDef, ProxyDef, ScalarKind, Shape, ShapeId, StructDef, StructKind, ValidatorDef,
