@@ -4,6 +4,7 @@
 mod error;
 mod items;
 mod ledger;
+mod releasing;
 mod shape;
 mod shaped;
 mod table;
@@ -16,6 +17,7 @@ pub use error::{
 };
 pub use items::{Items, NotPushed, OutOfMemory};
 pub use ledger::Ledger;
+pub use releasing::release;
 pub use shape::{
     Def, DefaultSource, EnumDef, EnumRepr, Field, FieldRef, FormatProxy, HookId, KnownPointer,
     PointerDef, ProxyDef, ScalarKind, Shape, ShapeId, StructDef, StructKind, ValidatorDef,

@@ -57,7 +57,11 @@ impl ShapeTable {
         match (&shape.def, f.variant) {
             (Def::Struct(described), None) => described.fields.get(f.index as usize),
             (Def::Enum(described), Some(variant)) => {
-                described.variants.get(variant as usize)?.fields.get(f.index as usize)
+                described
+                    .variants
+                    .get(variant as usize)?
+                    .fields
+                    .get(f.index as usize)
             }
             _ => None,
         }
