@@ -1,5 +1,5 @@
 -- Completing a place of a stack.
-use Rattle.std.proofs.Common.{◌≡◌, ℕ, suc, ◌+◌, ◌<◌, ◌^◌, Bool, true, false, ◌&&◌, List, [], ◌∷◌, length, Some, None, slice_get, refl, ◌∙◌, ap, arith}
+use Rattle.std.proofs.Common.{◌≡◌, ℕ, suc, ◌+◌, ◌<◌, ◌^◌, Bool, true, false, ◌&&◌, List, [], ◌∷◌, length, Option, Some, None, slice_get, refl, ◌∙◌, ap, arith, IsSome, is_some, subst}
 use Rattle.fr_shape.specs.declared.value.Value.{Value}
 use Rattle.fr_shape.specs.declared.shape.Def.{Def}
 use Rattle.fr_shape.specs.declared.shape.StructDef.{StructDef}
@@ -8,11 +8,15 @@ use Rattle.fr_shape.specs.Numbered.{IsNumbered, field_count}
 use Rattle.fr_shape.specs.Look.{Table, def_of, def_or_other, settled, settled_in}
 use Rattle.fr_shape.specs.Val.{Val, unit, product}
 use Rattle.fr_shape.specs.View.{view, vals_view}
+use Rattle.fr_shape.specs.declared.error.ReflectErrorKind.{ReflectErrorKind}
+use Rattle.fr_shape.specs.Tokens.{occurs}
 use Rattle.fr_shape.specs.Fits.{fits, fields_fit}
 use Rattle.fr_model.specs.Places.{child_shape}
-use Rattle.fr_model.specs.Tree.{as_struct, whole, begun, branch, wholes}
-use Rattle.fr_model.specs.Complete.{complete, complete_all, lack, lack_among, missing_field}
-use Rattle.fr_partial.specs.Stack.{slot, slots, IsStructOf, IsChild, AreChildren}
+use Rattle.fr_model.specs.Tree.{as_struct, whole, begun, branch, wholes, tree_occurs, trees_occur}
+use Rattle.fr_model.specs.Complete.{complete, complete_all, lack, lack_among, lack_of_entered, missing_field}
+use Rattle.fr_partial.specs.declared.frame.Piece.{Piece}
+use Rattle.fr_partial.specs.Stack.{slot, slots, node, IsStructOf, IsChild, AreChildren, IsPiece}
+use Rattle.fr_partial.proofs.StackLaws.{slots_occur}
 use Rattle.fr_partial.specs.Children.{is_placeholder, first_missing, is_product}
 
 -- placeholders and values
@@ -243,3 +247,75 @@ module _ (table : Table) (s : ℕ) (struct : StructDef) (is : def_of table s ≡
   only_products_fit (product vs) h = refl
   only_products_fit unit h = cc
   only_products_fit _ h = let h' = rw (settled_struct table s struct is) at h in cc
+
+-- pieces
+
+pub begun_made : (cs : List Value) → IsSome (complete (begun as_struct (slots cs)))
+    → complete (begun as_struct (slots cs)) ≡ Some (product (vals_view cs))
+begun_made cs some = go (first_missing 0 cs) refl
+  where
+    go : (missing : Option ℕ) → first_missing 0 cs ≡ missing
+        → complete (begun as_struct (slots cs)) ≡ Some (product (vals_view cs))
+    go (Some k) h =
+        let none : complete (begun as_struct (slots cs)) ≡ None = begun_incomplete cs k h in
+        let no : is_some (complete (begun as_struct (slots cs))) ≡ false = rw none refl in
+        cc
+    go None h = begun_completes cs h
+
+complete_is : (piece : Piece) (v : Val) → complete (node piece) ≡ Some v → IsSome (complete (node piece))
+complete_is piece v e = rw e refl
+
+pub complete_fits : (table : Table) (s : ℕ) (piece : Piece) (v : Val) → IsPiece table s piece
+    → complete (node piece) ≡ Some v → fits table s v ≡ true
+complete_fits table s Piece.Entered v suits e = cc
+complete_fits table s (Piece.Whole w) v suits e = let same : view w ≡ v = cc in subst (λ (x : Val). fits table s x ≡ true) same suits
+complete_fits table s (Piece.Begun children) v suits e = go (first_missing 0 children.items) refl
+  where
+    struct : AsStruct table s (length children.items)
+    struct = as_struct_of table s (length children.items) suits.0
+
+    go : (missing : Option ℕ) → first_missing 0 children.items ≡ missing → fits table s v ≡ true
+    go (Some k) h = let none : complete (begun as_struct (slots children.items)) ≡ None = begun_incomplete children.items k h in cc
+    go None h =
+        let all : complete (begun as_struct (slots children.items)) ≡ Some (product (vals_view children.items))
+        = begun_completes children.items h in
+        let same : product (vals_view children.items) ≡ v = cc in
+        subst (λ (x : Val). fits table s x ≡ true) same
+        (product_fits table s struct.struct struct.is children.items struct.count suits.1 h)
+
+pub complete_occurs : (piece : Piece) (v : Val) (t : ℕ) → complete (node piece) ≡ Some v
+    → tree_occurs (node piece) t ≡ occurs v t
+complete_occurs Piece.Entered v t e = cc
+complete_occurs (Piece.Whole w) v t e = let same : view w ≡ v = cc in ap (λ (x : Val). occurs x t) same
+complete_occurs (Piece.Begun children) v t e = go (first_missing 0 children.items) refl
+  where
+    go : (missing : Option ℕ) → first_missing 0 children.items ≡ missing → trees_occur (slots children.items) t ≡ occurs v t
+    go (Some k) h = let none : complete (begun as_struct (slots children.items)) ≡ None = begun_incomplete children.items k h in cc
+    go None h =
+        let all : complete (begun as_struct (slots children.items)) ≡ Some (product (vals_view children.items))
+        = begun_completes children.items h in
+        let same : product (vals_view children.items) ≡ v = cc in
+        slots_occur children.items t ∙ ap (λ (x : Val). occurs x t) same
+
+lack_of_entered_is : (def : Def) (s : ℕ) → lack_of_entered def s ≡ ReflectErrorKind.OutOfMemory → ⊥
+lack_of_entered_is (Def.Struct struct) s e = cc
+lack_of_entered_is _ s e = cc
+
+-- what a place lacks is never memory
+pub lacks_no_memory : (table : Table) (s : ℕ) (piece : Piece)
+    → lack table s (node piece) ≡ Some ReflectErrorKind.OutOfMemory → ⊥
+lacks_no_memory table s Piece.Entered e =
+    let is : lack_of_entered (def_of table s) s ≡ ReflectErrorKind.OutOfMemory = cc in
+    lack_of_entered_is (def_of table s) s is
+lacks_no_memory table s (Piece.Whole v) e = cc
+lacks_no_memory table s (Piece.Begun children) e = go (first_missing 0 children.items) refl
+  where
+    go : (missing : Option ℕ) → first_missing 0 children.items ≡ missing → ⊥
+    go (Some k) h =
+        let is : lack table s (begun as_struct (slots children.items)) ≡ Some (missing_field s k)
+        = begun_lacks table s children.items k h in
+        cc
+    go None h =
+        let is : lack table s (begun as_struct (slots children.items)) ≡ None
+        = begun_lacks_nothing table s children.items h in
+        cc

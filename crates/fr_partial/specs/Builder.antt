@@ -6,7 +6,7 @@ use Rattle.fr_shape.specs.Look.{Table}
 use Rattle.fr_shape.specs.Tokens.{occurs}
 use Rattle.fr_shape.specs.Val.{Val}
 use Rattle.fr_shape.specs.declared.error.ReflectErrorKind.{ReflectErrorKind}
-use Rattle.fr_model.specs.Tree.{State, tree_occurs}
+use Rattle.fr_model.specs.Tree.{State, shape_in, tree_occurs}
 use Rattle.fr_model.specs.StateCode.{state_code}
 use Rattle.fr_partial.specs.BuiltValue.{BuiltValue}
 
@@ -20,6 +20,10 @@ abbrev pub builder_code : Coded Builder
 builder_code =
     code_by (Table × (ℕ × State)) (coded× table_code (coded× coded_ℕ state_code))
     (λ b. (b.shapes, (b.root, b.state))) (λ p. record { shapes = p.0; root = p.1.0; state = p.1.1 }) (λ b. refl)
+
+-- the shape of the place at which it works
+abbrev pub here : Builder → ℕ
+here builder = shape_in builder.shapes builder.root builder.state.cursor builder.state.tree
 
 -- how often it holds a token
 abbrev pub holds : Builder → ℕ → ℕ

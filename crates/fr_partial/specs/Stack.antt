@@ -2,6 +2,7 @@
 use Rattle.std.specs.Prelude.{◌≡◌, ℕ, suc, ◌+◌, true, List, [], ◌∷◌, map, length, Option, Some, None, slice_get}
 use Rattle.fr_shape.specs.declared.value.Value.{Value}
 use Rattle.fr_shape.specs.declared.shape.Def.{Def}
+use Rattle.fr_shape.specs.Numbered.{IsNumbered}
 use Rattle.fr_shape.specs.Look.{Table, def_of}
 use Rattle.fr_shape.specs.Val.{Val, unit}
 use Rattle.fr_shape.specs.View.{view, vals_view}
@@ -83,6 +84,11 @@ abbrev pub IsChain : Table → ℕ → List Parent → Frame → Type 0
 IsChain table s [] frame = IsFrame table s frame
 IsChain table s (parent ∷ parents) frame =
     IsParent table s parent × IsChain table (child_shape table s parent.child) parents frame
+
+-- The open places of a builder over a table, for a root of shape s.
+pub record IsOpen (table : Table) (s : ℕ) (parents : List Parent) (frame : Frame) : Type 0 where
+  pub numbered : IsNumbered table
+  pub chain : IsChain table s parents frame
 
 -- how often the places above hold a token
 abbrev pub parents_hold : List Parent → ℕ → ℕ

@@ -23,3 +23,10 @@ pub struct Parent {
     pub children: Vec<Value>,
     pub child: usize,
 }
+
+/// What a table says of a field that may be entered: its shape, and how many fields there are.
+#[derive(Drop)]
+pub struct Field {
+    pub shape: ShapeId,
+    pub count: usize,
+}

@@ -1,11 +1,17 @@
 //! `Partial`: a builder of a value of a type known at run time, one call at a time.
 #![tactic(auto)]
 
+mod begin_nth_field;
+mod build;
 mod built;
 mod children;
 mod completing;
+mod end;
+mod entering;
 mod frame;
 mod partial;
+mod releasing;
+mod set_shape;
 
 pub use built::Built;
 pub use partial::Partial;

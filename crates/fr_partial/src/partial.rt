@@ -1,6 +1,7 @@
 //! The builder.
 ghost use Rattle.std.specs.Prelude.{◌≡◌, IfOk, IsOk};
 ghost use Rattle.fr_shape.specs.Look.{IsIn};
+ghost use Rattle.fr_shape.specs.Numbered.{IsNumbered};
 ghost use Rattle.fr_shape.specs.Served.{IsServed};
 ghost use Rattle.fr_model.specs.Tree.{initial};
 
@@ -28,7 +29,7 @@ impl<'t> Model for Partial<'t> {
 
     ghost coded = { builder_code };
 
-    ghost use Rattle.fr_partial.specs.Stack.{rebuild, node, opens, IsChain};
+    ghost use Rattle.fr_partial.specs.Stack.{rebuild, node, opens, IsOpen};
 
     ghost view = { λ p. record {
       shapes = p.table.now;
@@ -40,7 +41,7 @@ impl<'t> Model for Partial<'t> {
       };
     } };
 
-    ghost invariant = { λ p. IsChain p.table.now p.root.0 p.parents.items p.frame };
+    ghost invariant = { λ p. IsOpen p.table.now p.root.0 p.parents.items p.frame };
 }
 
 impl<'t> Partial<'t> {
@@ -52,6 +53,7 @@ impl<'t> Partial<'t> {
         id: ShapeId,
     ) -> Result<Partial<'t>, OutOfMemory>
         requires shape { IsIn table.now id.0 }
+        requires numbered { IsNumbered table.now }
         requires served { IsServed table.now }
         ensures shapes { IfOk result (λ p. p.shapes ≡ table.now) }
         ensures root { IfOk result (λ p. p.root ≡ id.0) }

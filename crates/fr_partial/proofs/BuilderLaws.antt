@@ -1,0 +1,91 @@
+-- A builder as its open places give it: the shape at which it works, what it holds, and its state after a change of
+-- the last place.
+use Rattle.std.proofs.Common.{◌≡◌, ℕ, ◌+◌, true, false, List, Ok, Err, nat_eq, refl, sym, ◌∙◌, ap, subst, arith}
+use Rattle.std.proofs.lemmas.Bool.{eq-eqb, ne_eqb}
+use Rattle.fr_shape.specs.Look.{Table}
+use Rattle.fr_shape.specs.Val.{Val}
+use Rattle.fr_shape.specs.Released.{Room}
+use Rattle.fr_shape.specs.TokenLaws.{Room_same, Room_fewer}
+use Rattle.fr_shape.specs.declared.shape.ShapeId.{ShapeId}
+use Rattle.fr_shape.specs.declared.error.ReflectErrorKind.{ReflectErrorKind}
+use Rattle.fr_model.specs.Tree.{Tree, whole, tree_at, change_at, tree_occurs, State, one_more_call}
+use Rattle.fr_model.specs.Step.{set}
+use Rattle.fr_partial.specs.declared.frame.Piece.{Piece}
+use Rattle.fr_partial.specs.declared.frame.Frame.{Frame}
+use Rattle.fr_partial.specs.declared.frame.Parent.{Parent}
+use Rattle.fr_partial.specs.Builder.{Builder, here, holds}
+use Rattle.fr_partial.specs.Stack.{node, rebuild, opens, IsChain, parents_hold}
+use Rattle.fr_partial.proofs.StackLaws.{tree_at_rebuild, change_at_rebuild, shape_in_rebuild, occurs_rebuild}
+
+abbrev pub state_of : List Parent → Piece → ℕ → State
+state_of parents piece calls = record { tree = rebuild parents (node piece); cursor = opens parents; calls = calls }
+
+abbrev pub builder_of : Table → ℕ → List Parent → Piece → ℕ → Builder
+builder_of table root parents piece calls = record { shapes = table; root = root; state = state_of parents piece calls }
+
+-- what the open places hold together
+abbrev pub places_hold : List Parent → Piece → ℕ → ℕ
+places_hold parents piece t = parents_hold parents t + tree_occurs (node piece) t
+
+module _ (table : Table) (root : ℕ) (parents : List Parent) (frame : Frame) (calls : ℕ)
+    (chain : IsChain table root parents frame) (builder : Builder)
+    (is : builder_of table root parents frame.piece calls ≡ builder) where
+  pub here_of : here builder ≡ frame.shape.0
+  here_of =
+      subst (λ (b : Builder). here b ≡ frame.shape.0) is
+      (shape_in_rebuild table root parents frame (node frame.piece) chain)
+
+  pub holds_of : (t : ℕ) → holds builder t ≡ places_hold parents frame.piece t
+  holds_of t =
+      subst (λ (b : Builder). holds b t ≡ places_hold parents frame.piece t) is
+      (occurs_rebuild table root parents frame (node frame.piece) t chain)
+
+  pub room_of : (ledger : List ℕ) → Room (holds builder) ledger → Room (places_hold parents frame.piece) ledger
+  room_of ledger = Room_same (holds builder) (places_hold parents frame.piece) ledger holds_of
+
+  pub room_here : (ledger : List ℕ) → Room (holds builder) ledger → Room (tree_occurs (node frame.piece)) ledger
+  room_here ledger =
+      Room_fewer (tree_occurs (node frame.piece)) (holds builder) ledger
+      (λ t.
+      let all : holds builder t ≡ places_hold parents frame.piece t = holds_of t in
+      omega arith)
+
+  state_is : state_of parents frame.piece calls ≡ builder.state
+  state_is = ap (λ (b : Builder). b.state) is
+
+  -- a change of the last place alone
+  pub changed_to : (t : Tree) (g : Tree → Tree) → g (node frame.piece) ≡ t
+      → change_at builder.state.cursor g builder.state.tree ≡ rebuild parents t
+  changed_to t g e =
+      subst (λ (state : State). change_at state.cursor g state.tree ≡ rebuild parents t) state_is
+      (change_at_rebuild table root parents frame g (node frame.piece) chain ∙ ap (rebuild parents) e)
+
+  pub cursor_is : builder.state.cursor ≡ opens parents
+  cursor_is = ap (λ (b : Builder). b.state.cursor) (sym is)
+
+  pub tree_here : tree_at builder.state.cursor builder.state.tree ≡ node frame.piece
+  tree_here =
+      subst (λ (state : State). tree_at state.cursor state.tree ≡ node frame.piece) state_is
+      (tree_at_rebuild table root parents frame (node frame.piece) chain)
+
+  pub counted : (next : ℕ) → next ≡ one_more_call calls → one_more_call builder.state.calls ≡ next
+  counted next e = ap (λ (b : Builder). one_more_call b.state.calls) (sym is) ∙ sym e
+
+  -- set_shape
+
+  pub set_admitted : (given : ℕ) (v : Val) (next : ℕ) → given ≡ frame.shape.0 → next ≡ one_more_call calls
+      → set (here builder) builder.state given v
+      ≡ Ok (record { tree = rebuild parents (whole v); cursor = opens parents; calls = next })
+  set_admitted given v next same count =
+      let test : nat_eq (here builder) given ≡ true = eq-eqb (here builder) given (here_of ∙ sym same) in
+      rw (test, changed_to (whole v) (λ old. whole v) refl, cursor_is, counted next count) refl
+
+  pub set_refused : (shape given : ShapeId) → frame.shape ≡ shape → ¬ (given.0 ≡ frame.shape.0) → (v : Val)
+      → set (here builder) builder.state given.0 v ≡ Err (ReflectErrorKind.WrongShape shape given)
+  set_refused shape given e different v =
+      let test : nat_eq (here builder) given.0 ≡ false
+      = ne_eqb (here builder) given.0 (λ h. different (sym h ∙ here_of)) in
+      rw test (ap (λ (expected : ShapeId). Err (ReflectErrorKind.WrongShape expected given)) (here_is ∙ e))
+    where
+      here_is : ◌≡◌ {A = ShapeId} (record { 0 = here builder }) frame.shape
+      here_is = ap (λ (n : ℕ). record { 0 = n }) here_of

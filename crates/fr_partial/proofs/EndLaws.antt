@@ -1,0 +1,137 @@
+-- Going up from a place: the state that `end` leaves, and what it is refused for.
+use Rattle.std.proofs.Common.{◌≡◌, ℕ, ◌+◌, true, false, List, [], ◌∷◌, ◌++◌, length, Some, None, Ok, Err, set, length-set, refl, sym, ◌∙◌, ap, subst, arith}
+use Rattle.fr_shape.specs.declared.value.Value.{Value}
+use Rattle.fr_shape.specs.declared.error.ReflectErrorKind.{ReflectErrorKind}
+use Rattle.fr_shape.specs.Look.{Table, def_of}
+use Rattle.fr_shape.specs.Fits.{fits}
+use Rattle.fr_shape.specs.Tokens.{occurs, vals_occur}
+use Rattle.fr_shape.specs.View.{view, vals_view}
+use Rattle.fr_model.specs.Places.{Place, is_root, up, child_shape}
+use Rattle.fr_model.specs.Tree.{Tree, as_struct, whole, begun, tree_at, tree_occurs, trees_occur, one_more_call}
+use Rattle.fr_model.specs.Complete.{complete, lack}
+use Rattle.fr_model.specs.Step.{end, cause, or_missing}
+use Rattle.fr_partial.specs.declared.frame.Piece.{Piece}
+use Rattle.fr_partial.specs.declared.frame.Frame.{Frame}
+use Rattle.fr_partial.specs.declared.frame.Parent.{Parent}
+use Rattle.fr_partial.specs.Builder.{Builder, here, holds}
+use Rattle.fr_partial.specs.Stack.{slot, slots, node, around, rebuild, opens, IsStructOf, AreChildren, IsChain, parents_hold}
+use Rattle.fr_partial.proofs.BuilderLaws.{builder_of, here_of, holds_of, changed_to, cursor_is, tree_here, counted}
+use Rattle.fr_partial.proofs.ChildrenLaws.{slots_set, absent_within, vals_occur_set, children_set}
+use Rattle.fr_partial.proofs.CompleteLaws.{is_there, fits_there, fits_child, complete_fits, complete_occurs}
+use Rattle.fr_partial.proofs.StackLaws.{rebuild_last, opens_last, up_last, parents_hold_last, slots_occur, occurs_rebuild, Popped, chain_pop}
+
+not_root : (place : Place) (i : ℕ) → is_root (place ++ i ∷ []) ≡ false
+not_root [] i = refl
+not_root (j ∷ place) i = refl
+
+module _ (table : Table) (root : ℕ) (above : List Parent) (parent : Parent) (frame : Frame) (calls : ℕ)
+    (parents : List Parent) (last : parents ≡ above ++ parent ∷ []) (chain : IsChain table root parents frame)
+    (builder : Builder) (is : builder_of table root parents frame.piece calls ≡ builder) where
+  pub popped : Popped table root above parent frame
+  popped = chain_pop table root above parent frame (subst (λ (ps : List Parent). IsChain table root ps frame) last chain)
+
+  pub holds_popped : (t : ℕ)
+      → holds builder t
+      ≡ (parents_hold above t + vals_occur (vals_view parent.children.items) t) + tree_occurs (node frame.piece) t
+  holds_popped t =
+      let all : holds builder t ≡ parents_hold parents t + tree_occurs (node frame.piece) t
+      = holds_of table root parents frame calls chain builder is t in
+      let split : parents_hold parents t ≡ parents_hold above t + vals_occur (vals_view parent.children.items) t
+      = ap (λ (ps : List Parent). parents_hold ps t) last ∙ parents_hold_last above parent t in
+      omega arith
+
+  cursor_popped : builder.state.cursor ≡ opens above ++ parent.child ∷ []
+  cursor_popped =
+      cursor_is table root parents frame calls chain builder is ∙ ap opens last ∙ opens_last above parent
+
+  below_root : is_root builder.state.cursor ≡ false
+  below_root = ap is_root cursor_popped ∙ not_root (opens above) parent.child
+
+  shapes_is : builder.shapes ≡ table
+  shapes_is = ap (λ (b : Builder). b.shapes) (sym is)
+
+  pub child_fits_parent : (v : Value) → complete (node frame.piece) ≡ Some (view v)
+      → fits table (child_shape table parent.shape.0 parent.child) (view v) ≡ true
+  child_fits_parent v e =
+      complete_fits table (child_shape table parent.shape.0 parent.child) frame.piece (view v) popped.below.piece e
+
+  written : (v : Value) → complete (node frame.piece) ≡ Some (view v)
+      → rebuild parents (whole (view v))
+      ≡ rebuild above (begun as_struct (slots (set parent.children.items parent.child v)))
+  written v e =
+      let there : slot (view v) ≡ whole (view v)
+      = is_there (view v)
+      (fits_there table (child_shape table parent.shape.0 parent.child) (view v) (child_fits_parent v e)) in
+      ap (λ (ps : List Parent). rebuild ps (whole (view v))) last
+      ∙ rebuild_last above parent (whole (view v))
+      ∙ ap (λ (t : Tree). rebuild above (around parent t)) (sym there)
+      ∙ ap (λ ts. rebuild above (begun as_struct ts))
+      (sym (slots_set parent.children.items parent.child v (absent_within parent.children.items parent.child popped.above.absent)))
+
+  pub end_completes : (v : Value) (next : ℕ) (children : List Value) → complete (node frame.piece) ≡ Some (view v)
+      → next ≡ one_more_call calls → children ≡ set parent.children.items parent.child v
+      → end builder.shapes (here builder) builder.state
+      ≡ Ok (record { tree = rebuild above (begun as_struct (slots children)); cursor = opens above; calls = next })
+  end_completes v next children e count wrote =
+      let made : complete (tree_at builder.state.cursor builder.state.tree) ≡ Some (view v)
+      = ap complete (tree_here table root parents frame calls chain builder is) ∙ e in
+      let gone_up : up builder.state.cursor ≡ opens above = ap up cursor_popped ∙ up_last (opens above) parent.child in
+      rw (
+        below_root,
+        made,
+        changed_to table root parents frame calls chain builder is (whole (view v)) (λ old. whole (view v)) refl,
+        gone_up,
+        counted table root parents frame calls chain builder is next count,
+        written v e,
+        wrote,
+      ) refl
+
+  pub end_refused : (kind : ReflectErrorKind) → complete (node frame.piece) ≡ None
+      → lack table frame.shape.0 (node frame.piece) ≡ Some kind
+      → end builder.shapes (here builder) builder.state ≡ Err kind
+  end_refused kind e lacks =
+      let at : tree_at builder.state.cursor builder.state.tree ≡ node frame.piece
+      = tree_here table root parents frame calls chain builder is in
+      let made : complete (tree_at builder.state.cursor builder.state.tree) ≡ None = ap complete at ∙ e in
+      let why : cause builder.shapes (here builder) (tree_at builder.state.cursor builder.state.tree) ≡ kind
+      = ap (λ (t : Table). cause t (here builder) (tree_at builder.state.cursor builder.state.tree)) shapes_is
+      ∙ ap (λ (s : ℕ). cause table s (tree_at builder.state.cursor builder.state.tree))
+      (here_of table root parents frame calls chain builder is)
+      ∙ ap (cause table frame.shape.0) at
+      ∙ ap (or_missing frame.shape.0) lacks in
+      rw (below_root, made) (ap Err why)
+
+  -- the place that is worked at then
+
+  pub open_above : (children : List Value) (v : Value) → complete (node frame.piece) ≡ Some (view v)
+      → children ≡ set parent.children.items parent.child v
+      → IsStructOf (def_of table parent.shape.0) (length children) × AreChildren table parent.shape.0 0 children
+  open_above children v e wrote =
+      subst (λ (cs : List Value). IsStructOf (def_of table parent.shape.0) (length cs) × AreChildren table parent.shape.0 0 cs)
+      (sym wrote) (
+        subst (IsStructOf (def_of table parent.shape.0)) (sym (length-set parent.children.items parent.child v))
+            popped.above.struct,
+        children_set table parent.shape.0 0 parent.children.items parent.child v popped.above.children
+            (fits_child table (child_shape table parent.shape.0 (0 + parent.child)) (view v)
+            (subst (λ (i : ℕ). fits table (child_shape table parent.shape.0 i) (view v) ≡ true) (omega arith)
+            (child_fits_parent v e))),
+      )
+
+  pub holds_after : (v : Value) (children : List Value) → complete (node frame.piece) ≡ Some (view v)
+      → children ≡ set parent.children.items parent.child v → (t : ℕ)
+      → holds builder t ≡ tree_occurs (rebuild above (begun as_struct (slots children))) t
+  holds_after v children e wrote t =
+      let before : holds builder t
+      ≡ (parents_hold above t + vals_occur (vals_view parent.children.items) t) + tree_occurs (node frame.piece) t
+      = holds_popped t in
+      let made : tree_occurs (node frame.piece) t ≡ occurs (view v) t = complete_occurs frame.piece (view v) t e in
+      let wider : vals_occur (vals_view children) t ≡ vals_occur (vals_view parent.children.items) t + occurs (view v) t
+      = ap (λ (cs : List Value). vals_occur (vals_view cs) t) wrote
+      ∙ vals_occur_set parent.children.items parent.child v t popped.above.absent in
+      let those : trees_occur (slots children) t ≡ vals_occur (vals_view children) t = slots_occur children t in
+      let after : tree_occurs (rebuild above (begun as_struct (slots children))) t
+      ≡ parents_hold above t + tree_occurs (begun as_struct (slots children)) t
+      = occurs_rebuild table root above (record { shape = parent.shape; piece = Piece.Entered })
+      (begun as_struct (slots children)) t
+      (popped.instead (record { shape = parent.shape; piece = Piece.Entered }) (record { shape = refl; piece = tt })) in
+      omega arith

@@ -1,0 +1,68 @@
+use Rattle.std.proofs.Common.{◌≡◌, ℕ, List, [], ◌∷◌, refl, vec_len, Some, length, slice_index, sym, ap, ◌∙◌, arith}
+use Rattle.std.proofs.lemmas.Bool.{eqb-true}
+use Rattle.fr_shape.specs.declared.error.ReflectErrorKind.{ReflectErrorKind}
+use Rattle.fr_shape.specs.Tokens.{occurs}
+use Rattle.fr_shape.specs.View.{view}
+use Rattle.fr_model.specs.Tree.{tree_occurs}
+use Rattle.fr_partial.specs.declared.frame.Parent.{Parent}
+use Rattle.fr_partial.specs.Builder.{holds}
+use Rattle.fr_partial.specs.Stack.{node, parents_hold}
+use Rattle.fr_partial.proofs.CompleteLaws.{complete_occurs, lacks_no_memory}
+use Rattle.fr_partial.proofs.BuilderLaws.{places_hold, holds_of, room_of, room_here}
+use Rattle.fr_partial.proofs.partial.Partial.build.Goals as goal
+use Rattle.fr_partial.proofs.partial.Partial.build.Goals.{After-is_empty}
+
+held : (c : After-is_empty) (t : ℕ)
+    → holds c.args.self t ≡ places_hold c.self.inside.parents.items c.self.inside.frame.piece t
+held c t =
+    holds_of c.self.inside.table.now c.self.inside.root.0 c.self.inside.parents.items c.self.inside.frame
+    c.self.inside.calls c.self.invariant.chain c.args.self c.self.view_is t
+
+pub complete-requires-clause-room : goal.complete-requires-clause-room
+complete-requires-clause-room c =
+    room_here c.self.inside.table.now c.self.inside.root.0 c.self.inside.parents.items c.self.inside.frame
+    c.self.inside.calls c.self.invariant.chain c.args.self c.self.view_is c.args.ledger.now c.requires
+
+pub release_all-requires : goal.release_all-requires
+release_all-requires c =
+    room_of c.self.inside.table.now c.self.inside.root.0 c.self.inside.parents.items c.self.inside.frame
+    c.self.inside.calls c.self.invariant.chain c.args.self c.self.view_is c.args.ledger.now c.requires
+
+none_above : (parents : List Parent) (t : ℕ) → length parents ≡ 0 → parents_hold parents t ≡ 0
+none_above [] t h = refl
+none_above (parent ∷ parents) t h = absurd (omega arith)
+
+pub returns-in-Ok-clause-tokens : goal.returns-in-Ok-clause-tokens
+returns-in-Ok-clause-tokens c = record {
+  same_length = ap length c.in-Ok.ensures.kept;
+  kept_or_released = λ t.
+      let empty : vec_len c.self.inside.parents ≡ 0
+      = eqb-true (vec_len c.self.inside.parents) 0 (sym c.if-is_empty.ensures) in
+      let none : parents_hold c.self.inside.parents.items t ≡ 0
+      = none_above c.self.inside.parents.items t (omega (arith, c.self.inside.parents.ok.0)) in
+      let made : tree_occurs (node c.self.inside.frame.piece) t ≡ occurs (view c.in-Ok.value) t
+      = complete_occurs c.self.inside.frame.piece (view c.in-Ok.value) t c.in-Ok.ensures.value in
+      let kept : slice_index c.complete.new.ledger t ≡ slice_index c.args.ledger.now t
+      = ap (λ ledger. slice_index ledger t) c.in-Ok.ensures.kept in
+      let all : holds c.args.self t ≡ places_hold c.self.inside.parents.items c.self.inside.frame.piece t
+      = held (goal.at.returns-in-Ok-clause-tokens c).After-is_empty t in
+      omega arith;
+  none_falls = λ t.
+      let kept : slice_index c.complete.new.ledger t ≡ slice_index c.args.ledger.now t
+      = ap (λ ledger. slice_index ledger t) c.in-Ok.ensures.kept in
+      omega arith;
+}
+
+pub returns-then-is_empty-clause-memory : goal.returns-then-is_empty-clause-memory
+returns-then-is_empty-clause-memory c e =
+    let is : c.in-Err.kind ≡ ReflectErrorKind.OutOfMemory = cc in
+    lacks_no_memory c.self.inside.table.now c.self.inside.frame.shape.0 c.self.inside.frame.piece
+    (c.in-Err.ensures.kind ∙ ap Some is)
+
+pub returns-clause-tokens : goal.returns-clause-tokens
+returns-clause-tokens c = record {
+  same_length = c.release_all.ensures.same_length;
+  kept_or_released = λ t.
+      omega (arith, held (goal.at.returns-clause-tokens c).After-is_empty t, c.release_all.ensures.each t);
+  none_falls = λ t. omega (arith, c.release_all.ensures.each t);
+}

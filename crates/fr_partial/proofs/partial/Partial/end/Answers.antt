@@ -1,0 +1,150 @@
+use Rattle.std.proofs.Common.{◌≡◌, ℕ, ◌+◌, Some, length, slice_index, refl, ap, ◌∙◌, inr, arith}
+use Rattle.fr_shape.specs.declared.error.ReflectErrorKind.{ReflectErrorKind}
+use Rattle.fr_shape.specs.TokenLaws.{both, Room_same, Room_fewer, Room_risen}
+use Rattle.fr_shape.specs.Tokens.{vals_occur}
+use Rattle.fr_shape.specs.View.{vals_view}
+use Rattle.fr_model.specs.Tree.{as_struct, begun, tree_occurs}
+use Rattle.fr_partial.specs.Builder.{Builder, holds}
+use Rattle.fr_partial.specs.Stack.{node, slots, rebuild, parents_hold}
+use Rattle.fr_partial.proofs.StackLaws.{Popped, chain_frame}
+use Rattle.fr_partial.proofs.ChildrenLaws.{absent_within}
+use Rattle.fr_partial.proofs.CompleteLaws.{lacks_no_memory}
+use Rattle.fr_partial.proofs.BuilderLaws.{room_here}
+use Rattle.fr_partial.proofs.EndLaws.{popped, holds_popped, end_completes, end_refused, open_above, holds_after}
+use Rattle.fr_partial.proofs.partial.Partial.end.Goals as goal
+use Rattle.fr_partial.proofs.partial.Partial.end.Goals.{In-Some}
+
+split : (c : In-Some) (t : ℕ)
+    → holds c.args.self t
+    ≡ (parents_hold c.pop.new.self.items t + vals_occur (vals_view c.in-Some.parent.children.items) t)
+    + tree_occurs (node c.self.inside.frame.piece) t
+split c t =
+    holds_popped c.self.inside.table.now c.self.inside.root.0 c.pop.new.self.items c.in-Some.parent c.self.inside.frame
+    c.self.inside.calls c.self.inside.parents.items c.in-Some.ensures.items c.self.invariant.chain c.args.self
+    c.self.view_is t
+
+above : (c : In-Some)
+    → Popped c.self.inside.table.now c.self.inside.root.0 c.pop.new.self.items c.in-Some.parent c.self.inside.frame
+above c =
+    popped c.self.inside.table.now c.self.inside.root.0 c.pop.new.self.items c.in-Some.parent c.self.inside.frame
+    c.self.inside.calls c.self.inside.parents.items c.in-Some.ensures.items c.self.invariant.chain c.args.self
+    c.self.view_is
+
+pub release_piece-requires : goal.release_piece-requires
+release_piece-requires c =
+    room_here c.self.inside.table.now c.self.inside.root.0 c.self.inside.parents.items c.self.inside.frame
+    c.self.inside.calls c.self.invariant.chain c.args.self c.self.view_is c.args.ledger.now c.requires
+
+pub complete-requires-clause-place : goal.complete-requires-clause-place
+complete-requires-clause-place c =
+    chain_frame c.self.inside.table.now c.self.inside.root.0 c.self.inside.parents.items c.self.inside.frame
+    c.self.invariant.chain
+
+pub complete-requires-clause-room : goal.complete-requires-clause-room
+complete-requires-clause-room c =
+    room_here c.self.inside.table.now c.self.inside.root.0 c.self.inside.parents.items c.self.inside.frame
+    c.self.inside.calls c.self.invariant.chain c.args.self c.self.view_is c.args.ledger.now c.requires
+
+pub put-requires : goal.put-requires
+put-requires c =
+    absent_within c.in-Some.parent.children.items c.in-Some.parent.child
+    (above (goal.at.put-requires c).In-Some).above.absent
+
+pub invariant_of-result : goal.invariant_of-result
+invariant_of-result c = record {
+  numbered = c.self.invariant.numbered;
+  chain =
+      (above (goal.at.invariant_of-result c).In-Some).instead _
+      (record {
+        shape = refl;
+        piece =
+            open_above c.self.inside.table.now c.self.inside.root.0 c.pop.new.self.items c.in-Some.parent
+            c.self.inside.frame c.self.inside.calls c.self.inside.parents.items c.in-Some.ensures.items
+            c.self.invariant.chain c.args.self c.self.view_is c.put.new.children.items c.in-Ok.value
+            c.in-Ok.ensures.value c.put.ensures;
+      });
+}
+
+pub release_children-requires : goal.release_children-requires
+release_children-requires c =
+    Room_risen (tree_occurs (node c.self.inside.frame.piece)) (vals_occur (vals_view c.in-Some.parent.children.items))
+    c.args.ledger.now c.complete.new.ledger
+    (Room_fewer
+    (both (tree_occurs (node c.self.inside.frame.piece)) (vals_occur (vals_view c.in-Some.parent.children.items)))
+    (holds c.args.self) c.args.ledger.now
+    (λ t. omega (arith, split (goal.at.release_children-requires c).In-Some t)) c.requires)
+    c.in-Err.ensures.released
+
+pub release_parents-requires : goal.release_parents-requires
+release_parents-requires c =
+    Room_risen (vals_occur (vals_view c.in-Some.parent.children.items)) (parents_hold c.pop.new.self.items)
+    c.complete.new.ledger c.release_children.new.ledger
+    (Room_risen (tree_occurs (node c.self.inside.frame.piece))
+    (both (vals_occur (vals_view c.in-Some.parent.children.items)) (parents_hold c.pop.new.self.items))
+    c.args.ledger.now c.complete.new.ledger
+    (Room_same (holds c.args.self)
+    (both (tree_occurs (node c.self.inside.frame.piece))
+    (both (vals_occur (vals_view c.in-Some.parent.children.items)) (parents_hold c.pop.new.self.items)))
+    c.args.ledger.now (λ t. omega (arith, split (goal.at.release_parents-requires c).In-Some t)) c.requires)
+    c.in-Err.ensures.released)
+    c.release_children.ensures
+
+pub returns-in-Ok-clause-step : goal.returns-in-Ok-clause-step
+returns-in-Ok-clause-step c = (
+  end_completes c.self.inside.table.now c.self.inside.root.0 c.pop.new.self.items c.in-Some.parent
+      c.self.inside.frame c.self.inside.calls c.self.inside.parents.items c.in-Some.ensures.items
+      c.self.invariant.chain c.args.self c.self.view_is c.in-Ok.value c.saturating_add.result
+      c.put.new.children.items c.in-Ok.ensures.value c.saturating_add.ensures c.put.ensures,
+  ap (λ (b : Builder). b.shapes) c.self.view_is,
+  ap (λ (b : Builder). b.root) c.self.view_is,
+)
+
+pub returns-in-Ok-clause-tokens : goal.returns-in-Ok-clause-tokens
+returns-in-Ok-clause-tokens c = record {
+  same_length = ap length c.in-Ok.ensures.kept;
+  kept_or_released = λ t.
+      let same : holds c.args.self t
+      ≡ tree_occurs (rebuild c.pop.new.self.items (begun as_struct (slots c.put.new.children.items))) t
+      = holds_after c.self.inside.table.now c.self.inside.root.0 c.pop.new.self.items c.in-Some.parent
+      c.self.inside.frame c.self.inside.calls c.self.inside.parents.items c.in-Some.ensures.items
+      c.self.invariant.chain c.args.self c.self.view_is c.in-Ok.value c.put.new.children.items
+      c.in-Ok.ensures.value c.put.ensures t in
+      let kept : slice_index c.complete.new.ledger t ≡ slice_index c.args.ledger.now t
+      = ap (λ ledger. slice_index ledger t) c.in-Ok.ensures.kept in
+      omega arith;
+  none_falls = λ t.
+      let kept : slice_index c.complete.new.ledger t ≡ slice_index c.args.ledger.now t
+      = ap (λ ledger. slice_index ledger t) c.in-Ok.ensures.kept in
+      omega arith;
+}
+
+pub returns-in-Err-clause-step : goal.returns-in-Err-clause-step
+returns-in-Err-clause-step c =
+    inr
+    (end_refused c.self.inside.table.now c.self.inside.root.0 c.pop.new.self.items c.in-Some.parent
+    c.self.inside.frame c.self.inside.calls c.self.inside.parents.items c.in-Some.ensures.items
+    c.self.invariant.chain c.args.self c.self.view_is c.in-Err.kind c.in-Err.ensures.incomplete
+    c.in-Err.ensures.kind)
+
+pub returns-in-Err-clause-tokens : goal.returns-in-Err-clause-tokens
+returns-in-Err-clause-tokens c = record {
+  same_length =
+      c.release_parents.ensures.same_length ∙ c.release_children.ensures.same_length ∙ c.in-Err.ensures.released.same_length;
+  kept_or_released = λ t.
+      omega (
+        arith,
+        split (goal.at.returns-in-Err-clause-tokens c).In-Some t,
+        c.release_parents.ensures.each t,
+        c.release_children.ensures.each t,
+        c.in-Err.ensures.released.each t,
+      );
+  none_falls = λ t.
+      omega
+      (arith, c.release_parents.ensures.each t, c.release_children.ensures.each t, c.in-Err.ensures.released.each t);
+}
+
+pub returns-in-Err-clause-memory : goal.returns-in-Err-clause-memory
+returns-in-Err-clause-memory c e =
+    let is : c.in-Err.kind ≡ ReflectErrorKind.OutOfMemory = cc in
+    lacks_no_memory c.self.inside.table.now c.self.inside.frame.shape.0 c.self.inside.frame.piece
+    (c.in-Err.ensures.kind ∙ ap Some is)

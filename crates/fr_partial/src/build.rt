@@ -1,0 +1,56 @@
+//! `build` and `abandon`: the two ends of a builder.
+ghost use Rattle.std.specs.Prelude.{◌≡◌};
+ghost use Rattle.fr_shape.specs.Released.{Room, RoseBy, Conserved};
+ghost use Rattle.fr_model.specs.Step.{build};
+ghost use Rattle.fr_partial.specs.Builder.{holds, IsBuilt, left_built};
+
+use crate::completing::complete;
+use crate::releasing::release_all;
+use crate::{Built, Partial};
+use fr_shape::{Invariant, Ledger, ReflectErrorKind};
+
+impl<'t> Partial<'t> {
+    /// Completes the root and hands its value over. Takes no memory.
+    pub fn build(self, ledger: &mut Ledger) -> Result<Built, ReflectErrorKind>
+        requires { Room (holds self) ledger.old }
+        ensures built { IsBuilt self.entry (build self.entry.shapes self.entry.root self.entry.state) result }
+        ensures tokens { Conserved (holds self.entry) ledger.old (left_built result) ledger.new }
+        ensures memory { result ≡ Err ReflectErrorKind.OutOfMemory → ⊥ }
+    {
+        let Partial {
+            alloc: _,
+            table,
+            root: _,
+            parents,
+            frame,
+            calls,
+        } = self;
+        if parents.is_empty() {
+            match complete(table, frame, ledger) {
+                Ok(value) => Ok(Built { value, calls }),
+                Err(kind) => Err(kind),
+            }
+        } else {
+            release_all(parents, frame.piece, ledger);
+            Err(ReflectErrorKind::InvariantViolation {
+                invariant: Invariant::BuildOpenFrames,
+            })
+        }
+    }
+
+    /// Gives the builder up, and with it all that was put into it.
+    pub fn abandon(self, ledger: &mut Ledger)
+        requires { Room (holds self) ledger.old }
+        ensures { RoseBy (holds self.entry) ledger.old ledger.new }
+    {
+        let Partial {
+            alloc: _,
+            table: _,
+            root: _,
+            parents,
+            frame,
+            calls: _,
+        } = self;
+        release_all(parents, frame.piece, ledger);
+    }
+}

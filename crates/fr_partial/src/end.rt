@@ -1,0 +1,63 @@
+//! `end`: the place at which the builder works becomes whole, and the builder goes up.
+ghost use Rattle.std.specs.Prelude.{◌≡◌};
+ghost use Rattle.fr_shape.specs.Released.{Room, Conserved};
+ghost use Rattle.fr_model.specs.Step.{end};
+ghost use Rattle.fr_partial.specs.Builder.{here, holds, IsStep, left};
+
+use crate::Partial;
+use crate::children::put;
+use crate::completing::complete;
+use crate::frame::{Frame, Parent, Piece};
+use crate::releasing::{release_children, release_parents, release_piece};
+use fr_shape::{Invariant, Ledger, ReflectErrorKind};
+
+impl<'t> Partial<'t> {
+    /// Completes the place, writes its value into the place above, and goes there. Takes no memory.
+    pub fn end(self, ledger: &mut Ledger) -> Result<Partial<'t>, ReflectErrorKind>
+        requires { Room (holds self) ledger.old }
+        ensures step { IsStep self.entry (end self.entry.shapes (here self.entry) self.entry.state) result }
+        ensures tokens { Conserved (holds self.entry) ledger.old (left result) ledger.new }
+        ensures memory { result ≡ Err ReflectErrorKind.OutOfMemory → ⊥ }
+    {
+        let Partial {
+            alloc,
+            table,
+            root,
+            mut parents,
+            frame,
+            calls,
+        } = self;
+        let Some(parent) = parents.pop() else {
+            release_piece(frame.piece, ledger);
+            return Err(ReflectErrorKind::InvariantViolation {
+                invariant: Invariant::EndAtRoot,
+            });
+        };
+        let Parent {
+            shape,
+            mut children,
+            child,
+        } = parent;
+        match complete(table, frame, ledger) {
+            Ok(value) => {
+                put(&mut children, child, value);
+                Ok(Partial {
+                    alloc,
+                    table,
+                    root,
+                    parents,
+                    frame: Frame {
+                        shape,
+                        piece: Piece::Begun(children),
+                    },
+                    calls: calls.saturating_add(1),
+                })
+            }
+            Err(kind) => {
+                release_children(children, ledger);
+                release_parents(parents, ledger);
+                Err(kind)
+            }
+        }
+    }
+}

@@ -1,0 +1,59 @@
+//! `set_shape`: a whole value at the place at which the builder works.
+ghost use Rattle.std.specs.Prelude.{◌≡◌, ◌+◌, true};
+ghost use Rattle.fr_shape.specs.Fits.{fits};
+ghost use Rattle.fr_shape.specs.Released.{Room, Conserved};
+ghost use Rattle.fr_shape.specs.Tokens.{occurs};
+ghost use Rattle.fr_model.specs.Step.{set};
+ghost use Rattle.fr_partial.specs.Builder.{here, holds, IsStep, left};
+
+use crate::Partial;
+use crate::frame::{Frame, Piece};
+use crate::releasing::{release_all, release_piece};
+use fr_shape::{Ledger, ReflectErrorKind, Shaped, release};
+
+impl<'t> Partial<'t> {
+    /// Puts a value of the place's own shape there, in the stead of all that was put at the place and beneath it.
+    pub fn set_shape(
+        self,
+        value: Shaped,
+        ledger: &mut Ledger,
+    ) -> Result<Partial<'t>, ReflectErrorKind>
+        requires fits { fits self.shapes value.shape value.value ≡ true }
+        requires room { Room (λ t. holds self t + occurs value.value t) ledger.old }
+        ensures step { IsStep self.entry (set (here self.entry) self.entry.state value.shape value.value) result }
+        ensures tokens { Conserved (λ t. holds self.entry t + occurs value.value t) ledger.old (left result) ledger.new }
+        ensures memory { result ≡ Err ReflectErrorKind.OutOfMemory → ⊥ }
+    {
+        let Partial {
+            alloc,
+            table,
+            root,
+            parents,
+            frame,
+            calls,
+        } = self;
+        let Frame { shape, piece } = frame;
+        let actual = value.shape();
+        if actual.0 == shape.0 {
+            release_piece(piece, ledger);
+            Ok(Partial {
+                alloc,
+                table,
+                root,
+                parents,
+                frame: Frame {
+                    shape,
+                    piece: Piece::Whole(value.into_value()),
+                },
+                calls: calls.saturating_add(1),
+            })
+        } else {
+            release(value.into_value(), ledger);
+            release_all(parents, piece, ledger);
+            Err(ReflectErrorKind::WrongShape {
+                expected: shape,
+                actual,
+            })
+        }
+    }
+}
