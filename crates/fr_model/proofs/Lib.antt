@@ -1,0 +1,6 @@
+pub mod Agreement
+pub mod Beneath
+pub mod Cursor
+pub mod Opening
+pub mod Steps
+pub mod Structs

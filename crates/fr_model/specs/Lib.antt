@@ -1,3 +1,4 @@
+pub mod Agree
 pub mod Complete
 pub mod Journal
 pub mod Places
