@@ -1,5 +1,6 @@
 pub mod Agreement
 pub mod Beneath
+pub mod Covering
 pub mod Cursor
 pub mod Opening
 pub mod Steps

@@ -1,5 +1,6 @@
 pub mod Agree
 pub mod Complete
+pub mod Covering
 pub mod Journal
 pub mod Places
 pub mod Removed

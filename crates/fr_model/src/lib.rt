@@ -5,4 +5,4 @@ mod command;
 mod laws;
 
 pub use command::{Command, Script};
-pub use laws::law_agree;
+pub use laws::{law_agree, law_covering};
