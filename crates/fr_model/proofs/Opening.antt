@@ -4,11 +4,10 @@ use Rattle.fr_shape.specs.declared.shape.Def.{Def}
 use Rattle.fr_shape.specs.declared.shape.StructDef.{StructDef}
 use Rattle.fr_shape.specs.Look.{Table, def_of}
 use Rattle.fr_shape.specs.Val.{Val, Vals, unit, product, no_vals, first}
-use Rattle.fr_shape.specs.Tokens.{vals_occur}
 use Rattle.fr_shape.specs.Fits.{fits, fields_fit}
 use Rattle.fr_model.specs.Places.{child_count, child_shape, vals_nth}
-use Rattle.fr_model.specs.Journal.{entered_at, Journal, Held, written, untouched, at_least_entered, held}
-use Rattle.fr_model.specs.Tree.{as_struct, Tree, hole, entered, whole, begun, Trees, no_trees, branch, tree_nth, change_nth, change_child, count_trees, holes, wholes, tree_occurs, trees_occur}
+use Rattle.fr_model.specs.Journal.{entered_at, Journal, written, untouched, at_least_entered, held}
+use Rattle.fr_model.specs.Tree.{as_struct, Tree, hole, entered, whole, begun, Trees, no_trees, branch, tree_nth, change_nth, change_child, count_trees, holes, wholes}
 use Rattle.fr_model.specs.Step.{opened, enter, enter_child}
 use Rattle.fr_model.specs.Well.{Suits, SuitAll, IsDone, AllDone, AtCursor, DoneBut, Leads}
 use Rattle.fr_model.proofs.Beneath.{down, held_down, IsLow, untouched_below, written_below}
@@ -23,17 +22,12 @@ pub record Opening (table : Table) (s : ℕ) (struct : StructDef) (t : Tree) : T
   pub suit : SuitAll table s as_struct 0 children
   pub done : AllDone children
   pub agree : (notes : Journal) → Agrees notes t → AgreeAll notes 0 children
-  pub hold : (k : ℕ) → trees_occur children k ≡ tree_occurs t k
 
 -- holes
 
 holes_done : (n : ℕ) → AllDone (holes n)
 holes_done zero = tt
 holes_done (suc n) = (tt, holes_done n)
-
-holes_hold : (n k : ℕ) → trees_occur (holes n) k ≡ 0
-holes_hold zero k = refl
-holes_hold (suc n) k = let rest = holes_hold n k in omega arith
 
 holes_agree : (n i : ℕ) (notes : Journal) → ((j : ℕ) → held (down j notes) [] ≡ untouched) → AgreeAll notes i (holes n)
 holes_agree zero i notes none = tt
@@ -44,10 +38,6 @@ holes_agree (suc n) i notes none = (none i, holes_agree n (suc i) notes none)
 wholes_done : (vs : Vals) → AllDone (wholes vs)
 wholes_done no_vals = tt
 wholes_done (first v vs) = (tt, wholes_done vs)
-
-pub wholes_hold : (vs : Vals) (k : ℕ) → trees_occur (wholes vs) k ≡ vals_occur vs k
-wholes_hold no_vals k = refl
-wholes_hold (first v vs) k = let rest = wholes_hold vs k in omega arith
 
 wholes_agree : (vs : Vals) (i : ℕ) (notes : Journal)
     → ((d j : ℕ) → j ≡ i + d → held (down j notes) [] ≡ written (vals_nth vs d)) → AgreeAll notes i (wholes vs)
@@ -67,7 +57,6 @@ opening_entered table s struct is = record {
   done = holes_done (child_count table s);
   agree = λ notes agrees. holes_agree (child_count table s) 0 notes
       (λ j. sym (held_down j notes []) ∙ untouched_below j notes [] (subst IsLow (sym agrees) tt));
-  hold = λ k. holes_hold (child_count table s) k;
 }
 
 opening_product : (table : Table) (s : ℕ) (struct : StructDef) (vs : Vals) → def_of table s ≡ Def.Struct struct
@@ -84,7 +73,6 @@ opening_product table s struct vs is fit =
       agree = λ notes agrees. wholes_agree vs 0 notes
           (λ d j e. sym (held_down j notes []) ∙ written_below j notes [] (product vs) agrees
           ∙ ap (λ (m : ℕ). written (vals_nth vs m)) (omega arith));
-      hold = λ k. wholes_hold vs k;
     }
 
 opening_whole : (table : Table) (s : ℕ) (struct : StructDef) (v : Val) → def_of table s ≡ Def.Struct struct
@@ -106,7 +94,6 @@ opening table s struct (begun as_struct ts) is at suits = record {
   suit = suits.1;
   done = at;
   agree = λ notes agrees. agrees.1;
-  hold = λ k. refl;
 }
 
 -- one child entered
@@ -125,9 +112,6 @@ enter_leads i no_trees done within = absurd (omega arith)
 enter_leads zero (branch t ts) done within = (enter_at_cursor t done.0, done.1)
 enter_leads (suc i) (branch t ts) done within = (done.0, enter_leads i ts done.1 (omega arith))
 
-least_of : (h seen : Held) → h ≡ seen → at_least_entered h ≡ at_least_entered seen
-least_of h seen e = ap at_least_entered e
-
 enter_agrees : (t : Tree) (notes : Journal) → Agrees notes t → Agrees (entered_at [] ∷ notes) (enter t)
 enter_agrees hole notes agrees = ap at_least_entered agrees
 enter_agrees entered notes agrees = ap at_least_entered agrees
@@ -138,21 +122,11 @@ enter_agrees (begun form ts) notes agrees = (ap at_least_entered agrees.0, seen_
     seen_alike no_trees i notes agrees = tt
     seen_alike (branch t ts) i notes agrees = (agrees.0, seen_alike ts (suc i) notes agrees.1)
 
-enter_holds : (t : Tree) (k : ℕ) → tree_occurs (enter t) k ≡ tree_occurs t k
-enter_holds hole k = refl
-enter_holds _ k = refl
-
-enter_nth_holds : (i : ℕ) (ts : Trees) (k : ℕ) → trees_occur (change_nth i enter ts) k ≡ trees_occur ts k
-enter_nth_holds i no_trees k = refl
-enter_nth_holds zero (branch t ts) k = let here = enter_holds t k in omega arith
-enter_nth_holds (suc i) (branch t ts) k = let rest = enter_nth_holds i ts k in omega arith
-
--- child i entered: the place suits as before, the cursor may go there, notes agree, and no token comes or goes
+-- child i entered: the place suits as before, the cursor may go there, and notes agree
 pub record Entry (table : Table) (s i : ℕ) (t after : Tree) : Type 0 where
   pub suits : Suits table s after
   pub leads : Leads (i ∷ []) after
   pub agrees : (notes : Journal) → Agrees notes t → Agrees (entered_at (i ∷ []) ∷ notes) after
-  pub holds : (k : ℕ) → tree_occurs after k ≡ tree_occurs t k
 
 pub entry : (table : Table) (s i : ℕ) (struct : StructDef) (t : Tree) → def_of table s ≡ Def.Struct struct
     → i < length struct.fields → AtCursor t → Suits table s t → Entry table s i t (enter_child (child_count table s) i t)
@@ -172,7 +146,6 @@ entry table s i struct t is within at suits =
             (λ h. subst (λ (seen : Journal). Agrees seen (enter (tree_nth i place.children)))
             (sym (down_same i (entered_at []) notes)) (enter_agrees (tree_nth i place.children) (down i notes) h)),
       );
-      holds = λ k. enter_nth_holds i place.children k ∙ place.hold k;
     })
   where
     place : Opening table s struct t

@@ -57,24 +57,24 @@ both_true false b h = cc
 
 -- what completes
 
-record OneMore (o : Option Val) (os : Option Vals) (vs : Vals) : Type 0 where
-  head : Val
-  tail : Vals
-  head_is : o ≡ Some head
-  tail_is : os ≡ Some tail
-  same : vs ≡ first head tail
+pub record OneMore (o : Option Val) (os : Option Vals) (vs : Vals) : Type 0 where
+  pub head : Val
+  pub tail : Vals
+  pub head_is : o ≡ Some head
+  pub tail_is : os ≡ Some tail
+  pub same : vs ≡ first head tail
 
-one_more_is : (o : Option Val) (os : Option Vals) (vs : Vals) → one_more o os ≡ Some vs → OneMore o os vs
+pub one_more_is : (o : Option Val) (os : Option Vals) (vs : Vals) → one_more o os ≡ Some vs → OneMore o os vs
 one_more_is (Some v) (Some ws) vs e = record { head = v; tail = ws; head_is = refl; tail_is = refl; same = cc }
 one_more_is (Some v) None vs e = cc
 one_more_is None os vs e = cc
 
-record ProductOf (os : Option Vals) (v : Val) : Type 0 where
-  parts : Vals
-  parts_are : os ≡ Some parts
-  same : v ≡ product parts
+pub record ProductOf (os : Option Vals) (v : Val) : Type 0 where
+  pub parts : Vals
+  pub parts_are : os ≡ Some parts
+  pub same : v ≡ product parts
 
-product_is : (os : Option Vals) (v : Val) → product_of os ≡ Some v → ProductOf os v
+pub product_is : (os : Option Vals) (v : Val) → product_of os ≡ Some v → ProductOf os v
 product_is (Some vs) v e = record { parts = vs; parts_are = refl; same = cc }
 product_is None v e = cc
 

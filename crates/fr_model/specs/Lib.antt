@@ -2,6 +2,7 @@ pub mod Agree
 pub mod Complete
 pub mod Covering
 pub mod Journal
+pub mod Laws
 pub mod Places
 pub mod Removed
 pub mod Run
