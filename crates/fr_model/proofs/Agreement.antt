@@ -131,7 +131,8 @@ down_same i (wrote_at place v) notes = rw (eq-eqb i i refl) refl
 not_equal : (i j : ℕ) → (j ≡ i → ⊥) → (i == j) ≡ false
 not_equal i j apart = grind arith
 
-pub down_other : (i j : ℕ) (note : Note) (notes : Journal) → (j ≡ i → ⊥) → down j (in_child i note ∷ notes) ≡ down j notes
+pub down_other : (i j : ℕ) (note : Note) (notes : Journal) → (j ≡ i → ⊥)
+    → down j (in_child i note ∷ notes) ≡ down j notes
 down_other i j (entered_at place) notes apart = rw (not_equal i j apart) refl
 down_other i j (wrote_at place v) notes apart = rw (not_equal i j apart) refl
 

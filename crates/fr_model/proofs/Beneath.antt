@@ -37,7 +37,8 @@ held_down i (wrote_at (j ∷ place) v ∷ notes) here =
 
 -- completing
 
-each_same : (f g : ℕ → Option Val) (count i : ℕ) → ((k : ℕ) → f k ≡ g k) → each_child f count i ≡ each_child g count i
+each_same : (f g : ℕ → Option Val) (count i : ℕ) → ((k : ℕ) → f k ≡ g k)
+    → each_child f count i ≡ each_child g count i
 each_same f g zero i same = refl
 each_same f g (suc count) i same = ap₂ one_more (same i) (each_same f g count (suc i) same)
 

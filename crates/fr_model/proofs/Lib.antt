@@ -5,6 +5,7 @@ pub mod Covering
 pub mod Cursor
 pub mod Moves
 pub mod Opening
+pub mod Rows
 pub mod Steps
 pub mod Structs
 pub mod Tokens

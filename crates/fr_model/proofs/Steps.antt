@@ -57,12 +57,15 @@ begun_both : (table : Table) (root s i : ℕ) (refusal : Option Operation) (with
     → BothStep table root (unless_refused (at_shape s refusal) next) (begins_field within run i)
 begun_both table root s i refusal within next run admitted there alike = rw (admitted, there) alike
 
-begun_neither : (table : Table) (root s i : ℕ) (refusal : Option Operation) (within : Bool) (operation : Operation) (next : State) (run : Progress)
+begun_neither : (table : Table) (root s i : ℕ) (refusal : Option Operation) (within : Bool) (operation : Operation)
+    (next : State) (run : Progress)
     → refusal ≡ Some operation → within ≡ false
     → BothStep table root (unless_refused (at_shape s refusal) next) (begins_field within run i)
 begun_neither table root s i refusal within operation next run refused absent = rw (refused, absent) tt
 
-module _ (table : Table) (root : ℕ) (here : Place) (t : Tree) (calls : ℕ) (notes : Journal) (sound : IsSound table root here t) (agrees : Agrees notes t) where
+-- each command, at a tree and a journal that agree
+module _ (table : Table) (root : ℕ) (here : Place) (t : Tree) (calls : ℕ) (notes : Journal)
+    (sound : IsSound table root here t) (agrees : Agrees notes t) where
   begins_alike : (i : ℕ)
       → BothStep table root (step table root (record { tree = t; cursor = here; calls = calls }) (Command.BeginNthField i))
       (rule table root (record { notes = notes; cursor = here }) (Command.BeginNthField i))
@@ -164,8 +167,11 @@ module _ (table : Table) (root : ℕ) (here : Place) (t : Tree) (calls : ℕ) (n
 
       go : (b : Bool)
           → BothStep table root
-          (if b then Err (violates Invariant.EndAtRoot) else ended table (shape_in table root here t) (record { tree = t; cursor = here; calls = calls }) (complete (tree_at here t)))
-          (if b then None else ends (record { notes = notes; cursor = here }) (completes table notes (shape_at table root here) here))
+          (if b then Err (violates Invariant.EndAtRoot)
+          else ended table (shape_in table root here t) (record { tree = t; cursor = here; calls = calls })
+          (complete (tree_at here t)))
+          (if b then None
+          else ends (record { notes = notes; cursor = here }) (completes table notes (shape_at table root here) here))
       go true = tt
       go false = ends_alike (complete (tree_at here t)) (completes table notes (shape_at table root here) here) refl same
 
@@ -195,7 +201,9 @@ build_same table root number state run alike = rw alike.same_cursor (go (is_root
     same = completes_tree table state.tree (longest run.notes) root run.notes alike.sound.suits alike.agrees (omega arith)
 
     go : (b : Bool)
-        → result_ok (numbered number (if b then built table root state.tree (complete state.tree) else Err (violates Invariant.BuildOpenFrames)))
+        → result_ok
+        (numbered number
+        (if b then built table root state.tree (complete state.tree) else Err (violates Invariant.BuildOpenFrames)))
         ≡ (if b then completes table run.notes root [] else None)
     go true = built_same table root number state.tree (complete state.tree) (completes table run.notes root []) same
     go false = refl

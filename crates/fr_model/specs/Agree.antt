@@ -10,4 +10,6 @@ use Rattle.fr_model.specs.Scripts.{AllFitting}
 
 -- For every script of fitting values, the machine answers `Ok v` exactly where the journal completes to v.
 abbrev pub MachineAgrees : Type 0
-MachineAgrees = (table : Table) (root : ℕ) (script : List Command) → IsServed table → IsIn table root → AllFitting table script → result_ok (full_run table root script) ≡ journal_run table root script
+MachineAgrees =
+    (table : Table) (root : ℕ) (script : List Command) → IsServed table → IsIn table root → AllFitting table script
+    → result_ok (full_run table root script) ≡ journal_run table root script

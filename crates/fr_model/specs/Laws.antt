@@ -23,7 +23,10 @@ CompletingKeepsTokens = (tree : Tree) (v : Val) (t : ℕ) → complete tree ≡ 
 -- What the tree holds after an admitted command, and what the command dropped, is what the tree held and what the
 -- command brought.
 abbrev pub StepKeepsTokens : Type 0
-StepKeepsTokens = (table : Table) (root : ℕ) (state next : State) (command : Command) → Leads state.cursor state.tree → step table root state command ≡ Ok next → (t : ℕ) → tree_occurs next.tree t + removed table root state command t ≡ tree_occurs state.tree t + brings command t
+StepKeepsTokens =
+    (table : Table) (root : ℕ) (state next : State) (command : Command) → Leads state.cursor state.tree
+    → step table root state command ≡ Ok next
+    → (t : ℕ) → tree_occurs next.tree t + removed table root state command t ≡ tree_occurs state.tree t + brings command t
 
 -- a command brings each token at most once, and none that the tree holds
 pub record IsFresh (state : State) (command : Command) : Type 0 where
@@ -32,7 +35,9 @@ pub record IsFresh (state : State) (command : Command) : Type 0 where
 
 -- an admitted command, fitting and fresh, leads from a well state to a well state
 abbrev pub StepKeepsWell : Type 0
-StepKeepsWell = (table : Table) (root : ℕ) (state next : State) (command : Command) → IsWell table root state → IsFitting table command → IsFresh state command → step table root state command ≡ Ok next → IsWell table root next
+StepKeepsWell =
+    (table : Table) (root : ℕ) (state next : State) (command : Command) → IsWell table root state → IsFitting table command
+    → IsFresh state command → step table root state command ≡ Ok next → IsWell table root next
 
 -- a builder of which nothing was asked yet is in a well state
 abbrev pub StartIsWell : Type 0
