@@ -1,0 +1,11 @@
+pub mod Agreement
+pub mod Beneath
+pub mod Completing
+pub mod Covering
+pub mod Cursor
+pub mod Moves
+pub mod Opening
+pub mod Rows
+pub mod Steps
+pub mod Structs
+pub mod Tokens

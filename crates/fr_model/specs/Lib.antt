@@ -1,5 +1,8 @@
+pub mod Agree
 pub mod Complete
+pub mod Covering
 pub mod Journal
+pub mod Laws
 pub mod Places
 pub mod Removed
 pub mod Run

@@ -2,5 +2,7 @@
 #![tactic(auto)]
 
 mod command;
+mod laws;
 
 pub use command::{Command, Script};
+pub use laws::{law_agree, law_completes, law_covering, law_removed, law_well};

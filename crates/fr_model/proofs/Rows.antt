@@ -1,0 +1,195 @@
+-- Worked scripts over two small tables, by the machine and by the journal.
+use Rattle.std.proofs.Common.{◌≡◌, ℕ, true, false, List, [], ◌∷◌, None, Some, Ok, Err, Result, codes, refl}
+use Rattle.fr_shape.specs.declared.shape.Shape.{Shape}
+use Rattle.fr_shape.specs.declared.shape.ShapeId.{ShapeId}
+use Rattle.fr_shape.specs.declared.shape.Def.{Def}
+use Rattle.fr_shape.specs.declared.shape.StructKind.{StructKind}
+use Rattle.fr_shape.specs.declared.shape.ScalarKind.{ScalarKind}
+use Rattle.fr_shape.specs.declared.shape.Field.{Field}
+use Rattle.fr_shape.specs.declared.error.ReflectErrorKind.{ReflectErrorKind}
+use Rattle.fr_shape.specs.declared.error.Operation.{Operation}
+use Rattle.fr_shape.specs.declared.error.Invariant.{Invariant}
+use Rattle.fr_shape.specs.Look.{Table}
+use Rattle.fr_shape.specs.Served.{IsServed}
+use Rattle.fr_shape.specs.Fits.{fits}
+use Rattle.fr_shape.specs.Val.{Val, nat, text, token, product, no_vals, first}
+use Rattle.fr_shape.specs.Code.{back, comes_back}
+use Rattle.fr_model.specs.declared.command.Command.{Command}
+use Rattle.fr_model.specs.Complete.{missing_field, missing_value}
+use Rattle.fr_model.specs.Step.{operation_failed, violates}
+use Rattle.fr_model.specs.Journal.{journal_run}
+use Rattle.fr_model.specs.Run.{Refusal, full_run}
+use Rattle.fr_model.specs.Tree.{whole}
+use Rattle.fr_model.specs.Removed.{removed}
+
+-- to write tables and scripts
+
+abbrev number : ℕ → ShapeId
+number n = record { 0 = n }
+
+abbrev shape : List ℕ → Def → Shape
+shape name def = record {
+  name = name;
+  def = def;
+  preset = None;
+  default_attr = false;
+  inner = None;
+  builder = None;
+  convert = None;
+  parse = None;
+  parse_bytes = None;
+  proxy = None;
+  format_proxies = [];
+  invariant = None;
+  metadata = false;
+  deny_unknown = false;
+  transparent = false;
+  bytes_ok = false;
+}
+
+abbrev field : List ℕ → ℕ → Field
+field name s = record {
+  name = name;
+  rename = None;
+  alias = None;
+  shape = number s;
+  default = None;
+  skip = false;
+  flatten = false;
+  proxy = None;
+  format_proxies = [];
+  validators = [];
+}
+
+abbrev struct : List Field → Def
+struct fields = Def.Struct (record { kind = StructKind.Struct; fields = fields })
+
+abbrev pair_of : Val → Val → Val
+pair_of v w = product (first v (first w no_vals))
+
+abbrev set : ℕ → Val → Command
+set s v = Command.Set (number s) (back v)
+
+abbrev begin : ℕ → Command
+begin i = Command.BeginNthField i
+
+abbrev end : Command
+end = Command.End
+
+abbrev refused : ℕ → ReflectErrorKind → Result Val Refusal
+refused n kind = Err (record { number = n; kind = kind })
+
+-- a struct in a struct
+
+abbrev nested : Table
+nested =
+    shape (codes "u32") (Def.Scalar ScalarKind.U32)
+    ∷ shape (codes "String") (Def.Scalar ScalarKind.String)
+    ∷ shape (codes "Inner") (struct (field (codes "x") 0 ∷ field (codes "b") 0 ∷ []))
+    ∷ shape (codes "Outer") (struct (field (codes "name") 1 ∷ field (codes "inner") 2 ∷ []))
+    ∷ []
+
+nested_is_served : IsServed nested
+nested_is_served = refl
+
+abbrev whole_script : List Command
+whole_script =
+    begin 0 ∷ set 1 (text (codes "hi")) ∷ end ∷ begin 1 ∷ begin 0 ∷ set 0 (nat 42) ∷ end ∷ begin 1 ∷ set 0 (nat 43) ∷ end
+    ∷ end ∷ []
+
+abbrev whole_value : Val
+whole_value = pair_of (text (codes "hi")) (pair_of (nat 42) (nat 43))
+
+machine_builds : full_run nested 3 whole_script ≡ Ok whole_value
+machine_builds = rw (comes_back (text (codes "hi")), comes_back (nat 42), comes_back (nat 43)) refl
+
+journal_builds : journal_run nested 3 whole_script ≡ Some whole_value
+journal_builds = rw (comes_back (text (codes "hi")), comes_back (nat 42), comes_back (nat 43)) refl
+
+-- what is refused, at which command and why
+
+nothing_put_in : full_run nested 3 [] ≡ refused 0 (missing_field 3 0)
+nothing_put_in = refl
+
+no_value : full_run nested 0 [] ≡ refused 0 (missing_value 0)
+no_value = refl
+
+first_field_missing : full_run nested 3 (begin 1 ∷ end ∷ []) ≡ refused 1 (missing_field 2 0)
+first_field_missing = refl
+
+-- the first hole, not the field that was entered last
+second_field_missing : full_run nested 3 (begin 1 ∷ begin 0 ∷ set 0 (nat 42) ∷ end ∷ end ∷ [])
+    ≡ refused 4 (missing_field 2 1)
+second_field_missing = refl
+
+end_at_the_root : full_run nested 3 (end ∷ []) ≡ refused 0 (violates Invariant.EndAtRoot)
+end_at_the_root = refl
+
+wrong_shape : full_run nested 3 (begin 0 ∷ set 0 (nat 42) ∷ [])
+    ≡ refused 1 (ReflectErrorKind.WrongShape (number 1) (number 0))
+wrong_shape = refl
+
+no_fields : full_run nested 3 (begin 1 ∷ begin 1 ∷ begin 1 ∷ []) ≡ refused 2 (operation_failed 0 Operation.FieldOfOther)
+no_fields = refl
+
+no_third_field : full_run nested 3 (begin 2 ∷ []) ≡ refused 0 (operation_failed 3 Operation.FieldIndexOutOfBounds)
+no_third_field = refl
+
+none_by_journal : journal_run nested 3 [] ≡ None
+none_by_journal = refl
+
+none_without_second_field : journal_run nested 3 (begin 1 ∷ begin 0 ∷ set 0 (nat 42) ∷ end ∷ end ∷ []) ≡ None
+none_without_second_field = refl
+
+none_of_wrong_shape : journal_run nested 3 (begin 0 ∷ set 0 (nat 42) ∷ []) ≡ None
+none_of_wrong_shape = refl
+
+-- structs of opaque values
+
+abbrev opaque : Table
+opaque =
+    shape (codes "Res") Def.Opaque
+    ∷ shape (codes "u32") (Def.Scalar ScalarKind.U32)
+    ∷ shape (codes "Cell") (struct (field (codes "a") 0 ∷ field (codes "k") 1 ∷ []))
+    ∷ shape (codes "Pair") (struct (field (codes "p") 2 ∷ field (codes "q") 2 ∷ []))
+    ∷ []
+
+opaque_is_served : IsServed opaque
+opaque_is_served = refl
+
+-- built away from the root, where the first field is complete and the second was never entered
+abbrev left_open : List Command
+left_open = begin 0 ∷ begin 0 ∷ set 0 (token 0) ∷ end ∷ begin 1 ∷ set 1 (nat 5) ∷ end ∷ []
+
+machine_refuses_open : full_run opaque 3 left_open ≡ refused 7 (violates Invariant.BuildOpenFrames)
+machine_refuses_open = refl
+
+journal_refuses_open : journal_run opaque 3 left_open ≡ None
+journal_refuses_open = refl
+
+abbrev cell : ℕ → ℕ → Val
+cell t n = pair_of (token t) (nat n)
+
+-- a second value takes the first one's place
+machine_keeps_second : full_run opaque 2 (set 2 (cell 0 1) ∷ set 2 (cell 1 2) ∷ []) ≡ Ok (cell 1 2)
+machine_keeps_second = rw (comes_back (cell 1 2)) refl
+
+journal_keeps_second : journal_run opaque 2 (set 2 (cell 0 1) ∷ set 2 (cell 1 2) ∷ []) ≡ Some (cell 1 2)
+journal_keeps_second = rw (comes_back (cell 1 2)) refl
+
+-- and the first one's token is dropped
+second_drops_first : removed opaque 2 (record { tree = whole (cell 0 1); cursor = []; calls = 1 }) (set 2 (cell 1 2)) 0 ≡ 1
+second_drops_first = refl
+
+cell_fits : fits opaque 2 (cell 0 1) ≡ true
+cell_fits = refl
+
+-- a whole struct is entered anew, and the other field stays
+abbrev entered_anew : List Command
+entered_anew = set 3 (pair_of (cell 0 1) (cell 1 2)) ∷ begin 0 ∷ set 2 (cell 2 3) ∷ end ∷ []
+
+machine_enters_anew : full_run opaque 3 entered_anew ≡ Ok (pair_of (cell 2 3) (cell 1 2))
+machine_enters_anew = rw (comes_back (pair_of (cell 0 1) (cell 1 2)), comes_back (cell 2 3)) refl
+
+journal_enters_anew : journal_run opaque 3 entered_anew ≡ Some (pair_of (cell 2 3) (cell 1 2))
+journal_enters_anew = rw (comes_back (pair_of (cell 0 1) (cell 1 2)), comes_back (cell 2 3)) refl

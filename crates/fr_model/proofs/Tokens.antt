@@ -1,0 +1,66 @@
+-- How often a token stands in a tree that is changed at one place.
+use Rattle.std.proofs.Common.{◌≡◌, ℕ, zero, suc, ◌+◌, ◌<◌, [], ◌∷◌, refl, ◌∙◌, arith}
+use Rattle.fr_shape.specs.Val.{Vals, product, no_vals, first}
+use Rattle.fr_shape.specs.Tokens.{vals_occur}
+use Rattle.fr_model.specs.Places.{Place}
+use Rattle.fr_model.specs.Tree.{Tree, hole, entered, whole, begun, Trees, no_trees, branch, tree_nth, change_nth, tree_at, change_child, change_at, count_trees, holes, wholes, tree_occurs, trees_occur}
+use Rattle.fr_model.specs.Step.{opened, enter, enter_child}
+use Rattle.fr_model.specs.Well.{Leads}
+use Rattle.fr_model.proofs.Agreement.{leads_within, leads_child}
+
+-- a child is entered
+
+holes_hold : (n t : ℕ) → trees_occur (holes n) t ≡ 0
+holes_hold zero t = refl
+holes_hold (suc n) t = let rest = holes_hold n t in omega arith
+
+wholes_hold : (vs : Vals) (t : ℕ) → trees_occur (wholes vs) t ≡ vals_occur vs t
+wholes_hold no_vals t = refl
+wholes_hold (first v vs) t = let rest = wholes_hold vs t in omega arith
+
+opened_holds : (count : ℕ) (tree : Tree) (t : ℕ) → tree_occurs (opened count tree) t ≡ tree_occurs tree t
+opened_holds count entered t = holes_hold count t
+opened_holds count (whole (product vs)) t = wholes_hold vs t
+opened_holds count _ t = refl
+
+enter_holds : (tree : Tree) (t : ℕ) → tree_occurs (enter tree) t ≡ tree_occurs tree t
+enter_holds hole t = refl
+enter_holds _ t = refl
+
+enter_nth_holds : (i : ℕ) (trees : Trees) (t : ℕ) → trees_occur (change_nth i enter trees) t ≡ trees_occur trees t
+enter_nth_holds i no_trees t = refl
+enter_nth_holds zero (branch tree trees) t = let here = enter_holds tree t in omega arith
+enter_nth_holds (suc i) (branch tree trees) t = let rest = enter_nth_holds i trees t in omega arith
+
+enter_in_holds : (i : ℕ) (tree : Tree) (t : ℕ) → tree_occurs (change_child i enter tree) t ≡ tree_occurs tree t
+enter_in_holds i (begun form trees) t = enter_nth_holds i trees t
+enter_in_holds i _ t = refl
+
+pub enter_child_holds : (count i : ℕ) (tree : Tree) (t : ℕ)
+    → tree_occurs (enter_child count i tree) t ≡ tree_occurs tree t
+enter_child_holds count i tree t = enter_in_holds i (opened count tree) t ∙ opened_holds count tree t
+
+-- a change at the cursor
+
+nth_holds : (i : ℕ) (change : Tree → Tree) (trees : Trees) (t : ℕ) → i < count_trees trees
+    → trees_occur (change_nth i change trees) t + tree_occurs (tree_nth i trees) t
+    ≡ trees_occur trees t + tree_occurs (change (tree_nth i trees)) t
+nth_holds i change no_trees t within = absurd (omega arith)
+nth_holds zero change (branch tree trees) t within = omega arith
+nth_holds (suc i) change (branch tree trees) t within =
+    let rest : trees_occur (change_nth i change trees) t + tree_occurs (tree_nth i trees) t
+    ≡ trees_occur trees t + tree_occurs (change (tree_nth i trees)) t
+    = nth_holds i change trees t (omega arith) in
+    omega arith
+
+-- what stood there goes, and what stands there now comes
+pub change_holds : (here : Place) (tree : Tree) (change : Tree → Tree) (t : ℕ) → Leads here tree
+    → tree_occurs (change_at here change tree) t + tree_occurs (tree_at here tree) t
+    ≡ tree_occurs tree t + tree_occurs (change (tree_at here tree)) t
+change_holds [] tree change t leads = omega arith
+change_holds (i ∷ here) (begun form trees) change t leads =
+    let below = change_holds here (tree_nth i trees) change t (leads_child i (λ child. Leads here child) trees leads) in
+    let beside = nth_holds i (λ child. change_at here change child) trees t
+    (leads_within i (λ child. Leads here child) trees leads) in
+    omega arith
+change_holds (i ∷ here) _ change t leads = absurd leads

@@ -1,0 +1,33 @@
+//! Laws of the definitions: each is the contract of a function that does nothing.
+ghost use Rattle.fr_model.specs.Agree.{MachineAgrees};
+ghost use Rattle.fr_model.specs.Covering.{ScanAgrees, WaysAgree};
+ghost use Rattle.fr_model.specs.Laws.{CompletesOrLacks, CompletingKeepsTokens, StartIsWell, StepKeepsTokens, StepKeepsWell};
+
+/// For every script of fitting values over a served table, the run of the commands answers `Ok` exactly where the
+/// journal completes, and with the journal's value.
+pub fn law_agree()
+    ensures { MachineAgrees }
+{}
+
+/// What a journal holds of a place is what the rules on covering notes say.
+pub fn law_covering()
+    ensures scan { ScanAgrees }
+    ensures ways { WaysAgree }
+{}
+
+/// A place completes unless it lacks something, and what completes keeps its tokens.
+pub fn law_completes()
+    ensures or_lacks { CompletesOrLacks }
+    ensures tokens { CompletingKeepsTokens }
+{}
+
+/// An admitted command drops the tokens that it brings and those that were there, but for those that are there now.
+pub fn law_removed()
+    ensures { StepKeepsTokens }
+{}
+
+/// A builder begins in a well state, and each admitted command that fits and is fresh keeps its state well.
+pub fn law_well()
+    ensures start { StartIsWell }
+    ensures step { StepKeepsWell }
+{}
