@@ -1,6 +1,7 @@
 //! Types known at run time, the values that fit them, and the ledger of released tokens.
 #![tactic(auto)]
 
+mod comparing;
 mod items;
 mod ledger;
 mod releasing;
@@ -10,6 +11,7 @@ mod table;
 mod text;
 mod value;
 
+pub use comparing::same;
 pub use items::{Items, NotPushed, OutOfMemory};
 pub use ledger::Ledger;
 pub use releasing::release;
