@@ -5,6 +5,8 @@ mod comparing;
 mod items;
 mod ledger;
 mod releasing;
+mod scalars;
+mod settling;
 mod shape;
 mod shaped;
 mod table;
