@@ -2,6 +2,7 @@
 #![tactic(auto)]
 
 mod comparing;
+mod distinct;
 mod items;
 mod ledger;
 mod releasing;
