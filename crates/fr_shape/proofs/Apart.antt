@@ -3,6 +3,9 @@ use Rattle.std.proofs.Common.{◌≡◌, ◌≢◌, ℕ, Bool, true, false, ◌&
 use Rattle.std.specs.Str.{bytes_eq}
 use Rattle.fr_shape.specs.declared.value.Value.{Value}
 use Rattle.fr_shape.specs.declared.value.Dyn.{Dyn}
+use Rattle.fr_shape.specs.declared.shape.Field.{Field}
+use Rattle.fr_shape.specs.Look.{Table}
+use Rattle.fr_shape.specs.Fits.{fits, fields_fit}
 use Rattle.fr_shape.specs.View.{view, vals_view, entries_view, dyn_view, dynamics_view, members_view}
 use Rattle.fr_shape.specs.Same.{same, all_same, entries_same, same_dynamic, same_dynamics, same_members}
 
@@ -41,3 +44,11 @@ members_apart (x ∷ xs) [] apart = refl
 members_apart (x ∷ xs) (y ∷ ys) apart =
     and_false (bytes_eq x.0 y.0 && same_dynamic (dyn_view x.1) (dyn_view y.1)) (same_members (members_view xs) (members_view ys))
     (members_apart xs ys (λ e. apart (omega arith)))
+
+pub fields_apart : (table : Table) (fields : List Field) (vs : List Value) → length fields ≢ length vs → false ≡ fields_fit table fields (vals_view vs)
+fields_apart table [] [] apart = absurd (apart refl)
+fields_apart table [] (v ∷ vs) apart = refl
+fields_apart table (field ∷ fields) [] apart = refl
+fields_apart table (field ∷ fields) (v ∷ vs) apart =
+    and_false (fits table field.shape.0 (view v)) (fields_fit table fields (vals_view vs))
+    (fields_apart table fields vs (λ e. apart (omega arith)))

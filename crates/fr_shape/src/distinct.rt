@@ -4,7 +4,7 @@ ghost use Rattle.fr_shape.specs.View.{view, vals_view, entries_view, dyn_view, d
 ghost use Rattle.fr_shape.specs.Same.{is_among, none_twice, keys};
 ghost use Rattle.fr_shape.specs.Fits.{lacks_key, keys_once, all_keys_once, members_keys_once};
 
-use crate::{same, Dyn, Items, Text, Value};
+use crate::{Dyn, Items, Text, Value, same};
 
 /// Whether no two of the values are `same`.
 pub(crate) fn none_twice(values: &[Value]) -> bool

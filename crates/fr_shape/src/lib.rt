@@ -3,6 +3,7 @@
 
 mod comparing;
 mod distinct;
+mod fitting;
 mod items;
 mod ledger;
 mod releasing;
@@ -15,6 +16,7 @@ mod text;
 mod value;
 
 pub use comparing::same;
+pub use fitting::fits;
 pub use items::{Items, NotPushed, OutOfMemory};
 pub use ledger::Ledger;
 pub use releasing::release;
