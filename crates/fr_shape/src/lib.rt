@@ -2,6 +2,7 @@
 #![tactic(auto)]
 
 mod comparing;
+mod copying;
 mod distinct;
 mod fitting;
 mod items;
@@ -16,6 +17,7 @@ mod text;
 mod value;
 
 pub use comparing::same;
+pub use copying::clone_template;
 pub use fitting::fits;
 pub use items::{Items, NotPushed, OutOfMemory};
 pub use ledger::Ledger;

@@ -24,10 +24,9 @@ impl Text {
     pub fn new(alloc: Global, s: &str) -> Result<Text, OutOfMemory>
         ensures copy { IfOk result (λ t. t ≡ s.now) }
     {
-        match String::from_str(alloc, s) {
-            Ok(text) => Ok(Text { text }),
-            Err(_) => Err(OutOfMemory),
-        }
+        Ok(Text {
+            text: String::from_str(alloc, s)?,
+        })
     }
 
     pub fn as_str(&self) -> &str
