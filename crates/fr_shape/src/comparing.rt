@@ -16,7 +16,7 @@ pub fn same(a: &Value, b: &Value) -> bool
         (Value::Char(a), Value::Char(b)) => a == b,
         (Value::Int(a), Value::Int(b)) => a == b,
         (Value::Nat(a), Value::Nat(b)) => a == b,
-        (Value::Text(a), Value::Text(b)) => a.as_str() == b.as_str(),
+        (Value::Text(a), Value::Text(b)) => a == b,
         (Value::Token(_), Value::Token(_)) => true,
         (Value::Product(a), Value::Product(b)) => all_same(a, b),
         (Value::Variant(i, a), Value::Variant(j, b)) => i == j && all_same(a, b),
@@ -79,7 +79,7 @@ fn same_dynamic(a: &Dyn, b: &Dyn) -> bool
         (Dyn::Bool(a), Dyn::Bool(b)) => a == b,
         (Dyn::Int(a), Dyn::Int(b)) => a == b,
         (Dyn::Nat(a), Dyn::Nat(b)) => a == b,
-        (Dyn::Text(a), Dyn::Text(b)) => a.as_str() == b.as_str(),
+        (Dyn::Text(a), Dyn::Text(b)) => a == b,
         (Dyn::Bytes(a), Dyn::Bytes(b)) => a.as_slice() == b.as_slice(),
         (Dyn::Array(a), Dyn::Array(b)) => same_dynamics(a, b),
         (Dyn::Object(a), Dyn::Object(b)) => same_members(a, b),
@@ -117,7 +117,7 @@ fn same_members(a: &Items<(Text, Dyn)>, b: &Items<(Text, Dyn)>) -> bool
     }
     for i in 0..left.len() {
         let (here, there) = (&left[i], &right[i]);
-        if here.0.as_str() != there.0.as_str() || !same_dynamic(&here.1, &there.1) {
+        if here.0 != there.0 || !same_dynamic(&here.1, &there.1) {
             return false;
         }
     }

@@ -94,7 +94,7 @@ fn has_key(key: &Text, members: &[(Text, Dyn)]) -> bool
     ensures { not result ≡ lacks_key key.now (members_view members.now) }
 {
     for member in members {
-        if key.as_str() == member.0.as_str() {
+        if *key == member.0 {
             return true;
         }
     }
