@@ -1,1 +1,3 @@
+pub mod Apart
 pub mod InTurn
+pub mod Settled

@@ -65,3 +65,15 @@ vals_view vs = vals_of (map view vs)
 
 abbrev pub entries_view : List (Value × Value) → Entries
 entries_view es = entries_of (map (λ e. (view e.0, view e.1)) es)
+
+abbrev pub dynamics_view : List Dyn → Dynamics
+dynamics_view ds = dynamics_of (map dyn_view ds)
+
+abbrev pub members_view : List (List ℕ × Dyn) → Members
+members_view ms = members_of (map (λ m. (m.0, dyn_view m.1)) ms)
+
+abbrev pub entry_view : Value × Value → Val × Val
+entry_view e = (view e.0, view e.1)
+
+abbrev pub member_view : List ℕ × Dyn → List ℕ × Dynamic
+member_view m = (m.0, dyn_view m.1)

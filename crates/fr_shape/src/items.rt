@@ -2,7 +2,7 @@
 ghost use Rattle.std.specs.Prelude.{◌≡◌, [], ◌∷◌, ◌++◌, ◌<◌, ◌≤◌, ◌↔◌, length, slice_get, OnOk, IfErr, OnErr, IsNone, IsTrue};
 ghost use Rattle.std.specs.Option.{option_copied};
 
-use std::alloc::Global;
+use std::alloc::{AllocError, AllocFailed, Global};
 use std::marker::Model;
 
 /// No memory was left. What was asked for did not happen.
@@ -12,6 +12,24 @@ pub struct OutOfMemory;
 /// The item that found no room, handed back.
 #[derive(Drop)]
 pub struct NotPushed<T>(pub T);
+
+impl From<AllocError> for OutOfMemory {
+    fn from(_refused: AllocError) -> OutOfMemory {
+        OutOfMemory
+    }
+}
+
+impl<T: Drop> From<AllocFailed<T>> for OutOfMemory {
+    fn from(_refused: AllocFailed<T>) -> OutOfMemory {
+        OutOfMemory
+    }
+}
+
+impl<T: Drop> From<NotPushed<T>> for OutOfMemory {
+    fn from(_refused: NotPushed<T>) -> OutOfMemory {
+        OutOfMemory
+    }
+}
 
 /// A growing list, as `Vec`, seen by contracts as the list of its items alone.
 #[derive(Drop)]

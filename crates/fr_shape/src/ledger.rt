@@ -26,10 +26,9 @@ impl Ledger {
     pub fn new(alloc: Global, n: u32) -> Result<Ledger, OutOfMemory>
         ensures { IfOk result (λ l. l ≡ replicate n 0) }
     {
-        match vec![in alloc; 0u32; n as usize] {
-            Ok(counts) => Ok(Ledger { counts }),
-            Err(_) => Err(OutOfMemory),
-        }
+        Ok(Ledger {
+            counts: vec![in alloc; 0u32; n as usize]?,
+        })
     }
 
     /// How many tokens there are.

@@ -1,20 +1,29 @@
 //! Types known at run time, the values that fit them, and the ledger of released tokens.
 #![tactic(auto)]
 
+mod comparing;
+mod copying;
+mod distinct;
 mod error;
+mod fitting;
 mod items;
 mod ledger;
 mod releasing;
+mod scalars;
+mod settling;
 mod shape;
 mod shaped;
 mod table;
 mod text;
 mod value;
 
+pub use comparing::same;
+pub use copying::clone_template;
 pub use error::{
     AllocError, Expected, InitCall, Invariant, Operation, PlanFault, Reason, ReflectErrorKind,
     TrackerKind, TryFromFault,
 };
+pub use fitting::fits;
 pub use items::{Items, NotPushed, OutOfMemory};
 pub use ledger::Ledger;
 pub use releasing::release;

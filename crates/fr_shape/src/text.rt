@@ -1,5 +1,8 @@
 //! A text that owns its bytes.
 ghost use Rattle.std.specs.Prelude.{◌≡◌, ◌↔◌, [], length, IfOk, IsTrue};
+ghost use Rattle.std.specs.Str.{bytes_eq};
+ghost use Rattle.std.specs.Cmp.{partial_equiv_from_equiv};
+ghost use Rattle.std.specs.Cmp.Lexicographic.{nat_list_eq_equiv};
 
 use crate::OutOfMemory;
 use std::alloc::Global;
@@ -24,10 +27,9 @@ impl Text {
     pub fn new(alloc: Global, s: &str) -> Result<Text, OutOfMemory>
         ensures copy { IfOk result (λ t. t ≡ s.now) }
     {
-        match String::from_str(alloc, s) {
-            Ok(text) => Ok(Text { text }),
-            Err(_) => Err(OutOfMemory),
-        }
+        Ok(Text {
+            text: String::from_str(alloc, s)?,
+        })
     }
 
     pub fn as_str(&self) -> &str
@@ -48,4 +50,19 @@ impl Text {
     {
         self.text.is_empty()
     }
+}
+
+/// Texts are equal where their bytes are.
+impl PartialEq for Text {
+    ghost eq = { bytes_eq };
+
+    ghost laws = { partial_equiv_from_equiv nat_list_eq_equiv };
+
+    fn eq(&self, other: &Text) -> bool {
+        self.text == other.text
+    }
+}
+
+impl Eq for Text {
+    ghost laws = { nat_list_eq_equiv };
 }
