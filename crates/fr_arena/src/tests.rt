@@ -1,0 +1,61 @@
+//! Worked examples, and each call that takes memory once with ample memory.
+use crate::{Arena, Idx, SliceRange};
+use std::hash::{DefaultHasher, Hash, Hasher};
+use std::test::Fail;
+
+fn hash_of(idx: Idx<u8>) -> u64 {
+    let mut state = DefaultHasher::new();
+    idx.hash(&mut state);
+    state.finish()
+}
+
+#[test]
+fn equal_indices_have_equal_numbers(rt: HostRuntime) {
+    let five: Idx<u8> = Idx::new(5);
+    assert!(rt; five == Idx::new(5));
+    assert!(rt; five != Idx::new(10));
+    assert_eq!(rt; hash_of(five), hash_of(Idx::new(5)));
+    assert_eq!(rt; five.raw(), 5);
+}
+
+#[test]
+fn the_largest_index_is_not_valid(rt: HostRuntime) {
+    let none: Idx<u8> = Idx::invalid();
+    let first: Idx<u8> = Idx::new(0);
+    assert!(rt; !none.is_valid());
+    assert!(rt; first.is_valid());
+}
+
+#[test]
+fn a_range_names_its_indices(rt: HostRuntime) {
+    let range: SliceRange<u8> = SliceRange::new(10, 5);
+    assert!(rt; range.get(0) == Some(Idx::new(10)));
+    assert!(rt; range.get(4) == Some(Idx::new(14)));
+    assert!(rt; range.get(5) == None);
+    assert!(rt; range != SliceRange::empty());
+}
+
+#[test]
+fn an_arena_gives_back_what_was_put(rt: HostRuntime) -> Result<(), Fail> {
+    let mut arena = Arena::with_capacity(rt.alloc(), 2).ok().ok_or("no memory")?;
+    let first = arena.alloc(42).ok().ok_or("no memory")?;
+    let second = arena.alloc(100).ok().ok_or("no memory")?;
+    assert_eq!(rt; *arena.get(first), 42);
+    assert_eq!(rt; arena[second], 100);
+    assert_eq!(rt; arena.len(), 2);
+    Ok(())
+}
+
+#[test]
+fn an_arena_takes_many_values(rt: HostRuntime) -> Result<(), Fail> {
+    let mut arena = Arena::new(rt.alloc());
+    let range = arena.alloc_extend([1, 2, 3, 4, 5]).ok().ok_or("no memory")?;
+    assert_eq!(rt; range.len(), 5);
+    assert_eq!(rt; arena.get_slice(range), [1, 2, 3, 4, 5].as_slice());
+    let mut sum = 0u32;
+    for value in arena.iter() {
+        sum = sum.wrapping_add(*value);
+    }
+    assert_eq!(rt; sum, 15);
+    Ok(())
+}
