@@ -1,2 +1,4 @@
 pub mod Arenas
+pub mod BitSets
 pub mod Ranges
+pub mod Words

@@ -6,10 +6,12 @@
 #![tactic(auto)]
 
 mod arenas;
+mod bit_sets;
 mod indices;
 mod refusals;
 
 pub use arenas::{Arena, ArenaIter};
+pub use bit_sets::ISet;
 pub use indices::{Idx, SliceRange};
 pub use refusals::{NotPushed, OutOfMemory};
 

@@ -1,5 +1,5 @@
 //! Worked examples, and each call that takes memory once with ample memory.
-use crate::{Arena, Idx, SliceRange};
+use crate::{Arena, ISet, Idx, SliceRange};
 use std::hash::{DefaultHasher, Hash, Hasher};
 use std::test::Fail;
 
@@ -58,4 +58,40 @@ fn an_arena_takes_many_values(rt: HostRuntime) -> Result<(), Fail> {
     }
     assert_eq!(rt; sum, 15);
     Ok(())
+}
+
+#[test]
+fn a_bit_set_crosses_its_words(rt: HostRuntime) -> Result<(), Fail> {
+    let mut bits = ISet::new(rt.alloc(), 65).ok().ok_or("no memory")?;
+    for index in 0..65usize {
+        assert!(rt; index < bits.capacity());
+        assert!(rt; !bits.get(index));
+        bits.set(index);
+    }
+    assert!(rt; 65 < bits.capacity());
+    assert!(rt; bits.all_set(65));
+    assert!(rt; !bits.all_set(66));
+    Ok(())
+}
+
+#[test]
+fn a_bit_set_forgets_one_index(rt: HostRuntime) -> Result<(), Fail> {
+    let mut bits = ISet::new(rt.alloc(), 100).ok().ok_or("no memory")?;
+    bits.set(0);
+    bits.set(64);
+    bits.set(99);
+    bits.unset(0);
+    assert!(rt; !bits.get(0) && bits.get(64) && bits.get(99));
+    bits.set_all(100);
+    assert!(rt; bits.all_set(100));
+    assert!(rt; !bits.get(100));
+    Ok(())
+}
+
+#[test]
+fn a_small_bit_set_takes_no_memory(rt: HostRuntime) {
+    let mut bits = ISet::default();
+    bits.set(63);
+    assert!(rt; bits.get(63) && !bits.get(62));
+    assert_eq!(rt; bits.capacity(), 64);
 }
