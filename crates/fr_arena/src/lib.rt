@@ -9,11 +9,13 @@ mod arenas;
 mod bit_sets;
 mod indices;
 mod refusals;
+mod ropes;
 
 pub use arenas::{Arena, ArenaIter};
 pub use bit_sets::ISet;
 pub use indices::{Idx, SliceRange};
 pub use refusals::{NotPushed, OutOfMemory};
+pub use ropes::{ListRope, RopeIter};
 
 #[cfg(test)]
 mod tests;

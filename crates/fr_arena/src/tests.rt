@@ -1,5 +1,5 @@
 //! Worked examples, and each call that takes memory once with ample memory.
-use crate::{Arena, ISet, Idx, SliceRange};
+use crate::{Arena, ISet, Idx, ListRope, SliceRange};
 use std::hash::{DefaultHasher, Hash, Hasher};
 use std::test::Fail;
 
@@ -94,4 +94,45 @@ fn a_small_bit_set_takes_no_memory(rt: HostRuntime) {
     bits.set(63);
     assert!(rt; bits.get(63) && !bits.get(62));
     assert_eq!(rt; bits.capacity(), 64);
+}
+
+#[test]
+fn a_rope_drains_in_order(rt: HostRuntime) -> Result<(), Fail> {
+    let mut rope = ListRope::with_chunk_capacity(rt.alloc(), 4);
+    for item in 0..10u32 {
+        rope.push(item).ok().ok_or("no memory")?;
+        assert!(rt; rope.initialized_count() < rope.len());
+        rope.mark_last_initialized();
+    }
+    assert_eq!(rt; rope.chunk_count(), 3);
+    assert_eq!(rt; rope.initialized_count(), rope.len());
+    let mut drained = Vec::new(rt.alloc());
+    rope.drain_into(|item| {
+        let _ = drained.push(item);
+    });
+    assert_eq!(rt;
+        drained.as_slice(),
+        [0, 1, 2, 3, 4, 5, 6, 7, 8, 9].as_slice()
+    );
+    assert!(rt; rope.is_empty());
+    assert_eq!(rt; rope.chunk_count(), 0);
+    Ok(())
+}
+
+#[test]
+fn a_rope_shows_its_marked_items(rt: HostRuntime) -> Result<(), Fail> {
+    let mut rope = ListRope::new(rt.alloc());
+    for item in [7u8, 8, 9] {
+        rope.push(item).ok().ok_or("no memory")?;
+    }
+    assert!(rt; rope.len() == 3 && rope.initialized_count() == 0);
+    rope.mark_last_initialized();
+    rope.mark_last_initialized();
+    let mut shown = Vec::new(rt.alloc());
+    for item in rope.iter_initialized() {
+        shown.push(*item)?;
+    }
+    assert_eq!(rt; shown.as_slice(), [7, 8].as_slice());
+    assert_eq!(rt; rope.len(), 3);
+    Ok(())
 }
