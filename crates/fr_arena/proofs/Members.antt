@@ -167,6 +167,14 @@ module _ (before : BitSet) (old new : List ℕ) (index word : ℕ) (view : bit_s
       (ap members_of put ∙ ap (λ w. members_of (set_at old (index / 64) (bit_and w (bit_not w64 (1 * 2 ^ (index % 64) % 2 ^ 64))))) read
       ∙ bit_unset old index old_inside ∙ ap (λ (b : BitSet). set.remove b.members index) view)
 
+  pub set_by_index : new ≡ set_at old (index / 64) (bit_or word (1 * 2 ^ (index % 64) % 2 ^ 64))
+      → (other : ℕ) → set.contains (bit_set_of new).members other ≡ (eqb other index || set.contains before.members other)
+  set_by_index put other = ap (λ (b : BitSet). set.contains b.members other) (set_is put) ∙ inserted before.members index other
+
+  pub unset_by_index : new ≡ set_at old (index / 64) (bit_and word (bit_not w64 (1 * 2 ^ (index % 64) % 2 ^ 64)))
+      → (other : ℕ) → set.contains (bit_set_of new).members other ≡ (not (eqb other index) && set.contains before.members other)
+  unset_by_index put other = ap (λ (b : BitSet). set.contains b.members other) (unset_is put) ∙ removed before.members index other
+
 module _ (b : BitSet) (words : List ℕ) (view : bit_set_of words ≡ b) where
   pub get_is : (index word : ℕ) → word ≡ get_or words (index / 64) 0 → eqb (bit_and (word / 2 ^ (index % 64)) 1) 1 ≡ set.contains b.members index
   get_is index word read =
@@ -190,3 +198,7 @@ no_members n = members_are (replicate n 0) _ (λ q.
       | inr above ↦ get_or_past (replicate n 0) (q / 64) 0 (rw length-replicate above)
     ] in
     ap (λ w. is_one w (q % 64)) zero_there ∙ ap (λ m. eqb m 1) (bit_at-zero (q % 64)) ∙ sym (contains-empty nat_cmp q))
+
+-- an empty set, index by index
+pub none_by_index : (s : set.FinSet nat_cmp) → s ≡ set.empty → (index : ℕ) → set.contains s index ≡ false
+none_by_index s empty index = ap (λ t. set.contains t index) empty ∙ contains-empty nat_cmp index

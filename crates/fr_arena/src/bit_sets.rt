@@ -1,5 +1,5 @@
 //! A set of small numbers, one bit for each.
-ghost use Rattle.std.specs.Prelude.{◌≡◌, ◌+◌, ◌-◌, ◌*◌, ◌/◌, ◌%◌, ◌^◌, ◌<◌, ◌≤◌, ◌↔◌, length, min, max, IsTrue, IsOk, IfOk, slice_index, slice_set, ℕ, nat_lt, ◌||◌};
+ghost use Rattle.std.specs.Prelude.{◌≡◌, ◌+◌, ◌-◌, ◌*◌, ◌/◌, ◌%◌, ◌^◌, ◌<◌, ◌≤◌, ◌↔◌, length, min, max, IsTrue, IsOk, IfOk, slice_index, slice_set, ℕ, nat_lt, ◌==◌, ◌||◌, ◌&&◌, not, false};
 ghost use Rattle.std.specs.Int.{div_ceil};
 ghost use Rattle.std.specs.FinSet as set;
 ghost use Rattle.fr_arena.specs.BitSets.{all_below, HasAllBelow, IsWithinCapacity};
@@ -77,6 +77,7 @@ impl ISet {
     /// The empty set with room for at least `count` numbers: the capacity is the next multiple of 64, and 64 at least.
     pub fn new(alloc: Global, count: usize) -> Result<Self, OutOfMemory>
         ensures empty { IfOk result (λ it. it.members ≡ set.empty) }
+        ensures by_index { IfOk result (λ it. (index : ℕ) → set.contains it.members index ≡ false) }
         ensures capacity { IfOk result (λ it. it.capacity ≡ max 64 (64 * div_ceil count 64)) }
         ensures room { IfOk result (λ it. count ≤ it.capacity) }
         ensures small { count ≤ 64 → IsOk result }
@@ -104,7 +105,8 @@ impl ISet {
     /// Puts `index` into the set.
     pub fn set(&mut self, index: usize)
         requires { index < self.old.capacity }
-        ensures { self.new ≡ record self.old { members = set.insert self.old.members index } }
+        ensures value { self.new ≡ record self.old { members = set.insert self.old.members index } }
+        ensures by_index { (other : ℕ) → set.contains self.new.members other ≡ (other == index || set.contains self.old.members other) }
     {
         let word = self.words.get(index / 64);
         self.words.put(index / 64, word | (1 << (index % 64)));
@@ -113,7 +115,8 @@ impl ISet {
     /// Takes `index` out of the set.
     pub fn unset(&mut self, index: usize)
         requires { index < self.old.capacity }
-        ensures { self.new ≡ record self.old { members = set.remove self.old.members index } }
+        ensures value { self.new ≡ record self.old { members = set.remove self.old.members index } }
+        ensures by_index { (other : ℕ) → set.contains self.new.members other ≡ (not (other == index) && set.contains self.old.members other) }
     {
         let word = self.words.get(index / 64);
         self.words.put(index / 64, word & !(1 << (index % 64)));
@@ -145,7 +148,7 @@ impl ISet {
     pub fn set_all(&mut self, count: usize)
         requires { count ≤ self.old.capacity }
         ensures value { self.new ≡ record self.old { members = set.union self.old.members (all_below count) } }
-        ensures by_index { (index : ℕ) → set.contains self.new.members index ≡ (nat_lt index count || set.contains self.old.members index) }
+        ensures by_index { (other : ℕ) → set.contains self.new.members other ≡ (nat_lt other count || set.contains self.old.members other) }
     {
         for at in 0..count.div_ceil(64) {
             let word = self.words.get(at);
