@@ -1,5 +1,5 @@
 -- Chunks that are filled from the front: their items, their number, and one more item.
-use Rattle.std.proofs.Common.{◌≡◌, ℕ, zero, suc, ◌+◌, ◌-◌, ◌*◌, ◌<◌, ◌≤◌, min, Bool, true, false, ltb, List, [], ◌∷◌, ◌++◌, length, get_or, refl, sym, ap, ◌∙◌, subst, append_assoc, length-append, arith}
+use Rattle.std.proofs.Common.{◌≡◌, ℕ, suc, ◌+◌, ◌-◌, ◌*◌, ◌<◌, ◌≤◌, true, false, ltb, List, [], ◌∷◌, ◌++◌, length, get_or, sym, ap, ◌∙◌, subst, append_assoc, length-append, arith}
 use Rattle.std.specs.Int.{div_ceil}
 use Rattle.std.specs.List.{FoldsTo, slice_set as set_at}
 use Rattle.std.specs.Vec.{vec_capacity}

@@ -1,18 +1,17 @@
 -- The loops of a bit set over the words of the numbers below a count.
-use Rattle.std.proofs.Common.{◌≡◌, ℕ, ◌+◌, ◌-◌, ◌*◌, ◌/◌, ◌%◌, ◌^◌, ◌<◌, ◌≤◌, min, Bool, true, false, ◌&&◌, ◌||◌, ltb, eqb, List, length, get_or, bit_and, bit_or, refl, sym, ap, ◌∙◌, subst, inl, inr, arith}
+use Rattle.std.proofs.Common.{◌≡◌, ℕ, ◌+◌, ◌-◌, ◌*◌, ◌/◌, ◌^◌, ◌<◌, ◌≤◌, min, Bool, true, false, ◌&&◌, ◌||◌, ltb, eqb, List, length, get_or, bit_and, bit_or, refl, sym, ap, ◌∙◌, subst, inl, inr, arith}
 use Rattle.std.specs.FinSet as set
 use Rattle.std.specs.FinSet.{same_set, contains-union, nat_cmp-IsAntisymmetric}
 use Rattle.std.specs.Cmp.{nat_cmp_total}
 use Rattle.std.specs.Int.{bit_at, div_ceil}
 use Rattle.std.specs.List.{slice_set as set_at}
-use Rattle.std.specs.Ordering.{nat_cmp}
 use Rattle.std.proofs.lemmas.Bool.{cases_lt, eqb-true, lt-ltb, le-ltb}
 use Rattle.std.proofs.lemmas.Bool.Decides.{nat_tests}
 use Rattle.std.proofs.lemmas.List.{length-set}
 use Rattle.std.proofs.lemmas.Nat.Bits.{bit_at-lt, bit_at_and, bit_at_or, bit_at_ones, bit_at_ones_above, same_from_bits}
 use Rattle.fr_arena.specs.BitSets.{BitSet, HasAllBelow, all_below}
 use Rattle.fr_arena.specs.Words.{is_one, has_index, members_of, capacity_of, bit_set_of}
-use Rattle.fr_arena.proofs.Members.{at_bit, written, contains-members_of, contains-all_below, members_are, stands_for}
+use Rattle.fr_arena.proofs.Members.{at_bit, written, contains-members_of, contains-all_below, stands_for}
 
 -- the word at a place, of all numbers below the count
 abbrev pub wanted : ℕ → ℕ → ℕ

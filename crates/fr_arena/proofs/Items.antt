@@ -1,7 +1,7 @@
 -- What `extend` says of the items that it took, as a run of the iterator.
-use Rattle.std.proofs.Common.{◌≡◌, ℕ, ◌<◌, ◌≤◌, ◌+◌, Bool, true, false, List, [], ◌∷◌, length, Option, Some, None, Result, Ok, Err, refl, sym, ap, ◌∙◌, subst, zero, suc, ◌-◌, ◌++◌, length-append, arith}
-use Rattle.std.specs.Iterator.{Drains, DrainsIf, Yields}
-use Rattle.std.specs.Iterator.Runs.{WholeRun, Run, YieldsRun, Trigger}
+use Rattle.std.proofs.Common.{◌≡◌, ℕ, ◌<◌, ◌+◌, true, false, List, [], ◌∷◌, length, Option, Some, Result, Ok, Err, refl, ap, ◌∙◌, zero, suc, ◌-◌, ◌++◌, length-append, arith}
+use Rattle.std.specs.Iterator.{Drains, Yields}
+use Rattle.std.specs.Iterator.Runs.{Run, YieldsRun, Trigger}
 use Rattle.std.specs.List.{slice_get, slice_index_or}
 use Rattle.std.specs.Option.{option_map}
 use Rattle.std.specs.Result.{MatchResult, is_err}

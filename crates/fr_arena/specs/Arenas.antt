@@ -1,5 +1,5 @@
 -- What `Arena::alloc_extend` asks of its values, and what it appends.
-use Rattle.std.specs.Prelude.{◌≡◌, ℕ, ◌≤◌, List, Option}
+use Rattle.std.specs.Prelude.{ℕ, ◌≤◌, List, Option}
 use Rattle.std.specs.Iterator.Runs.{EachRunFrom, WholeRun}
 
 module _ {U S A : Type 0} (becomes : U → S → Type 0) (steps : S → Option A → S → Type 0) (values : U) where

@@ -15,7 +15,7 @@ pub use arenas::{Arena, ArenaIter};
 pub use bit_sets::ISet;
 pub use indices::{Idx, SliceRange};
 pub use refusals::{NotPushed, OutOfMemory};
-pub use ropes::{ListRope, RopeIter};
+pub use ropes::{ListRope, RopeItems, RopeIter};
 
 #[cfg(test)]
 mod tests;

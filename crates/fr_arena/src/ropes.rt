@@ -1,7 +1,7 @@
 //! A rope: a list that grows by chunks, so that no item moves before the rope is drained.
 ghost use Rattle.std.specs.Prelude.{◌≡◌, ◌+◌, ◌-◌, ◌<◌, ◌≤◌, ◌==◌, [], ◌∷◌, ◌++◌, length, take, IfErr, OnOk, OnErr, ℕ, vec_len, vec_capacity};
 ghost use Rattle.std.specs.Int.{div_ceil};
-ghost use Rattle.std.specs.Iterator.{YieldsFirstRef, item_count};
+ghost use Rattle.std.specs.Iterator.{YieldsFirst, YieldsFirstRef, item_count};
 ghost use Rattle.std.specs.List.{FoldsTo};
 ghost use Rattle.fr_arena.specs.Ropes.{Rope, empty_rope, with_item};
 ghost use Rattle.fr_arena.specs.Chunks.{is_open, EndsWithChunk};
@@ -9,7 +9,7 @@ ghost use Rattle.fr_arena.specs.Chunks.{is_open, EndsWithChunk};
 use crate::refusals::NotPushed;
 use std::alloc::Global;
 use std::marker::Model;
-use std::mem;
+use std::{mem, vec};
 
 /// A list of items that grows by chunks of a fixed size, with a count of those that are marked.
 ///
@@ -151,6 +151,22 @@ impl<T> ListRope<T> {
     }
 }
 
+impl<T> ListRope<T> {
+    /// Takes all items out, marked or not, for a caller that goes over them by itself.
+    pub fn take_items(&mut self) -> RopeItems<T>
+        ensures items { result ≡ self.old.items }
+        ensures emptied { self.new ≡ empty_rope self.old.chunk_size }
+    {
+        let chunks = mem::replace(&mut self.chunks, Vec::new(self.alloc));
+        self.len = 0;
+        self.initialized = 0;
+        RopeItems {
+            chunk: Vec::new(self.alloc).into_iter(),
+            chunks: chunks.into_iter(),
+        }
+    }
+}
+
 // Hands the items of a chunk to `f`, in order.
 fn hand_over<T, F: FnMut(T)>(chunk: Vec<T>, f: &mut F)
     requires { F.IsAlwaysCallable f.old }
@@ -242,4 +258,39 @@ fn push_chunk<T>(
     chunk.push_reserved(item);
     chunks.push_reserved(chunk);
     Ok(())
+}
+
+/// The items taken out of a rope that are still to come. Contracts see them as a list.
+#[derive(Drop)]
+pub struct RopeItems<T> {
+    // What is left of the chunk at hand, and the chunks behind it.
+    chunk: vec::IntoIter<T>,
+    chunks: vec::IntoIter<Vec<T>>,
+}
+
+impl<T> Model for RopeItems<T> {
+    ghost use Rattle.std.specs.Prelude.{List, ◌++◌};
+    ghost use Rattle.std.specs.Vec.Iter.{into_iter_items};
+    ghost use Rattle.fr_arena.specs.Chunks.{items_of};
+
+    ghost Value = { List T };
+
+    ghost view = { λ iter. into_iter_items iter.chunk ++ items_of (into_iter_items iter.chunks) };
+}
+
+impl<T: Drop> Iterator for RopeItems<T> {
+    type Item = T;
+
+    ghost next_gives = { YieldsFirst (λ left. left) };
+
+    ghost remaining = { item_count (λ left. left) };
+
+    fn next(&mut self) -> Option<T> {
+        loop {
+            if let Some(item) = self.chunk.next() {
+                return Some(item);
+            }
+            self.chunk = self.chunks.next()?.into_iter();
+        }
+    }
 }
