@@ -1,0 +1,139 @@
+//! Typed indices into an arena, and runs of them.
+ghost use Rattle.std.specs.Prelude.{◌≡◌, ◌+◌, ◌<◌, ◌≤◌, ◌==◌, ◌↔◌, ℕ, IsTrue, SomeIff};
+ghost use Rattle.fr_arena.specs.Ranges.{Range, indices_from};
+
+use std::hash::Hash;
+use std::marker::{Model, PhantomData};
+
+/// The index of a `T` in an arena, a number of 32 bits.
+///
+/// Contracts see the number. The largest stands for no index at all.
+#[derive_where(Clone, Copy, PartialEq, Eq, Hash)]
+#[derive(Drop)]
+pub struct Idx<T> {
+    raw: u32,
+    of: PhantomData<T>,
+}
+
+impl<T> Model for Idx<T> {
+    ghost Value = { ℕ };
+
+    ghost view = { λ idx. idx.raw };
+
+    ghost inverse = { λ raw. record { raw = raw; of = record {} } };
+}
+
+impl<T> Idx<T> {
+    /// The index with this number, also one that no arena holds yet.
+    pub fn new(raw: u32) -> Self
+        ensures { result ≡ raw }
+    {
+        Idx {
+            raw,
+            of: PhantomData,
+        }
+    }
+
+    /// The number.
+    pub fn raw(self) -> u32
+        ensures { result ≡ self }
+    {
+        self.raw
+    }
+
+    /// The index that stands for none.
+    pub fn invalid() -> Self
+        ensures { result ≡ 4294967295 }
+    {
+        Idx::new(u32::MAX)
+    }
+
+    /// Whether this is any index but `invalid`.
+    pub fn is_valid(self) -> bool
+        ensures { IsTrue result ↔ ¬ (self ≡ 4294967295) }
+    {
+        self.raw != u32::MAX
+    }
+}
+
+/// A run of indices of `T`s that lie side by side in an arena.
+///
+/// Contracts see the first index and the number of indices. No index of a range is above 4294967294.
+#[derive_where(Clone, Copy, PartialEq, Eq)]
+#[derive(Drop)]
+pub struct SliceRange<T> {
+    start: u32,
+    len: u32,
+    of: PhantomData<T>,
+}
+
+impl<T> Model for SliceRange<T> {
+    ghost Value = { Range };
+
+    ghost view = { λ range. record { start = range.start; len = range.len } };
+
+    ghost invariant = { λ range. range.start + range.len ≤ 4294967295 };
+
+    ghost inverse = { λ range. record { start = range.start; len = range.len; of = record {} } };
+}
+
+impl<T> SliceRange<T> {
+    /// The `len` indices from `start` on.
+    pub fn new(start: u32, len: u32) -> Self
+        requires { start + len ≤ 4294967295 }
+        ensures { result ≡ indices_from start len }
+    {
+        SliceRange {
+            start,
+            len,
+            of: PhantomData,
+        }
+    }
+
+    /// The range of no index, at 0.
+    pub fn empty() -> Self
+        ensures { result ≡ indices_from 0 0 }
+    {
+        SliceRange::new(0, 0)
+    }
+
+    /// The first index, or where it would be.
+    pub fn start(self) -> u32
+        ensures { result ≡ self.start }
+    {
+        self.start
+    }
+
+    /// How many indices there are.
+    pub fn len(self) -> u32
+        ensures value { result ≡ self.len }
+        ensures bound { self.start + self.len ≤ 4294967295 }
+    {
+        self.len
+    }
+
+    /// Whether there is no index.
+    pub fn is_empty(self) -> bool
+        ensures { result ≡ (self.len == 0) }
+    {
+        self.len == 0
+    }
+
+    /// The index at place `n` of the range, if it has one.
+    pub fn get(self, n: usize) -> Option<Idx<T>>
+        ensures { SomeIff result (n < self.len) (self.start + n) }
+    {
+        if n < self.len as usize {
+            Some(Idx::new(self.start + n as u32))
+        } else {
+            None
+        }
+    }
+    // The first index and the one behind the last, as places of a list.
+    pub(crate) fn bounds(self) -> (usize, usize)
+        ensures { result ≡ (self.start, self.start + self.len) }
+    {
+        let start = self.start as usize;
+        (start, start + self.len as usize)
+    }
+}
