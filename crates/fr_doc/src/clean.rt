@@ -1,0 +1,63 @@
+//! Devices that never fail.
+ghost use Rattle.std.specs.Prelude.{◌≡◌, ◌≤◌, ℕ, List, Some, None, length, drop};
+
+use super::device::{Failed, Sink, Source};
+use super::pieces::copy_front;
+use fr_shape::Items;
+use std::marker::Model;
+
+/// A source that gives the bytes of a list, as many as fit, and never fails.
+#[derive(Drop)]
+pub struct CleanSource {
+    bytes: Items<u8>,
+    position: usize,
+}
+
+impl Model for CleanSource {
+    ghost Value = { List ℕ };
+
+    ghost view = { λ source. drop source.position source.bytes };
+
+    ghost invariant = { λ source. source.position ≤ length source.bytes };
+}
+
+impl CleanSource {
+    pub fn new(bytes: Items<u8>) -> CleanSource
+        ensures { result ≡ bytes }
+    {
+        CleanSource { bytes, position: 0 }
+    }
+}
+
+impl Source for CleanSource {
+    ghost left = { λ source. Some source };
+
+    ghost faults = { λ _. 0 };
+
+    fn read(&mut self, into: &mut [u8]) -> Result<usize, Failed> {
+        let rest = &self.bytes.as_slice()[self.position..];
+        let n = copy_front(into.len(), rest, into);
+        self.position += n;
+        Ok(n)
+    }
+}
+
+/// A sink that takes each piece whole, keeps nothing of it, and never fails.
+#[derive(Drop)]
+pub struct CleanSink;
+
+impl CleanSink {
+    pub fn new() -> CleanSink {
+        CleanSink
+    }
+}
+
+impl Sink for CleanSink {
+    ghost taken = { λ _. None };
+
+    ghost faults = { λ _. 0 };
+
+    fn write(&mut self, piece: &[u8]) -> Result<usize, Failed> {
+        Ok(piece.len())
+    }
+}
