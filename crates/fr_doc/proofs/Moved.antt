@@ -38,9 +38,10 @@ append_known-append (Some xs) front back = ap Some (append_assoc xs front back)
 -- after one more call
 pub more_written : (before middle after : Option (List ℕ)) (text rest : List ℕ) (n : ℕ) → IsWritten before middle text rest → after ≡ append_known middle (take n rest) → IsWritten before after text (drop n rest)
 more_written before middle after text rest n written moved = record {
-    done = written.done ++ take n rest;
-    parts = written.parts ∙ ap (λ back. written.done ++ back) (sym (take-append-drop n rest)) ∙ sym (append_assoc written.done (take n rest) (drop n rest));
-    taken = moved ∙ ap (λ taken. append_known taken (take n rest)) written.taken ∙ append_known-append before written.done (take n rest) }
+  done = written.done ++ take n rest;
+  parts = written.parts ∙ ap (λ back. written.done ++ back) (sym (take-append-drop n rest)) ∙ sym (append_assoc written.done (take n rest) (drop n rest));
+  taken = moved ∙ ap (λ taken. append_known taken (take n rest)) written.taken ∙ append_known-append before written.done (take n rest);
+}
 
 -- where there is a rest
 pub beginning_written : (before after : Option (List ℕ)) (text rest : List ℕ) → IsWritten before after text rest → 0 < length rest → TakesBeginning before after text

@@ -1,12 +1,13 @@
 //! Devices that never fail.
-ghost use Rattle.std.specs.Prelude.{◌≡◌, ◌≤◌, ℕ, List, Some, None, length, drop};
+ghost use Rattle.std.specs.Prelude.{◌≡◌, ◌<◌, ◌≤◌, ℕ, List, Some, None, Ok, min, length, drop};
+ghost use Rattle.fr_doc.specs.Causes.{ReadConsumes};
 
 use super::device::{Failed, Sink, Source};
 use super::pieces::copy_front;
 use fr_shape::Items;
 use std::marker::Model;
 
-/// A source that gives the bytes of a list, as many as fit, and never fails.
+/// A source that gives the bytes of a list, as many as fit.
 #[derive(Drop)]
 pub struct CleanSource {
     bytes: Items<u8>,
@@ -34,7 +35,12 @@ impl Source for CleanSource {
 
     ghost faults = { λ _. 0 };
 
-    fn read(&mut self, into: &mut [u8]) -> Result<usize, Failed> {
+    fn read(&mut self, into: &mut [u8]) -> Result<usize, Failed>
+        requires { 0 < length into.old }
+        ensures count { result ≡ Ok (min (length into.old) (length self.old)) }
+        ensures bytes { ReadConsumes (Some self.old) (Some self.new) result into.new }
+        ensures rest { self.new ≡ drop (length into.old) self.old }
+    {
         let rest = &self.bytes.as_slice()[self.position..];
         let n = copy_front(into.len(), rest, into);
         self.position += n;
@@ -42,7 +48,7 @@ impl Source for CleanSource {
     }
 }
 
-/// A sink that takes each piece whole, keeps nothing of it, and never fails.
+/// A sink that takes each piece whole and keeps nothing of it.
 #[derive(Drop)]
 pub struct CleanSink;
 
@@ -57,7 +63,9 @@ impl Sink for CleanSink {
 
     ghost faults = { λ _. 0 };
 
-    fn write(&mut self, piece: &[u8]) -> Result<usize, Failed> {
+    fn write(&mut self, piece: &[u8]) -> Result<usize, Failed>
+        ensures whole { result ≡ Ok (length piece.now) }
+    {
         Ok(piece.len())
     }
 }

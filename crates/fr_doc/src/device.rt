@@ -1,8 +1,9 @@
-//! What the program reads from and writes to: two traits that say which bytes move and when a call may fail.
+//! What a program reads from and writes to: two traits that say which bytes move and why a call fails.
 ghost use Rattle.std.specs.Prelude.{◌<◌, ◌≡◌, ◌≤◌, ℕ, List, Option, length};
-ghost use Rattle.fr_doc.specs.Causes.{HasCause, MovesAtMost, ReadConsumes, EndsOnlyAtEnd, WriteAppends, TakesSome, Rose, one_more};
+ghost use Rattle.fr_doc.specs.Causes.{HasCause, MovesAtMost, ReadConsumes, EndsOnlyAtEnd};
+ghost use Rattle.fr_doc.specs.Causes.{WriteAppends, TakesSome, Rose, one_more};
 
-/// The device failed. Its count of faults tells that it did.
+/// The device failed, and has counted that as a fault.
 #[derive(Drop)]
 pub struct Failed;
 
@@ -21,10 +22,10 @@ pub trait Source {
     /// The bytes that are left, where the device tells them.
     ghost left: { Self → Option (List ℕ) };
 
-    /// How often the device failed, counted in a u64 that stands still at its last value.
+    /// How often the device has failed, counted in a u64 that stands still at its last value.
     ghost faults: { Self → ℕ };
 
-    /// Reads the next bytes to the front of a piece and answers how many; 0 is the end.
+    /// Reads the next bytes to the front of a piece, and answers how many. 0 is the end.
     fn read(&mut self, into: &mut [u8]) -> Result<usize, Failed>
         requires { 0 < length into.old }
         ensures at_most { MovesAtMost (length into.new) result }
@@ -39,11 +40,11 @@ pub trait Sink {
     /// The bytes that were taken, where the device tells them.
     ghost taken: { Self → Option (List ℕ) };
 
-    /// How often the device failed, counted in a u64 that stands still at its last value.
+    /// How often the device has failed, counted in a u64 that stands still at its last value.
     ghost faults: { Self → ℕ };
 
-    /// Takes bytes from the front of a piece and answers how many. To take nothing of a piece that isn't empty is a
-    /// fault.
+    /// Takes bytes from the front of a piece, and answers how many. To take nothing of a piece that
+    /// isn't empty is a fault.
     fn write(&mut self, piece: &[u8]) -> Result<usize, Failed>
         ensures at_most { MovesAtMost (length piece.now) result }
         ensures some { TakesSome result piece.now }

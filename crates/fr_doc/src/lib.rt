@@ -1,4 +1,4 @@
-//! The documents of the program: the devices that they come from and go to, their JSON forms.
+//! The documents of a program: the devices that they come from and go to, and their JSON forms.
 #![tactic(auto)]
 
 mod adapters;

@@ -1,6 +1,7 @@
-//! Devices in memory that move bytes in small pieces and fail where they are told to.
+//! Devices in memory, which move bytes in pieces and fail at calls that are set in advance.
 ghost use Rattle.std.specs.Prelude.{◌≡◌, ◌↔◌, ◌<◌, ◌≤◌, ◌++◌, [], List, Some, length, min, drop, take, IfOk, OnErr, IsErr, Contains};
-ghost use Rattle.fr_doc.specs.Causes.{HasCause, MovesAtMost, ReadConsumes, EndsOnlyAtEnd, WriteAppends, TakesSome, one_more};
+ghost use Rattle.fr_doc.specs.Causes.{HasCause, MovesAtMost, ReadConsumes, EndsOnlyAtEnd};
+ghost use Rattle.fr_doc.specs.Causes.{WriteAppends, TakesSome, one_more};
 
 use super::device::{Failed, Sink, Source};
 use super::pieces::copy_front;
@@ -9,7 +10,7 @@ use fr_shape::Items;
 use std::alloc::Global;
 use std::marker::Model;
 
-/// A source that gives the bytes of a list.
+/// A source that gives the bytes of a list, piece by piece.
 #[derive(Drop)]
 pub struct MemSource {
     bytes: Items<u8>,
@@ -25,17 +26,28 @@ impl Model for MemSource {
     ghost Value = { MemoryInput };
 
     ghost view = { λ s. record {
-        left = drop s.position s.bytes; piece = s.piece; fails = s.schedule.fails;
-        calls = s.schedule.calls; faults = s.schedule.faults } };
+      left = drop s.position s.bytes;
+      piece = s.piece;
+      fails = s.schedule.fails;
+      calls = s.schedule.calls;
+      faults = s.schedule.faults;
+    } };
 
     ghost invariant = { λ s. (s.position ≤ length s.bytes) × (0 < s.piece) };
 }
 
 impl MemSource {
-    /// Gives at most `piece` bytes a call, and fails at the calls `fails`, counted from 1.
+    /// A source that gives at most `piece` bytes a call, and fails at the calls whose numbers are in
+    /// `fails`. The first call is number 1.
     pub fn new(bytes: Items<u8>, piece: usize, fails: Items<u64>) -> MemSource
         requires { 0 < piece }
-        ensures { result ≡ record { left = bytes; piece = piece; fails = fails; calls = 0; faults = 0 } }
+        ensures { result ≡ record {
+          left = bytes;
+          piece = piece;
+          fails = fails;
+          calls = 0;
+          faults = 0;
+        } }
     {
         MemSource {
             bytes,
@@ -62,11 +74,16 @@ impl Source for MemSource {
 
         // At this one.
         ensures fails { IsErr result ↔ Contains self.old.fails (one_more self.old.calls) }
-        ensures count { IfOk result (λ n. n ≡ min self.old.piece (min (length into.old) (length self.old.left))) }
+        ensures count { IfOk result (λ n.
+            n ≡ min self.old.piece (min (length into.old) (length self.old.left))) }
         ensures ok { IfOk result (λ n. self.new ≡ record self.old {
-            left = drop n self.old.left; calls = one_more self.old.calls }) }
+          left = drop n self.old.left;
+          calls = one_more self.old.calls;
+        }) }
         ensures err { OnErr result (self.new ≡ record self.old {
-            calls = one_more self.old.calls; faults = one_more self.old.faults }) }
+          calls = one_more self.old.calls;
+          faults = one_more self.old.faults;
+        }) }
     {
         self.schedule.count_call()?;
         let rest = &self.bytes.as_slice()[self.position..];
@@ -76,7 +93,7 @@ impl Source for MemSource {
     }
 }
 
-/// A sink that keeps what it takes.
+/// A sink that takes bytes piece by piece and keeps them.
 #[derive(Drop)]
 pub struct MemSink {
     taken: Vec<u8>,
@@ -91,17 +108,28 @@ impl Model for MemSink {
     ghost Value = { MemoryOutput };
 
     ghost view = { λ s. record {
-        taken = s.taken.items; piece = s.piece; fails = s.schedule.fails;
-        calls = s.schedule.calls; faults = s.schedule.faults } };
+      taken = s.taken.items;
+      piece = s.piece;
+      fails = s.schedule.fails;
+      calls = s.schedule.calls;
+      faults = s.schedule.faults;
+    } };
 
     ghost invariant = { λ s. 0 < s.piece };
 }
 
 impl MemSink {
-    /// Takes at most `piece` bytes a call, and fails at the calls `fails`, counted from 1.
+    /// A sink that takes at most `piece` bytes a call, and fails at the calls whose numbers are in
+    /// `fails`. The first call is number 1.
     pub fn new(alloc: Global, piece: usize, fails: Items<u64>) -> MemSink
         requires { 0 < piece }
-        ensures { result ≡ record { taken = []; piece = piece; fails = fails; calls = 0; faults = 0 } }
+        ensures { result ≡ record {
+          taken = [];
+          piece = piece;
+          fails = fails;
+          calls = 0;
+          faults = 0;
+        } }
     {
         MemSink {
             taken: Vec::new(alloc),
@@ -123,7 +151,6 @@ impl Sink for MemSink {
 
     ghost faults = { λ sink. sink.faults };
 
-    /// To find no memory for a piece is a fault too.
     fn write(&mut self, piece: &[u8]) -> Result<usize, Failed>
         // As at each sink.
         ensures at_most { MovesAtMost (length piece.now) result }
@@ -132,13 +159,17 @@ impl Sink for MemSink {
         ensures never_falls { self.old.faults ≤ self.new.faults }
         ensures cause { HasCause self.old.faults self.new.faults result }
 
-        // At this one. It fails at other calls too where there is no memory.
+        // At this one. Where there is no memory for a piece, it fails at other calls too.
         ensures fails { Contains self.old.fails (one_more self.old.calls) → IsErr result }
         ensures count { IfOk result (λ n. n ≡ min self.old.piece (length piece.now)) }
         ensures ok { IfOk result (λ n. self.new ≡ record self.old {
-            taken = self.old.taken ++ take n piece.now; calls = one_more self.old.calls }) }
+          taken = self.old.taken ++ take n piece.now;
+          calls = one_more self.old.calls;
+        }) }
         ensures err { OnErr result (self.new ≡ record self.old {
-            calls = one_more self.old.calls; faults = one_more self.old.faults }) }
+          calls = one_more self.old.calls;
+          faults = one_more self.old.faults;
+        }) }
     {
         self.schedule.count_call()?;
         let n = self.piece.min(piece.len());

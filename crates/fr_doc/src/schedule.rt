@@ -5,8 +5,8 @@ ghost use Rattle.fr_doc.specs.Causes.{one_more};
 use super::device::{Failed, count_fault};
 use fr_shape::Items;
 
-/// The calls that are to fail, counted from 1, and the calls and faults so far. Both counts stand still at their last
-/// value.
+/// The numbers of the calls that are to fail, from 1 on, and the counts of the calls and of the faults
+/// so far, which stand still at their last value.
 #[derive(Drop)]
 pub(crate) struct Schedule {
     pub(crate) fails: Items<u64>,
@@ -30,7 +30,9 @@ impl Schedule {
         ensures fails { IsErr result ↔ Contains self.old.fails (one_more self.old.calls) }
         ensures ok { OnOk result (self.new ≡ record self.old { calls = one_more self.old.calls }) }
         ensures err { OnErr result (self.new ≡ record self.old {
-            calls = one_more self.old.calls; faults = one_more self.old.faults }) }
+          calls = one_more self.old.calls;
+          faults = one_more self.old.faults;
+        }) }
         ensures never_falls { self.old.faults ≤ self.new.faults }
     {
         self.calls = self.calls.saturating_add(1);

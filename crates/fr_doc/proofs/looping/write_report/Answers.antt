@@ -11,5 +11,6 @@ returns-in_err-n-clause-err g c =
 
 pub loop-rest-preserved : goal.loop-rest-preserved
 loop-rest-preserved g c = record {
-    written = rw take_rest (more_written _ _ _ _ _ c.in_ok-n.n c.loop-rest.invariant.written c.in_ok-n.ensures.bytes);
-    never_falls = omega (arith, c.loop-rest.invariant.never_falls, c.write.ensures.never_falls) }
+  written = rw take_rest (more_written _ _ _ _ _ c.in_ok-n.n c.loop-rest.invariant.written c.in_ok-n.ensures.bytes);
+  never_falls = omega (arith, c.loop-rest.invariant.never_falls, c.write.ensures.never_falls);
+}
