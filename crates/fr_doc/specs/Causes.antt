@@ -28,8 +28,8 @@ MovesAtMost len result = IfOk result (λ n. n ≤ len)
 
 -- After `Ok(n)` the first n bytes of the piece are the next n of those that were left, and the others are left still.
 -- After an error all are left still. Bytes that weren't told stay untold.
-abbrev pub ReadConsumes : {E : Type 0} → (before after : Option (List ℕ)) → Result ℕ E → List ℕ → Type 0
-ReadConsumes before after result piece = MatchResult result (λ n. before ≡ prepend_known (take n piece) after) (λ _. after ≡ before)
+abbrev pub ReadMoves : {E : Type 0} → (before after : Option (List ℕ)) → Result ℕ E → List ℕ → Type 0
+ReadMoves before after result piece = MatchResult result (λ n. before ≡ prepend_known (take n piece) after) (λ _. after ≡ before)
 
 -- 0 is answered only where none of the told bytes is left
 abbrev pub EndsOnlyAtEnd : {E : Type 0} → (left : Option (List ℕ)) → Result ℕ E → Type 0
@@ -37,8 +37,8 @@ EndsOnlyAtEnd left result = IfOk result (λ n. n ≡ 0 → IsAtEnd left)
 
 -- After `Ok(n)` the first n bytes of the piece stand behind those that were taken before. After an error no byte was
 -- taken. Bytes that weren't told stay untold.
-abbrev pub WriteAppends : {E : Type 0} → (before after : Option (List ℕ)) → Result ℕ E → List ℕ → Type 0
-WriteAppends before after result piece = MatchResult result (λ n. after ≡ append_known before (take n piece)) (λ _. after ≡ before)
+abbrev pub WriteMoves : {E : Type 0} → (before after : Option (List ℕ)) → Result ℕ E → List ℕ → Type 0
+WriteMoves before after result piece = MatchResult result (λ n. after ≡ append_known before (take n piece)) (λ _. after ≡ before)
 
 -- of a piece that isn't empty something was taken
 abbrev pub TakesSome : {E : Type 0} → Result ℕ E → List ℕ → Type 0

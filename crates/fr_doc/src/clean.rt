@@ -1,6 +1,6 @@
 //! Devices that never fail.
 ghost use Rattle.std.specs.Prelude.{◌≡◌, ◌<◌, ◌≤◌, ℕ, List, Some, None, Ok, min, length, drop};
-ghost use Rattle.fr_doc.specs.Causes.{ReadConsumes};
+ghost use Rattle.fr_doc.specs.Causes.{ReadMoves};
 
 use super::device::{Failed, Sink, Source};
 use super::pieces::copy_front;
@@ -23,6 +23,7 @@ impl Model for CleanSource {
 }
 
 impl CleanSource {
+    /// A source that gives these bytes.
     pub fn new(bytes: Items<u8>) -> CleanSource
         ensures { result ≡ bytes }
     {
@@ -38,7 +39,7 @@ impl Source for CleanSource {
     fn read(&mut self, into: &mut [u8]) -> Result<usize, Failed>
         requires { 0 < length into.old }
         ensures count { result ≡ Ok (min (length into.old) (length self.old)) }
-        ensures bytes { ReadConsumes (Some self.old) (Some self.new) result into.new }
+        ensures bytes { ReadMoves (Some self.old) (Some self.new) result into.new }
         ensures rest { self.new ≡ drop (length into.old) self.old }
     {
         let rest = &self.bytes.as_slice()[self.position..];
@@ -53,7 +54,10 @@ impl Source for CleanSource {
 pub struct CleanSink;
 
 impl CleanSink {
-    pub fn new() -> CleanSink {
+    /// A sink that took nothing yet.
+    pub fn new() -> CleanSink
+        ensures { ⟦<CleanSink as Sink>⟧.faults result ≡ 0 }
+    {
         CleanSink
     }
 }

@@ -1,7 +1,7 @@
 //! What a program reads from and writes to: two traits that say which bytes move and why a call fails.
 ghost use Rattle.std.specs.Prelude.{◌<◌, ◌≡◌, ◌≤◌, ℕ, List, Option, length};
-ghost use Rattle.fr_doc.specs.Causes.{HasCause, MovesAtMost, ReadConsumes, EndsOnlyAtEnd};
-ghost use Rattle.fr_doc.specs.Causes.{WriteAppends, TakesSome, Rose, one_more};
+ghost use Rattle.fr_doc.specs.Causes.{HasCause, MovesAtMost, ReadMoves, EndsOnlyAtEnd};
+ghost use Rattle.fr_doc.specs.Causes.{WriteMoves, TakesSome, Rose, one_more};
 
 /// The device failed, and has counted that as a fault.
 #[derive(Drop)]
@@ -29,7 +29,7 @@ pub trait Source {
     fn read(&mut self, into: &mut [u8]) -> Result<usize, Failed>
         requires { 0 < length into.old }
         ensures at_most { MovesAtMost (length into.new) result }
-        ensures bytes { ReadConsumes (left self.old) (left self.new) result into.new }
+        ensures bytes { ReadMoves (left self.old) (left self.new) result into.new }
         ensures end { EndsOnlyAtEnd (left self.old) result }
         ensures never_falls { faults self.old ≤ faults self.new }
         ensures cause { HasCause (faults self.old) (faults self.new) result };
@@ -48,7 +48,7 @@ pub trait Sink {
     fn write(&mut self, piece: &[u8]) -> Result<usize, Failed>
         ensures at_most { MovesAtMost (length piece.now) result }
         ensures some { TakesSome result piece.now }
-        ensures bytes { WriteAppends (taken self.old) (taken self.new) result piece.now }
+        ensures bytes { WriteMoves (taken self.old) (taken self.new) result piece.now }
         ensures never_falls { faults self.old ≤ faults self.new }
         ensures cause { HasCause (faults self.old) (faults self.new) result };
 }

@@ -1,7 +1,7 @@
 //! Devices in memory, which move bytes in pieces and fail at calls that are set in advance.
 ghost use Rattle.std.specs.Prelude.{◌≡◌, ◌↔◌, ◌<◌, ◌≤◌, ◌++◌, [], List, Some, length, min, drop, take, IfOk, OnErr, IsErr, Contains};
-ghost use Rattle.fr_doc.specs.Causes.{HasCause, MovesAtMost, ReadConsumes, EndsOnlyAtEnd};
-ghost use Rattle.fr_doc.specs.Causes.{WriteAppends, TakesSome, one_more};
+ghost use Rattle.fr_doc.specs.Causes.{HasCause, MovesAtMost, ReadMoves, EndsOnlyAtEnd};
+ghost use Rattle.fr_doc.specs.Causes.{WriteMoves, TakesSome, one_more};
 
 use super::device::{Failed, Sink, Source};
 use super::pieces::copy_front;
@@ -67,7 +67,7 @@ impl Source for MemSource {
         // As at each source.
         requires { 0 < length into.old }
         ensures at_most { MovesAtMost (length into.new) result }
-        ensures bytes { ReadConsumes (Some self.old.left) (Some self.new.left) result into.new }
+        ensures bytes { ReadMoves (Some self.old.left) (Some self.new.left) result into.new }
         ensures end { EndsOnlyAtEnd (Some self.old.left) result }
         ensures never_falls { self.old.faults ≤ self.new.faults }
         ensures cause { HasCause self.old.faults self.new.faults result }
@@ -155,7 +155,7 @@ impl Sink for MemSink {
         // As at each sink.
         ensures at_most { MovesAtMost (length piece.now) result }
         ensures some { TakesSome result piece.now }
-        ensures bytes { WriteAppends (Some self.old.taken) (Some self.new.taken) result piece.now }
+        ensures bytes { WriteMoves (Some self.old.taken) (Some self.new.taken) result piece.now }
         ensures never_falls { self.old.faults ≤ self.new.faults }
         ensures cause { HasCause self.old.faults self.new.faults result }
 
