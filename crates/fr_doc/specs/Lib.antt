@@ -1,0 +1,3 @@
+pub mod Adapter
+pub mod Causes
+pub mod Memory
