@@ -1,1 +1,5 @@
+pub mod Dynamics
+pub mod Loops
+pub mod Pairs
 pub mod Parsed
+pub mod Values

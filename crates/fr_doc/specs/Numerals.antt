@@ -3,7 +3,7 @@ use Rattle.std.specs.Prelude.{ℕ, ◌+◌, ◌^◌, ◌==◌, ◌&&◌, not, na
 use Rattle.std.specs.Str.{all_ascii_digits, chars}
 use Rattle.std.specs.Str.Parse.{digits_value, starts_with_minus}
 use Rattle.serde_json.specs.Data.{Data, null, boolean, number, string, array, object}
-use Rattle.serde_json.specs.Find.{as_u64}
+use Rattle.serde_json.specs.Find.{as_u64, as_i64, as_integer}
 use Rattle.fr_doc.specs.Steps.{◌>>=◌}
 
 -- one or more of the digits 0 to 9
@@ -36,6 +36,27 @@ only _ = None
 -- the character of a text that has no other
 abbrev pub one_char : List ℕ → Option ℕ
 one_char text = only (chars text)
+
+-- the digits of a number of up to 128 bits
+abbrev pub nat_form : Data → Option ℕ
+nat_form (string text) = digits_nat text
+nat_form _ = None
+
+-- an integer of 64 bits, or the digits of one of up to 128 bits
+abbrev pub int_form : Data → Option ℤ
+int_form (number n) = as_integer n
+int_form (string text) = digits_int text
+int_form _ = None
+
+-- an integer in the range of i64
+abbrev pub small_int_form : Data → Option ℤ
+small_int_form (number n) = as_i64 n
+small_int_form _ = None
+
+-- a text of one character
+abbrev pub char_form : Data → Option ℕ
+char_form (string text) = one_char text
+char_form _ = None
 
 -- a whole number below a limit
 abbrev pub below : ℕ → Option ℕ → Option ℕ

@@ -1,11 +1,14 @@
 //! The JSON forms of values and shapes: what is read from them, and how values are printed.
 #![tactic(auto)]
 
+mod dyn_form;
 mod fault;
 mod form_error;
 mod numerals;
 mod table_fault;
 mod tag;
+mod value_form;
 
 pub use fault::{DocFault, DocPlace, DocSize, ReadError};
 pub use table_fault::TableFault;
+pub use value_form::value_of;

@@ -1,6 +1,6 @@
 //! Numbers and characters in a document.
 ghost use Rattle.std.specs.Prelude.{◌≡◌, ◌↔◌, IsTrue, true};
-ghost use Rattle.fr_doc.specs.Numerals.{is_digits, without_minus, digits_nat, digits_int, one_char, whole_number, byte};
+ghost use Rattle.fr_doc.specs.Numerals.{is_digits, without_minus, digits_nat, digits_int, nat_form, int_form, small_int_form, char_form, one_char, whole_number, byte};
 ghost use Rattle.serde_json.specs.View.{view as data_of};
 
 use serde_json::Value as Json;
@@ -54,6 +54,44 @@ pub fn read_char(text: &str) -> Option<char>
     ensures { result ≡ one_char text.now }
 {
     text.parse().ok()
+}
+
+/// A number that is written as a text of digits.
+pub fn nat_of(json: &Json) -> Option<u128>
+    ensures { result ≡ nat_form (data_of json.now) }
+{
+    match json {
+        Json::String(text) => read_nat(text.as_str()),
+        _ => None,
+    }
+}
+
+/// A signed number, itself or as a text of digits.
+pub fn int_of(json: &Json) -> Option<i128>
+    ensures { result ≡ int_form (data_of json.now) }
+{
+    match json {
+        Json::Number(number) => number.as_i128(),
+        Json::String(text) => read_int(text.as_str()),
+        _ => None,
+    }
+}
+
+/// A text of one character.
+pub fn char_of(json: &Json) -> Option<char>
+    ensures { result ≡ char_form (data_of json.now) }
+{
+    match json {
+        Json::String(text) => read_char(text.as_str()),
+        _ => None,
+    }
+}
+
+/// A signed number in the range of `i64`.
+pub fn small_int_of(json: &Json) -> Option<i64>
+    ensures { result ≡ small_int_form (data_of json.now) }
+{
+    json.as_i64()
 }
 
 /// A whole number from 0 to 4294967295.
