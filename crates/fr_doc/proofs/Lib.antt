@@ -2,4 +2,5 @@ pub mod Dynamics
 pub mod Loops
 pub mod Pairs
 pub mod Parsed
+pub mod Printing
 pub mod Values

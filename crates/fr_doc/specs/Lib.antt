@@ -1,5 +1,7 @@
 pub mod DynForms
+pub mod FloatFree
 pub mod Numerals
+pub mod Printed
 pub mod Reading
 pub mod Steps
 pub mod Tags

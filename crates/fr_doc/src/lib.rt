@@ -2,13 +2,17 @@
 #![tactic(auto)]
 
 mod dyn_form;
+mod dyn_json;
 mod fault;
 mod form_error;
+mod json_parts;
 mod numerals;
 mod table_fault;
 mod tag;
 mod value_form;
+mod value_json;
 
 pub use fault::{DocFault, DocPlace, DocSize, ReadError};
 pub use table_fault::TableFault;
 pub use value_form::value_of;
+pub use value_json::json_of;
