@@ -3,4 +3,5 @@ pub mod Loops
 pub mod Pairs
 pub mod Parsed
 pub mod Printing
+pub mod TableLoop
 pub mod Values

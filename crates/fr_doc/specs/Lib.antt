@@ -1,8 +1,13 @@
 pub mod DynForms
+pub mod FaultSteps
+pub mod Faults
 pub mod FloatFree
+pub mod Keys
 pub mod Numerals
 pub mod Printed
 pub mod Reading
+pub mod ShapeForms
 pub mod Steps
 pub mod Tags
+pub mod TablesServed
 pub mod ValueForms
