@@ -1,3 +1,16 @@
 pub mod Adapter
 pub mod Causes
+pub mod DynForms
+pub mod FaultSteps
+pub mod Faults
+pub mod FloatFree
+pub mod Keys
 pub mod Memory
+pub mod Numerals
+pub mod Printed
+pub mod Reading
+pub mod ShapeForms
+pub mod Steps
+pub mod TablesServed
+pub mod Tags
+pub mod ValueForms

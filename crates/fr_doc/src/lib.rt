@@ -1,16 +1,39 @@
-//! The documents of a program: the devices that they come from and go to, and their JSON forms.
+//! The documents of a program: the devices that they come from and go to, the JSON forms of values and shapes, and
+//! what can be wrong with a document.
 #![tactic(auto)]
 
 mod adapters;
 mod clean;
 mod device;
+mod dyn_form;
+mod dyn_json;
+mod fault;
+mod form_error;
+mod json_parts;
+mod laws;
 mod looping;
+mod members;
 mod memory;
+mod numerals;
 mod pieces;
+mod read_error;
 mod schedule;
+mod shape_form;
+mod table_fault;
+mod tag;
+mod value_form;
+mod value_json;
 
 pub use adapters::{ReaderSource, WriterSink};
 pub use clean::{CleanSink, CleanSource};
 pub use device::{Failed, Sink, Source};
+pub use fault::{DocFault, DocPlace, DocSize, ReadError};
+pub use laws::{law_printed_float_free, law_read_tables_served};
 pub use looping::{DOCUMENT_LIMIT, INPUT_LIMIT, InputFault, read_input, write_report};
+pub use members::{has_float, has_only};
 pub use memory::{MemSink, MemSource};
+pub use numerals::count_of;
+pub use shape_form::shapes_of;
+pub use table_fault::TableFault;
+pub use value_form::value_of;
+pub use value_json::json_of;

@@ -1,0 +1,68 @@
+//! Looking into JSON objects, and for floats.
+ghost use Rattle.std.specs.Prelude.{◌≡◌, map};
+ghost use Rattle.serde_json.specs.View.{view as data_of, items_view, members_view};
+ghost use Rattle.serde_json.specs.Written.{has_float as data_has_float, items_have_float, members_have_float};
+ghost use Rattle.fr_doc.specs.Keys.{is_among, has_no_other};
+
+use serde_json::{Map, Value as Json};
+
+/// Whether an object has no other keys than these. It may lack some of them.
+pub fn has_only(members: &Map<String, Json>, keys: &[&str]) -> bool
+    ensures { result
+        ≡ has_no_other (members_view members.now.entries) (map (λ key. key.now) keys.now) }
+{
+    for (key, _) in members.iter() {
+        if !is_one_of(key.as_str(), keys) {
+            return false;
+        }
+    }
+    true
+}
+
+fn is_one_of(key: &str, keys: &[&str]) -> bool
+    ensures { result ≡ is_among key.now (map (λ other. other.now) keys.now) }
+{
+    for other in keys {
+        if key == *other {
+            return true;
+        }
+    }
+    false
+}
+
+/// Whether a number in it is neither an `i64` nor a `u64`.
+#[cycle(float)]
+pub fn has_float(json: &Json) -> bool
+    ensures { result ≡ data_has_float (data_of json.now) }
+{
+    match json {
+        Json::Number(number) => number.is_f64(),
+        Json::Array(items) => items_hold_float(items),
+        Json::Object(members) => members_hold_float(members),
+        _ => false,
+    }
+}
+
+#[cycle(float)]
+fn items_hold_float(items: &Vec<Json>) -> bool
+    ensures { result ≡ items_have_float (items_view items.now.items) }
+{
+    for item in items {
+        if has_float(item) {
+            return true;
+        }
+    }
+    false
+}
+
+#[cycle(float)]
+fn members_hold_float(members: &Map<String, Json>) -> bool
+    ensures { result ≡ members_have_float (members_view members.now.entries) }
+{
+    for (_, member) in members.iter() {
+        if has_float(member) {
+            return true;
+        }
+    }
+    false
+}
