@@ -14,7 +14,7 @@ use Rattle.fr_shape.specs.Served.{IsServed}
 use Rattle.fr_shape.specs.Fits.{fits}
 use Rattle.fr_shape.specs.Val.{Val, nat, text, token, product, no_vals, first}
 use Rattle.fr_shape.specs.Code.{back, comes_back}
-use Rattle.fr_model.specs.declared.command.Command.{Command}
+use Rattle.fr_model.specs.Commands.{Call}
 use Rattle.fr_model.specs.Complete.{missing_field, missing_value}
 use Rattle.fr_model.specs.Step.{operation_failed, violates}
 use Rattle.fr_model.specs.Journal.{journal_run}
@@ -67,14 +67,14 @@ struct fields = Def.Struct (record { kind = StructKind.Struct; fields = fields }
 abbrev pair_of : Val → Val → Val
 pair_of v w = product (first v (first w no_vals))
 
-abbrev set : ℕ → Val → Command
-set s v = Command.Set (number s) (back v)
+abbrev set : ℕ → Val → Call
+set s v = Call.Set s v
 
-abbrev begin : ℕ → Command
-begin i = Command.BeginNthField i
+abbrev begin : ℕ → Call
+begin i = Call.BeginNthField i
 
-abbrev end : Command
-end = Command.End
+abbrev end : Call
+end = Call.End
 
 abbrev refused : ℕ → ReflectErrorKind → Result Val Refusal
 refused n kind = Err (record { number = n; kind = kind })
@@ -92,7 +92,7 @@ nested =
 nested_is_served : IsServed nested
 nested_is_served = refl
 
-abbrev whole_script : List Command
+abbrev whole_script : List Call
 whole_script =
     begin 0 ∷ set 1 (text (codes "hi")) ∷ end ∷ begin 1 ∷ begin 0 ∷ set 0 (nat 42) ∷ end ∷ begin 1 ∷ set 0 (nat 43) ∷ end
     ∷ end ∷ []
@@ -158,7 +158,7 @@ opaque_is_served : IsServed opaque
 opaque_is_served = refl
 
 -- built away from the root, where the first field is complete and the second was never entered
-abbrev left_open : List Command
+abbrev left_open : List Call
 left_open = begin 0 ∷ begin 0 ∷ set 0 (token 0) ∷ end ∷ begin 1 ∷ set 1 (nat 5) ∷ end ∷ []
 
 machine_refuses_open : full_run opaque 3 left_open ≡ refused 7 (violates Invariant.BuildOpenFrames)
@@ -185,7 +185,7 @@ cell_fits : fits opaque 2 (cell 0 1) ≡ true
 cell_fits = refl
 
 -- a whole struct is entered anew, and the other field stays
-abbrev entered_anew : List Command
+abbrev entered_anew : List Call
 entered_anew = set 3 (pair_of (cell 0 1) (cell 1 2)) ∷ begin 0 ∷ set 2 (cell 2 3) ∷ end ∷ []
 
 machine_enters_anew : full_run opaque 3 entered_anew ≡ Ok (pair_of (cell 2 3) (cell 1 2))

@@ -10,7 +10,7 @@ use Rattle.fr_shape.specs.Look.{Table, def_of}
 use Rattle.fr_shape.specs.Val.{Val}
 use Rattle.fr_shape.specs.View.{view}
 use Rattle.fr_shape.specs.Fits.{fits}
-use Rattle.fr_model.specs.declared.command.Command.{Command}
+use Rattle.fr_model.specs.Commands.{Call}
 use Rattle.fr_model.specs.Places.{Place, is_root, count_children, child_count, shape_at}
 use Rattle.fr_model.specs.Journal.{entered_at, wrote_at, Journal, longest, completes, Progress, initial_progress, begins_field, writes, ends, rule, then_rules, rules, outcome}
 use Rattle.fr_model.specs.Tree.{Tree, whole, tree_at, change_at, shape_in, State, one_more_call, initial}
@@ -67,8 +67,8 @@ begun_neither table root s i refusal within operation next run refused absent = 
 module _ (table : Table) (root : ℕ) (here : Place) (t : Tree) (calls : ℕ) (notes : Journal)
     (sound : IsSound table root here t) (agrees : Agrees notes t) where
   begins_alike : (i : ℕ)
-      → BothStep table root (step table root (record { tree = t; cursor = here; calls = calls }) (Command.BeginNthField i))
-      (rule table root (record { notes = notes; cursor = here }) (Command.BeginNthField i))
+      → BothStep table root (step table root (record { tree = t; cursor = here; calls = calls }) (Call.BeginNthField i))
+      (rule table root (record { notes = notes; cursor = here }) (Call.BeginNthField i))
   begins_alike i = go (field_case (def_of table (shape_in table root here t)) i)
     where
       within : (b : Bool) → nat_lt i (child_count table (shape_in table root here t)) ≡ b
@@ -152,12 +152,12 @@ module _ (table : Table) (root : ℕ) (here : Place) (t : Tree) (calls : ℕ) (n
   })
   ends_alike None by_notes is same = rw same tt
 
-  steps_alike : (command : Command) → IsFitting table command
+  steps_alike : (command : Call) → IsFitting table command
       → BothStep table root (step table root (record { tree = t; cursor = here; calls = calls }) command)
       (rule table root (record { notes = notes; cursor = here }) command)
-  steps_alike (Command.BeginNthField i) fit = begins_alike i
-  steps_alike (Command.Set given v) fit = sets_alike given.0 (view v) fit.1
-  steps_alike Command.End fit = go (is_root here)
+  steps_alike (Call.BeginNthField i) fit = begins_alike i
+  steps_alike (Call.Set given v) fit = sets_alike given v fit.1
+  steps_alike Call.End fit = go (is_root here)
     where
       same : completes table notes (shape_at table root here) here ≡ complete (tree_at here t)
       same =
@@ -208,7 +208,7 @@ build_same table root number state run alike = rw alike.same_cursor (go (is_root
     go true = built_same table root number state.tree (complete state.tree) (completes table run.notes root []) same
     go false = refl
 
-both_step : (table : Table) (root : ℕ) (state : State) (run : Progress) (command : Command) → Alike table root state run
+both_step : (table : Table) (root : ℕ) (state : State) (run : Progress) (command : Call) → Alike table root state run
     → IsFitting table command → BothStep table root (step table root state command) (rule table root run command)
 both_step table root state run command alike fit =
     subst
@@ -216,7 +216,7 @@ both_step table root state run command alike fit =
     (rule table root (record { notes = run.notes; cursor = here }) command)) (sym alike.same_cursor)
     (steps_alike table root state.cursor state.tree state.calls run.notes alike.sound alike.agrees command fit)
 
-pub run_same : (table : Table) (root : ℕ) (script : List Command) (number : ℕ) (state : State) (run : Progress)
+pub run_same : (table : Table) (root : ℕ) (script : List Call) (number : ℕ) (state : State) (run : Progress)
     → Alike table root state run → AllFitting table script
     → result_ok (run_from table root number state script) ≡ outcome table root (rules table root run script)
 run_same table root [] number state run alike fit = build_same table root number state run alike

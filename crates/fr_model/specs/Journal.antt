@@ -4,7 +4,7 @@ use Rattle.std.specs.Prelude.{ℕ, zero, suc, ◌==◌, max, Bool, true, false, 
 use Rattle.fr_shape.specs.Look.{Table}
 use Rattle.fr_shape.specs.Val.{Val, Vals, no_vals}
 use Rattle.fr_shape.specs.View.{view}
-use Rattle.fr_model.specs.declared.command.Command.{Command}
+use Rattle.fr_model.specs.Commands.{Call}
 use Rattle.fr_model.specs.Places.{Place, is_root, up, child_count, child_shape, shape_at, part_at, one_more, product_of}
 
 -- a place was entered, or a value was written to it
@@ -114,20 +114,20 @@ ends run None = None
 -- The rules: `begin_nth_field` at a struct with a field of that number notes that the child was entered, and goes there;
 -- `set` of the place's own shape notes the value; `end` below the root notes the place's value, where it makes one, and
 -- goes up. A command to which no rule applies ends the run with none.
-abbrev pub rule_at : Table → ℕ → Progress → Command → Option Progress
-rule_at table s run (Command.BeginNthField i) = begins_field (nat_lt i (child_count table s)) run i
-rule_at table s run (Command.Set given v) = writes (s == given.0) run (view v)
-rule_at table s run Command.End =
+abbrev pub rule_at : Table → ℕ → Progress → Call → Option Progress
+rule_at table s run (Call.BeginNthField i) = begins_field (nat_lt i (child_count table s)) run i
+rule_at table s run (Call.Set given v) = writes (s == given) run v
+rule_at table s run Call.End =
     if is_root run.cursor then None else ends run (completes table run.notes s run.cursor)
 
-abbrev pub rule : Table → ℕ → Progress → Command → Option Progress
+abbrev pub rule : Table → ℕ → Progress → Call → Option Progress
 rule table root run command = rule_at table (shape_at table root run.cursor) run command
 
 abbrev pub then_rules : Option Progress → (Progress → Option Progress) → Option Progress
 then_rules (Some run) rest = rest run
 then_rules None rest = None
 
-abbrev pub rules : Table → ℕ → Progress → List Command → Option Progress
+abbrev pub rules : Table → ℕ → Progress → List Call → Option Progress
 rules table root run [] = Some run
 rules table root run (command ∷ commands) =
     then_rules (rule table root run command) (λ next. rules table root next commands)
@@ -138,5 +138,5 @@ outcome table root (Some run) = if is_root run.cursor then completes table run.n
 outcome table root None = None
 
 -- what a script makes, by its journal alone
-abbrev pub journal_run : Table → ℕ → List Command → Option Val
+abbrev pub journal_run : Table → ℕ → List Call → Option Val
 journal_run table root script = outcome table root (rules table root initial_progress script)

@@ -4,7 +4,7 @@ use Rattle.fr_shape.specs.Look.{Table, IsIn}
 use Rattle.fr_shape.specs.Served.{IsServed}
 use Rattle.fr_shape.specs.Val.{Val}
 use Rattle.fr_shape.specs.Tokens.{occurs}
-use Rattle.fr_model.specs.declared.command.Command.{Command}
+use Rattle.fr_model.specs.Commands.{Call}
 use Rattle.fr_model.specs.Tree.{Tree, tree_occurs, State, initial}
 use Rattle.fr_model.specs.Complete.{complete, lack}
 use Rattle.fr_model.specs.Step.{step}
@@ -24,19 +24,19 @@ CompletingKeepsTokens = (tree : Tree) (v : Val) (t : ℕ) → complete tree ≡ 
 -- command brought.
 abbrev pub StepKeepsTokens : Type 0
 StepKeepsTokens =
-    (table : Table) (root : ℕ) (state next : State) (command : Command) → Leads state.cursor state.tree
+    (table : Table) (root : ℕ) (state next : State) (command : Call) → Leads state.cursor state.tree
     → step table root state command ≡ Ok next
     → (t : ℕ) → tree_occurs next.tree t + removed table root state command t ≡ tree_occurs state.tree t + brings command t
 
 -- a command brings each token at most once, and none that the tree holds
-pub record IsFresh (state : State) (command : Command) : Type 0 where
+pub record IsFresh (state : State) (command : Call) : Type 0 where
   pub distinct : (t : ℕ) → brings command t ≤ 1
   pub new : (t : ℕ) → 0 < brings command t → tree_occurs state.tree t ≡ 0
 
 -- an admitted command, fitting and fresh, leads from a well state to a well state
 abbrev pub StepKeepsWell : Type 0
 StepKeepsWell =
-    (table : Table) (root : ℕ) (state next : State) (command : Command) → IsWell table root state → IsFitting table command
+    (table : Table) (root : ℕ) (state next : State) (command : Call) → IsWell table root state → IsFitting table command
     → IsFresh state command → step table root state command ≡ Ok next → IsWell table root next
 
 -- a builder of which nothing was asked yet is in a well state

@@ -1,4 +1,5 @@
 pub mod Agree
+pub mod Commands
 pub mod Complete
 pub mod Covering
 pub mod Journal

@@ -3,23 +3,23 @@ use Rattle.std.specs.Prelude.{ℕ, ◌+◌, Result, Ok, Err}
 use Rattle.fr_shape.specs.declared.error.ReflectErrorKind.{ReflectErrorKind}
 use Rattle.fr_shape.specs.Look.{Table}
 use Rattle.fr_shape.specs.Val.{Val}
-use Rattle.fr_model.specs.declared.command.Command.{Command}
+use Rattle.fr_model.specs.Commands.{Call}
 use Rattle.fr_model.specs.Tree.{State, tree_at, tree_occurs}
 use Rattle.fr_model.specs.Scripts.{brings}
 use Rattle.fr_model.specs.Step.{step}
 
 -- where a command is admitted: what stood at the cursor, where a value takes its place
-abbrev pub replaced : State → Command → ℕ → ℕ
-replaced state (Command.Set shape v) t = tree_occurs (tree_at state.cursor state.tree) t
+abbrev pub replaced : State → Call → ℕ → ℕ
+replaced state (Call.Set shape v) t = tree_occurs (tree_at state.cursor state.tree) t
 replaced state _ t = 0
 
 -- where it is refused: all that the builder holds and the command brings
-abbrev pub removed_by : State → Command → Result State ReflectErrorKind → ℕ → ℕ
+abbrev pub removed_by : State → Call → Result State ReflectErrorKind → ℕ → ℕ
 removed_by state command (Ok next) t = replaced state command t
 removed_by state command (Err kind) t = tree_occurs state.tree t + brings command t
 
 -- how often a command drops a token
-abbrev pub removed : Table → ℕ → State → Command → ℕ → ℕ
+abbrev pub removed : Table → ℕ → State → Call → ℕ → ℕ
 removed table root state command t = removed_by state command (step table root state command) t
 
 -- what `build` drops: nothing where it answers, everything where it refuses

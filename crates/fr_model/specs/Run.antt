@@ -3,7 +3,7 @@ use Rattle.std.specs.Prelude.{ℕ, ◌+◌, List, [], ◌∷◌, Result, Ok, Err
 use Rattle.fr_shape.specs.declared.error.ReflectErrorKind.{ReflectErrorKind}
 use Rattle.fr_shape.specs.Look.{Table}
 use Rattle.fr_shape.specs.Val.{Val}
-use Rattle.fr_model.specs.declared.command.Command.{Command}
+use Rattle.fr_model.specs.Commands.{Call}
 use Rattle.fr_model.specs.Tree.{State, initial}
 use Rattle.fr_model.specs.Step.{step, build}
 
@@ -21,11 +21,11 @@ and_then n (Ok next) rest = rest next
 and_then n (Err kind) rest = Err (record { number = n; kind = kind })
 
 -- the commands from number n on, from a state
-abbrev pub run_from : Table → ℕ → ℕ → State → List Command → Result Val Refusal
+abbrev pub run_from : Table → ℕ → ℕ → State → List Call → Result Val Refusal
 run_from table root n state [] = numbered n (build table root state)
 run_from table root n state (command ∷ commands) =
     and_then n (step table root state command) (λ next. run_from table root (n + 1) next commands)
 
 -- the whole script
-abbrev pub full_run : Table → ℕ → List Command → Result Val Refusal
+abbrev pub full_run : Table → ℕ → List Call → Result Val Refusal
 full_run table root script = run_from table root 0 initial script

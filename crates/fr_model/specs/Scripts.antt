@@ -4,38 +4,38 @@ use Rattle.fr_shape.specs.Look.{Table, IsIn}
 use Rattle.fr_shape.specs.View.{view}
 use Rattle.fr_shape.specs.Fits.{fits}
 use Rattle.fr_shape.specs.Tokens.{tokens, occurs}
-use Rattle.fr_model.specs.declared.command.Command.{Command}
+use Rattle.fr_model.specs.Commands.{Call}
 
 -- the tokens that a script's values bring, in order
-abbrev pub tokens_of : Command → List ℕ
-tokens_of (Command.Set shape v) = tokens (view v)
+abbrev pub tokens_of : Call → List ℕ
+tokens_of (Call.Set shape v) = tokens v
 tokens_of _ = []
 
-abbrev pub script_tokens : List Command → List ℕ
+abbrev pub script_tokens : List Call → List ℕ
 script_tokens [] = []
 script_tokens (command ∷ commands) = tokens_of command ++ script_tokens commands
 
 -- how often a command, or a script, brings a token
-abbrev pub brings : Command → ℕ → ℕ
-brings (Command.Set shape v) t = occurs (view v) t
+abbrev pub brings : Call → ℕ → ℕ
+brings (Call.Set shape v) t = occurs v t
 brings _ t = 0
 
-abbrev pub brought : List Command → ℕ → ℕ
+abbrev pub brought : List Call → ℕ → ℕ
 brought [] t = 0
 brought (command ∷ commands) t = brings command t + brought commands t
 
 -- a command's value fits the shape that it names, which is in the table
-abbrev pub IsFitting : Table → Command → Type 0
-IsFitting table (Command.Set shape v) = IsIn table shape.0 × (fits table shape.0 (view v) ≡ true)
+abbrev pub IsFitting : Table → Call → Type 0
+IsFitting table (Call.Set shape v) = IsIn table shape × (fits table shape v ≡ true)
 IsFitting table _ = Unit {0}
 
-abbrev pub AllFitting : Table → List Command → Type 0
+abbrev pub AllFitting : Table → List Call → Type 0
 AllFitting table [] = Unit {0}
 AllFitting table (command ∷ commands) = IsFitting table command × AllFitting table commands
 
 -- A valid script: every value fits the shape that it names, and each of its tokens is brought once, is one of the
 -- ledger's, and was never released.
-pub record IsValid (table : Table) (script : List Command) (ledger : List ℕ) : Type 0 where
+pub record IsValid (table : Table) (script : List Call) (ledger : List ℕ) : Type 0 where
   pub fitting : AllFitting table script
   pub once : (t : ℕ) → brought script t ≤ 1
   pub known : (t : ℕ) → 0 < brought script t → t < length ledger

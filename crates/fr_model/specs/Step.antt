@@ -8,7 +8,7 @@ use Rattle.fr_shape.specs.declared.error.Invariant.{Invariant}
 use Rattle.fr_shape.specs.Look.{Table, def_of}
 use Rattle.fr_shape.specs.Val.{Val, product}
 use Rattle.fr_shape.specs.View.{view}
-use Rattle.fr_model.specs.declared.command.Command.{Command}
+use Rattle.fr_model.specs.Commands.{Call}
 use Rattle.fr_model.specs.Places.{is_root, up, child_count}
 use Rattle.fr_model.specs.Tree.{as_struct, Tree, hole, entered, whole, begun, wholes, holes, change_child, change_at, tree_at, shape_in, State, one_more_call}
 use Rattle.fr_model.specs.Complete.{complete, lack, missing_value}
@@ -96,13 +96,13 @@ end table s state =
     else ended table s state (complete (tree_at state.cursor state.tree))
 
 -- a command at a place of shape s
-abbrev pub step_at : Table → ℕ → State → Command → Result State ReflectErrorKind
-step_at table s state (Command.BeginNthField i) = begin_nth_field table s state i
-step_at table s state (Command.Set given v) = set s state given.0 (view v)
-step_at table s state Command.End = end table s state
+abbrev pub step_at : Table → ℕ → State → Call → Result State ReflectErrorKind
+step_at table s state (Call.BeginNthField i) = begin_nth_field table s state i
+step_at table s state (Call.Set given v) = set s state given v
+step_at table s state Call.End = end table s state
 
 -- a command at the cursor, the root having shape `root`
-abbrev pub step : Table → ℕ → State → Command → Result State ReflectErrorKind
+abbrev pub step : Table → ℕ → State → Call → Result State ReflectErrorKind
 step table root state command = step_at table (shape_in table root state.cursor state.tree) state command
 
 abbrev pub built : Table → ℕ → Tree → Option Val → Result Val ReflectErrorKind
