@@ -4,7 +4,7 @@ use Rattle.fr_shape.specs.declared.shape.Def.{Def}
 use Rattle.fr_shape.specs.declared.shape.StructDef.{StructDef}
 use Rattle.fr_shape.specs.declared.shape.Field.{Field}
 use Rattle.fr_shape.specs.Look.{Table, def_of, settled}
-use Rattle.fr_shape.specs.Val.{Val, Vals, unit, product, no_vals, first}
+use Rattle.fr_shape.specs.Val.{Val, Vals, product, no_vals, first}
 use Rattle.fr_shape.specs.Fits.{fits, fields_fit}
 use Rattle.fr_model.specs.Places.{child_shape, one_more, product_of}
 use Rattle.fr_model.specs.Tree.{Form, as_struct, Tree, hole, entered, whole, begun, Trees, no_trees, branch, tree_nth, change_nth, child_as, count_trees, holes, wholes}
@@ -151,18 +151,7 @@ wholes_suit table s struct is i (field ∷ fields) (first v vs) from fit =
     = field_shape table s struct i field is (first_is struct.fields i field fields from) in
     record { count = ap suc rest.count; suit = (rw shape both.0, rest.suit) }
 
--- a value of a struct is a product
-pub record IsProductOf (table : Table) (struct : StructDef) (v : Val) : Type 0 where
-  pub parts : Vals
-  pub is : v ≡ product parts
-  pub fit : fields_fit table struct.fields parts ≡ true
-
-pub struct_value : (table : Table) (s : ℕ) (struct : StructDef) (v : Val) → def_of table s ≡ Def.Struct struct
-    → fits table s v ≡ true → IsProductOf table struct v
-struct_value table s struct (product vs) is fit =
-    record { parts = vs; is = refl; fit = rw (settled_struct table s struct is) at fit }
-struct_value table s struct unit is fit = cc
-struct_value table s struct _ is fit = let none = rw (settled_struct table s struct is) at fit in cc
+-- one child, and all of them with one changed
 
 pub suit_change : (table : Table) (s : ℕ) (form : Form) (d k : ℕ) (ts : Trees) (i : ℕ) (change : Tree → Tree)
     → i ≡ k + d → SuitAll table s form k ts
