@@ -13,7 +13,6 @@ use Rattle.fr_shape.specs.Look.{Table}
 use Rattle.fr_shape.specs.Served.{IsServed}
 use Rattle.fr_shape.specs.Fits.{fits}
 use Rattle.fr_shape.specs.Val.{Val, nat, text, token, product, no_vals, first}
-use Rattle.fr_shape.specs.Code.{back, comes_back}
 use Rattle.fr_model.specs.Commands.{Call}
 use Rattle.fr_model.specs.Complete.{missing_field, missing_value}
 use Rattle.fr_model.specs.Step.{operation_failed, violates}
@@ -101,10 +100,10 @@ abbrev whole_value : Val
 whole_value = pair_of (text (codes "hi")) (pair_of (nat 42) (nat 43))
 
 machine_builds : full_run nested 3 whole_script ≡ Ok whole_value
-machine_builds = rw (comes_back (text (codes "hi")), comes_back (nat 42), comes_back (nat 43)) refl
+machine_builds = refl
 
 journal_builds : journal_run nested 3 whole_script ≡ Some whole_value
-journal_builds = rw (comes_back (text (codes "hi")), comes_back (nat 42), comes_back (nat 43)) refl
+journal_builds = refl
 
 -- what is refused, at which command and why
 
@@ -172,10 +171,10 @@ cell t n = pair_of (token t) (nat n)
 
 -- a second value takes the first one's place
 machine_keeps_second : full_run opaque 2 (set 2 (cell 0 1) ∷ set 2 (cell 1 2) ∷ []) ≡ Ok (cell 1 2)
-machine_keeps_second = rw (comes_back (cell 1 2)) refl
+machine_keeps_second = refl
 
 journal_keeps_second : journal_run opaque 2 (set 2 (cell 0 1) ∷ set 2 (cell 1 2) ∷ []) ≡ Some (cell 1 2)
-journal_keeps_second = rw (comes_back (cell 1 2)) refl
+journal_keeps_second = refl
 
 -- and the first one's token is dropped
 second_drops_first : removed opaque 2 (record { tree = whole (cell 0 1); cursor = []; calls = 1 }) (set 2 (cell 1 2)) 0 ≡ 1
@@ -189,7 +188,7 @@ abbrev entered_anew : List Call
 entered_anew = set 3 (pair_of (cell 0 1) (cell 1 2)) ∷ begin 0 ∷ set 2 (cell 2 3) ∷ end ∷ []
 
 machine_enters_anew : full_run opaque 3 entered_anew ≡ Ok (pair_of (cell 2 3) (cell 1 2))
-machine_enters_anew = rw (comes_back (pair_of (cell 0 1) (cell 1 2)), comes_back (cell 2 3)) refl
+machine_enters_anew = refl
 
 journal_enters_anew : journal_run opaque 3 entered_anew ≡ Some (pair_of (cell 2 3) (cell 1 2))
-journal_enters_anew = rw (comes_back (pair_of (cell 0 1) (cell 1 2)), comes_back (cell 2 3)) refl
+journal_enters_anew = refl

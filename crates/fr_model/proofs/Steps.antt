@@ -8,7 +8,6 @@ use Rattle.fr_shape.specs.declared.error.Operation.{Operation}
 use Rattle.fr_shape.specs.declared.error.Invariant.{Invariant}
 use Rattle.fr_shape.specs.Look.{Table, def_of}
 use Rattle.fr_shape.specs.Val.{Val}
-use Rattle.fr_shape.specs.View.{view}
 use Rattle.fr_shape.specs.Fits.{fits}
 use Rattle.fr_model.specs.Commands.{Call}
 use Rattle.fr_model.specs.Places.{Place, is_root, count_children, child_count, shape_at}

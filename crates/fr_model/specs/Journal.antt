@@ -3,7 +3,6 @@
 use Rattle.std.specs.Prelude.{ℕ, zero, suc, ◌==◌, max, Bool, true, false, List, [], ◌∷◌, ◌++◌, length, nat_lt, Option, Some, None, if◌then◌else◌}
 use Rattle.fr_shape.specs.Look.{Table}
 use Rattle.fr_shape.specs.Val.{Val, Vals, no_vals}
-use Rattle.fr_shape.specs.View.{view}
 use Rattle.fr_model.specs.Commands.{Call}
 use Rattle.fr_model.specs.Places.{Place, is_root, up, child_count, child_shape, shape_at, part_at, one_more, product_of}
 

@@ -1,7 +1,6 @@
 -- Which scripts may be handed to the builder, and the tokens that they bring.
 use Rattle.std.specs.Prelude.{◌≡◌, ℕ, ◌+◌, ◌<◌, ◌≤◌, true, List, [], ◌∷◌, ◌++◌, slice_index, length}
 use Rattle.fr_shape.specs.Look.{Table, IsIn}
-use Rattle.fr_shape.specs.View.{view}
 use Rattle.fr_shape.specs.Fits.{fits}
 use Rattle.fr_shape.specs.Tokens.{tokens, occurs}
 use Rattle.fr_model.specs.Commands.{Call}

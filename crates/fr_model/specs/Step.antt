@@ -7,7 +7,6 @@ use Rattle.fr_shape.specs.declared.error.Operation.{Operation}
 use Rattle.fr_shape.specs.declared.error.Invariant.{Invariant}
 use Rattle.fr_shape.specs.Look.{Table, def_of}
 use Rattle.fr_shape.specs.Val.{Val, product}
-use Rattle.fr_shape.specs.View.{view}
 use Rattle.fr_model.specs.Commands.{Call}
 use Rattle.fr_model.specs.Places.{is_root, up, child_count}
 use Rattle.fr_model.specs.Tree.{as_struct, Tree, hole, entered, whole, begun, wholes, holes, change_child, change_at, tree_at, shape_in, State, one_more_call}
