@@ -1,0 +1,33 @@
+-- The calls that JSON stands for: an array of the call's name and its arguments. Other calls will follow; so far each
+-- is broken.
+use Rattle.std.specs.Prelude.{ℕ, List, Option, Some, None, codes, option_map, if◌then◌else◌}
+use Rattle.std.specs.Str.{bytes_eq}
+use Rattle.serde_json.specs.Data.{Data, string, array, no_items, item}
+use Rattle.fr_doc.specs.Numerals.{whole_number}
+use Rattle.fr_doc.specs.Steps.{◌>>=◌}
+use Rattle.fr_doc.specs.ValueForms.{value_form}
+use Rattle.fr_model.specs.Commands.{Call}
+
+-- a call without arguments
+unfoldable pub call_of_none : List ℕ → Option Call
+call_of_none word = if bytes_eq word (codes "end") then Some Call.End else None
+
+-- a call with one argument
+unfoldable pub call_of_one : List ℕ → Data → Option Call
+call_of_one word a =
+    if bytes_eq word (codes "begin_nth_field") then option_map Call.BeginNthField (whole_number a) else None
+
+-- a call with two arguments
+unfoldable pub call_of_two : List ℕ → Data → Data → Option Call
+call_of_two word a b =
+    if bytes_eq word (codes "set") then (do
+      shape ← whole_number a
+      v ← value_form b
+      Some (Call.Set shape v)) else None
+
+-- a name and as many arguments as the call has
+unfoldable pub call_form : Data → Option Call
+call_form (array (item (string word) no_items)) = call_of_none word
+call_form (array (item (string word) (item a no_items))) = call_of_one word a
+call_form (array (item (string word) (item a (item b no_items)))) = call_of_two word a b
+call_form _ = None

