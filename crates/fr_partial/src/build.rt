@@ -1,5 +1,6 @@
 //! `build` and `abandon`: the two ends of a builder.
-ghost use Rattle.std.specs.Prelude.{◌≡◌};
+ghost use Rattle.std.specs.Prelude.{◌≡◌, true, IfOk};
+ghost use Rattle.fr_shape.specs.Fits.{fits};
 ghost use Rattle.fr_shape.specs.Released.{Room, RoseBy, Conserved};
 ghost use Rattle.fr_model.specs.Step.{build};
 ghost use Rattle.fr_partial.specs.Builder.{holds, IsBuilt, left_built};
@@ -14,6 +15,7 @@ impl<'t> Partial<'t> {
     pub fn build(self, ledger: &mut Ledger) -> Result<Built, ReflectErrorKind>
         requires { Room (holds self) ledger.old }
         ensures built { IsBuilt self.entry (build self.entry.shapes self.entry.root self.entry.state) result }
+        ensures fits { IfOk result (λ built. fits self.entry.shapes self.entry.root built.value ≡ true) }
         ensures tokens { Conserved (holds self.entry) ledger.old (left_built result) ledger.new }
         ensures memory { result ≡ Err ReflectErrorKind.OutOfMemory → ⊥ }
     {

@@ -1,13 +1,16 @@
-use Rattle.std.proofs.Common.{◌≡◌, ℕ, List, [], ◌∷◌, refl, vec_len, Some, length, slice_index, sym, ap, ◌∙◌, arith}
+use Rattle.std.proofs.Common.{◌≡◌, ℕ, List, [], ◌∷◌, refl, vec_len, Some, length, slice_index, sym, ap, ◌∙◌, subst, true, arith}
 use Rattle.std.proofs.lemmas.Bool.{eqb-true}
 use Rattle.fr_shape.specs.declared.error.ReflectErrorKind.{ReflectErrorKind}
 use Rattle.fr_shape.specs.Tokens.{occurs}
 use Rattle.fr_shape.specs.View.{view}
 use Rattle.fr_model.specs.Tree.{tree_occurs}
 use Rattle.fr_partial.specs.declared.frame.Parent.{Parent}
-use Rattle.fr_partial.specs.Builder.{holds}
-use Rattle.fr_partial.specs.Stack.{node, parents_hold}
-use Rattle.fr_partial.proofs.CompleteLaws.{complete_occurs, lacks_no_memory}
+use Rattle.fr_partial.specs.declared.frame.Frame.{Frame}
+use Rattle.fr_shape.specs.Fits.{fits}
+use Rattle.fr_shape.specs.Look.{Table}
+use Rattle.fr_partial.specs.Builder.{Builder, holds}
+use Rattle.fr_partial.specs.Stack.{node, IsFrame, IsChain, parents_hold}
+use Rattle.fr_partial.proofs.CompleteLaws.{complete_fits, complete_occurs, lacks_no_memory}
 use Rattle.fr_partial.proofs.BuilderLaws.{places_hold, holds_of, room_of, room_here}
 use Rattle.fr_partial.proofs.partial.Partial.build.Goals as goal
 use Rattle.fr_partial.proofs.partial.Partial.build.Goals.{After-is_empty}
@@ -27,6 +30,27 @@ pub release_all-requires : goal.release_all-requires
 release_all-requires c =
     room_of c.self.inside.table.now c.self.inside.root.0 c.self.inside.parents.items c.self.inside.frame
     c.self.inside.calls c.self.invariant.chain c.args.self c.self.view_is c.args.ledger.now c.requires
+
+no_parents : (parents : List Parent) → length parents ≡ 0 → parents ≡ []
+no_parents [] h = refl
+no_parents (parent ∷ parents) h = absurd (omega arith)
+
+-- the root is the place at which the builder works
+at_root : (table : Table) (root : ℕ) (parents : List Parent) (frame : Frame) → length parents ≡ 0
+    → IsChain table root parents frame → IsFrame table root frame
+at_root table root parents frame none chain =
+    subst (λ (ps : List Parent). IsChain table root ps frame) (no_parents parents none) chain
+
+pub returns-in-Ok-clause-fits : goal.returns-in-Ok-clause-fits
+returns-in-Ok-clause-fits c =
+    let empty : vec_len c.self.inside.parents ≡ 0
+        = eqb-true (vec_len c.self.inside.parents) 0 (sym c.if-is_empty.ensures) in
+    let root : IsFrame c.self.inside.table.now c.self.inside.root.0 c.self.inside.frame
+        = at_root c.self.inside.table.now c.self.inside.root.0 c.self.inside.parents.items c.self.inside.frame
+            (omega (arith, c.self.inside.parents.ok.0)) c.self.invariant.chain in
+    subst (λ (builder : Builder). fits builder.shapes builder.root (view c.in-Ok.value) ≡ true) c.self.view_is
+        (complete_fits c.self.inside.table.now c.self.inside.root.0 c.self.inside.frame.piece (view c.in-Ok.value)
+            root.piece c.in-Ok.ensures.value)
 
 none_above : (parents : List Parent) (t : ℕ) → length parents ≡ 0 → parents_hold parents t ≡ 0
 none_above [] t h = refl

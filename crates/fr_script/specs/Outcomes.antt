@@ -1,0 +1,24 @@
+-- What the running of a script answers, against the machine and the journal.
+use Rattle.std.specs.Prelude.{◌≡◌, ◌⊎◌, ℕ, Option, Some, None, Result, Ok, Err}
+use Rattle.fr_shape.specs.declared.error.ReflectErrorKind.{ReflectErrorKind}
+use Rattle.fr_shape.specs.Tokens.{occurs}
+use Rattle.fr_shape.specs.Val.{Val}
+use Rattle.fr_model.specs.Run.{Refusal}
+use Rattle.fr_partial.specs.BuiltValue.{BuiltValue}
+use Rattle.fr_script.specs.declared.build_script.ScriptError.{ScriptError}
+
+-- The answer is the machine's: its value, or its refusal by number and kind; an error may also be want of memory.
+abbrev pub IsRun : Result Val Refusal → Result BuiltValue ScriptError → Type 0
+IsRun meant (Ok built) = meant ≡ Ok built.value
+IsRun meant (Err error) =
+    (error.kind ≡ ReflectErrorKind.OutOfMemory) ⊎ (meant ≡ Err (record { number = error.number; kind = error.kind }))
+
+-- The answer is a value exactly where the journal completes, and then it is the journal's; want of memory aside.
+abbrev pub IsJournals : Option Val → Result BuiltValue ScriptError → Type 0
+IsJournals completed (Ok built) = completed ≡ Some built.value
+IsJournals completed (Err error) = (error.kind ≡ ReflectErrorKind.OutOfMemory) ⊎ (completed ≡ None)
+
+-- how often a token stands in the answer: not at all in an error
+abbrev pub answered : Result BuiltValue ScriptError → ℕ → ℕ
+answered (Ok built) t = occurs built.value t
+answered (Err error) t = 0

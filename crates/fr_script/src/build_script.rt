@@ -1,0 +1,117 @@
+//! A whole script through a builder.
+ghost use Rattle.std.specs.Prelude.{◌≡◌, ◌+◌, ◌<◌, ◌^◌, true, length, IfOk};
+ghost use Rattle.fr_shape.specs.Fits.{fits};
+ghost use Rattle.fr_shape.specs.Look.{IsIn};
+ghost use Rattle.fr_shape.specs.Numbered.{IsNumbered};
+ghost use Rattle.fr_shape.specs.Released.{Room, RoseBy, Conserved};
+ghost use Rattle.fr_shape.specs.Served.{IsServed};
+ghost use Rattle.fr_model.specs.Commands.{call_of, calls_of};
+ghost use Rattle.fr_model.specs.Journal.{journal_run};
+ghost use Rattle.fr_model.specs.Run.{full_run};
+ghost use Rattle.fr_model.specs.Scripts.{IsFitting, IsValid, brings, brought};
+ghost use Rattle.fr_model.specs.Settled.{IsSettled};
+ghost use Rattle.fr_model.specs.Step.{step};
+ghost use Rattle.fr_partial.specs.Builder.{holds, IsStep, left};
+ghost use Rattle.fr_script.specs.Outcomes.{IsRun, IsJournals, answered};
+
+use fr_model::{Command, Script, law_agree};
+use fr_partial::{Built, Partial};
+use fr_shape::{Ledger, ReflectErrorKind, ShapeId, ShapeTable, Shaped, release};
+use std::alloc::Global;
+use std::collections::VecDeque;
+
+/// The command that was refused, counted from 0, or the script's length where `build` was refused; and why.
+#[derive(Drop)]
+pub struct ScriptError {
+    pub number: u32,
+    pub kind: ReflectErrorKind,
+}
+
+/// Runs the commands of a script on a new builder, one call a command, and builds. An error has released every token
+/// of the script, those of commands that were not run among them.
+pub fn build_script(
+    alloc: Global,
+    table: &ShapeTable,
+    root: ShapeId,
+    script: Script,
+    ledger: &mut Ledger,
+) -> Result<Built, ScriptError>
+    requires root { IsIn table.now root.0 }
+    requires numbered { IsNumbered table.now }
+    requires served { IsServed table.now }
+    requires valid { IsValid table.now (calls_of script) ledger.old }
+    requires few { length script < 2 ^ 32 }
+    ensures run { IsRun (full_run table.now root.0 (calls_of script)) result }
+    ensures journal { IsJournals (journal_run table.now root.0 (calls_of script)) result }
+    ensures calls { IfOk result (λ built. built.calls ≡ length script) }
+    ensures fits { IfOk result (λ built. fits table.now root.0 built.value ≡ true) }
+    ensures settled { IsSettled (brought (calls_of script)) ledger.old (answered result) ledger.new }
+{
+    law_agree();
+    let mut commands = VecDeque::from(script.into_vec());
+    let Ok(first) = Partial::alloc_shape(alloc, table, root) else {
+        release_commands(commands, ledger);
+        return Err(ScriptError {
+            number: 0,
+            kind: ReflectErrorKind::OutOfMemory,
+        });
+    };
+    let mut partial = first;
+    let mut number = 0u32;
+    while let Some(command) = commands.pop_front() {
+        match call(partial, table, command, ledger) {
+            Ok(next) => {
+                partial = next;
+                number += 1;
+            }
+            Err(kind) => {
+                release_commands(commands, ledger);
+                return Err(ScriptError { number, kind });
+            }
+        }
+    }
+    match partial.build(ledger) {
+        Ok(built) => Ok(built),
+        Err(kind) => Err(ScriptError { number, kind }),
+    }
+}
+
+/// Makes the call that a command stands for.
+fn call<'t>(
+    partial: Partial<'t>,
+    table: &'t ShapeTable,
+    command: Command,
+    ledger: &mut Ledger,
+) -> Result<Partial<'t>, ReflectErrorKind>
+    requires same { partial.shapes ≡ table.now }
+    requires fitting { IsFitting table.now (call_of command) }
+    requires room { Room (λ t. holds partial t + brings (call_of command) t) ledger.old }
+    ensures step { IsStep partial.entry (step partial.entry.shapes partial.entry.root partial.entry.state (call_of command)) result }
+    ensures tokens { Conserved (λ t. holds partial.entry t + brings (call_of command) t) ledger.old (left result) ledger.new }
+{
+    match command {
+        Command::BeginNthField(i) => partial.begin_nth_field(i as usize, ledger),
+        Command::Set(shape, value) => partial.set_shape(Shaped::new(table, shape, value), ledger),
+        Command::End => partial.end(ledger),
+    }
+}
+
+/// Releases the tokens of commands that aren't run.
+fn release_commands(mut commands: VecDeque<Command>, ledger: &mut Ledger)
+    requires { Room (brought (calls_of commands.items)) ledger.old }
+    ensures { RoseBy (brought (calls_of commands.items)) ledger.old ledger.new }
+{
+    while let Some(command) = commands.pop_front() {
+        release_command(command, ledger);
+    }
+}
+
+fn release_command(command: Command, ledger: &mut Ledger)
+    requires { Room (brings (call_of command)) ledger.old }
+    ensures { RoseBy (brings (call_of command)) ledger.old ledger.new }
+{
+    match command {
+        Command::Set(_, value) => release(value, ledger),
+        Command::BeginNthField(_) | Command::End => {}
+    }
+}
