@@ -2,5 +2,6 @@
 #![tactic(auto)]
 
 mod build_script;
+mod report;
 
 fn main() {}

@@ -1,4 +1,4 @@
-use Rattle.std.proofs.Common.{◌≡◌, ℕ, ◌+◌, length}
+use Rattle.std.proofs.Common.{◌≡◌, ◌+◌, length}
 use Rattle.std.specs.VecDeque.{deque_len}
 use Rattle.fr_shape.specs.Released.{Room, Conserved}
 use Rattle.fr_model.specs.Commands.{calls_of}
@@ -20,11 +20,11 @@ invariant-loop-command l =
       root : l.partial.root ≡ l.fn.root.0;
       made : l.partial.state.calls ≡ l.number;
       run :
-        run_from l.table l.fn.root.0 l.number l.partial.state (calls_of l.commands.items)
-            ≡ full_run l.table l.fn.root.0 (calls_of l.fn.script);
+          run_from l.table l.fn.root.0 l.number l.partial.state (calls_of l.commands.items)
+          ≡ full_run l.table l.fn.root.0 (calls_of l.fn.script);
       fitting : AllFitting l.table (calls_of l.commands.items);
       conserved :
-        Conserved (brought (calls_of l.fn.script)) l.initial.ledger
-            (λ t. holds l.partial t + brought (calls_of l.commands.items) t) l.ledger;
-      room : Room (λ t. holds l.partial t + brought (calls_of l.commands.items) t) l.ledger
+          Conserved (brought (calls_of l.fn.script)) l.initial.ledger
+          (λ t. holds l.partial t + brought (calls_of l.commands.items) t) l.ledger;
+      room : Room (λ t. holds l.partial t + brought (calls_of l.commands.items) t) l.ledger;
     }

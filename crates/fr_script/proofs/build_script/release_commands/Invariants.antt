@@ -14,7 +14,7 @@ invariant-loop-command l =
     record {
       same_length : length l.ledger ≡ length l.initial.ledger;
       released :
-        (t : ℕ) → slice_index l.ledger t + brought (calls_of l.commands.items) t
-            ≡ slice_index l.initial.ledger t + brought (calls_of l.initial.commands.items) t;
-      room : Room (brought (calls_of l.commands.items)) l.ledger
+          (t : ℕ) → slice_index l.ledger t + brought (calls_of l.commands.items) t
+          ≡ slice_index l.initial.ledger t + brought (calls_of l.initial.commands.items) t;
+      room : Room (brought (calls_of l.commands.items)) l.ledger;
     }

@@ -1,0 +1,136 @@
+-- What is printed of an answer: one JSON object as compact text, its keys in byte order, and a line feed.
+use Rattle.std.specs.Prelude.{ℕ, zero, suc, ◌+◌, ◌-◌, ◌==◌, List, [], ◌∷◌, ◌++◌, map, Result, Ok, Err, codes, decimal, if◌then◌else◌}
+use Rattle.serde_json.specs.Data.{Data, string, array, object, Items, no_members, member}
+use Rattle.serde_json.specs.View.{items_of}
+use Rattle.serde_json.specs.Written.{compact_text}
+use Rattle.fr_shape.specs.declared.error.ReflectErrorKind.{ReflectErrorKind}
+use Rattle.fr_shape.specs.Tokens.{occurs}
+use Rattle.fr_shape.specs.Val.{Val}
+use Rattle.fr_doc.specs.declared.fault.DocFault.{DocFault}
+use Rattle.fr_doc.specs.declared.fault.DocPlace.{DocPlace}
+use Rattle.fr_doc.specs.declared.fault.DocSize.{DocSize}
+use Rattle.fr_doc.specs.Printed.{under, natural, value_data}
+use Rattle.fr_model.specs.Run.{Refusal, full_run}
+use Rattle.fr_model.specs.Scripts.{brought}
+use Rattle.fr_script.specs.Documents.{Document, document_of}
+
+-- What a run comes to: a fault of the document, a value, or a refusal; the latter two with the released tokens.
+pub data Outcome : Type 0 where
+  faulty : DocFault → Outcome
+  built : Val → List ℕ → Outcome
+  refused : Refusal → List ℕ → Outcome
+
+-- The released tokens, ascending, of those from number t on, so many: those whose count is 1 at the end, which are
+-- those that were brought and don't stand in the answer.
+abbrev pub released_from : (brought answered : ℕ → ℕ) → ℕ → ℕ → List ℕ
+released_from brought answered t zero = []
+released_from brought answered t (suc count) =
+    if brought t - answered t == 1 then t ∷ released_from brought answered (t + 1) count
+    else released_from brought answered (t + 1) count
+
+abbrev pub released : Document → (ℕ → ℕ) → List ℕ
+released document answered = released_from (brought document.script) answered 0 document.tokens
+
+abbrev pub none_answered : ℕ → ℕ
+none_answered t = 0
+
+abbrev pub outcome_of_run : Document → Result Val Refusal → Outcome
+outcome_of_run document (Ok v) = built v (released document (occurs v))
+outcome_of_run document (Err refusal) = refused refusal (released document none_answered)
+
+-- the machine's run of a document's script
+abbrev pub run_of : Document → Result Val Refusal
+run_of document = full_run document.shapes document.root document.script
+
+abbrev pub outcome_of_document : Result Document DocFault → Outcome
+outcome_of_document (Err fault) = faulty fault
+outcome_of_document (Ok document) = outcome_of_run document (run_of document)
+
+-- what the bytes of an input come to
+abbrev pub outcome_of : List ℕ → Outcome
+outcome_of bytes = outcome_of_document (document_of bytes)
+
+-- 0 for a value, 1 for a refusal, 2 for a faulty document
+abbrev pub status_of : Outcome → ℕ
+status_of (built v tokens) = 0
+status_of (refused refusal tokens) = 1
+status_of (faulty fault) = 2
+
+-- Names.
+
+abbrev pub kind_name : ReflectErrorKind → List ℕ
+kind_name (ReflectErrorKind.Alloc error) = codes "Alloc"
+kind_name (ReflectErrorKind.WasNotA expected actual) = codes "WasNotA"
+kind_name (ReflectErrorKind.OperationFailed shape operation) = codes "OperationFailed"
+kind_name (ReflectErrorKind.UnexpectedTracker call current) = codes "UnexpectedTracker"
+kind_name (ReflectErrorKind.WrongShape expected actual) = codes "WrongShape"
+kind_name (ReflectErrorKind.FieldError shape) = codes "FieldError"
+kind_name (ReflectErrorKind.UninitializedField field) = codes "UninitializedField"
+kind_name (ReflectErrorKind.UninitializedValue shape) = codes "UninitializedValue"
+kind_name (ReflectErrorKind.DefaultAttrButNoDefaultImpl shape) = codes "DefaultAttrButNoDefaultImpl"
+kind_name (ReflectErrorKind.ValidationFailed field message) = codes "ValidationFailed"
+kind_name (ReflectErrorKind.CustomDeserializationError message source target) = codes "CustomDeserializationError"
+kind_name (ReflectErrorKind.TryFromError source target inner) = codes "TryFromError"
+kind_name (ReflectErrorKind.ParseFailed shape) = codes "ParseFailed"
+kind_name (ReflectErrorKind.InvariantViolation invariant) = codes "InvariantViolation"
+kind_name (ReflectErrorKind.InvalidOperation reason) = codes "InvalidOperation"
+kind_name ReflectErrorKind.OutOfMemory = codes "OutOfMemory"
+
+abbrev pub place_name : DocPlace → List ℕ
+place_name DocPlace.Document = codes "document"
+place_name DocPlace.Shapes = codes "shapes"
+place_name (DocPlace.Shape i) = codes "shape " ++ decimal i
+place_name DocPlace.Root = codes "root"
+place_name DocPlace.Tokens = codes "tokens"
+place_name DocPlace.Commands = codes "commands"
+place_name (DocPlace.Command i) = codes "command " ++ decimal i
+
+abbrev pub size_name : DocSize → List ℕ
+size_name DocSize.Shapes = codes "shapes"
+size_name DocSize.Fields = codes "fields"
+size_name DocSize.Commands = codes "commands"
+size_name DocSize.Tokens = codes "tokens"
+size_name DocSize.Depth = codes "depth"
+
+-- The JSON of a report.
+
+abbrev pub naturals : List ℕ → Items
+naturals ns = items_of (map natural ns)
+
+abbrev pub fault_data : DocFault → Data
+fault_data DocFault.TooLong = under (codes "fault") (string (codes "TooLong"))
+fault_data DocFault.NotJson = under (codes "fault") (string (codes "NotJson"))
+fault_data DocFault.HasFloat = under (codes "fault") (string (codes "HasFloat"))
+fault_data (DocFault.BadForm place) =
+    object
+    (member (codes "fault") (string (codes "BadForm"))
+    (member (codes "place") (string (place_name place)) no_members))
+fault_data (DocFault.TooLarge size) =
+    object
+    (member (codes "fault") (string (codes "TooLarge"))
+    (member (codes "what") (string (size_name size)) no_members))
+fault_data (DocFault.Unchecked broken) =
+    object
+    (member (codes "entry") (natural broken.entry)
+    (member (codes "fault") (string (codes "Unchecked")) (member (codes "rule") (natural broken.rule) no_members)))
+fault_data (DocFault.Invalid i) =
+    object
+    (member (codes "command") (natural i) (member (codes "fault") (string (codes "Invalid")) no_members))
+
+abbrev pub error_data : Refusal → Data
+error_data refusal =
+    object
+    (member (codes "command") (natural refusal.number)
+    (member (codes "kind") (string (kind_name refusal.kind)) no_members))
+
+abbrev pub with_released : List ℕ → Data → List ℕ → Data
+with_released key d tokens = object (member key d (member (codes "released") (array (naturals tokens)) no_members))
+
+abbrev pub outcome_data : Outcome → Data
+outcome_data (faulty fault) = fault_data fault
+outcome_data (built v tokens) = with_released (codes "ok") (value_data v) tokens
+outcome_data (refused refusal tokens) = with_released (codes "error") (error_data refusal) tokens
+
+-- the report's bytes
+abbrev pub report : Outcome → List ℕ
+report outcome = compact_text (outcome_data outcome) ++ 10 ∷ []

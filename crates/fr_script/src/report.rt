@@ -1,0 +1,124 @@
+//! The report on an answer.
+ghost use Rattle.std.specs.Prelude.{◌≡◌, ◌++◌, ◌∷◌, [], codes, string_bytes, IfOk};
+ghost use Rattle.serde_json.specs.Data.{array};
+ghost use Rattle.serde_json.specs.View.{view as data_of};
+ghost use Rattle.serde_json.specs.Written.{compact_text, has_float};
+ghost use Rattle.fr_script.specs.Reports.{kind_name, place_name, size_name, naturals, fault_data, error_data, with_released};
+ghost use Rattle.fr_shape.specs.View.{view};
+ghost use Rattle.fr_doc.specs.Printed.{value_data};
+
+use crate::build_script::ScriptError;
+use fr_doc::{DocFault, DocPlace, DocSize, json_of};
+use fr_shape::{OutOfMemory, ReflectErrorKind, Value};
+use serde_json::{Value as Json, json};
+use std::alloc::{AllocError, Global};
+
+/// The name of a refusal's kind.
+fn name_of_kind(kind: &ReflectErrorKind) -> &'static str
+    ensures { result.now ≡ kind_name kind.now }
+{
+    match kind {
+        ReflectErrorKind::Alloc(_) => "Alloc",
+        ReflectErrorKind::WasNotA { .. } => "WasNotA",
+        ReflectErrorKind::OperationFailed { .. } => "OperationFailed",
+        ReflectErrorKind::UnexpectedTracker { .. } => "UnexpectedTracker",
+        ReflectErrorKind::WrongShape { .. } => "WrongShape",
+        ReflectErrorKind::FieldError { .. } => "FieldError",
+        ReflectErrorKind::UninitializedField { .. } => "UninitializedField",
+        ReflectErrorKind::UninitializedValue { .. } => "UninitializedValue",
+        ReflectErrorKind::DefaultAttrButNoDefaultImpl { .. } => "DefaultAttrButNoDefaultImpl",
+        ReflectErrorKind::ValidationFailed { .. } => "ValidationFailed",
+        ReflectErrorKind::CustomDeserializationError { .. } => "CustomDeserializationError",
+        ReflectErrorKind::TryFromError { .. } => "TryFromError",
+        ReflectErrorKind::ParseFailed { .. } => "ParseFailed",
+        ReflectErrorKind::InvariantViolation { .. } => "InvariantViolation",
+        ReflectErrorKind::InvalidOperation { .. } => "InvalidOperation",
+        ReflectErrorKind::OutOfMemory => "OutOfMemory",
+    }
+}
+
+/// The name of a place in a document.
+fn name_of_place(alloc: Global, place: DocPlace) -> Result<String, AllocError>
+    ensures { IfOk result (λ name. string_bytes name ≡ place_name place) }
+{
+    match place {
+        DocPlace::Document => String::from_str(alloc, "document"),
+        DocPlace::Shapes => String::from_str(alloc, "shapes"),
+        DocPlace::Shape(i) => format!(in alloc; "shape {i}"),
+        DocPlace::Root => String::from_str(alloc, "root"),
+        DocPlace::Tokens => String::from_str(alloc, "tokens"),
+        DocPlace::Commands => String::from_str(alloc, "commands"),
+        DocPlace::Command(i) => format!(in alloc; "command {i}"),
+    }
+}
+
+fn name_of_size(size: DocSize) -> &'static str
+    ensures { result.now ≡ size_name size }
+{
+    match size {
+        DocSize::Shapes => "shapes",
+        DocSize::Fields => "fields",
+        DocSize::Commands => "commands",
+        DocSize::Tokens => "tokens",
+        DocSize::Depth => "depth",
+    }
+}
+
+/// The JSON of a fault.
+fn json_of_fault(alloc: Global, fault: DocFault) -> Result<Json, AllocError>
+    ensures { IfOk result (λ json. data_of json ≡ fault_data fault) }
+{
+    match fault {
+        DocFault::TooLong => json!(in alloc; { "fault": "TooLong" }),
+        DocFault::NotJson => json!(in alloc; { "fault": "NotJson" }),
+        DocFault::HasFloat => json!(in alloc; { "fault": "HasFloat" }),
+        DocFault::BadForm(place) => {
+            let name = name_of_place(alloc, place)?;
+            json!(in alloc; { "fault": "BadForm", "place": name.as_str() })
+        }
+        DocFault::TooLarge(size) => {
+            let name = name_of_size(size);
+            json!(in alloc; { "fault": "TooLarge", "what": name })
+        }
+        DocFault::Unchecked(broken) => {
+            let (entry, rule) = (broken.entry, broken.rule);
+            json!(in alloc; { "entry": entry, "fault": "Unchecked", "rule": rule })
+        }
+        DocFault::Invalid(command) => {
+            json!(in alloc; { "command": command, "fault": "Invalid" })
+        }
+    }
+}
+
+/// Numbers as an array.
+fn json_of_numbers(alloc: Global, numbers: &[u32]) -> Result<Json, AllocError>
+    ensures { IfOk result (λ json. data_of json ≡ array (naturals numbers.now)) }
+{
+    let mut items = Vec::new(alloc);
+    for number in numbers {
+        items.push(Json::from(*number))?;
+    }
+    Ok(Json::Array(items))
+}
+
+/// The JSON of a value and the tokens that were released.
+fn json_of_built(alloc: Global, value: &Value, released: &[u32]) -> Result<Json, AllocError>
+    ensures { IfOk result (λ json. data_of json ≡ with_released (codes "ok") (value_data (view value.now)) released.now) }
+{
+    let Ok(ok) = json_of(alloc, value) else {
+        return Err(AllocError);
+    };
+    let tokens = json_of_numbers(alloc, released)?;
+    json!(in alloc; { "ok": ok, "released": tokens })
+}
+
+/// The JSON of a refusal and the tokens that were released.
+fn json_of_refused(alloc: Global, error: &ScriptError, released: &[u32]) -> Result<Json, AllocError>
+    ensures { IfOk result (λ json. data_of json
+        ≡ with_released (codes "error") (error_data (record { number = error.now.number; kind = error.now.kind })) released.now) }
+{
+    let command = error.number;
+    let kind = name_of_kind(&error.kind);
+    let tokens = json_of_numbers(alloc, released)?;
+    json!(in alloc; { "error": { "command": command, "kind": kind }, "released": tokens })
+}
