@@ -11,9 +11,9 @@ use std::alloc::Global;
 use std::marker::Model;
 use std::ops::Index;
 
-/// Values of one type, which stay where they were put and are named by their indices.
+/// Values of one type, each of which keeps the index under which it was put.
 ///
-/// Contracts see the list of the values. An arena never holds more than 4294967295 of them.
+/// Contracts see the list of the values, at most 4294967295 of them. How much memory is taken ahead of need is only code.
 #[derive(Drop)]
 pub struct Arena<T> {
     values: Vec<T>,

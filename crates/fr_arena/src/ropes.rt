@@ -135,6 +135,9 @@ impl<T> ListRope<T> {
     }
 
     /// Hands all items to `f`, in order, and gives the chunks back.
+    ///
+    /// A caller whose own contract says what became of the items goes over `take_items` instead: no clause
+    /// says what a closure that is passed on did to the values that it borrows.
     pub fn drain_into<F: FnMut(T)>(&mut self, mut f: F)
         requires callable { F.IsAlwaysCallable f }
         requires whole { self.old.marked ≡ length self.old.items }
