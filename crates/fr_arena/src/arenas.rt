@@ -1,7 +1,8 @@
 //! An arena: values of one type, each under the index at which it was put.
-ghost use Rattle.std.specs.Prelude.{◌≡◌, ◌+◌, ◌-◌, ◌<◌, ◌≤◌, ◌==◌, [], ◌∷◌, ◌++◌, length, IfOk, IfErr, OnOk, OnErr, slice_get, slice_index_or, slice_range, slice_set, ℕ};
+ghost use Rattle.std.specs.Prelude.{◌≡◌, ◌+◌, ◌-◌, ◌<◌, ◌≤◌, ◌==◌, [], ◌∷◌, ◌++◌, length, IfOk, IfErr, IfSome, OnOk, OnErr, slice_index_or, slice_range, slice_set};
 ghost use Rattle.std.specs.Borrow.{Lends, sem};
-ghost use Rattle.std.specs.Iterator.{YieldsFirstRef, item_count, IsFiniteIterable};
+ghost use Rattle.std.specs.Iterator.SizeHint.{IsWithinCount};
+ghost use Rattle.std.specs.Iterator.{YieldsFirstRef, UpTo, at_most, item_count, IsFiniteIterable};
 ghost use Rattle.fr_arena.specs.Arenas.{GivesAtMost, ForAllItems};
 ghost use Rattle.fr_arena.specs.Ranges.{indices_from};
 
@@ -190,7 +191,11 @@ impl<'a, T> Iterator for ArenaIter<'a, T> {
         Some(first)
     }
 
-    fn size_hint(&self) -> (usize, Option<usize>) {
+    fn size_hint(&self) -> (usize, Option<usize>)
+        ensures lower { IsWithinCount result.0 (at_most (length self.now)) }
+        ensures upper { IfSome result.1 (UpTo (at_most (length self.now))) }
+        ensures exact { result ≡ (length self.now, Some (length self.now)) }
+    {
         (self.values.len(), Some(self.values.len()))
     }
 }
