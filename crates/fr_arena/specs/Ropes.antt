@@ -13,6 +13,7 @@ abbrev pub rope_code : {T : Type 0} → Coded T → Coded (Rope T)
 rope_code {T} code =
     code_by (List T × (ℕ × ℕ)) (coded× (coded_list code) (coded× coded_ℕ coded_ℕ)) (λ r. (r.items, (r.marked, r.chunk_size))) (λ p. record { items = p.0; marked = p.1.0; chunk_size = p.1.1 }) (λ _. refl)
 
+-- a rope of these items, so many of them marked, with chunks of this size
 abbrev pub rope_of : {T : Type 0} → List T → ℕ → ℕ → Rope T
 rope_of items marked size = record { items = items; marked = marked; chunk_size = size }
 

@@ -1,7 +1,8 @@
 //! An arena: values of one type, each under the index at which it was put.
-ghost use Rattle.std.specs.Prelude.{◌≡◌, ◌+◌, ◌-◌, ◌<◌, ◌≤◌, ◌==◌, [], ◌∷◌, ◌++◌, length, IfOk, IfErr, OnOk, OnErr, slice_get, slice_index_or, slice_range, slice_set, ℕ};
+ghost use Rattle.std.specs.Prelude.{◌≡◌, ◌+◌, ◌-◌, ◌<◌, ◌≤◌, ◌==◌, [], ◌∷◌, ◌++◌, length, IfOk, IfErr, IfSome, OnOk, OnErr, slice_index_or, slice_range, slice_set};
 ghost use Rattle.std.specs.Borrow.{Lends, sem};
-ghost use Rattle.std.specs.Iterator.{YieldsFirstRef, item_count, IsFiniteIterable};
+ghost use Rattle.std.specs.Iterator.SizeHint.{IsWithinCount};
+ghost use Rattle.std.specs.Iterator.{YieldsFirstRef, UpTo, at_most, item_count, IsFiniteIterable};
 ghost use Rattle.fr_arena.specs.Arenas.{GivesAtMost, ForAllItems};
 ghost use Rattle.fr_arena.specs.Ranges.{indices_from};
 
@@ -11,9 +12,9 @@ use std::alloc::Global;
 use std::marker::Model;
 use std::ops::Index;
 
-/// Values of one type, which stay where they were put and are named by their indices.
+/// Values of one type, each of which keeps the index under which it was put.
 ///
-/// Contracts see the list of the values. An arena never holds more than 4294967295 of them.
+/// Contracts see the list of the values, at most 4294967295 of them. How much memory is taken ahead of need is only code.
 #[derive(Drop)]
 pub struct Arena<T> {
     values: Vec<T>,
@@ -190,7 +191,11 @@ impl<'a, T> Iterator for ArenaIter<'a, T> {
         Some(first)
     }
 
-    fn size_hint(&self) -> (usize, Option<usize>) {
+    fn size_hint(&self) -> (usize, Option<usize>)
+        ensures lower { IsWithinCount result.0 (at_most (length self.now)) }
+        ensures upper { IfSome result.1 (UpTo (at_most (length self.now))) }
+        ensures exact { result ≡ (length self.now, Some (length self.now)) }
+    {
         (self.values.len(), Some(self.values.len()))
     }
 }

@@ -1,5 +1,5 @@
 //! A set of small numbers, one bit for each.
-ghost use Rattle.std.specs.Prelude.{◌≡◌, ◌+◌, ◌-◌, ◌*◌, ◌/◌, ◌%◌, ◌^◌, ◌<◌, ◌≤◌, ◌↔◌, length, min, max, IsTrue, IsOk, IfOk, slice_index, slice_set, ℕ, nat_lt, ◌==◌, ◌||◌, ◌&&◌, not, false};
+ghost use Rattle.std.specs.Prelude.{◌≡◌, ◌-◌, ◌*◌, ◌^◌, ◌<◌, ◌≤◌, ◌↔◌, length, min, max, IsTrue, IsOk, IfOk, slice_index, slice_set, ℕ, nat_lt, ◌==◌, ◌||◌, ◌&&◌, not, false};
 ghost use Rattle.std.specs.Int.{div_ceil};
 ghost use Rattle.std.specs.FinSet as set;
 ghost use Rattle.fr_arena.specs.BitSets.{all_below, HasAllBelow, IsWithinCapacity};

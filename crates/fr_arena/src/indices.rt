@@ -1,15 +1,17 @@
 //! Typed indices into an arena, and runs of them.
-ghost use Rattle.std.specs.Prelude.{◌≡◌, ◌+◌, ◌<◌, ◌≤◌, ◌==◌, ◌↔◌, ℕ, IsTrue, SomeIff};
+ghost use Rattle.std.specs.Prelude.{◌≡◌, ◌+◌, ◌<◌, ◌≤◌, ◌==◌, ◌&&◌, ◌↔◌, ℕ, IsTrue, SomeIff};
+ghost use Rattle.std.proofs.Common.{rules};
+ghost use Rattle.std.specs.Cmp.Rules.{comparing, hashing};
+ghost use Rattle.std.specs.Hash as fed;
 ghost use Rattle.fr_arena.specs.Ranges.{Range, indices_from};
 
-use std::hash::Hash;
+use std::hash::{Hash, Hasher};
 use std::marker::{Model, PhantomData};
 
 /// The index of a `T` in an arena, a number of 32 bits.
 ///
 /// Contracts see the number. The largest stands for no index at all.
-#[derive_where(Clone, Copy, PartialEq, Eq, Hash)]
-#[derive(Drop)]
+#[derive_where(Clone, Copy)]
 pub struct Idx<T> {
     raw: u32,
     of: PhantomData<T>,
@@ -21,6 +23,30 @@ impl<T> Model for Idx<T> {
     ghost view = { λ idx. idx.raw };
 
     ghost inverse = { λ raw. record { raw = raw; of = record {} } };
+}
+
+impl<T> PartialEq for Idx<T> {
+    ghost eq = { ◌==◌ };
+
+    ghost laws = { Prim.search (comparing, rules) };
+
+    fn eq(&self, other: &Idx<T>) -> bool {
+        self.raw == other.raw
+    }
+}
+
+impl<T> Eq for Idx<T> {
+    ghost laws = { Prim.search (comparing, rules) };
+}
+
+impl<T> Hash for Idx<T> {
+    ghost hash_input = { fed.u32 };
+
+    ghost respects_eq = { Prim.search (hashing, rules) };
+
+    fn hash<H: Hasher>(&self, state: &mut H) {
+        self.raw.hash(state);
+    }
 }
 
 impl<T> Idx<T> {
@@ -59,8 +85,7 @@ impl<T> Idx<T> {
 /// A run of indices of `T`s that lie side by side in an arena.
 ///
 /// Contracts see the first index and the number of indices. No index of a range is above 4294967294.
-#[derive_where(Clone, Copy, PartialEq, Eq)]
-#[derive(Drop)]
+#[derive_where(Clone, Copy)]
 pub struct SliceRange<T> {
     start: u32,
     len: u32,
@@ -75,6 +100,20 @@ impl<T> Model for SliceRange<T> {
     ghost invariant = { λ range. range.start + range.len ≤ 4294967295 };
 
     ghost inverse = { λ range. record { start = range.start; len = range.len; of = record {} } };
+}
+
+impl<T> PartialEq for SliceRange<T> {
+    ghost eq = { λ a b. (a.start == b.start) && (a.len == b.len) };
+
+    ghost laws = { Prim.search (comparing, rules) };
+
+    fn eq(&self, other: &SliceRange<T>) -> bool {
+        self.start == other.start && self.len == other.len
+    }
+}
+
+impl<T> Eq for SliceRange<T> {
+    ghost laws = { Prim.search (comparing, rules) };
 }
 
 impl<T> SliceRange<T> {

@@ -1,7 +1,8 @@
 //! A rope: a list that grows by chunks, so that no item moves before the rope is drained.
-ghost use Rattle.std.specs.Prelude.{◌≡◌, ◌+◌, ◌-◌, ◌<◌, ◌≤◌, ◌==◌, [], ◌∷◌, ◌++◌, length, take, IfErr, OnOk, OnErr, ℕ, vec_len, vec_capacity};
+ghost use Rattle.std.specs.Prelude.{◌≡◌, ◌+◌, ◌<◌, ◌≤◌, ◌==◌, ◌++◌, length, take, IfErr, IfSome, OnOk, OnErr};
 ghost use Rattle.std.specs.Int.{div_ceil};
-ghost use Rattle.std.specs.Iterator.{YieldsFirst, YieldsFirstRef, item_count};
+ghost use Rattle.std.specs.Iterator.SizeHint.{IsWithinCount};
+ghost use Rattle.std.specs.Iterator.{YieldsFirst, YieldsFirstRef, UpTo, at_most, item_count};
 ghost use Rattle.std.specs.List.{FoldsTo};
 ghost use Rattle.fr_arena.specs.Ropes.{Rope, empty_rope, with_item};
 ghost use Rattle.fr_arena.specs.Chunks.{is_open, EndsWithChunk};
@@ -13,9 +14,9 @@ use std::{mem, vec};
 
 /// A list of items that grows by chunks of a fixed size, with a count of those that are marked.
 ///
-/// Contracts see the items, the count and the chunk size. Where the items lie is only code, but for the
-/// number of chunks: each chunk is a vector that is made with room for the chunk size and never grows, so
-/// an item stays where it was pushed until the rope is drained.
+/// Contracts see the items, the count, the chunk size and with these the number of chunks. Where the items lie
+/// is only code: each chunk is a vector that is made with room for the chunk size and never grows, so an item
+/// stays where it was pushed until the rope is drained.
 #[derive(Drop)]
 pub struct ListRope<T> {
     chunks: Vec<Vec<T>>,
@@ -26,7 +27,7 @@ pub struct ListRope<T> {
 }
 
 impl<T> Model for ListRope<T> {
-    ghost use Rattle.std.specs.Prelude.{◌≡◌, ℕ, ◌<◌, ◌≤◌, length};
+    ghost use Rattle.std.specs.Prelude.{◌≡◌, ◌<◌, ◌≤◌, length};
     ghost use Rattle.fr_arena.specs.Ropes.{Rope, rope_code, rope_of};
     ghost use Rattle.fr_arena.specs.Chunks.{items_of, AreFilled};
 
@@ -86,7 +87,7 @@ impl<T> ListRope<T> {
         Ok(())
     }
 
-    /// Marks the first item that isn't marked yet.
+    /// Marks one more item: the first that isn't marked yet, so the last one where each is marked as it comes.
     pub fn mark_last_initialized(&mut self)
         requires { self.old.marked < length self.old.items }
         ensures { self.new ≡ record self.old { marked = self.old.marked + 1 } }
@@ -135,6 +136,9 @@ impl<T> ListRope<T> {
     }
 
     /// Hands all items to `f`, in order, and gives the chunks back.
+    ///
+    /// A caller whose own contract says what became of the items goes over `take_items` instead: no clause
+    /// says what a closure that is passed on did to the values that it borrows.
     pub fn drain_into<F: FnMut(T)>(&mut self, mut f: F)
         requires callable { F.IsAlwaysCallable f }
         requires whole { self.old.marked ≡ length self.old.items }
@@ -222,7 +226,11 @@ impl<'a, T> Iterator for RopeIter<'a, T> {
         Some(first)
     }
 
-    fn size_hint(&self) -> (usize, Option<usize>) {
+    fn size_hint(&self) -> (usize, Option<usize>)
+        ensures lower { IsWithinCount result.0 (at_most (length self.now)) }
+        ensures upper { IfSome result.1 (UpTo (at_most (length self.now))) }
+        ensures exact { result ≡ (length self.now, Some (length self.now)) }
+    {
         (self.left, Some(self.left))
     }
 }
