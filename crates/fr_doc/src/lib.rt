@@ -13,6 +13,8 @@ mod read_error;
 mod shape_form;
 mod table_fault;
 mod tag;
+#[cfg(test)]
+mod tests;
 mod value_form;
 mod value_json;
 
