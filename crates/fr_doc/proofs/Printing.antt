@@ -3,7 +3,7 @@ use Rattle.std.proofs.Common.{◌≡◌, ℕ, List, [], ◌∷◌, map, take, le
 use Rattle.std.specs.Prelude.{Vec}
 use Rattle.std.specs.declared.alloc.Global.{Global}
 use Rattle.std.proofs.lemmas.List.{take_all}
-use Rattle.serde_json.specs.Data.{Data, array, string, Items, item}
+use Rattle.serde_json.specs.Data.{Data, array, string, item}
 use Rattle.serde_json.specs.View.{view as data_of, items_of}
 use Rattle.serde_json.specs.declared.value.Value.{Value as Json, Array}
 use Rattle.serde_json.proofs.Views.{view-Array}
@@ -11,7 +11,7 @@ use Rattle.fr_shape.specs.declared.value.Value.{Value}
 use Rattle.fr_shape.specs.declared.value.Dyn.{Dyn}
 use Rattle.fr_shape.specs.View.{view, vals_view, entries_view, dyn_view, dynamics_of, members_of}
 use Rattle.fr_doc.specs.Printed.{natural, pair, bytes_data, dyn_data, dynamics_data, dyn_members_data, value_data, vals_data, entries_data}
-use Rattle.fr_doc.specs.Reading.{member_view, entry_view}
+use Rattle.fr_doc.specs.Reading.{member_view}
 
 -- a list whose items were printed one after another, to its end
 pub all_printed : {A : Type 0} (print : A → Data) (v : Vec Json Global) (xs ys : List A) (i : ℕ) → length ys ≤ i → map data_of v.items ≡ map print (take i ys) → ys ≡ xs → data_of (Array v) ≡ array (items_of (map print xs))

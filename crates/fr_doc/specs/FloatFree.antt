@@ -1,13 +1,13 @@
 -- A printed value has no number that is neither an i64 nor a u64, so its text is its compact text.
 use Rattle.std.specs.Prelude.{◌≡◌, ℕ, ◌^◌, nat_lt, ℤ, pos, negsuc, Bool, true, false, ◌||◌, List, [], ◌∷◌, decimal, codes, if◌then◌else◌, refl}
 use Rattle.std.specs.Fmt.{signed_decimal}
-use Rattle.serde_json.specs.Data.{Data, number, string}
+use Rattle.serde_json.specs.Data.{number, string}
 use Rattle.serde_json.specs.Find.{of_integer, is_float}
-use Rattle.serde_json.specs.Written.{has_float, items_have_float, members_have_float}
+use Rattle.serde_json.specs.Written.{has_float, items_have_float}
 use Rattle.fr_shape.specs.Val.{Val, Vals, Entries, unit, bool, char, int, nat, text, token, product, variant, none, some, ok, err, list_of, map_of, set_of, ptr, dyn, no_vals, first, no_entries, entry}
 use Rattle.fr_shape.specs.Val.{Dynamic, Dynamics, Members, dyn_null, dyn_bool, dyn_int, dyn_nat, dyn_text, dyn_bytes, dyn_array, dyn_object, no_dynamics, first_dynamic}
 use Rattle.fr_shape.specs.Val.{member as dyn_member, no_members as no_dyn_members}
-use Rattle.fr_doc.specs.Printed.{under, pair, natural, nat_data, is_small, int_data, bytes_data, dyn_data, dynamics_data, dyn_members_data, value_data, vals_data, entries_data}
+use Rattle.fr_doc.specs.Printed.{under, natural, is_small, bytes_data, dyn_data, dynamics_data, dyn_members_data, value_data, vals_data, entries_data}
 
 neither : (a b : Bool) → a ≡ false → b ≡ false → (a || b) ≡ false
 neither true b none_first none_second = none_first

@@ -1,8 +1,8 @@
 -- Numbers and characters in a document.
-use Rattle.std.specs.Prelude.{ℕ, ◌+◌, ◌^◌, ◌==◌, ◌&&◌, not, nat_lt, cond, ℤ, pos, neg_ℤ, Bool, true, false, List, [], ◌∷◌, drop, length, slice_index, Option, Some, None, if◌then◌else◌}
+use Rattle.std.specs.Prelude.{ℕ, ◌+◌, ◌^◌, ◌&&◌, nat_lt, cond, ℤ, pos, neg_ℤ, Bool, true, false, List, [], ◌∷◌, drop, length, Option, Some, None, if◌then◌else◌}
 use Rattle.std.specs.Str.{all_ascii_digits, chars}
 use Rattle.std.specs.Str.Parse.{digits_value, starts_with_minus}
-use Rattle.serde_json.specs.Data.{Data, null, boolean, number, string, array, object}
+use Rattle.serde_json.specs.Data.{Data, number, string}
 use Rattle.serde_json.specs.Find.{as_u64, as_i64, as_integer}
 use Rattle.fr_doc.specs.Steps.{◌>>=◌}
 

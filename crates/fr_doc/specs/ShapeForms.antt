@@ -1,14 +1,12 @@
 -- The shapes that JSON stands for. Other forms will follow; so far each is broken.
-use Rattle.std.specs.Prelude.{ℕ, Bool, true, false, List, [], ◌∷◌, Option, Some, None, option_map, Result, Ok, Err, codes, if◌then◌else◌}
+use Rattle.std.specs.Prelude.{ℕ, false, List, [], ◌∷◌, Option, Some, None, option_map, Result, Err, codes, if◌then◌else◌}
 use Rattle.std.specs.Option.{ok_or}
 use Rattle.std.specs.Str.{bytes_eq}
-use Rattle.serde_json.specs.Data.{Data, null, boolean, number, string, array, object, Members, no_members, member}
+use Rattle.serde_json.specs.Data.{Data, string, array, object, no_members, member}
 use Rattle.serde_json.specs.Find.{get, as_str, as_object}
 use Rattle.fr_shape.specs.declared.shape.Shape.{Shape}
-use Rattle.fr_shape.specs.declared.shape.ShapeId.{ShapeId}
 use Rattle.fr_shape.specs.declared.shape.Def.{Def}
 use Rattle.fr_shape.specs.declared.shape.ScalarKind.{ScalarKind}
-use Rattle.fr_shape.specs.declared.shape.StructDef.{StructDef}
 use Rattle.fr_shape.specs.declared.shape.StructKind.{StructKind}
 use Rattle.fr_shape.specs.declared.shape.Field.{Field}
 use Rattle.fr_doc.specs.declared.fault.DocFault.{DocFault}

@@ -1,11 +1,11 @@
 -- Every shape that is read is one that the builder serves, and so is every table.
-use Rattle.std.specs.Prelude.{◌≡◌, ℕ, ◌+◌, Bool, true, false, ◌&&◌, cond, List, [], ◌∷◌, Option, Some, None, option_map, Result, Ok, Err, codes, refl}
-use Rattle.std.proofs.Common.{sym, ap, ◌∙◌, subst}
+use Rattle.std.specs.Prelude.{◌≡◌, ℕ, ◌+◌, Bool, true, false, cond, List, [], ◌∷◌, Option, Some, None, option_map, Result, Ok, Err, codes, refl}
+use Rattle.std.proofs.Common.{subst}
 use Rattle.std.proofs.lemmas.Bool.{and_from}
 use Rattle.std.specs.List.{list_all}
 use Rattle.std.specs.Option.{ok_or}
 use Rattle.std.specs.Str.{bytes_eq}
-use Rattle.serde_json.specs.Data.{Data, null, boolean, number, string, array, object, Items, no_items, item, Members, no_members, member}
+use Rattle.serde_json.specs.Data.{Data, null, boolean, number, string, array, object, Items, no_items, item, no_members, member}
 use Rattle.serde_json.specs.Find.{get, as_str, as_object}
 use Rattle.fr_shape.specs.declared.shape.Shape.{Shape}
 use Rattle.fr_shape.specs.declared.shape.Def.{Def}
@@ -17,7 +17,7 @@ use Rattle.fr_doc.specs.FaultSteps.{each_at}
 use Rattle.fr_doc.specs.FaultSteps.{◌>>=◌ as ◌>>=!◌}
 use Rattle.fr_doc.specs.Keys.{has_no_other}
 use Rattle.fr_doc.specs.Numerals.{whole_number}
-use Rattle.fr_doc.specs.ShapeForms.{plain_field, plain_shape, under_key, one_or_more, struct_of, field_form, fields_form, named_def, keyed_def, def_form, shape_form, shape_at, shapes_form}
+use Rattle.fr_doc.specs.ShapeForms.{plain_shape, under_key, one_or_more, struct_of, field_form, fields_form, named_def, keyed_def, def_form, shape_form, shape_at, shapes_form}
 use Rattle.fr_doc.specs.Steps.{◌>>=◌, each}
 
 -- `passes` holds of what a form gives, where it gives something

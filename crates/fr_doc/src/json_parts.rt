@@ -28,6 +28,7 @@ pub fn print_pair(alloc: Global, a: Json, b: Json) -> Result<Json, AllocError>
     Ok(Json::Array(items))
 }
 
+/// A text of one character, under its key.
 pub fn print_char(alloc: Global, c: char) -> Result<Json, AllocError>
     ensures { IfOk result (λ json. data_of json ≡ under (codes "c") (string (encode_utf8 c))) }
 {

@@ -21,6 +21,8 @@ mod schedule;
 mod shape_form;
 mod table_fault;
 mod tag;
+#[cfg(test)]
+mod tests;
 mod value_form;
 mod value_json;
 

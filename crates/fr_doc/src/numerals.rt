@@ -22,7 +22,7 @@ pub fn read_nat(text: &str) -> Option<u128>
     ensures { result ≡ digits_nat text.now }
 {
     if has_digits(text.as_bytes()) {
-        text.parse().ok()
+        text.parse::<u128>().ok()
     } else {
         None
     }
@@ -43,7 +43,7 @@ pub fn read_int(text: &str) -> Option<i128>
     ensures { result ≡ digits_int text.now }
 {
     if has_digits(skip_minus(text).as_bytes()) {
-        text.parse().ok()
+        text.parse::<i128>().ok()
     } else {
         None
     }
@@ -53,7 +53,7 @@ pub fn read_int(text: &str) -> Option<i128>
 pub fn read_char(text: &str) -> Option<char>
     ensures { result ≡ one_char text.now }
 {
-    text.parse().ok()
+    text.parse::<char>().ok()
 }
 
 /// A number that is written as a text of digits.

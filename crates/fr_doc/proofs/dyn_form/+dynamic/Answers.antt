@@ -1,15 +1,15 @@
-use Rattle.std.proofs.Common.{◌≡◌, ℕ, ◌+◌, ◌<◌, ◌≤◌, length, List, [], ◌∷◌, ◌++◌, map, Some, None, Err, inl, inr, sym, ap, ◌∙◌, arith, rules}
+use Rattle.std.proofs.Common.{◌≡◌, map, Some, ◌∙◌, rules}
 use Rattle.serde_json.specs.View.{view as data_of}
-use Rattle.serde_json.specs.View.{items_view, members_view}
 use Rattle.fr_shape.specs.View.{dyn_view, dynamics_of, members_of}
-use Rattle.fr_doc.specs.DynForms.{bytes_form, dyn_form, dynamics_form, dyn_one_key_form, dyn_object_form, dyn_member_form}
-use Rattle.fr_doc.specs.Reading.{Reads, member_view}
+use Rattle.fr_doc.specs.DynForms.{dyn_form, dyn_member_form}
+use Rattle.fr_doc.specs.Reading.{member_view}
 use Rattle.serde_json.specs.declared.value.Value.{the_lemmas as json_lemmas}
 use Rattle.serde_json.specs.Find.{as_str}
 use Rattle.std.specs.Prelude.{string_bytes}
-use Rattle.fr_doc.proofs.Dynamics.{dynamics_whole, members_whole, member_split}
+use Rattle.fr_doc.proofs.Dynamics.{dynamics_whole, members_whole, member_of, member_split}
 use Rattle.fr_doc.proofs.Loops.{then_fails, so_far_next, fails, ends}
 use Rattle.fr_doc.proofs.dyn_form.+dynamic.Goals as goal
+use Rattle.fr_doc.proofs.dyn_form.+dynamic.Goals.{read_dyn_member-In-Some-Some-None}
 
 pub read_dyns-returns-in_err-read_dyn : goal.read_dyns-returns-in_err-read_dyn
 read_dyns-returns-in_err-read_dyn t c =
@@ -42,17 +42,21 @@ read_dyn_members-returns t c =
     let vs = c.deref-item-items.result.now in
     ends dyn_member_form members_of vs _ (members_whole c.args.json.now c.in-Array.items vs c.in-Array.is c.deref-item-items.ensures.value) c.loop-item.item-index _ c.loop-item-test.false c.loop-item.invariant
 
+member_is : (t : _) (c : read_dyn_member-In-Some-Some-None t) → dyn_member_form (data_of c.args.json.now) ≡ member_of (data_of c.in-Some-Some-None.key.now, data_of c.in-Some-Some-None.inner.now)
+member_is t c =
+    let pair = c.in-Some-Some-None in
+    member_split c.args.json.now c.in-Array.items c.iter-items.result.rest.now c.in-Array.is (c.iter-items.ensures.rest ∙ c.deref.ensures.value) _ _ _ _ pair.ensures.steps pair.ensures'.steps pair.ensures''.steps.0
+
 pub read_dyn_member-returns-in_err-dynamic : goal.read_dyn_member-returns-in_err-dynamic
 read_dyn_member-returns-in_err-dynamic t c =
-    let pair = c.in-Some-Some-None in
-    let split = member_split c.args.json.now c.in-Array.items c.iter-items.result.rest.now c.in-Array.is (c.iter-items.ensures.rest ∙ c.deref.ensures.value) _ _ _ _ pair.ensures.steps pair.ensures'.steps pair.ensures''.steps.0 in
-    let named : as_str (data_of pair.key.now) ≡ Some (string_bytes c.in-String.key) = search (rules, json_lemmas) in
-    let failed = then_fails dyn_view member_view c.in_err-dynamic.field-0.0 (dyn_form (data_of pair.inner.now)) (λ x. Some (string_bytes c.in-String.key, x)) (split ∙ rw named) c.in_err-dynamic.ensures in
+    let split = member_is t (goal.at.read_dyn_member-returns-in_err-dynamic t c).In-Some-Some-None in
+    let named : as_str (data_of c.in-Some-Some-None.key.now) ≡ Some (string_bytes c.in-String.key) = search (rules, json_lemmas) in
+    let inner = dyn_form (data_of c.in-Some-Some-None.inner.now) in
+    let failed = then_fails dyn_view member_view c.in_err-dynamic.field-0.0 inner (λ x. Some (string_bytes c.in-String.key, x)) (split ∙ rw named) c.in_err-dynamic.ensures in
     search (rules, failed)
 
 pub read_dyn_member-returns : goal.read_dyn_member-returns
 read_dyn_member-returns t c =
-    let pair = c.in-Some-Some-None in
-    let split = member_split c.args.json.now c.in-Array.items c.iter-items.result.rest.now c.in-Array.is (c.iter-items.ensures.rest ∙ c.deref.ensures.value) _ _ _ _ pair.ensures.steps pair.ensures'.steps pair.ensures''.steps.0 in
-    let named : as_str (data_of pair.key.now) ≡ Some (string_bytes c.in-String.key) = search (rules, json_lemmas) in
+    let split = member_is t (goal.at.read_dyn_member-returns t c).In-Some-Some-None in
+    let named : as_str (data_of c.in-Some-Some-None.key.now) ≡ Some (string_bytes c.in-String.key) = search (rules, json_lemmas) in
     split ∙ rw (named, c.in_ok-dynamic.ensures, c.in_ok-new.ensures.copy, c.as_str.ensures.value)

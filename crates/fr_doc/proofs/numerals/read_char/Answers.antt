@@ -1,4 +1,4 @@
-use Rattle.std.proofs.Common.{◌∙◌, sym}
+use Rattle.std.proofs.Common.{◌∙◌}
 use Rattle.fr_doc.proofs.Parsed.{char_parses}
 use Rattle.fr_doc.proofs.numerals.read_char.Goals as goal
 
