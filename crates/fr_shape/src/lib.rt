@@ -13,6 +13,8 @@ mod settling;
 mod shape;
 mod shaped;
 mod table;
+#[cfg(test)]
+mod tests;
 mod text;
 mod value;
 
