@@ -43,7 +43,8 @@ impl Ledger {
         requires { t < length self.now }
         ensures { result ≡ slice_index self.now t }
     {
-        self.counts[t as usize]
+        let index = t as usize;
+        self.counts[index]
     }
 
     /// Records one release of token `t`.

@@ -14,6 +14,8 @@ mod settling;
 mod shape;
 mod shaped;
 mod table;
+#[cfg(test)]
+mod tests;
 mod text;
 mod value;
 
