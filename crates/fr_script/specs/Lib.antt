@@ -2,3 +2,4 @@ pub mod CommandForms
 pub mod Documents
 pub mod Outcomes
 pub mod Reports
+pub mod Tokens

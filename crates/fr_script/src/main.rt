@@ -2,6 +2,7 @@
 #![tactic(auto)]
 
 mod build_script;
+mod released;
 mod report;
 
 fn main() {}
