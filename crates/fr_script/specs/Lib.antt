@@ -1,3 +1,4 @@
+pub mod Answers
 pub mod CommandForms
 pub mod Documents
 pub mod Outcomes

@@ -3,12 +3,14 @@ ghost use Rattle.std.specs.Prelude.{◌≡◌, ◌++◌, ◌∷◌, [], codes, s
 ghost use Rattle.serde_json.specs.Data.{array};
 ghost use Rattle.serde_json.specs.View.{view as data_of};
 ghost use Rattle.serde_json.specs.Written.{compact_text, has_float};
-ghost use Rattle.fr_script.specs.Reports.{kind_name, place_name, size_name, naturals, fault_data, error_data, with_released};
+ghost use Rattle.fr_script.specs.Answers.{outcome_view};
+ghost use Rattle.fr_script.specs.Reports.{outcome_data, report, kind_name, place_name, size_name, naturals, fault_data, error_data, with_released};
 ghost use Rattle.fr_shape.specs.View.{view};
 ghost use Rattle.fr_doc.specs.Printed.{value_data};
 
+use crate::answering::Answer;
 use crate::build_script::ScriptError;
-use fr_doc::{DocFault, DocPlace, DocSize, json_of};
+use fr_doc::{DocFault, DocPlace, DocSize, json_of, law_printed_float_free};
 use fr_shape::{OutOfMemory, ReflectErrorKind, Value};
 use serde_json::{Value as Json, json};
 use std::alloc::{AllocError, Global};
@@ -121,4 +123,29 @@ fn json_of_refused(alloc: Global, error: &ScriptError, released: &[u32]) -> Resu
     let kind = name_of_kind(&error.kind);
     let tokens = json_of_numbers(alloc, released)?;
     json!(in alloc; { "error": { "command": command, "kind": kind }, "released": tokens })
+}
+
+/// The JSON of an answer.
+fn json_of_answer(alloc: Global, answer: &Answer) -> Result<Json, AllocError>
+    ensures { IfOk result (λ json. data_of json ≡ outcome_data (outcome_view answer.now)) }
+{
+    match answer {
+        Answer::Fault(fault) => json_of_fault(alloc, *fault),
+        Answer::Built(built, released) => {
+            json_of_built(alloc, built.value(), released.as_slice())
+        }
+        Answer::Refused(error, released) => json_of_refused(alloc, error, released.as_slice()),
+    }
+}
+
+/// The whole report: one JSON object and a line feed.
+#[tactic(auto, using(crate::proofs::FloatFree::outcome_float_free))]
+pub fn report_of(alloc: Global, answer: &Answer) -> Result<String, AllocError>
+    ensures { IfOk result (λ text. string_bytes text ≡ report (outcome_view answer.now)) }
+{
+    law_printed_float_free();
+    let json = json_of_answer(alloc, answer)?;
+    let mut text = json.to_string(alloc)?;
+    text.push_str("\n")?;
+    Ok(text)
 }

@@ -1,0 +1,32 @@
+-- No report holds a float, so its text is its compact text.
+use Rattle.std.proofs.Common.{◌≡◌, ℕ, false, List, [], ◌∷◌, map, refl, ap, ◌∙◌}
+use Rattle.serde_json.specs.View.{items_of}
+use Rattle.serde_json.specs.Written.{has_float, items_have_float}
+use Rattle.fr_shape.specs.Val.{Val}
+use Rattle.fr_doc.specs.declared.fault.DocFault.{DocFault}
+use Rattle.fr_doc.specs.Printed.{natural, value_data}
+use Rattle.fr_script.specs.Reports.{Outcome, faulty, built, refused, naturals, outcome_data, fault_data}
+
+naturals_free : (ns : List ℕ) → items_have_float (naturals ns) ≡ false
+naturals_free [] = refl
+naturals_free (n ∷ ns) = naturals_free ns
+
+fault_free : (fault : DocFault) → has_float (fault_data fault) ≡ false
+fault_free DocFault.TooLong = refl
+fault_free DocFault.NotJson = refl
+fault_free DocFault.HasFloat = refl
+fault_free (DocFault.BadForm place) = refl
+fault_free (DocFault.TooLarge size) = refl
+fault_free (DocFault.Unchecked broken) = refl
+fault_free (DocFault.Invalid i) = refl
+
+pub outcome_float_free : ((v : Val) → has_float (value_data v) ≡ false) → (outcome : Outcome)
+    → has_float (outcome_data outcome) ≡ false
+outcome_float_free values (faulty fault) = fault_free fault
+outcome_float_free values (built v tokens) =
+    let here : has_float (value_data v) ≡ false = values v in
+    let rest : items_have_float (naturals tokens) ≡ false = naturals_free tokens in
+    rw (here, rest) refl
+outcome_float_free values (refused refusal tokens) =
+    let rest : items_have_float (naturals tokens) ≡ false = naturals_free tokens in
+    rw rest refl
