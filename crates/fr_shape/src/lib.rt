@@ -7,6 +7,7 @@ mod distinct;
 mod fitting;
 mod items;
 mod ledger;
+mod parts;
 mod releasing;
 mod scalars;
 mod settling;
