@@ -1,5 +1,5 @@
 -- Tests of the shapes, proxies and fields that an entry names, as the rules of a checked table put them together.
-use Rattle.std.specs.Prelude.{ℕ, Bool, ◌&&◌, length, nat_lt}
+use Rattle.std.specs.Prelude.{Bool, length, nat_lt}
 use Rattle.std.specs.List.{list_all}
 use Rattle.fr_shape.specs.declared.shape.ShapeId.{ShapeId}
 use Rattle.fr_shape.specs.declared.shape.HookId.{HookId}

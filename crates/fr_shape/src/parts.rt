@@ -10,8 +10,8 @@ ghost use Rattle.fr_shape.specs.Checked.{is_sized, is_integer, is_string, suits,
 ghost use Rattle.fr_shape.specs.Tests.{part_passes, hook_passes, proxy_passes, field_passes};
 
 use crate::{
-    fits, Def, DefaultSource, Field, FormatProxy, HookId, Items, ProxyDef, ScalarKind, ShapeId,
-    ShapeTable, ValidatorDef, Value,
+    Def, DefaultSource, Field, FormatProxy, HookId, Items, ProxyDef, ScalarKind, ShapeId,
+    ShapeTable, ValidatorDef, Value, fits,
 };
 
 #[derive(Clone, Copy)]
@@ -95,7 +95,12 @@ fn proxy_passes(table: &ShapeTable, test: ProxyTest, proxy: &ProxyDef) -> bool
 }
 
 /// All proxies of a shape or a field.
-pub(crate) fn proxies_pass(table: &ShapeTable, test: ProxyTest, proxy: &Option<ProxyDef>, format_proxies: &Items<FormatProxy>) -> bool
+pub(crate) fn proxies_pass(
+    table: &ShapeTable,
+    test: ProxyTest,
+    proxy: &Option<ProxyDef>,
+    format_proxies: &Items<FormatProxy>,
+) -> bool
     ensures { result ≡ list_all (proxy_passes table.now test) (proxies_of proxy.now format_proxies.now) }
 {
     if let Some(proxy) = proxy {

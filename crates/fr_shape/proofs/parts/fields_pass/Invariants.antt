@@ -1,5 +1,5 @@
 use Rattle.std.proofs.Common.{◌≡◌, drop}
-use Rattle.std.specs.List.{list_all, flat_map}
+use Rattle.std.specs.List.{list_all}
 use Rattle.fr_shape.specs.declared.shape.VariantDef.{VariantDef}
 use Rattle.fr_shape.specs.Checked.{fields_of}
 use Rattle.fr_shape.specs.Tests.{field_passes}
