@@ -1,6 +1,7 @@
 //! Types known at run time, the values that fit them, and the ledger of released tokens.
 #![tactic(auto)]
 
+mod checking;
 mod comparing;
 mod copying;
 mod distinct;
@@ -8,7 +9,9 @@ mod error;
 mod fitting;
 mod items;
 mod ledger;
+mod parts;
 mod releasing;
+mod rules;
 mod scalars;
 mod settling;
 mod shape;
@@ -19,6 +22,7 @@ mod tests;
 mod text;
 mod value;
 
+pub use checking::TableFault;
 pub use comparing::same;
 pub use copying::clone_template;
 pub use error::{

@@ -49,6 +49,12 @@ impl ShapeTable {
         self.shapes.get(id.0 as usize)
     }
 
+    pub(crate) fn as_slice(&self) -> &[Shape]
+        ensures { result.now ≡ self.now }
+    {
+        self.shapes.as_slice()
+    }
+
     /// The field meant, of a struct or of a variant.
     pub fn field(&self, f: FieldRef) -> Option<&Field>
         ensures { option_copied result ≡ field_at self.now f }

@@ -329,3 +329,14 @@ fn keeps_value_and_shape(rt: HostRuntime) {
     assert!(rt; shaped.shape() == ShapeId(2) && same(shaped.value(), &Value::Nat(7)));
     assert!(rt; same(&shaped.into_value(), &Value::Nat(7)));
 }
+
+/// All shapes of the table have one name, and no earlier rule is broken.
+#[test]
+fn finds_the_first_fault(rt: HostRuntime) {
+    let table = table(rt.alloc());
+    assert_eq!(rt; table.len(), 20);
+    match table.check() {
+        Ok(()) => panic!(rt; "two shapes have one name"),
+        Err(fault) => assert_eq!(rt; (fault.rule, fault.entry), (2, 1)),
+    }
+}

@@ -1,0 +1,73 @@
+//! Whether a table is checked, and where not.
+ghost use Rattle.std.specs.Prelude.{◌≡◌, ◌<◌, ◌≤◌, ◌^◌, length, slice_get, Some, OnOk, IfErr, IfSome, MatchOption};
+ghost use Rattle.fr_shape.specs.Checked.{IsChecked, EachKeeps};
+ghost use Rattle.fr_shape.specs.Faults.{keeps, IsBrokenAt, EarlierRulesHold, EarlierEntriesKeep};
+
+use crate::rules::{
+    conversion_suits, hooks_in_range, ids_in_range, name_is_new, option_preset_is_none,
+    parts_are_sized, templates_fit, validators_suit, variants_apart,
+};
+use crate::{Shape, ShapeId, ShapeTable};
+
+/// A broken rule of checked tables, counted from 1, and the entry that breaks it.
+#[derive(Drop)]
+pub struct TableFault {
+    pub rule: u8,
+    pub entry: u32,
+}
+
+impl ShapeTable {
+    /// Tests the nine rules of a checked table. The fault is the smallest rule that is broken, at its first entry.
+    pub fn check(&self) -> Result<(), TableFault>
+        requires { length self.now < 2 ^ 32 }
+        ensures ok { OnOk result (IsChecked self.now) }
+        ensures rule_is_known { IfErr result (λ f. (1 ≤ f.rule) × (f.rule ≤ 9)) }
+        ensures rule_broken { IfErr result (λ f. IsBrokenAt self.now f.rule f.entry) }
+        ensures smaller_rules_hold { IfErr result (λ f. EarlierRulesHold self.now f.rule) }
+        ensures earlier_entries_keep { IfErr result (λ f. EarlierEntriesKeep self.now f.rule f.entry) }
+    {
+        for rule in 1..10u8 {
+            match first_broken(self, rule) {
+                Some(entry) => return Err(TableFault { rule, entry }),
+                None => {}
+            }
+        }
+        Ok(())
+    }
+}
+
+/// The number of the first entry that breaks the rule.
+fn first_broken(table: &ShapeTable, rule: u8) -> Option<u32>
+    requires small { length table.now < 2 ^ 32 }
+    requires known { (1 ≤ rule) × (rule ≤ 9) }
+    ensures broken { MatchOption result (EachKeeps table.now (keeps table.now rule)) (λ entry. IsBrokenAt table.now rule entry) }
+    ensures first { IfSome result (λ entry. EarlierEntriesKeep table.now rule entry) }
+{
+    let shapes = table.as_slice();
+    for i in 0..shapes.len() {
+        if !keeps(table, rule, i, &shapes[i]) {
+            return Some(i as u32);
+        }
+    }
+    None
+}
+
+/// Whether the entry of number `i` keeps the rule.
+fn keeps(table: &ShapeTable, rule: u8, i: usize, shape: &Shape) -> bool
+    requires small { length table.now < 2 ^ 32 }
+    requires within { i < length table.now }
+    requires known { (1 ≤ rule) × (rule ≤ 9) }
+    ensures { result ≡ keeps table.now rule i shape.now }
+{
+    match rule {
+        1 => ids_in_range(table, shape),
+        2 => name_is_new(&table.as_slice()[..i], shape),
+        3 => parts_are_sized(table, shape),
+        4 => variants_apart(shape),
+        5 => validators_suit(table, shape),
+        6 => templates_fit(table, ShapeId(i as u32), shape),
+        7 => conversion_suits(shape),
+        8 => hooks_in_range(table, shape),
+        _ => option_preset_is_none(shape),
+    }
+}

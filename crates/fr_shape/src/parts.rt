@@ -1,0 +1,288 @@
+//! Tests of what an entry of a table names: shapes, proxies, hooks and fields.
+ghost use Rattle.std.specs.Prelude.{◌≡◌, ◌&&◌, Bool};
+ghost use Rattle.std.specs.List.{list_all};
+ghost use Rattle.std.specs.Prelude.{option_to_list};
+ghost use Rattle.fr_shape.specs.View.{view, vals_view, entries_view};
+ghost use Rattle.fr_shape.specs.Tokens.{tokens, vals_tokens, entries_tokens};
+ghost use Rattle.fr_shape.specs.Look.{def_of};
+ghost use Rattle.fr_shape.specs.Served.{is_nil};
+ghost use Rattle.fr_shape.specs.Checked.{is_sized, is_integer, is_string, suits, proxies_of, fields_of, contents_of, custom_hooks, is_template, default_is_template};
+ghost use Rattle.fr_shape.specs.Tests.{part_passes, hook_passes, proxy_passes, field_passes};
+
+use crate::{
+    Def, DefaultSource, Field, FormatProxy, HookId, Items, ProxyDef, ScalarKind, ShapeId,
+    ShapeTable, ValidatorDef, Value, fits,
+};
+
+#[derive(Clone, Copy)]
+pub(crate) enum PartTest {
+    InRange,
+    Sized,
+}
+
+#[derive(Clone, Copy)]
+pub(crate) enum ProxyTest {
+    Source(PartTest),
+    Hook,
+}
+
+#[derive(Clone, Copy)]
+pub(crate) enum FieldTest {
+    Shape(PartTest),
+    Proxies(ProxyTest),
+    Validators,
+    Default,
+    CustomHooks,
+}
+
+fn is_sized(def: &Def) -> bool
+    ensures { result ≡ is_sized def.now }
+{
+    !matches!(def, Def::Str | Def::Slice(_))
+}
+
+pub(crate) fn part_passes(table: &ShapeTable, test: PartTest, id: ShapeId) -> bool
+    ensures { result ≡ part_passes table.now test id }
+{
+    match test {
+        PartTest::InRange => (id.0 as usize) < table.len(),
+        PartTest::Sized => match table.get(id) {
+            Some(shape) => is_sized(&shape.def),
+            None => true,
+        },
+    }
+}
+
+pub(crate) fn option_passes(table: &ShapeTable, test: PartTest, id: Option<ShapeId>) -> bool
+    ensures { result ≡ list_all (part_passes table.now test) (option_to_list id) }
+{
+    match id {
+        Some(id) => part_passes(table, test, id),
+        None => true,
+    }
+}
+
+pub(crate) fn contents_pass(table: &ShapeTable, test: PartTest, def: &Def) -> bool
+    ensures { result ≡ list_all (part_passes table.now test) (contents_of def.now) }
+{
+    match def {
+        Def::Option(t) | Def::List(t) | Def::Set(t) | Def::Array(t, _) | Def::Slice(t) => {
+            part_passes(table, test, *t)
+        }
+        Def::Result(a, b) | Def::Map(a, b) => {
+            part_passes(table, test, *a) && part_passes(table, test, *b)
+        }
+        _ => true,
+    }
+}
+
+pub(crate) fn hook_passes(hook: Option<HookId>) -> bool
+    ensures { result ≡ list_all hook_passes (option_to_list hook) }
+{
+    match hook {
+        Some(hook) => hook.0 < 65536,
+        None => true,
+    }
+}
+
+fn proxy_passes(table: &ShapeTable, test: ProxyTest, proxy: &ProxyDef) -> bool
+    ensures { result ≡ proxy_passes table.now test proxy.now }
+{
+    match test {
+        ProxyTest::Source(test) => part_passes(table, test, proxy.source),
+        ProxyTest::Hook => proxy.convert.0 < 65536,
+    }
+}
+
+/// All proxies of a shape or a field.
+pub(crate) fn proxies_pass(
+    table: &ShapeTable,
+    test: ProxyTest,
+    proxy: &Option<ProxyDef>,
+    format_proxies: &Items<FormatProxy>,
+) -> bool
+    ensures { result ≡ list_all (proxy_passes table.now test) (proxies_of proxy.now format_proxies.now) }
+{
+    if let Some(proxy) = proxy {
+        if !proxy_passes(table, test, proxy) {
+            return false;
+        }
+    }
+    for formatted in format_proxies.as_slice() {
+        if !proxy_passes(table, test, &formatted.proxy) {
+            return false;
+        }
+    }
+    true
+}
+
+fn is_integer(def: &Def) -> bool
+    ensures { result ≡ is_integer def.now }
+{
+    match def {
+        Def::Scalar(kind) => !matches!(
+            kind,
+            ScalarKind::Bool | ScalarKind::Char | ScalarKind::String | ScalarKind::CowStr
+        ),
+        _ => false,
+    }
+}
+
+fn is_string(def: &Def) -> bool
+    ensures { result ≡ is_string def.now }
+{
+    matches!(def, Def::Scalar(ScalarKind::String | ScalarKind::CowStr))
+}
+
+fn suits(def: &Def, validator: &ValidatorDef) -> bool
+    ensures { result ≡ suits def.now validator.now }
+{
+    match validator {
+        ValidatorDef::Custom(_) => true,
+        ValidatorDef::Min(_) | ValidatorDef::Max(_) => is_integer(def),
+        ValidatorDef::MinLength(_)
+        | ValidatorDef::MaxLength(_)
+        | ValidatorDef::Url
+        | ValidatorDef::Regex(_)
+        | ValidatorDef::Contains(_) => is_string(def),
+    }
+}
+
+fn validators_suit(def: &Def, validators: &Items<ValidatorDef>) -> bool
+    ensures { result ≡ list_all (suits def.now) validators.now }
+{
+    for validator in validators.as_slice() {
+        if !suits(def, validator) {
+            return false;
+        }
+    }
+    true
+}
+
+fn custom_hooks_pass(validators: &Items<ValidatorDef>) -> bool
+    ensures { result ≡ list_all hook_passes (custom_hooks validators.now) }
+{
+    for validator in validators.as_slice() {
+        if let ValidatorDef::Custom(hook) = validator {
+            if hook.0 >= 65536 {
+                return false;
+            }
+        }
+    }
+    true
+}
+
+#[cycle(holds_no_token)]
+fn holds_no_token(v: &Value) -> bool
+    ensures { result ≡ is_nil (tokens (view v.now)) }
+{
+    match v {
+        Value::Token(_) => false,
+        Value::Product(values) => hold_no_token(values),
+        Value::Variant(_, values) => hold_no_token(values),
+        Value::Some(inner) => holds_no_token(inner),
+        Value::Ok(inner) => holds_no_token(inner),
+        Value::Err(inner) => holds_no_token(inner),
+        Value::List(values) => hold_no_token(values),
+        Value::Map(entries) => entries_hold_no_token(entries),
+        Value::Set(values) => hold_no_token(values),
+        Value::Ptr(inner) => holds_no_token(inner),
+        Value::Unit
+        | Value::Bool(_)
+        | Value::Char(_)
+        | Value::Int(_)
+        | Value::Nat(_)
+        | Value::Text(_)
+        | Value::None
+        | Value::Dyn(_) => true,
+    }
+}
+
+#[cycle(holds_no_token)]
+#[tactic(auto, using(crate::proofs::Faults::is_nil_append))]
+fn hold_no_token(values: &Items<Value>) -> bool
+    ensures { result ≡ is_nil (vals_tokens (vals_view values.now)) }
+{
+    for value in values.as_slice() {
+        if !holds_no_token(value) {
+            return false;
+        }
+    }
+    true
+}
+
+#[cycle(holds_no_token)]
+#[tactic(auto, using(crate::proofs::Faults::is_nil_append))]
+fn entries_hold_no_token(entries: &Items<(Value, Value)>) -> bool
+    ensures { result ≡ is_nil (entries_tokens (entries_view entries.now)) }
+{
+    for entry in entries.as_slice() {
+        if !holds_no_token(&entry.0) || !holds_no_token(&entry.1) {
+            return false;
+        }
+    }
+    true
+}
+
+/// Whether the value fits the shape and holds no token.
+pub(crate) fn is_template(table: &ShapeTable, id: ShapeId, v: &Value) -> bool
+    ensures { result ≡ is_template table.now id.0 v.now }
+{
+    fits(table, id, v) && holds_no_token(v)
+}
+
+fn default_is_template(table: &ShapeTable, id: ShapeId, default: &Option<DefaultSource>) -> bool
+    ensures { result ≡ default_is_template table.now id.0 default.now }
+{
+    match default {
+        Some(DefaultSource::Custom(v)) => is_template(table, id, v),
+        _ => true,
+    }
+}
+
+fn field_passes(table: &ShapeTable, test: FieldTest, field: &Field) -> bool
+    ensures { result ≡ field_passes table.now test field.now }
+{
+    match test {
+        FieldTest::Shape(test) => part_passes(table, test, field.shape),
+        FieldTest::Proxies(test) => {
+            proxies_pass(table, test, &field.proxy, &field.format_proxies)
+        }
+        FieldTest::Validators => match table.get(field.shape) {
+            Some(shape) => validators_suit(&shape.def, &field.validators),
+            None => validators_suit(&Def::Other, &field.validators),
+        },
+        FieldTest::Default => default_is_template(table, field.shape, &field.default),
+        FieldTest::CustomHooks => custom_hooks_pass(&field.validators),
+    }
+}
+
+fn all_fields_pass(table: &ShapeTable, test: FieldTest, fields: &Items<Field>) -> bool
+    ensures { result ≡ list_all (field_passes table.now test) fields.now }
+{
+    for field in fields.as_slice() {
+        if !field_passes(table, test, field) {
+            return false;
+        }
+    }
+    true
+}
+
+/// All fields of a struct, or of all variants of an enum.
+#[tactic(auto, using(crate::proofs::Faults::all_flat_map))]
+pub(crate) fn fields_pass(table: &ShapeTable, test: FieldTest, def: &Def) -> bool
+    ensures { result ≡ list_all (field_passes table.now test) (fields_of def.now) }
+{
+    match def {
+        Def::Struct(described) => all_fields_pass(table, test, &described.fields),
+        Def::Enum(described) => {
+            for variant in described.variants.as_slice() {
+                if !all_fields_pass(table, test, &variant.fields) {
+                    return false;
+                }
+            }
+            true
+        }
+        _ => true,
+    }
+}
