@@ -5,5 +5,31 @@ mod answering;
 mod build_script;
 mod released;
 mod report;
+mod running;
+mod serving;
 
-fn main() {}
+use fr_doc::{ReaderSource, WriterSink};
+use std::process::ExitCode;
+use std::rt::Env;
+use std::{env, io};
+
+fn main(rt: HostRuntime) -> ExitCode {
+    let words = words_of(&rt);
+    let mut source = ReaderSource::new(rt.reader());
+    let mut sink = WriterSink::new(io::writer(&rt));
+    ExitCode::from(running::run(rt.alloc(), words.as_slice(), &mut source, &mut sink))
+}
+
+/// The words after the program's name. Where the system gives none, or one that is no text, there are none.
+fn words_of(rt: &(impl Env + AllocGlobal)) -> Vec<String> {
+    let mut words = Vec::new(rt.alloc());
+    let Ok(args) = env::args(rt) else {
+        return words;
+    };
+    for word in args.skip(1) {
+        if words.push(word).is_err() {
+            return Vec::new(rt.alloc());
+        }
+    }
+    words
+}

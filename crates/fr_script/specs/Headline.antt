@@ -1,0 +1,40 @@
+-- What an answer to a document promises, told by the journal and by tokens alone.
+use Rattle.std.specs.Prelude.{◌≡◌, ℕ, true, List, length, Option, Some, None, Result, Ok, Err}
+use Rattle.fr_shape.specs.Fits.{fits}
+use Rattle.fr_shape.specs.Tokens.{occurs}
+use Rattle.fr_shape.specs.Val.{Val}
+use Rattle.fr_doc.specs.declared.fault.DocFault.{DocFault}
+use Rattle.fr_model.specs.Journal.{journal_run}
+use Rattle.fr_model.specs.Scripts.{brought}
+use Rattle.fr_script.specs.declared.answering.Answer.{Answer}
+use Rattle.fr_script.specs.Documents.{Document}
+use Rattle.fr_script.specs.Reports.{Outcome, faulty, built, refused, none_answered}
+use Rattle.fr_script.specs.Tokens.{StandOnce}
+
+-- what the journal of a document's script completes to
+abbrev pub completed : Document → Option Val
+completed document = journal_run document.shapes document.root document.script
+
+-- A value comes where the journal completes to it. It fits the root's shape, and each token of the script stands once
+-- in it or once among the released.
+pub record IsBuiltRightly (document : Document) (v : Val) (released : List ℕ) : Type 0 where
+  pub journal : completed document ≡ Some v
+  pub fits : fits document.shapes document.root v ≡ true
+  pub tokens : StandOnce (brought document.script) (occurs v) released
+
+-- A refusal comes where the journal doesn't complete, and each token of the script stands once among the released.
+pub record IsRefusedRightly (document : Document) (released : List ℕ) : Type 0 where
+  pub journal : completed document ≡ None
+  pub tokens : StandOnce (brought document.script) none_answered released
+
+-- a fault comes exactly where the document has it
+abbrev pub KeepsPromise : Result Document DocFault → Outcome → Type 0
+KeepsPromise (Ok document) (built v released) = IsBuiltRightly document v released
+KeepsPromise (Ok document) (refused refusal released) = IsRefusedRightly document released
+KeepsPromise (Err fault) (faulty other) = fault ≡ other
+KeepsPromise _ _ = ⊥
+
+-- a built value was made by as many calls as the script has commands
+abbrev pub IsMadeByCalls : Result Document DocFault → Answer → Type 0
+IsMadeByCalls (Ok document) (Answer.Built value released) = value.calls ≡ length document.script
+IsMadeByCalls _ _ = Unit {0}
