@@ -1,2 +1,3 @@
 pub mod CommandForms
 pub mod Documents
+pub mod Reading
