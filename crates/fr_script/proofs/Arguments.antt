@@ -1,12 +1,11 @@
 -- No call has more than two arguments.
-use Rattle.std.proofs.Common.{◌≡◌, ℕ, ◌≤◌, List, [], ◌∷◌, length, Option, None, refl, sym, ap, ◌∙◌, arith}
+use Rattle.std.proofs.Common.{◌≡◌, ℕ, ◌≤◌, List, [], ◌∷◌, length, None, refl, sym, ap, ◌∙◌, arith}
 use Rattle.std.specs.Prelude.{Vec}
 use Rattle.std.specs.declared.alloc.Global.{Global}
 use Rattle.serde_json.specs.Data.{array, item, string}
 use Rattle.serde_json.specs.View.{view, items_view}
 use Rattle.serde_json.specs.declared.value.Value.{Value, Array}
 use Rattle.serde_json.proofs.Views.{view-Array}
-use Rattle.fr_model.specs.Commands.{Call}
 use Rattle.fr_script.specs.CommandForms.{call_form}
 
 too_many : (word : List ℕ) (vs : List Value) → 3 ≤ length vs → None ≡ call_form (array (item (string word) (items_view vs)))

@@ -1,3 +1,5 @@
 pub mod CommandForms
 pub mod Documents
+pub mod Marks
 pub mod Reading
+pub mod ValidScripts

@@ -2,5 +2,8 @@
 #![tactic(auto)]
 
 mod command_form;
+mod document_laws;
+mod marking;
+mod validity;
 
 fn main() {}
