@@ -1,3 +1,4 @@
 pub mod Arguments
 pub mod BroughtLaws
 pub mod MarkLaws
+pub mod SizeLaws

@@ -2,8 +2,11 @@
 #![tactic(auto)]
 
 mod command_form;
+mod document;
 mod document_laws;
 mod marking;
+mod parts;
+mod sizes;
 mod validity;
 
 fn main() {}
