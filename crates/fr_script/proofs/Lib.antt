@@ -1,4 +1,5 @@
 pub mod Arguments
 pub mod BroughtLaws
 pub mod MarkLaws
+pub mod RuleLaws
 pub mod SizeLaws

@@ -2,4 +2,5 @@ pub mod CommandForms
 pub mod Documents
 pub mod Marks
 pub mod Reading
+pub mod ServedIds
 pub mod ValidScripts

@@ -6,6 +6,7 @@ mod document;
 mod document_laws;
 mod marking;
 mod parts;
+mod rules;
 mod sizes;
 mod validity;
 
