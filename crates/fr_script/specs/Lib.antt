@@ -1,4 +1,5 @@
 pub mod CommandForms
+pub mod DocumentFacts
 pub mod Documents
 pub mod Marks
 pub mod Reading
