@@ -1,8 +1,13 @@
 pub mod Answers
 pub mod CommandForms
+pub mod DocumentFacts
 pub mod Documents
 pub mod Headline
+pub mod Marks
 pub mod Outcomes
+pub mod Reading
 pub mod Reports
 pub mod Runs
+pub mod ServedIds
 pub mod Tokens
+pub mod ValidScripts

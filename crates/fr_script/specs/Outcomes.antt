@@ -1,5 +1,5 @@
 -- What the running of a script answers, against the machine and the journal.
-use Rattle.std.specs.Prelude.{◌≡◌, ◌⊎◌, ℕ, Option, Some, None, Result, Ok, Err}
+use Rattle.std.specs.Prelude.{◌≡◌, ◌⊎◌, ℕ, Bool, true, false, Option, Some, None, Result, Ok, Err}
 use Rattle.fr_shape.specs.declared.error.ReflectErrorKind.{ReflectErrorKind}
 use Rattle.fr_shape.specs.Tokens.{occurs}
 use Rattle.fr_shape.specs.Val.{Val}
@@ -22,3 +22,7 @@ IsJournals completed (Err error) = (error.kind ≡ ReflectErrorKind.OutOfMemory)
 abbrev pub answered : Result BuiltValue ScriptError → ℕ → ℕ
 answered (Ok built) t = occurs built.value t
 answered (Err error) t = 0
+
+abbrev pub is_want_of_memory : ReflectErrorKind → Bool
+is_want_of_memory ReflectErrorKind.OutOfMemory = true
+is_want_of_memory _ = false

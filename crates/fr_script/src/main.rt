@@ -3,10 +3,19 @@
 
 mod answering;
 mod build_script;
+mod command_form;
+mod document;
+mod document_laws;
+mod marking;
+mod parts;
 mod released;
 mod report;
+mod rules;
 mod running;
 mod serving;
+mod sizes;
+mod validity;
+
 
 use fr_doc::{ReaderSource, WriterSink};
 use std::process::ExitCode;

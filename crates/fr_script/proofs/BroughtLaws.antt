@@ -1,0 +1,144 @@
+-- Marks against what was brought.
+use Rattle.std.proofs.Common.{◌≡◌, ℕ, ◌+◌, ◌<◌, ◌&&◌, ◌||◌, not, nat_lt, nat_eq, ltb-true, cond, drop, Bool, true, false, List, [], ◌∷◌, ◌++◌, length, length-set, get_or, set, Option, Some, None, refl, sym, ap, ◌∙◌, subst, arith}
+use Rattle.std.proofs.lemmas.Bool.Decides.{nat_tests}
+use Rattle.std.proofs.lemmas.Grind.{common_steps}
+use Rattle.std.proofs.lemmas.List.{drop_more}
+use Rattle.std.proofs.lemmas.List.Folds.{list_any-append}
+use Rattle.std.specs.List.{list_any}
+use Rattle.fr_shape.specs.Fits.{fits}
+use Rattle.fr_shape.specs.Look.{Table}
+use Rattle.fr_shape.specs.Tokens.{tokens}
+use Rattle.fr_shape.specs.Val.{Val}
+use Rattle.fr_model.specs.declared.command.Command.{Command}
+use Rattle.fr_model.specs.Commands.{Call, call_of, calls_of}
+use Rattle.fr_model.specs.Scripts.{tokens_of}
+use Rattle.fr_script.specs.Documents.{is_new, are_new, is_valid_call, first_invalid}
+use Rattle.fr_script.specs.Marks.{AreMarks, marked, marked_by}
+
+-- the same tokens were brought, in another order
+AreSame : List ℕ → List ℕ → Type 0
+AreSame a b = (t : ℕ) → list_any (nat_eq t) a ≡ list_any (nat_eq t) b
+
+later : (a b c : Bool) → (b || (a || c)) ≡ (a || (b || c))
+later true true c = refl
+later true false c = refl
+later false true c = refl
+later false false c = refl
+
+moved : (s : ℕ) (ss brought : List ℕ) → AreSame (ss ++ s ∷ brought) (s ∷ (ss ++ brought))
+unfolding AreSame
+moved s ss brought t =
+    list_any-append (nat_eq t) ss (s ∷ brought)
+    ∙ (later (nat_eq t s) (list_any (nat_eq t) ss) (list_any (nat_eq t) brought)
+    ∙ ap (λ b. nat_eq t s || b) (sym (list_any-append (nat_eq t) ss brought)))
+
+reordered : (ledger a b : List ℕ) (marks : List Bool) → AreSame a b → AreMarks ledger a marks → AreMarks ledger b marks
+unfolding AreSame
+reordered ledger a b marks same are = record {
+  same_length = are.same_length;
+  each = λ t h. are.each t h ∙ ap (λ found. not (nat_eq (get_or ledger t 0) 0 && not found)) (same t);
+}
+
+and_assoc : (a b c : Bool) → (a && (b && c)) ≡ ((a && b) && c)
+and_assoc true b c = refl
+and_assoc false b c = refl
+
+-- how the tests of a token come out, given that it is or isn't the ledger's
+tested : (known : Bool) (mark free : Bool) → (known ≡ true → mark ≡ not free) → (known && not mark) ≡ (known && free)
+tested true mark true is = ap not (is refl)
+tested true mark false is = ap not (is refl)
+tested false mark free is = refl
+
+module _ (ledger : List ℕ) where
+  -- it is one of the ledger's, was never released, and wasn't brought before
+  abbrev may_come : List ℕ → ℕ → Bool
+  may_come brought t = nat_lt t (length ledger) && nat_eq (get_or ledger t 0) 0 && is_new t brought
+
+  may_be_marked : (brought : List ℕ) (marks : List Bool) (t : ℕ) → AreMarks ledger brought marks → (nat_lt t (length marks) && not (get_or marks t false)) ≡ may_come brought t
+  may_be_marked brought marks t are =
+      ap (λ n. nat_lt t n && not (get_or marks t false)) are.same_length
+      ∙ tested (nat_lt t (length ledger)) (get_or marks t false) (nat_eq (get_or ledger t 0) 0 && is_new t brought)
+      (λ known. are.each t (ltb-true t (length ledger) known))
+      ∙ and_assoc (nat_lt t (length ledger)) (nat_eq (get_or ledger t 0) 0) (is_new t brought)
+
+  -- one more token is marked
+  one_marked : (brought : List ℕ) (marks : List Bool) (s : ℕ) → AreMarks ledger brought marks → s < length ledger → AreMarks ledger (s ∷ brought) (set marks s true)
+  one_marked brought marks s are within = record {
+    same_length = length-set marks s true ∙ are.same_length;
+    each = λ t h. grind (arith, nat_tests, common_steps, are.each t h, are.same_length);
+  }
+
+  -- the marks are those after these tokens, or one of them may not come
+  Meets : List ℕ → List ℕ → Option (List Bool) → Type 0
+  Meets brought ts None = are_new ledger brought ts ≡ false
+  Meets brought ts (Some after) = (are_new ledger brought ts ≡ true) × AreMarks ledger (ts ++ brought) after
+
+  in_turn : (brought : List ℕ) (s : ℕ) (ss : List ℕ) → are_new ledger brought (s ∷ ss) ≡ (may_come brought s && are_new ledger (s ∷ brought) ss)
+  in_turn brought s ss = refl
+
+  first_meets : (brought : List ℕ) (s : ℕ) (ss : List ℕ) (found : Option (List Bool)) → may_come brought s ≡ true → Meets (s ∷ brought) ss found → Meets brought (s ∷ ss) found
+  unfolding Meets
+  first_meets brought s ss None may rest = in_turn brought s ss ∙ rw may rest
+  first_meets brought s ss (Some after) may rest = (
+    in_turn brought s ss ∙ rw may rest.0,
+    reordered ledger (ss ++ s ∷ brought) (s ∷ (ss ++ brought)) after (moved s ss brought) rest.1,
+  )
+
+  chosen : (brought : List ℕ) (s : ℕ) (ss : List ℕ) (may : Bool) (found : Option (List Bool)) → may ≡ may_come brought s → (may ≡ true → Meets (s ∷ brought) ss found) → Meets brought (s ∷ ss) (cond may found None)
+  unfolding Meets
+  chosen brought s ss true found is rest = first_meets brought s ss found (sym is) (rest refl)
+  chosen brought s ss false found is rest = in_turn brought s ss ∙ rw (← is) refl
+
+  within : (brought : List ℕ) (s : ℕ) → may_come brought s ≡ true → s < length ledger
+  within brought s may = grind (arith, nat_tests, may)
+
+  tokens_meet : (ts brought : List ℕ) (marks : List Bool) → AreMarks ledger brought marks → Meets brought ts (marked ts marks)
+  unfolding Meets
+  tokens_meet [] brought marks are = (refl, are)
+  tokens_meet (s ∷ ss) brought marks are =
+      let test = may_be_marked brought marks s are in
+      chosen brought s ss (nat_lt s (length marks) && not (get_or marks s false)) (marked ss (set marks s true)) test
+      (λ may. tokens_meet ss (s ∷ brought) (set marks s true) (one_marked brought marks s are (within brought s (sym test ∙ may))))
+
+  module _ (table : Table) where
+    MeetsCall : List ℕ → Call → Option (List Bool) → Type 0
+    MeetsCall brought call None = is_valid_call table ledger brought call ≡ false
+    MeetsCall brought call (Some after) =
+        (is_valid_call table ledger brought call ≡ true) × AreMarks ledger (tokens_of call ++ brought) after
+
+    set_meets : (brought : List ℕ) (shape : ℕ) (v : Val) (fitting : Bool) (found : Option (List Bool)) → fitting ≡ (nat_lt shape (length table) && fits table shape v) → Meets brought (tokens v) found → MeetsCall brought (Call.Set shape v) (cond fitting found None)
+    unfolding Meets MeetsCall
+    set_meets brought shape v true None is rest = ap (λ b. b && are_new ledger brought (tokens v)) (sym is) ∙ rest
+    set_meets brought shape v true (Some after) is rest =
+        (ap (λ b. b && are_new ledger brought (tokens v)) (sym is) ∙ rest.0, rest.1)
+    set_meets brought shape v false found is rest = ap (λ b. b && are_new ledger brought (tokens v)) (sym is)
+
+    call_meets : (brought : List ℕ) (marks : List Bool) (call : Call) → AreMarks ledger brought marks → MeetsCall brought call (marked_by table call marks)
+    unfolding Meets MeetsCall
+    call_meets brought marks (Call.Set shape v) are =
+        set_meets brought shape v (nat_lt shape (length table) && fits table shape v) (marked (tokens v) marks) refl (tokens_meet (tokens v) brought marks are)
+    call_meets brought marks (Call.BeginNthField i) are = (refl, are)
+    call_meets brought marks Call.End are = (refl, are)
+
+    abbrev from : List ℕ → ℕ → List Command → Option ℕ
+    from brought i script = first_invalid table ledger brought i (calls_of script)
+
+    module _ (brought : List ℕ) (marks : List Bool) (are : AreMarks ledger brought marks) (script : List Command) (i : ℕ) (command : Command) (h : i < length script) (is : command ≡ get_or script i command) where
+      here : from brought i (drop i script) ≡ cond (is_valid_call table ledger brought (call_of command)) (from (tokens_of (call_of command) ++ brought) (i + 1) (drop (i + 1) script)) (Some i)
+      here = ap (from brought i) (drop_more script i command h ∙ ap (λ c. c ∷ drop (i + 1) script) (sym is))
+
+      pub not_valid : marked_by table (call_of command) marks ≡ None → from brought i (drop i script) ≡ Some i
+      unfolding MeetsCall
+      not_valid none =
+          let wrong : is_valid_call table ledger brought (call_of command) ≡ false = subst (MeetsCall brought (call_of command)) none (call_meets brought marks (call_of command) are) in
+          here ∙ rw wrong
+
+      pub go_on : (after : List Bool) → marked_by table (call_of command) marks ≡ Some after → from brought i (drop i script) ≡ from (tokens_of (call_of command) ++ brought) (i + 1) (drop (i + 1) script)
+      unfolding MeetsCall
+      go_on after found =
+          let right : is_valid_call table ledger brought (call_of command) ≡ true = (subst (MeetsCall brought (call_of command)) found (call_meets brought marks (call_of command) are)).0 in
+          here ∙ rw right
+
+      pub marks_after : (after : List Bool) → marked_by table (call_of command) marks ≡ Some after → AreMarks ledger (tokens_of (call_of command) ++ brought) after
+      unfolding MeetsCall
+      marks_after after found = (subst (MeetsCall brought (call_of command)) found (call_meets brought marks (call_of command) are)).1

@@ -1,0 +1,5 @@
+use Rattle.fr_script.specs.DocumentFacts.{document_buildable}
+use Rattle.fr_script.proofs.document_laws.law_documents_buildable.Goals as goal
+
+pub returns : goal.returns
+returns c = document_buildable

@@ -1,0 +1,5 @@
+use Rattle.fr_script.specs.ValidScripts.{valid_where_none_invalid}
+use Rattle.fr_script.proofs.document_laws.law_valid_scripts.Goals as goal
+
+pub returns : goal.returns
+returns c = λ table ledger script none. valid_where_none_invalid ledger table script none

@@ -1,0 +1,110 @@
+//! Reading scripts.
+ghost use Rattle.std.specs.Prelude.{◌≡◌, option_map, IfOk};
+ghost use Rattle.serde_json.specs.View.{view as data_of};
+ghost use Rattle.fr_model.specs.Commands.{call_of, calls_of};
+ghost use Rattle.fr_script.specs.CommandForms.{call_of_none, call_of_one, call_of_two, call_form};
+ghost use Rattle.fr_script.specs.Documents.{call_at, script_form};
+ghost use Rattle.fr_script.specs.Reading.{GivesFor};
+
+use fr_doc::{DocFault, DocPlace, ReadError, count_of, value_of};
+use fr_model::{Command, Script};
+use fr_shape::{Items, OutOfMemory, ShapeId};
+use serde_json::Value as Json;
+use std::alloc::Global;
+
+/// The commands of a script, or the fault of the first whose form is broken.
+#[tactic(auto, unfolding(crate::specs::Documents::script_form))]
+pub fn script_of(alloc: Global, json: &Json) -> Result<Script, ReadError>
+    ensures { GivesFor calls_of (script_form (data_of json.now)) result }
+{
+    let Json::Array(items) = json else {
+        return Err(ReadError::Fault(DocFault::BadForm(DocPlace::Commands)));
+    };
+    let mut script = Items::new(alloc);
+    for (i, item) in items.iter().enumerate() {
+        if script.push(read_command_at(alloc, i, item)?).is_err() {
+            return Err(ReadError::Memory);
+        }
+    }
+    Ok(script)
+}
+
+/// The command of this number in the script's array.
+fn read_command_at(alloc: Global, i: usize, json: &Json) -> Result<Command, ReadError>
+    ensures { GivesFor call_of (call_at i (data_of json.now)) result }
+{
+    match command_of(alloc, json) {
+        Ok(Some(command)) => Ok(command),
+        Ok(None) => match u32::try_from(i) {
+            Ok(i) => Err(ReadError::Fault(DocFault::BadForm(DocPlace::Command(i)))),
+            Err(_) => Err(ReadError::Memory),
+        },
+        Err(_) => Err(ReadError::Memory),
+    }
+}
+
+/// The command that JSON stands for, or None where its form is broken.
+#[tactic(auto, unfolding(crate::specs::CommandForms::call_form))]
+pub fn command_of(alloc: Global, json: &Json) -> Result<Option<Command>, OutOfMemory>
+    ensures { IfOk result (λ found. option_map call_of found ≡ call_form (data_of json.now)) }
+{
+    let Json::Array(items) = json else {
+        return Ok(None);
+    };
+    let Some((Json::String(word), arguments)) = items.as_slice().split_first() else {
+        return Ok(None);
+    };
+    match arguments {
+        [] => Ok(find_bare(word.as_str())),
+        [a] => Ok(find_with_one(word.as_str(), a)),
+        [a, b] => read_with_two(alloc, word.as_str(), a, b),
+        _ => Ok(None),
+    }
+}
+
+/// A command without arguments.
+#[tactic(auto, unfolding(crate::specs::CommandForms::call_of_none))]
+fn find_bare(word: &str) -> Option<Command>
+    ensures { option_map call_of result ≡ call_of_none word.now }
+{
+    match word {
+        "end" => Some(Command::End),
+        _ => None,
+    }
+}
+
+/// A command with one argument.
+#[tactic(auto, unfolding(crate::specs::CommandForms::call_of_one))]
+fn find_with_one(word: &str, a: &Json) -> Option<Command>
+    ensures { option_map call_of result ≡ call_of_one word.now (data_of a.now) }
+{
+    match word {
+        "begin_nth_field" => Some(Command::BeginNthField(count_of(a)?)),
+        _ => None,
+    }
+}
+
+/// A command with two arguments.
+#[tactic(auto, unfolding(crate::specs::CommandForms::call_of_two))]
+fn read_with_two(
+    alloc: Global,
+    word: &str,
+    a: &Json,
+    b: &Json,
+) -> Result<Option<Command>, OutOfMemory>
+    ensures { IfOk result (λ found. option_map call_of found
+        ≡ call_of_two word.now (data_of a.now) (data_of b.now)) }
+{
+    match word {
+        "set" => {
+            let Some(shape) = count_of(a) else {
+                return Ok(None);
+            };
+            let Some(value) = value_of(alloc, b)? else {
+                return Ok(None);
+            };
+            Ok(Some(Command::Set(ShapeId(shape), value)))
+        }
+        _ => Ok(None),
+    }
+}

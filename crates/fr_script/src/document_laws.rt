@@ -1,0 +1,21 @@
+//! Laws of documents: each is the contract of a function that does nothing.
+ghost use Rattle.std.specs.Prelude.{◌≡◌, List, [], ℕ, None, Ok};
+ghost use Rattle.fr_model.specs.Commands.{Call};
+ghost use Rattle.fr_model.specs.Scripts.{IsValid};
+ghost use Rattle.fr_shape.specs.Look.{Table};
+ghost use Rattle.fr_script.specs.DocumentFacts.{IsBuildable};
+ghost use Rattle.fr_script.specs.Documents.{Document, document_of, first_invalid};
+
+/// A script in which no command is invalid may be handed to the builder.
+pub fn law_valid_scripts()
+    ensures { (table : Table) (ledger : List ℕ) (script : List Call)
+        → first_invalid table ledger [] 0 script ≡ None → IsValid table script ledger }
+{
+}
+
+/// What a document asks for may be built.
+pub fn law_documents_buildable()
+    ensures { (bytes : List ℕ) (document : Document)
+        → document_of bytes ≡ Ok document → IsBuildable document }
+{
+}
