@@ -1,3 +1,4 @@
+pub mod AnswerLaws
 pub mod Arguments
 pub mod BroughtLaws
 pub mod FloatFree
