@@ -3,3 +3,4 @@ pub mod BroughtLaws
 pub mod MarkLaws
 pub mod RuleLaws
 pub mod SizeLaws
+pub mod Trees
