@@ -7,3 +7,4 @@ pub mod ReleasedLaws
 pub mod RuleLaws
 pub mod SizeLaws
 pub mod TakeLaws
+pub mod Trees

@@ -1,12 +1,11 @@
 -- What the builder may count on in a document that was read.
-use Rattle.std.proofs.Common.{◌≡◌, ℕ, zero, suc, ◌+◌, ◌<◌, ◌≤◌, ◌&&◌, nat_lt, cond, Bool, true, false, List, [], ◌∷◌, length, replicate, not, Option, Some, None, Ok, Err, codes, refl, sym, ap, ◌∙◌, subst, arith}
+use Rattle.std.proofs.Common.{◌≡◌, ℕ, zero, suc, ◌<◌, ◌≤◌, nat_lt, cond, Bool, true, false, List, [], ◌∷◌, length, replicate, not, Option, Some, None, Ok, Err, codes, refl, subst, arith}
 use Rattle.std.specs.Prelude.{Result}
 use Rattle.std.specs.Option.{ok_or}
 use Rattle.std.proofs.lemmas.Bool.{ltb-true}
 use Rattle.serde_json.specs.Data.{Data}
-use Rattle.serde_json.specs.Find.{get, as_object}
+use Rattle.serde_json.specs.Find.{get}
 use Rattle.serde_json.specs.Written.{has_float}
-use Rattle.fr_shape.specs.declared.shape.Shape.{Shape}
 use Rattle.fr_shape.specs.Look.{Table, IsIn, def_of}
 use Rattle.fr_shape.specs.Numbered.{field_count, IsNumbered}
 use Rattle.fr_shape.specs.Served.{IsServed}
@@ -17,9 +16,8 @@ use Rattle.fr_doc.specs.FaultSteps.{◌>>=◌}
 use Rattle.fr_doc.specs.Numerals.{whole_number}
 use Rattle.fr_doc.specs.ShapeForms.{shapes_form}
 use Rattle.fr_doc.specs.TablesServed.{shapes_served}
-use Rattle.fr_model.specs.Commands.{Call}
 use Rattle.fr_model.specs.Scripts.{IsValid}
-use Rattle.fr_script.specs.Documents.{Document, asks, broken, below, root_form, tokens_form, script_form, parts_form, member_at, document_form, count_fields, too_deep, at_most, sizes_pass, rules_pass, first_invalid, invalid, script_passes, tree_of, checked_parts, document_of}
+use Rattle.fr_script.specs.Documents.{Document, asks, broken, below, root_form, tokens_form, script_form, parts_form, member_at, document_form, count_fields, at_most, sizes_pass, rules_pass, first_invalid, invalid, script_passes, tree_of, checked_parts, document_of}
 use Rattle.fr_script.specs.ValidScripts.{valid_where_none_invalid}
 
 -- The document's table, root and script meet what the builder asks, and their sizes are within the limits.

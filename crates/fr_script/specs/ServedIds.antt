@@ -1,5 +1,5 @@
 -- The ids that an entry of a served table names: the shapes of a struct's fields. So the first rule is a test of those.
-use Rattle.std.proofs.Common.{◌≡◌, ℕ, Bool, true, false, not, ◌&&◌, nat_lt, List, [], ◌∷◌, ◌++◌, length, Option, Some, None, map, refl, sym, ap, ◌∙◌, arith}
+use Rattle.std.proofs.Common.{◌≡◌, ℕ, Bool, true, false, ◌&&◌, nat_lt, List, [], ◌∷◌, ◌++◌, length, Option, Some, None, map, refl, ap, ◌∙◌, arith}
 use Rattle.std.specs.Prelude.{option_to_list}
 use Rattle.std.specs.List.{list_all, flat_map}
 use Rattle.fr_shape.specs.declared.shape.Shape.{Shape}
@@ -8,11 +8,10 @@ use Rattle.fr_shape.specs.declared.shape.Def.{Def}
 use Rattle.fr_shape.specs.declared.shape.Field.{Field}
 use Rattle.fr_shape.specs.declared.shape.FormatProxy.{FormatProxy}
 use Rattle.fr_shape.specs.declared.shape.ProxyDef.{ProxyDef}
-use Rattle.fr_shape.specs.declared.shape.StructDef.{StructDef}
 use Rattle.fr_shape.specs.declared.shape.StructKind.{StructKind}
-use Rattle.fr_shape.specs.Checked.{fields_of, proxies_of, all_proxies_of, contents_of, pointees_of, parts_of, ids_in_range}
+use Rattle.fr_shape.specs.Checked.{fields_of, proxies_of, all_proxies_of, contents_of, pointees_of, ids_in_range}
 use Rattle.fr_shape.specs.Look.{Table}
-use Rattle.fr_shape.specs.Served.{is_absent, is_nil, serves, serves_def, serves_struct, serves_field, IsServed}
+use Rattle.fr_shape.specs.Served.{is_absent, is_nil, serves, serves_def, serves_struct, serves_field}
 
 -- the shapes of a struct's fields are below a limit
 abbrev pub fields_below : ℕ → Def → Bool

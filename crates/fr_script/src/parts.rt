@@ -1,16 +1,17 @@
 //! The parts of a document.
-ghost use Rattle.std.specs.Prelude.{◌≡◌, option_map};
-ghost use Rattle.serde_json.specs.View.{view as data_of};
+ghost use Rattle.std.specs.Prelude.{◌≡◌, is_some, option_map};
+ghost use Rattle.serde_json.specs.Find.{get};
+ghost use Rattle.serde_json.specs.View.{view as data_of, members_view};
 ghost use Rattle.fr_doc.specs.Faults.{Gives};
 ghost use Rattle.fr_doc.specs.declared.fault.DocPlace.{DocPlace};
-ghost use Rattle.fr_script.specs.Documents.{document_form, member_at, root_form, tokens_form, parts_form};
+ghost use Rattle.fr_script.specs.Documents.{document_form, has_keys, member_at, root_form, tokens_form, parts_form};
 ghost use Rattle.fr_script.specs.Reading.{GivesFor, parts_view};
 
 use crate::command_form::script_of;
 use fr_doc::{DocFault, DocPlace, ReadError, count_of, has_only, shapes_of};
 use fr_model::Script;
 use fr_shape::{Items, Shape};
-use serde_json::Value as Json;
+use serde_json::{Map, Value as Json};
 use std::alloc::Global;
 
 /// What stands in a document. The root is the number of one of the shapes.
@@ -30,15 +31,32 @@ pub fn test_form(json: &Json) -> Result<(), DocFault>
     let Json::Object(members) = json else {
         return Err(DocFault::BadForm(DocPlace::Document));
     };
-    if has_only(members, &["shapes", "root", "tokens", "commands"])
-        && json.get("shapes").is_some()
-        && json.get("root").is_some()
-        && json.get("commands").is_some()
-    {
-        Ok(())
-    } else {
-        Err(DocFault::BadForm(DocPlace::Document))
+    if !has_keys(json, members) {
+        return Err(DocFault::BadForm(DocPlace::Document));
     }
+    Ok(())
+}
+
+/// Whether the object has all that a document needs and nothing else.
+fn has_keys(json: &Json, members: &Map<String, Json>) -> bool
+    ensures { result ≡ has_keys (data_of json.now) (members_view members.now.entries) }
+{
+    if !has_only(members, &["shapes", "root", "tokens", "commands"]) {
+        return false;
+    }
+    if !has_member(json, "shapes") {
+        return false;
+    }
+    if !has_member(json, "root") {
+        return false;
+    }
+    has_member(json, "commands")
+}
+
+fn has_member(json: &Json, key: &str) -> bool
+    ensures { result ≡ is_some (get key.now (data_of json.now)) }
+{
+    json.get(key).is_some()
 }
 
 /// Reads the parts one after another, up to the first place whose form is broken.

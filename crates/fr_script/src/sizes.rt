@@ -11,8 +11,11 @@ use fr_model::Command;
 use fr_shape::{Def, Shape};
 
 const SHAPE_LIMIT: usize = 4096;
+
 const FIELD_LIMIT: usize = 65_536;
+
 const COMMAND_LIMIT: usize = 200_000;
+
 const TOKEN_LIMIT: u32 = 1_000_000;
 
 /// The most by which begins may outnumber ends after some command.
