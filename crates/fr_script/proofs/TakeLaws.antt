@@ -14,7 +14,7 @@ use Rattle.fr_script.specs.Documents.{document_of, asks}
 use Rattle.fr_script.specs.Reports.{outcome_of, outcome_of_document}
 
 -- n stands for the limit, which is too large to compute with
-at_limit : (n : ℕ) (bytes : List ℕ) → n ≡ 8388609 → document_of (take n bytes) ≡ document_of bytes
+pub at_limit : (n : ℕ) (bytes : List ℕ) → n ≡ 8388609 → document_of (take n bytes) ≡ document_of bytes
 unfolding document_of
 at_limit n bytes e = go (nat_lt (length bytes) n) refl
   where

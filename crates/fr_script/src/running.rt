@@ -3,6 +3,8 @@ ghost use Rattle.std.specs.Prelude.{◌≡◌, ◌⊎◌, ◌≤◌, ℕ, true, 
 ghost use Rattle.std.specs.Io.KnownBytes.{append_known};
 ghost use Rattle.std.specs.Option.{option_map};
 ghost use Rattle.fr_doc.specs.Causes.{Rose, LosesAtMost, TakesBeginning};
+ghost use Rattle.fr_script.specs.Documents.{document_of};
+ghost use Rattle.fr_script.specs.Headline.{KeepsPromise};
 ghost use Rattle.fr_script.specs.Reports.{outcome_of, report};
 ghost use Rattle.fr_script.specs.Runs.{asks_build, usage_line, Tells};
 
@@ -27,6 +29,8 @@ pub fn run<S: Source, K: Sink>(
     // The words `build`, where the source tells what it has left: the outcome of all those bytes is reported.
     ensures reported { asks_build (map string_bytes words.now) ≡ true → result ≤ 3
         → IfSome (S.left source.old) (λ bytes. Tells (outcome_of bytes) result (K.taken sink.old) (K.taken sink.new)) }
+    ensures promised { asks_build (map string_bytes words.now) ≡ true → result ≤ 3
+        → IfSome (S.left source.old) (λ bytes. KeepsPromise (document_of bytes) (outcome_of bytes)) }
     ensures reads { LosesAtMost INPUT_LIMIT (S.left source.old) (S.left source.new) }
 
     // Other words: nothing is read, and the usage line is written.
@@ -36,6 +40,8 @@ pub fn run<S: Source, K: Sink>(
     ensures unread { asks_build (map string_bytes words.now) ≡ false → source.new ≡ source.old }
 
     // The devices' faults and want of memory.
+    ensures complete { ¬ Rose (S.faults source.old) (S.faults source.new) → ¬ Rose (K.faults sink.old) (K.faults sink.new)
+        → (result ≤ 3) ⊎ (result ≡ 6) }
     ensures read_fault { result ≡ 4 → Rose (S.faults source.old) (S.faults source.new) }
     ensures write_fault { result ≡ 5 → Rose (K.faults sink.old) (K.faults sink.new) }
     ensures unwritten { (result ≡ 4) ⊎ (result ≡ 6) → sink.new ≡ sink.old }

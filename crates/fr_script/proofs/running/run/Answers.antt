@@ -1,10 +1,13 @@
-use Rattle.std.proofs.Common.{◌≡◌, ℕ, List, take, refl, sym, ap, ◌∙◌, subst}
+use Rattle.std.proofs.Common.{◌≡◌, ℕ, List, Result, take, refl, sym, ap, ◌∙◌, subst}
 use Rattle.std.specs.Io.KnownBytes.{append_known}
 use Rattle.fr_doc.specs.declared.looping.TheConstants.{INPUT_LIMIT}
 use Rattle.fr_doc.specs.Causes.{TakesBeginning}
-use Rattle.fr_script.specs.Reports.{Outcome, outcome_of, status_of, report}
+use Rattle.fr_script.specs.Reports.{Outcome, outcome_of, outcome_of_document, status_of, report}
+use Rattle.fr_doc.specs.declared.fault.DocFault.{DocFault}
+use Rattle.fr_script.specs.Documents.{Document, document_of}
+use Rattle.fr_script.specs.Headline.{KeepsPromise}
 use Rattle.fr_script.specs.Runs.{Tells}
-use Rattle.fr_script.proofs.TakeLaws.{outcome_at_limit, loses, over_told}
+use Rattle.fr_script.proofs.TakeLaws.{at_limit, outcome_at_limit, loses, over_told}
 use Rattle.fr_script.proofs.running.run.Goals as goal
 
 pub returns-in_default-clause-reads : goal.returns-in_default-clause-reads
@@ -46,4 +49,12 @@ returns-clause-beginning g c five asks =
             subst (λ (text : List ℕ). TakesBeginning (g.K.Sink.taken c.args.sink.now) (g.K.Sink.taken c.write_report-2.new.sink) text)
                 (c.as_bytes-2.ensures.value ∙ c.in-Ok-respond.ensures.text ∙ ap report same)
                 c.in-Err-write_report.ensures.err)
+        c.in-Ok-read_input.ensures.bytes
+
+pub returns-in-Ok-write_report-clause-promised : goal.returns-in-Ok-write_report-clause-promised
+returns-in-Ok-write_report-clause-promised g c asks low =
+    over_told (g.S.Source.left c.args.source.now) (λ bytes. c.in-Ok-read_input.bytes ≡ take INPUT_LIMIT bytes) _
+        (λ bytes cut.
+            subst (λ (document : Result Document DocFault). KeepsPromise document (outcome_of_document document))
+                (ap document_of (c.as_slice.ensures ∙ cut) ∙ at_limit INPUT_LIMIT bytes refl) c.in-Ok-respond.ensures.promise)
         c.in-Ok-read_input.ensures.bytes
