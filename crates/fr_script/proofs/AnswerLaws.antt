@@ -31,9 +31,9 @@ module _ (document : Document) (buildable : IsBuildable document) (before after 
       → built v released ≡ outcome_of_run document (run_of document)
   built_outcome v ran settled =
       ap (built v)
-          (counted
-          ∙ released_tokens document.shapes document.script document.tokens after (occurs v) buildable.valid
-              (settled_new (occurs v) settled))
+      (counted
+      ∙ released_tokens document.shapes document.script document.tokens after (occurs v) buildable.valid
+      (settled_new (occurs v) settled))
       ∙ ap (outcome_of_run document) (sym ran)
 
   pub built_promise : (v : Val) → completed document ≡ Some v → fits document.shapes document.root v ≡ true
@@ -42,9 +42,9 @@ module _ (document : Document) (buildable : IsBuildable document) (before after 
     journal = journal;
     fits = fitting;
     tokens =
-      subst (StandOnce (brought document.script) (occurs v)) (sym counted)
-          (stand_once document.shapes document.script document.tokens after (occurs v) buildable.valid
-              (settled_new (occurs v) settled));
+        subst (StandOnce (brought document.script) (occurs v)) (sym counted)
+        (stand_once document.shapes document.script document.tokens after (occurs v) buildable.valid
+        (settled_new (occurs v) settled));
   }
 
   pub refused_outcome : (refusal : Refusal) → run_of document ≡ Err refusal
@@ -52,9 +52,9 @@ module _ (document : Document) (buildable : IsBuildable document) (before after 
       → refused refusal released ≡ outcome_of_run document (run_of document)
   refused_outcome refusal ran settled =
       ap (refused refusal)
-          (counted
-          ∙ released_tokens document.shapes document.script document.tokens after none_answered buildable.valid
-              (settled_new none_answered settled))
+      (counted
+      ∙ released_tokens document.shapes document.script document.tokens after none_answered buildable.valid
+      (settled_new none_answered settled))
       ∙ ap (outcome_of_run document) (sym ran)
 
   pub refused_promise : completed document ≡ None → IsSettled (brought document.script) before none_answered after
@@ -62,7 +62,7 @@ module _ (document : Document) (buildable : IsBuildable document) (before after 
   refused_promise journal settled = record {
     journal = journal;
     tokens =
-      subst (StandOnce (brought document.script) none_answered) (sym counted)
-          (stand_once document.shapes document.script document.tokens after none_answered buildable.valid
-              (settled_new none_answered settled));
+        subst (StandOnce (brought document.script) none_answered) (sym counted)
+        (stand_once document.shapes document.script document.tokens after none_answered buildable.valid
+        (settled_new none_answered settled));
   }

@@ -26,12 +26,12 @@ pub counts_tell : (b a : ℕ → ℕ) (t : ℕ) (counts : List ℕ)
 counts_tell b a t [] tell = refl
 counts_tell b a t (count ∷ counts) tell =
     let here : count ≡ b t - a t
-        = subst (λ (n : ℕ). count ≡ b n - a n) (omega arith) (tell 0 (omega arith)) in
+    = subst (λ (n : ℕ). count ≡ b n - a n) (omega arith) (tell 0 (omega arith)) in
     let rest : counted_once (t + 1) counts ≡ released_from b a (t + 1) (length counts)
-        = counts_tell b a (t + 1) counts
-            (λ k h.
-                let e : t + suc k ≡ t + 1 + k = omega arith in
-                subst (λ (n : ℕ). slice_index counts k ≡ b n - a n) e (tell (suc k) (omega arith))) in
+    = counts_tell b a (t + 1) counts
+    (λ k h.
+    let e : t + suc k ≡ t + 1 + k = omega arith in
+    subst (λ (n : ℕ). slice_index counts k ≡ b n - a n) e (tell (suc k) (omega arith))) in
     rw (here, rest) refl
 
 module _ (table : Table) (script : List Call) (n : ℕ) (after : List ℕ) (answered : ℕ → ℕ)
@@ -56,8 +56,8 @@ module _ (table : Table) (script : List Call) (n : ℕ) (after : List ℕ) (answ
   pub released_tokens : counted_once 0 after ≡ released_from (brought script) answered 0 n
   released_tokens =
       counts_tell (brought script) answered 0 after
-          (λ k h. let e : k ≡ 0 + k = omega arith in
-              subst (λ (m : ℕ). slice_index after k ≡ brought script m - answered m) e (tells k))
+      (λ k h. let e : k ≡ 0 + k = omega arith in
+      subst (λ (m : ℕ). slice_index after k ≡ brought script m - answered m) e (tells k))
       ∙ ap (released_from (brought script) answered 0) same_count
 
   times_below : (ts : List ℕ) (i t : ℕ) → t < i → times (counted_once i ts) t ≡ 0
@@ -69,7 +69,7 @@ module _ (table : Table) (script : List Call) (n : ℕ) (after : List ℕ) (answ
       go true e rest =
           let other : nat_eq i t ≡ false = ne_eqb i t (λ same. omega arith) in
           let split : times (i ∷ counted_once (i + 1) ts) t ≡ times (counted_once (i + 1) ts) t
-              = times_cons i (counted_once (i + 1) ts) t ∙ rw other (omega arith) in
+          = times_cons i (counted_once (i + 1) ts) t ∙ rw other (omega arith) in
           rw e (split ∙ rest)
       go false e rest = rw e rest
 
@@ -80,12 +80,13 @@ module _ (table : Table) (script : List Call) (n : ℕ) (after : List ℕ) (answ
     where
       none : times (counted_once (i + 1) ts) (i + 0) ≡ 0
       none = times_below ts (i + 1) (i + 0) (omega arith)
+
       go : (b : Bool) → nat_eq c 1 ≡ b
           → times (counted_once i (c ∷ ts)) (i + 0) ≡ cond (nat_eq c 1) 1 0
       go true e =
           let same : nat_eq i (i + 0) ≡ true = eq-eqb i (i + 0) (omega arith) in
           let split : times (i ∷ counted_once (i + 1) ts) (i + 0) ≡ 1 + times (counted_once (i + 1) ts) (i + 0)
-              = times_cons i (counted_once (i + 1) ts) (i + 0) ∙ rw same refl in
+          = times_cons i (counted_once (i + 1) ts) (i + 0) ∙ rw same refl in
           rw e (split ∙ ap (λ (n : ℕ). 1 + n) none)
       go false e = rw e none
   times_counted (c ∷ ts) i (suc k) = go (nat_eq c 1) refl (times_counted ts (i + 1) k)
@@ -97,9 +98,9 @@ module _ (table : Table) (script : List Call) (n : ℕ) (after : List ℕ) (answ
           let other : nat_eq i (i + suc k) ≡ false = ne_eqb i (i + suc k) (λ same. omega arith) in
           let place : i + 1 + k ≡ i + suc k = omega arith in
           let there : times (counted_once (i + 1) ts) (i + suc k) ≡ cond (nat_eq (slice_index ts k) 1) 1 0
-              = rw place at rest in
+          = rw place at rest in
           let split : times (i ∷ counted_once (i + 1) ts) (i + suc k) ≡ times (counted_once (i + 1) ts) (i + suc k)
-              = times_cons i (counted_once (i + 1) ts) (i + suc k) ∙ rw other (omega arith) in
+          = times_cons i (counted_once (i + 1) ts) (i + suc k) ∙ rw other (omega arith) in
           rw e (split ∙ there)
       go false e rest =
           let place : i + 1 + k ≡ i + suc k = omega arith in
@@ -109,12 +110,13 @@ module _ (table : Table) (script : List Call) (n : ℕ) (after : List ℕ) (answ
   stand t =
       let e : 0 + t ≡ t = omega arith in
       let counted : times (counted_once 0 after) t ≡ cond (nat_eq (slice_index after t) 1) 1 0
-          = subst (λ (m : ℕ). times (counted_once 0 after) m ≡ cond (nat_eq (slice_index after t) 1) 1 0) e
-              (times_counted after 0 t) in
+      = subst (λ (m : ℕ). times (counted_once 0 after) m ≡ cond (nat_eq (slice_index after t) 1) 1 0) e
+      (times_counted after 0 t) in
       counted ∙ go (slice_index after t) (tells t)
     where
       one : brought script t ≤ 1
       one = valid.once t
+
       go : (c : ℕ) → c ≡ brought script t - answered t → cond (nat_eq c 1) 1 0 ≡ brought script t - answered t
       go zero e = e
       go (suc zero) e = e

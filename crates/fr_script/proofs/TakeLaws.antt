@@ -26,7 +26,7 @@ at_limit n bytes e = go (nat_lt (length bytes) n) refl
         let beyond : n ≤ length bytes = ltb-false (length bytes) n long in
         let cut : length (take n bytes) ≡ n = simp length-take (omega arith) in
         let first : nat_lt (length (take n bytes)) 8388609 ≡ false
-            = ap (λ (k : ℕ). nat_lt k 8388609) cut ∙ le-ltb n 8388609 (omega arith) in
+        = ap (λ (k : ℕ). nat_lt k 8388609) cut ∙ le-ltb n 8388609 (omega arith) in
         let second : nat_lt (length bytes) 8388609 ≡ false = le-ltb (length bytes) 8388609 (omega arith) in
         rw (first, second) refl
 
@@ -37,10 +37,10 @@ outcome_at_limit n bytes e = ap outcome_of_document (at_limit n bytes e)
 pub loses : (n : ℕ) (before after : Option (List ℕ)) → after ≡ option_map (drop n) before → LosesAtMost n before after
 loses n None after e = ([], omega arith, ap (prepend_known []) (sym e))
 loses n (Some bytes) after e = (
-      take n bytes,
-      simp length-take (omega arith),
-      ap Some (sym (take-append-drop n bytes)) ∙ ap (prepend_known (take n bytes)) (sym e),
-    )
+  take n bytes,
+  simp length-take (omega arith),
+  ap Some (sym (take-append-drop n bytes)) ∙ ap (prepend_known (take n bytes)) (sym e),
+)
 
 -- what is said of the told bytes, from another fact of them
 pub over_told : (left : Option (List ℕ)) (P Q : List ℕ → Type 0) → ((bytes : List ℕ) → P bytes → Q bytes)

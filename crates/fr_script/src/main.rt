@@ -16,7 +16,6 @@ mod serving;
 mod sizes;
 mod validity;
 
-
 use fr_doc::{ReaderSource, WriterSink};
 use std::process::ExitCode;
 use std::rt::Env;

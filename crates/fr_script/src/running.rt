@@ -18,12 +18,7 @@ const USAGE: &str = "usage: build | plan | gen N\n";
 ///
 /// The status is 0 for a value, 1 for a refusal of the builder, 2 for a faulty document, 3 for other words, 4 where the
 /// source failed, 5 where the sink failed, and 6 for want of memory.
-pub fn run<S: Source, K: Sink>(
-    alloc: Global,
-    words: &[String],
-    source: &mut S,
-    sink: &mut K,
-) -> u8
+pub fn run<S: Source, K: Sink>(alloc: Global, words: &[String], source: &mut S, sink: &mut K) -> u8
     ensures range { result ≤ 6 }
 
     // The words `build`, where the source tells what it has left: the outcome of all those bytes is reported.

@@ -44,13 +44,13 @@ at_root table root parents frame none chain =
 pub returns-in-Ok-clause-fits : goal.returns-in-Ok-clause-fits
 returns-in-Ok-clause-fits c =
     let empty : vec_len c.self.inside.parents ≡ 0
-        = eqb-true (vec_len c.self.inside.parents) 0 (sym c.if-is_empty.ensures) in
+    = eqb-true (vec_len c.self.inside.parents) 0 (sym c.if-is_empty.ensures) in
     let root : IsFrame c.self.inside.table.now c.self.inside.root.0 c.self.inside.frame
-        = at_root c.self.inside.table.now c.self.inside.root.0 c.self.inside.parents.items c.self.inside.frame
-            (omega (arith, c.self.inside.parents.ok.0)) c.self.invariant.chain in
+    = at_root c.self.inside.table.now c.self.inside.root.0 c.self.inside.parents.items c.self.inside.frame
+    (omega (arith, c.self.inside.parents.ok.0)) c.self.invariant.chain in
     subst (λ (builder : Builder). fits builder.shapes builder.root (view c.in-Ok.value) ≡ true) c.self.view_is
-        (complete_fits c.self.inside.table.now c.self.inside.root.0 c.self.inside.frame.piece (view c.in-Ok.value)
-            root.piece c.in-Ok.ensures.value)
+    (complete_fits c.self.inside.table.now c.self.inside.root.0 c.self.inside.frame.piece (view c.in-Ok.value)
+    root.piece c.in-Ok.ensures.value)
 
 none_above : (parents : List Parent) (t : ℕ) → length parents ≡ 0 → parents_hold parents t ≡ 0
 none_above [] t h = refl
