@@ -6,6 +6,8 @@ mod build_script;
 mod command_form;
 mod document;
 mod document_laws;
+#[cfg(test)]
+mod limit_tests;
 mod marking;
 mod parts;
 mod released;
@@ -14,6 +16,8 @@ mod rules;
 mod running;
 mod serving;
 mod sizes;
+#[cfg(test)]
+mod tests;
 mod validity;
 
 use fr_doc::{ReaderSource, WriterSink};
