@@ -4,6 +4,8 @@
 mod command_form;
 mod document;
 mod document_laws;
+#[cfg(test)]
+mod document_tests;
 mod marking;
 mod parts;
 mod rules;
