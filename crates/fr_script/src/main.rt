@@ -7,6 +7,8 @@ mod command_form;
 mod document;
 mod document_laws;
 #[cfg(test)]
+mod document_tests;
+#[cfg(test)]
 mod limit_tests;
 mod marking;
 mod parts;
