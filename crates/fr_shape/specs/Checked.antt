@@ -1,4 +1,4 @@
--- What it takes for a table to be checked: nine rules, each kept or broken by every entry on its own.
+-- What it takes for a table to be checked: nine rules, each asked of every entry, of which some look at other entries.
 use Rattle.std.specs.Prelude.{◌≡◌, ℕ, ◌==◌, Bool, true, false, not, ◌&&◌, ◌||◌, List, [], ◌∷◌, ◌++◌, map, length, nat_lt, Option, Some, unwrap_or, option_to_list, take, slice_get}
 use Rattle.std.specs.List.{list_all, list_any, flat_map}
 use Rattle.std.specs.Str.{bytes_eq}
@@ -171,7 +171,7 @@ templates_fit table i shape =
     list_all (is_template table i) (option_to_list shape.preset)
     && list_all (λ (field : Field). default_is_template table field.shape.0 field.default) (fields_of shape.def)
 
--- 7: a conversion stands only where there is something to convert from, a builder only on what is opaque
+-- 7: a conversion stands only where there is something to convert from, a builder only on what is opaque or undefined
 abbrev pub conversion_suits : Shape → Bool
 conversion_suits shape =
     (is_absent shape.convert || converts shape.def shape.inner shape.builder)

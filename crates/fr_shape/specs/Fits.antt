@@ -70,7 +70,7 @@ abbrev pub is_none : Option ShapeId → Bool
 is_none None = true
 is_none (Some t) = false
 
--- one token: opaque and undefined shapes, and a pointer to nothing known
+-- one token: opaque and undefined shapes, and a pointer without a known pointee
 abbrev pub takes_token : Def → Bool
 takes_token Def.Opaque = true
 takes_token Def.Undefined = true
