@@ -5,3 +5,4 @@ pub mod CompleteLaws
 pub mod EndLaws
 pub mod OpenLaws
 pub mod StackLaws
+pub mod TestLaws

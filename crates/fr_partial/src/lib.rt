@@ -12,6 +12,8 @@ mod frame;
 mod partial;
 mod releasing;
 mod set_shape;
+#[cfg(test)]
+mod tests;
 
 pub use built::Built;
 pub use partial::Partial;

@@ -1,0 +1,355 @@
+//! Each call with ample memory, a whole build, and where the token is after each refusal. The helpers want answers
+//! that are Ok and end the test otherwise.
+ghost use Rattle.std.specs.Prelude.{◌≡◌, ℕ, length, true, IfSome};
+ghost use Rattle.fr_shape.specs.Fits.{fits};
+ghost use Rattle.fr_shape.specs.Look.{IsIn};
+ghost use Rattle.fr_shape.specs.Numbered.{IsNumbered, field_count};
+ghost use Rattle.fr_shape.specs.Released.{Room};
+ghost use Rattle.fr_shape.specs.Served.{IsServed, serves, serves_def, serves_field};
+ghost use Rattle.fr_shape.specs.View.{view};
+ghost use Rattle.fr_partial.specs.Builder.{holds};
+
+use crate::Partial;
+use fr_shape::{
+    Def, Field, FieldRef, Invariant, Items, Ledger, Operation, ReflectErrorKind, ScalarKind, Shape,
+    ShapeId, ShapeTable, Shaped, StructDef, StructKind, Text, Value, fits,
+};
+use std::alloc::Global;
+use std::process::Abort;
+
+fn shape(alloc: Global, def: Def) -> Option<Shape>
+    ensures def { IfSome result (λ shape. shape.def ≡ def) }
+    ensures served { serves_def def ≡ true → IfSome result (λ shape. serves shape ≡ true) }
+{
+    Some(Shape {
+        name: Text::new(alloc, "shape").ok()?,
+        def,
+        preset: None,
+        default_attr: false,
+        inner: None,
+        builder: None,
+        convert: None,
+        parse: None,
+        parse_bytes: None,
+        proxy: None,
+        format_proxies: Items::new(alloc),
+        invariant: None,
+        metadata: false,
+        deny_unknown: false,
+        transparent: false,
+        bytes_ok: false,
+    })
+}
+
+fn field(alloc: Global, shape: u32) -> Option<Field>
+    ensures { IfSome result (λ field. serves_field field ≡ true) }
+{
+    Some(Field {
+        name: Text::new(alloc, "field").ok()?,
+        rename: None,
+        alias: None,
+        shape: ShapeId(shape),
+        default: None,
+        skip: false,
+        flatten: false,
+        proxy: None,
+        format_proxies: Items::new(alloc),
+        validators: Items::new(alloc),
+    })
+}
+
+/// A struct of two fields of shape 0 and one of shape 1.
+fn triple(alloc: Global) -> Option<Def>
+    ensures served { IfSome result (λ def. serves_def def ≡ true) }
+    ensures count { IfSome result (λ def. field_count def ≡ 3) }
+{
+    let first = field(alloc, 0)?;
+    let second = field(alloc, 0)?;
+    let third = field(alloc, 1)?;
+    let Ok(fields) = vec![in alloc; first, second, third] else {
+        return None;
+    };
+    Some(Def::Struct(StructDef {
+        kind: StructKind::Struct,
+        fields: Items::from_vec(fields),
+    }))
+}
+
+/// Shape 0 is u32, shape 1 is opaque, and shape 2 is the struct.
+fn table(alloc: Global) -> Option<ShapeTable>
+    ensures count { IfSome result (λ table. length table ≡ 3) }
+    ensures served { IfSome result (λ table. IsServed table) }
+    ensures numbered { IfSome result (λ table. IsNumbered table) }
+{
+    let number = shape(alloc, Def::Scalar(ScalarKind::U32))?;
+    let opaque = shape(alloc, Def::Opaque)?;
+    let members = triple(alloc)?;
+    let structure = shape(alloc, members)?;
+    let Ok(shapes) = vec![in alloc; number, opaque, structure] else {
+        return None;
+    };
+    Some(ShapeTable::new(alloc, Items::from_vec(shapes)))
+}
+
+fn start<'t>(rt: &impl Abort, alloc: Global, table: &'t ShapeTable, root: u32) -> Partial<'t>
+    requires shape { IsIn table.now root }
+    requires numbered { IsNumbered table.now }
+    requires served { IsServed table.now }
+    ensures { (t : ℕ) → holds result t ≡ 0 }
+{
+    match Partial::alloc_shape(alloc, table, ShapeId(root)) {
+        Ok(partial) => partial,
+        Err(_) => panic!(rt; "not begun"),
+    }
+}
+
+fn enter<'t>(rt: &impl Abort, partial: Partial<'t>, i: usize, ledger: &mut Ledger) -> Partial<'t>
+    requires { Room (holds partial) ledger.old }
+    ensures room { Room (holds result) ledger.new }
+    ensures nothing { ((t : ℕ) → holds partial.entry t ≡ 0) → (t : ℕ) → holds result t ≡ 0 }
+{
+    match partial.begin_nth_field(i, ledger) {
+        Ok(partial) => partial,
+        Err(_) => panic!(rt; "not entered"),
+    }
+}
+
+/// A value of this shape, which the test sees to.
+fn shaped(rt: &impl Abort, partial: &Partial<'_>, id: u32, value: Value) -> Shaped
+    ensures fits { fits partial.now.shapes result.shape result.value ≡ true }
+    ensures value { result.value ≡ view value }
+{
+    assert!(rt; fits(partial.table, ShapeId(id), &value));
+    Shaped::new(partial.table, ShapeId(id), value)
+}
+
+fn put_number<'t>(
+    rt: &impl Abort,
+    partial: Partial<'t>,
+    n: u128,
+    ledger: &mut Ledger,
+) -> Partial<'t>
+    requires { Room (holds partial) ledger.old }
+    ensures { Room (holds result) ledger.new }
+{
+    let number = shaped(rt, &partial, 0, Value::Nat(n));
+    match partial.set_shape(number, ledger) {
+        Ok(partial) => partial,
+        Err(_) => panic!(rt; "not put"),
+    }
+}
+
+/// Puts the ledger's only token, which nothing held or released so far.
+fn put_token<'t>(rt: &impl Abort, partial: Partial<'t>, ledger: &mut Ledger) -> Partial<'t>
+    requires { (t : ℕ) → holds partial t ≡ 0 }
+    ensures { Room (holds result) ledger.new }
+{
+    assert_eq!(rt; ledger.len(), 1);
+    assert_eq!(rt; ledger.count(0), 0);
+    let token = shaped(rt, &partial, 1, Value::Token(0));
+    match partial.set_shape(token, ledger) {
+        Ok(partial) => partial,
+        Err(_) => panic!(rt; "not put"),
+    }
+}
+
+fn leave<'t>(rt: &impl Abort, partial: Partial<'t>, ledger: &mut Ledger) -> Partial<'t>
+    requires { Room (holds partial) ledger.old }
+    ensures { Room (holds result) ledger.new }
+{
+    match partial.end(ledger) {
+        Ok(partial) => partial,
+        Err(_) => panic!(rt; "not ended"),
+    }
+}
+
+/// A builder of the opaque shape that holds the token.
+fn opaque<'t>(
+    rt: &impl Abort,
+    alloc: Global,
+    table: &'t ShapeTable,
+    ledger: &mut Ledger,
+) -> Partial<'t>
+    requires count { length table.now ≡ 3 }
+    requires numbered { IsNumbered table.now }
+    requires served { IsServed table.now }
+    ensures { Room (holds result) ledger.new }
+{
+    put_token(rt, start(rt, alloc, table, 1), ledger)
+}
+
+/// A builder of the struct that holds the token in its last field, and works there.
+fn begun<'t>(
+    rt: &impl Abort,
+    alloc: Global,
+    table: &'t ShapeTable,
+    ledger: &mut Ledger,
+) -> Partial<'t>
+    requires count { length table.now ≡ 3 }
+    requires numbered { IsNumbered table.now }
+    requires served { IsServed table.now }
+    ensures { Room (holds result) ledger.new }
+{
+    let entered = enter(rt, start(rt, alloc, table, 2), 2, ledger);
+    put_token(rt, entered, ledger)
+}
+
+/// Why the call was refused, once the ledger has the token as released.
+fn refusal(
+    rt: &impl Abort,
+    answer: Result<Partial<'_>, ReflectErrorKind>,
+    ledger: &Ledger,
+) -> ReflectErrorKind {
+    check_count(rt, ledger, 1);
+    match answer {
+        Ok(_) => panic!(rt; "not refused"),
+        Err(kind) => kind,
+    }
+}
+
+fn check_count(rt: &impl Abort, ledger: &Ledger, want: u32) {
+    assert_eq!(rt; ledger.len(), 1);
+    assert_eq!(rt; ledger.count(0), want);
+}
+
+fn ledger(rt: &impl Abort, alloc: Global) -> Ledger {
+    Ledger::new(alloc, 1).ok().expect(rt, "no memory")
+}
+
+#[test]
+fn builds_a_struct(rt: HostRuntime) {
+    let table = table(rt.alloc()).expect(&rt, "no memory");
+    let mut ledger = ledger(&rt, rt.alloc());
+    let mut partial = begun(&rt, rt.alloc(), &table, &mut ledger);
+    partial = leave(&rt, partial, &mut ledger);
+    partial = enter(&rt, partial, 0, &mut ledger);
+    partial = put_number(&rt, partial, 7, &mut ledger);
+    partial = leave(&rt, partial, &mut ledger);
+    partial = enter(&rt, partial, 1, &mut ledger);
+    partial = put_number(&rt, partial, 8, &mut ledger);
+    partial = leave(&rt, partial, &mut ledger);
+    let Ok(built) = partial.build(&mut ledger) else {
+        panic!(rt; "not built");
+    };
+    check_count(&rt, &ledger, 0);
+    assert_eq!(rt; built.calls(), 9);
+    let Value::Product(children) = built.into_value() else {
+        panic!(rt; "no struct");
+    };
+    assert_eq!(rt; children.len(), 3);
+    assert!(rt; matches!(children.get(0), Some(Value::Nat(7))));
+    assert!(rt; matches!(children.get(1), Some(Value::Nat(8))));
+    assert!(rt; matches!(children.get(2), Some(Value::Token(0))));
+}
+
+#[test]
+fn refuses_another_shape(rt: HostRuntime) {
+    let table = table(rt.alloc()).expect(&rt, "no memory");
+    let mut ledger = ledger(&rt, rt.alloc());
+    let partial = begun(&rt, rt.alloc(), &table, &mut ledger);
+    let number = shaped(&rt, &partial, 0, Value::Nat(7));
+    let kind = refusal(&rt, partial.set_shape(number, &mut ledger), &ledger);
+    assert!(rt;
+        matches!(
+            kind,
+            ReflectErrorKind::WrongShape {
+                expected: ShapeId(1),
+                actual: ShapeId(0)
+            }
+        )
+    );
+}
+
+#[test]
+fn refuses_to_end_the_root(rt: HostRuntime) {
+    let table = table(rt.alloc()).expect(&rt, "no memory");
+    let mut ledger = ledger(&rt, rt.alloc());
+    let partial = opaque(&rt, rt.alloc(), &table, &mut ledger);
+    let kind = refusal(&rt, partial.end(&mut ledger), &ledger);
+    assert!(rt;
+        matches!(
+            kind,
+            ReflectErrorKind::InvariantViolation {
+                invariant: Invariant::EndAtRoot
+            }
+        )
+    );
+}
+
+#[test]
+fn refuses_fields_that_are_not_there(rt: HostRuntime) {
+    let table = table(rt.alloc()).expect(&rt, "no memory");
+    let mut ledger = ledger(&rt, rt.alloc());
+    let partial = begun(&rt, rt.alloc(), &table, &mut ledger);
+    let partial = leave(&rt, partial, &mut ledger);
+    let kind = refusal(&rt, partial.begin_nth_field(3, &mut ledger), &ledger);
+    assert!(rt;
+        matches!(
+            kind,
+            ReflectErrorKind::OperationFailed {
+                shape: ShapeId(2),
+                operation: Operation::FieldIndexOutOfBounds,
+            }
+        )
+    );
+}
+
+#[test]
+fn refuses_fields_of_an_opaque_shape(rt: HostRuntime) {
+    let table = table(rt.alloc()).expect(&rt, "no memory");
+    let mut ledger = ledger(&rt, rt.alloc());
+    let partial = opaque(&rt, rt.alloc(), &table, &mut ledger);
+    let kind = refusal(&rt, partial.begin_nth_field(0, &mut ledger), &ledger);
+    assert!(rt;
+        matches!(
+            kind,
+            ReflectErrorKind::OperationFailed {
+                shape: ShapeId(1),
+                operation: Operation::FieldOfOpaque,
+            }
+        )
+    );
+}
+
+#[test]
+fn refuses_to_build_open_places(rt: HostRuntime) {
+    let table = table(rt.alloc()).expect(&rt, "no memory");
+    let mut ledger = ledger(&rt, rt.alloc());
+    let partial = begun(&rt, rt.alloc(), &table, &mut ledger);
+    let Err(kind) = partial.build(&mut ledger) else {
+        panic!(rt; "not refused");
+    };
+    check_count(&rt, &ledger, 1);
+    assert!(rt;
+        matches!(
+            kind,
+            ReflectErrorKind::InvariantViolation {
+                invariant: Invariant::BuildOpenFrames
+            }
+        )
+    );
+}
+
+#[test]
+fn refuses_to_build_without_a_field(rt: HostRuntime) {
+    let table = table(rt.alloc()).expect(&rt, "no memory");
+    let mut ledger = ledger(&rt, rt.alloc());
+    let partial = begun(&rt, rt.alloc(), &table, &mut ledger);
+    let partial = leave(&rt, partial, &mut ledger);
+    let Err(kind) = partial.build(&mut ledger) else {
+        panic!(rt; "not refused");
+    };
+    check_count(&rt, &ledger, 1);
+    assert!(rt;
+        matches!(
+            kind,
+            ReflectErrorKind::UninitializedField {
+                field: FieldRef {
+                    shape: ShapeId(2),
+                    variant: None,
+                    index: 0
+                },
+            }
+        )
+    );
+}
