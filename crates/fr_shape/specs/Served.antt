@@ -3,8 +3,6 @@ use Rattle.std.specs.Prelude.{◌≡◌, Bool, true, false, not, ◌&&◌, List,
 use Rattle.std.specs.List.{list_all}
 use Rattle.fr_shape.specs.declared.shape.Shape.{Shape}
 use Rattle.fr_shape.specs.declared.shape.Def.{Def}
-use Rattle.fr_shape.specs.declared.shape.ScalarKind.{ScalarKind}
-use Rattle.fr_shape.specs.declared.shape.StructKind.{StructKind}
 use Rattle.fr_shape.specs.declared.shape.Field.{Field}
 use Rattle.fr_shape.specs.Look.{Table}
 
@@ -16,32 +14,30 @@ abbrev pub is_nil : {X : Type 0} → List X → Bool
 is_nil [] = true
 is_nil (x ∷ xs) = false
 
--- a field with a name and a shape, and nothing else said of it
+-- a field with a name and a shape, a default or not, skipped or not, and nothing else said of it
 abbrev pub serves_field : Field → Bool
 serves_field field =
-    is_absent field.rename && is_absent field.alias && is_absent field.default && not field.skip && not field.flatten
-    && is_absent field.proxy && is_nil field.format_proxies && is_nil field.validators
+    is_absent field.rename && is_absent field.alias && not field.flatten && is_absent field.proxy
+    && is_nil field.format_proxies && is_nil field.validators
 
--- a struct of kind Struct with at least one field
-abbrev pub serves_struct : StructKind → List Field → Bool
-serves_struct StructKind.Struct (field ∷ fields) = list_all serves_field (field ∷ fields)
-serves_struct _ _ = false
-
--- u32, String, opaque shapes and structs
+-- scalars, opaque shapes, structs of each kind, options, lists and arrays
 abbrev pub serves_def : Def → Bool
-serves_def (Def.Scalar ScalarKind.U32) = true
-serves_def (Def.Scalar ScalarKind.String) = true
+serves_def (Def.Scalar kind) = true
 serves_def Def.Opaque = true
-serves_def (Def.Struct struct) = serves_struct struct.kind struct.fields
+serves_def (Def.Struct struct) = list_all serves_field struct.fields
+serves_def (Def.Option t) = true
+serves_def (Def.List t) = true
+serves_def (Def.Array t n) = true
 serves_def _ = false
 
--- a shape with a name and a definition, and nothing else said of it
+-- a shape with a name and a definition, a preset or not, with or without the attribute that its fields default, and
+-- nothing else said of it
 abbrev pub serves : Shape → Bool
 serves shape =
-    serves_def shape.def && is_absent shape.preset && not shape.default_attr && is_absent shape.inner
-    && is_absent shape.builder && is_absent shape.convert && is_absent shape.parse && is_absent shape.parse_bytes
-    && is_absent shape.proxy && is_nil shape.format_proxies && is_absent shape.invariant && not shape.metadata
-    && not shape.deny_unknown && not shape.transparent && not shape.bytes_ok
+    serves_def shape.def && is_absent shape.inner && is_absent shape.builder && is_absent shape.convert
+    && is_absent shape.parse && is_absent shape.parse_bytes && is_absent shape.proxy && is_nil shape.format_proxies
+    && is_absent shape.invariant && not shape.metadata && not shape.deny_unknown && not shape.transparent
+    && not shape.bytes_ok
 
 -- the builder serves each shape of the table
 abbrev pub IsServed : Table → Type 0
