@@ -20,14 +20,15 @@ mod table;
 #[cfg(test)]
 mod tests;
 mod text;
+mod texts;
 mod value;
 
 pub use checking::TableFault;
 pub use comparing::same;
 pub use copying::clone_template;
 pub use error::{
-    AllocError, Expected, InitCall, Invariant, Operation, PlanFault, Reason, ReflectErrorKind,
-    TrackerKind, TryFromFault,
+    AllocError, Expected, InitCall, Invariant, Operation, PlanError, PlanFault, Reason,
+    ReflectErrorKind, ShapeMismatchError, TrackerKind, TryFromFault,
 };
 pub use fitting::fits;
 pub use items::{Items, NotPushed, OutOfMemory};
