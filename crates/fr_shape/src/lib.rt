@@ -7,6 +7,7 @@ mod copying;
 mod distinct;
 mod error;
 mod fitting;
+mod hooks;
 mod items;
 mod ledger;
 mod parts;
@@ -31,6 +32,7 @@ pub use error::{
     ReflectErrorKind, ShapeMismatchError, TrackerKind, TryFromFault,
 };
 pub use fitting::fits;
+pub use hooks::{HookFault, Hooks, NoHooks};
 pub use items::{Items, NotPushed, OutOfMemory};
 pub use ledger::Ledger;
 pub use releasing::release;
