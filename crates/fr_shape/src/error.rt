@@ -15,6 +15,20 @@ pub enum PlanFault {
     NotSized,
 }
 
+/// Why a type has no plan: a shape of it can't be planned, or there is no memory.
+#[derive(Drop)]
+pub enum PlanError {
+    Alloc(AllocError),
+    OutOfMemory,
+}
+
+/// A value or builder is of another shape than the one asked for.
+#[derive(Drop)]
+pub struct ShapeMismatchError {
+    pub expected: ShapeId,
+    pub actual: ShapeId,
+}
+
 /// The form of a begun place, as refusals name it.
 #[derive(Clone, Copy, PartialEq, Eq)]
 pub enum TrackerKind {
@@ -131,42 +145,63 @@ pub enum Reason {
     NotAProduct,
 }
 
-/// An operation that a place of the given shape doesn't allow. The list grows with the commands.
+/// An operation that a place of the given shape doesn't allow. Most names say what was asked for or where, as
+/// `FieldOfSlice`, or what there isn't, as `NoDefault`; `text` says it in words.
 #[derive(Clone, Copy, PartialEq, Eq)]
 pub enum Operation {
     FieldIndexOutOfBounds,
+    FieldOfUnselectedVariant,
+    VariantFieldIndexOutOfBounds,
+    ArrayIndexOutOfBounds,
+    ArrayTooLarge,
+    ElementOfWholeArray,
+    FieldOfSlice,
     FieldOfOpaque,
     FieldOfOther,
-}
-
-impl Operation {
-    /// The refusal in words.
-    pub fn text(self) -> &'static str {
-        match self {
-            Operation::FieldIndexOutOfBounds => "field index out of bounds",
-            Operation::FieldOfOpaque => "cannot select a field from an opaque type",
-            Operation::FieldOfOther => "cannot select a field from this type",
-        }
-    }
-}
-
-impl Invariant {
-    /// The violation in words.
-    pub fn text(self) -> &'static str {
-        match self {
-            Invariant::EndAtRoot => "Partial::end() called with only one frame on the stack",
-            Invariant::EndAtStart => {
-                "Partial::end() called but would pop below deferred start depth"
-            }
-            Invariant::AlreadyDeferred => { "begin_deferred() called but already in deferred mode" }
-            Invariant::NotDeferred => {
-                "finish_deferred() called but deferred mode is not enabled"
-            }
-            Invariant::BuildDeferred => "build() called but deferred mode is enabled",
-            Invariant::BuildOpenFrames => {
-                "build() called but more than one frame is on the stack"
-            }
-            Invariant::TypeInvariant => "a type invariant does not hold",
-        }
-    }
+    NamedFieldOfUnselectedVariant,
+    NamedFieldOfUndefined,
+    NamedFieldOfPrimitive,
+    NamedFieldOfSequence,
+    NamedFieldOfOpaque,
+    NamedFieldOfPointer,
+    NoDefault,
+    DynamicSignedSize,
+    DynamicUnsignedSize,
+    NotDynamic,
+    NoParsing,
+    NoParsingOfBytes,
+    BytesNotParsed,
+    InitListOfOther,
+    InitListOfWholeOther,
+    InitArrayOfOther,
+    InitArrayOfBegun,
+    ItemStillOpen,
+    ItemOfOther,
+    ItemBeforeInitList,
+    InitMapOfOther,
+    KeyBeforeValue,
+    KeyBeforeInitMap,
+    ValueBeforeKey,
+    EntryBeforeInitMap,
+    EntryOfOther,
+    InitSetOfOther,
+    SetItemOfOther,
+    SetItemBeforeInitSet,
+    PointerNotConstructible,
+    PointerWithoutPointee,
+    SlicePointerNotBuildable,
+    PointeeNotBuildable,
+    NoInner,
+    NotInField,
+    FieldWithoutProxy,
+    NoProxyForFormat,
+    VariantIndexOutOfBounds,
+    VariantNameUnknown,
+    DiscriminantUnknown,
+    RustLayout,
+    RustNpoLayout,
+    VariantWithoutDiscriminant,
+    NotSharedReference,
+    SharedReferenceWithoutPointee,
+    PointeeNotSlice,
 }

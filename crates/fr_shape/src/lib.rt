@@ -7,6 +7,7 @@ mod copying;
 mod distinct;
 mod error;
 mod fitting;
+mod hooks;
 mod items;
 mod ledger;
 mod parts;
@@ -20,16 +21,18 @@ mod table;
 #[cfg(test)]
 mod tests;
 mod text;
+mod texts;
 mod value;
 
 pub use checking::TableFault;
 pub use comparing::same;
 pub use copying::clone_template;
 pub use error::{
-    AllocError, Expected, InitCall, Invariant, Operation, PlanFault, Reason, ReflectErrorKind,
-    TrackerKind, TryFromFault,
+    AllocError, Expected, InitCall, Invariant, Operation, PlanError, PlanFault, Reason,
+    ReflectErrorKind, ShapeMismatchError, TrackerKind, TryFromFault,
 };
 pub use fitting::fits;
+pub use hooks::{HookFault, Hooks, NoHooks};
 pub use items::{Items, NotPushed, OutOfMemory};
 pub use ledger::Ledger;
 pub use releasing::release;
