@@ -6,14 +6,18 @@ use Rattle.fr_model.specs.declared.command.Command.{Command}
 
 -- a consuming call with its arguments; a shape is told by its number
 pub data Call : Type 0 where
+  BeginField : (name : List ℕ) → Call
   BeginNthField : ℕ → Call
   Set : ℕ → Val → Call
+  SetDefault : Call
   End : Call
 
 -- what a command stands for
 abbrev pub call_of : Command → Call
+call_of (Command.BeginField name) = Call.BeginField name
 call_of (Command.BeginNthField i) = Call.BeginNthField i
 call_of (Command.Set shape v) = Call.Set shape.0 (view v)
+call_of Command.SetDefault = Call.SetDefault
 call_of Command.End = Call.End
 
 -- what a script stands for

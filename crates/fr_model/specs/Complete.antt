@@ -1,28 +1,18 @@
--- Completing a place: the value that it makes, or what it lacks.
-use Rattle.std.specs.Prelude.{ℕ, suc, Option, Some, None}
+-- Completing a place in strict mode: the value that it makes, or what it lacks first.
+use Rattle.std.specs.Prelude.{ℕ, zero, suc, List, [], ◌∷◌, Option, Some, None, if◌then◌else◌}
 use Rattle.fr_shape.specs.declared.shape.Def.{Def}
+use Rattle.fr_shape.specs.declared.shape.Field.{Field}
+use Rattle.fr_shape.specs.declared.shape.ValidatorDef.{ValidatorDef}
 use Rattle.fr_shape.specs.declared.error.ReflectErrorKind.{ReflectErrorKind}
-use Rattle.fr_shape.specs.Look.{Table, def_of}
-use Rattle.fr_shape.specs.Val.{Val, Vals, no_vals}
-use Rattle.fr_model.specs.Places.{one_more, product_of}
-use Rattle.fr_model.specs.Tree.{Form, as_struct, Tree, hole, entered, whole, begun, Trees, no_trees, branch, child_as}
+use Rattle.fr_shape.specs.Fills.{preset_of}
+use Rattle.fr_shape.specs.Hooks.{Meanings}
+use Rattle.fr_shape.specs.Look.{Table, def_of, field_in}
+use Rattle.fr_shape.specs.Val.{Val, Vals, none, product, no_vals, first}
+use Rattle.fr_shape.specs.Validators.{passes_at, message}
+use Rattle.fr_model.specs.Places.{child_count, one_more, product_of, each_child, fill_at}
+use Rattle.fr_model.specs.Tree.{Form, as_struct, as_array, Tree, hole, entered, whole, begun, Trees, no_trees, branch, child_as}
 
--- the value that a begun place makes of its children's, where all are there
-abbrev pub made : Form → Option Vals → Option Val
-made as_struct children = product_of children
-
--- The value that a place makes: a whole place its own; a begun struct the product of its children's, where each
--- makes one. A hole makes none, and neither does a place that was only entered.
-abbrev mutual
-  pub complete : Tree → Option Val
-  complete hole = None
-  complete entered = None
-  complete (whole v) = Some v
-  complete (begun form ts) = made form (complete_all ts)
-
-  pub complete_all : Trees → Option Vals
-  complete_all no_trees = Some no_vals
-  complete_all (branch t ts) = one_more (complete t) (complete_all ts)
+-- the refusals
 
 abbrev pub missing_field : ℕ → ℕ → ReflectErrorKind
 missing_field s i =
@@ -31,26 +21,143 @@ missing_field s i =
 abbrev pub missing_value : ℕ → ReflectErrorKind
 missing_value s = ReflectErrorKind.UninitializedValue (record { 0 = s })
 
--- what an entered place lacks: a struct its first field, as a struct of holes does, anything else its value
-abbrev pub lack_of_entered : Def → ℕ → ReflectErrorKind
-lack_of_entered (Def.Struct struct) s = missing_field s 0
-lack_of_entered _ s = missing_value s
+abbrev pub invalid_field : ℕ → ℕ → List ℕ → ReflectErrorKind
+invalid_field s i text =
+    ReflectErrorKind.ValidationFailed (record { shape = record { 0 = s }; variant = None; index = i }) text
 
+-- the first of two, if any
 abbrev pub first_of : Option ReflectErrorKind → Option ReflectErrorKind → Option ReflectErrorKind
 first_of (Some kind) later = Some kind
 first_of None later = later
 
--- What a place of shape s lacks, if anything: of a begun place the first child, in index order, that is a hole or
--- lacks something itself.
-abbrev mutual
-  pub lack : Table → ℕ → Tree → Option ReflectErrorKind
-  lack table s hole = Some (missing_value s)
-  lack table s entered = Some (lack_of_entered (def_of table s) s)
-  lack table s (whole v) = None
-  lack table s (begun form ts) = lack_among table s form 0 ts
+abbrev pub unless_there : Option Val → ReflectErrorKind → Option ReflectErrorKind
+unless_there (Some v) kind = None
+unless_there None kind = Some kind
 
-  pub lack_among : Table → ℕ → Form → ℕ → Trees → Option ReflectErrorKind
-  lack_among table s form i no_trees = None
-  lack_among table s form i (branch hole ts) = Some (missing_field s i)
-  lack_among table s form i (branch t ts) =
-      first_of (lack table (child_as table s form i) t) (lack_among table s form (suc i) ts)
+-- validators of a field's value
+
+-- the first validator, in their order, that the value doesn't pass, as a refusal of field i of shape s
+abbrev pub first_failing : Meanings → Def → ℕ → ℕ → List ValidatorDef → Val → Option ReflectErrorKind
+first_failing hooks def s i [] v = None
+first_failing hooks def s i (validator ∷ validators) v =
+    if passes_at hooks.check def validator v then first_failing hooks def s i validators v
+    else Some (invalid_field s i (message validator v))
+
+abbrev pub failing_field : Meanings → Table → ℕ → ℕ → Option Field → Option Val → Option ReflectErrorKind
+failing_field hooks table s i (Some field) (Some v) =
+    first_failing hooks (def_of table field.shape.0) s i field.validators v
+failing_field hooks table s i _ _ = None
+
+-- of child i of a place of shape s that is begun so: the first validator that its value, if it has one, doesn't pass. An
+-- element of an array has none.
+abbrev pub failing_child : Meanings → Table → ℕ → Form → ℕ → Option Val → Option ReflectErrorKind
+failing_child hooks table s as_struct i made = failing_field hooks table s i (field_in (def_of table s) None i) made
+failing_child hooks table s as_array i made = None
+
+-- the value, unless there is something to refuse
+abbrev pub unless_failing : Option ReflectErrorKind → Option Val → Option Val
+unless_failing (Some kind) made = None
+unless_failing None made = made
+
+-- a child's value, where it passes its field's validators
+abbrev pub valid_child : Meanings → Table → ℕ → Form → ℕ → Option Val → Option Val
+valid_child hooks table s form i made = unless_failing (failing_child hooks table s form i made) made
+
+-- what a hole takes as child i of a place of shape s that is begun so; an element of an array takes nothing
+abbrev pub hole_takes : Table → ℕ → Form → ℕ → Option Val
+hole_takes table s as_struct i = fill_at table s i
+hole_takes table s as_array i = None
+
+-- what a begun place lacks where child i is a hole that takes nothing: a struct that field, an array its value
+abbrev pub missing_child : ℕ → Form → ℕ → ReflectErrorKind
+missing_child s as_struct i = missing_field s i
+missing_child s as_array i = missing_value s
+
+-- The value of an entered place
+
+-- of a struct whose fields are all holes
+abbrev pub made_of_fills : Meanings → Table → ℕ → Option Val
+made_of_fills hooks table s =
+    product_of (each_child (λ i. valid_child hooks table s as_struct i (fill_at table s i)) (child_count table s) 0)
+
+abbrev pub or_else : Option Val → Option Val → Option Val
+or_else (Some v) other = Some v
+or_else None other = other
+
+abbrev pub none_if_preset : Option Val → Option Val
+none_if_preset (Some v) = Some none
+none_if_preset None = None
+
+abbrev pub made_by : Def → (preset of_fills : Option Val) → Option Val
+made_by (Def.Struct struct) preset of_fills = or_else preset of_fills
+made_by (Def.Option t) preset of_fills = none_if_preset preset
+made_by _ preset of_fills = None
+
+-- A struct with a default makes that, and no validator is asked; without one, what a struct of holes makes. An option
+-- with a default makes `None`. Anything else makes nothing.
+abbrev pub made_of_entered : Meanings → Table → ℕ → Option Val
+made_of_entered hooks table s = made_by (def_of table s) (preset_of table s) (made_of_fills hooks table s)
+
+-- The value that a place of shape s makes: a whole place its own; an entered place as above; a begun place the product of
+-- its children's, of which a hole takes its fill, where each makes one that passes its validators. A hole by itself makes none.
+abbrev mutual
+  pub complete : Meanings → Table → ℕ → Tree → Option Val
+  complete hooks table s hole = None
+  complete hooks table s entered = made_of_entered hooks table s
+  complete hooks table s (whole v) = Some v
+  complete hooks table s (begun form ts) = product_of (complete_all hooks table s form 0 ts)
+
+  pub complete_all : Meanings → Table → ℕ → Form → ℕ → Trees → Option Vals
+  complete_all hooks table s form i no_trees = Some no_vals
+  complete_all hooks table s form i (branch hole ts) =
+      one_more (valid_child hooks table s form i (hole_takes table s form i)) (complete_all hooks table s form (suc i) ts)
+  complete_all hooks table s form i (branch t ts) =
+      one_more (valid_child hooks table s form i (complete hooks table (child_as table s form i) t))
+      (complete_all hooks table s form (suc i) ts)
+
+-- What is lacking
+
+-- of child i, a hole: its fill, or that the fill passes its validators
+abbrev pub lack_of_hole : Meanings → Table → ℕ → Form → ℕ → Option ReflectErrorKind
+lack_of_hole hooks table s form i =
+    first_of (unless_there (hole_takes table s form i) (missing_child s form i))
+    (failing_child hooks table s form i (hole_takes table s form i))
+
+-- of so many children from number i on, all of them holes
+abbrev pub lack_of_holes : Meanings → Table → ℕ → Form → (count i : ℕ) → Option ReflectErrorKind
+lack_of_holes hooks table s form zero i = None
+lack_of_holes hooks table s form (suc count) i =
+    first_of (lack_of_hole hooks table s form i) (lack_of_holes hooks table s form count (suc i))
+
+abbrev pub unless_default : Option Val → Option ReflectErrorKind → Option ReflectErrorKind
+unless_default (Some v) lacking = None
+unless_default None lacking = lacking
+
+abbrev pub lack_by : Def → (preset : Option Val) → (of_holes : Option ReflectErrorKind) → (missing : ReflectErrorKind) → Option ReflectErrorKind
+lack_by (Def.Struct struct) preset of_holes missing = unless_default preset of_holes
+lack_by (Def.Option t) preset of_holes missing = unless_there preset missing
+lack_by _ preset of_holes missing = Some missing
+
+-- of an entered place: of a struct without a default what a struct of holes lacks; of an option without one, and of
+-- anything else, its value
+abbrev pub lack_of_entered : Meanings → Table → ℕ → Option ReflectErrorKind
+lack_of_entered hooks table s =
+    lack_by (def_of table s) (preset_of table s) (lack_of_holes hooks table s as_struct (child_count table s) 0) (missing_value s)
+
+-- What a place of shape s lacks, if anything. A begun place is taken child by child in index order: a hole has to have a
+-- fill, any other child must lack nothing itself, and then the value has to pass its field's validators in their order.
+abbrev mutual
+  pub lack : Meanings → Table → ℕ → Tree → Option ReflectErrorKind
+  lack hooks table s hole = Some (missing_value s)
+  lack hooks table s entered = lack_of_entered hooks table s
+  lack hooks table s (whole v) = None
+  lack hooks table s (begun form ts) = lack_among hooks table s form 0 ts
+
+  pub lack_among : Meanings → Table → ℕ → Form → ℕ → Trees → Option ReflectErrorKind
+  lack_among hooks table s form i no_trees = None
+  lack_among hooks table s form i (branch hole ts) =
+      first_of (lack_of_hole hooks table s form i) (lack_among hooks table s form (suc i) ts)
+  lack_among hooks table s form i (branch t ts) =
+      first_of (lack hooks table (child_as table s form i) t)
+      (first_of (failing_child hooks table s form i (complete hooks table (child_as table s form i) t))
+      (lack_among hooks table s form (suc i) ts))

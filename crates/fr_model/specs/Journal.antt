@@ -1,10 +1,12 @@
 -- The journal: what a run wrote and where, newest note first, and what the last writes make of each place. It knows
 -- no tree, no stack and no bits; it is what a reader checks the builder against, over served tables.
-use Rattle.std.specs.Prelude.{ℕ, zero, suc, ◌==◌, max, Bool, true, false, List, [], ◌∷◌, ◌++◌, length, nat_lt, Option, Some, None, if◌then◌else◌}
-use Rattle.fr_shape.specs.Look.{Table}
-use Rattle.fr_shape.specs.Val.{Val, Vals, no_vals}
+use Rattle.std.specs.Prelude.{ℕ, zero, suc, ◌==◌, max, Bool, true, false, not, ◌&&◌, List, [], ◌∷◌, ◌++◌, length, nat_lt, nat_le, Option, Some, None, if◌then◌else◌}
+use Rattle.fr_shape.specs.declared.shape.Def.{Def}
+use Rattle.fr_shape.specs.Fills.{preset_of}
+use Rattle.fr_shape.specs.Look.{Table, def_of}
+use Rattle.fr_shape.specs.Val.{Val, product, no_vals}
 use Rattle.fr_model.specs.Commands.{Call}
-use Rattle.fr_model.specs.Places.{Place, is_root, up, child_count, child_shape, shape_at, part_at, one_more, product_of}
+use Rattle.fr_model.specs.Places.{Place, is_root, up, child_count, child_shape, shape_at, part_at, product_of, each_child, fill_at, field_named}
 
 -- a place was entered, or a value was written to it
 pub data Note : Type 0 where
@@ -65,26 +67,45 @@ abbrev pub longest : Journal → ℕ
 longest [] = 0
 longest (note ∷ notes) = max (length (place_of note)) (longest notes)
 
--- the values of children number i and up, count of them, where each has one
-abbrev pub each_child : (ℕ → Option Val) → ℕ → ℕ → Option Vals
-each_child value zero i = Some no_vals
-each_child value (suc count) i = one_more (value i) (each_child value count (suc i))
+-- The value of a struct of which no field was entered: that of a struct without fields is the empty product; any other
+-- has its preset; where it has none, the product of its fields' fills.
+abbrev pub entered_struct : (count : ℕ) → (preset of_fills : Option Val) → Option Val
+entered_struct zero preset of_fills = Some (product no_vals)
+entered_struct (suc count) (Some v) of_fills = Some v
+entered_struct (suc count) None of_fills = of_fills
 
-abbrev pub by_held : Held → (of_parts : Option Val) → Option Val
-by_held in_parts of_parts = of_parts
-by_held (written v) of_parts = Some v
-by_held just_entered of_parts = None
-by_held untouched of_parts = None
+abbrev pub by_entered : Def → (preset of_fills : Option Val) → Option Val
+by_entered (Def.Struct struct) preset of_fills = entered_struct (length struct.fields) preset of_fills
+by_entered (Def.Option t) preset of_fills = preset
+by_entered _ preset of_fills = None
+
+-- The value that a place of shape s makes where it was entered and nothing was put there: a struct's as above; an
+-- option's is its preset, if it has one; any other place makes none.
+abbrev pub entered_value : Table → ℕ → Option Val
+entered_value table s =
+    by_entered (def_of table s) (preset_of table s) (product_of (each_child (fill_at table s) (child_count table s) 0))
+
+abbrev pub by_held : Held → (of_parts of_entered : Option Val) → Option Val
+by_held in_parts of_parts of_entered = of_parts
+by_held (written v) of_parts of_entered = Some v
+by_held just_entered of_parts of_entered = of_entered
+by_held untouched of_parts of_entered = None
+
+-- an untouched child takes its fill, every other makes its own value
+abbrev pub child_makes : Held → (fill own : Option Val) → Option Val
+child_makes untouched fill own = fill
+child_makes _ fill own = own
 
 -- The value that a place of shape s makes, or none. A place with a whole value makes it. A place with parts makes the
--- product of its children's values, and none where one of them makes none. It goes down only at parts, so one
--- step more than the longest place has is enough.
+-- product of its children's values, of which an untouched one takes its fill, and none where one of them makes none. It
+-- goes down only at parts, so one step more than the longest place has is enough.
 abbrev pub completes_within : Table → ℕ → Journal → ℕ → Place → Option Val
 completes_within table zero notes s here = None
 completes_within table (suc steps) notes s here =
     by_held (held notes here)
-    (product_of (each_child (λ i. completes_within table steps notes (child_shape table s i) (here ++ i ∷ []))
-    (child_count table s) 0))
+    (product_of (each_child (λ i. child_makes (held notes (here ++ i ∷ [])) (fill_at table s i)
+    (completes_within table steps notes (child_shape table s i) (here ++ i ∷ []))) (child_count table s) 0))
+    (entered_value table s)
 
 abbrev pub completes : Table → Journal → ℕ → Place → Option Val
 completes table notes s here = completes_within table (suc (longest notes)) notes s here
@@ -97,25 +118,50 @@ pub record Progress : Type 0 where
 abbrev pub initial_progress : Progress
 initial_progress = record { notes = entered_at [] ∷ []; cursor = [] }
 
-abbrev pub begins_field : Bool → Progress → ℕ → Option Progress
-begins_field true run i =
-    Some (record { notes = entered_at (run.cursor ++ i ∷ []) ∷ run.notes; cursor = run.cursor ++ i ∷ [] })
-begins_field false run i = None
+abbrev pub is_written : Held → Bool
+is_written (written v) = true
+is_written _ = false
 
-abbrev pub writes : Bool → Progress → Val → Option Progress
-writes true run v = Some (record { notes = wrote_at run.cursor v ∷ run.notes; cursor = run.cursor })
-writes false run v = None
+-- the elements of an array of this many may be entered: up to 4,096 of them, where the array isn't whole
+abbrev pub may_enter_elements : ℕ → Held → Bool
+may_enter_elements n held = nat_le n 4096 && not (is_written held)
+
+-- the children of a place of this definition may be entered: a struct's always
+abbrev pub may_enter_children : Def → Held → Bool
+may_enter_children (Def.Array t n) held = may_enter_elements n held
+may_enter_children _ held = true
+
+-- child i of a place of shape s may be entered: it is there, and the children may be entered
+abbrev pub may_enter : Table → ℕ → ℕ → Held → Bool
+may_enter table s i held = nat_lt i (child_count table s) && may_enter_children (def_of table s) held
+
+abbrev pub enters_child : Bool → Progress → ℕ → Option Progress
+enters_child true run i =
+    Some (record { notes = entered_at (run.cursor ++ i ∷ []) ∷ run.notes; cursor = run.cursor ++ i ∷ [] })
+enters_child false run i = None
+
+abbrev pub begins : Table → ℕ → Progress → Option ℕ → Option Progress
+begins table s run (Some i) = enters_child (may_enter table s i (held run.notes run.cursor)) run i
+begins table s run None = None
+
+abbrev pub writes : Progress → Option Val → Option Progress
+writes run (Some v) = Some (record { notes = wrote_at run.cursor v ∷ run.notes; cursor = run.cursor })
+writes run None = None
 
 abbrev pub ends : Progress → Option Val → Option Progress
 ends run (Some v) = Some (record { notes = wrote_at run.cursor v ∷ run.notes; cursor = up run.cursor })
 ends run None = None
 
--- The rules: `begin_nth_field` at a struct with a field of that number notes that the child was entered, and goes there;
--- `set` of the place's own shape notes the value; `end` below the root notes the place's value, where it makes one, and
--- goes up. A command to which no rule applies ends the run with none.
+-- The rules: `begin_nth_field` at a struct with a field of that number, or at an array with such an element that may be
+-- entered, notes that the child was entered, and goes there; `begin_field` at a struct that declares the name does so with
+-- the first such field; `set` of the place's own shape notes the value; `set_default` at a shape with a preset notes the
+-- preset; `end` below the root notes the place's value, where it makes one, and goes up. A command to which no rule applies
+-- ends the run with none.
 abbrev pub rule_at : Table → ℕ → Progress → Call → Option Progress
-rule_at table s run (Call.BeginNthField i) = begins_field (nat_lt i (child_count table s)) run i
-rule_at table s run (Call.Set given v) = writes (s == given) run v
+rule_at table s run (Call.BeginField name) = begins table s run (field_named name (def_of table s))
+rule_at table s run (Call.BeginNthField i) = begins table s run (Some i)
+rule_at table s run (Call.Set given v) = writes run (if s == given then Some v else None)
+rule_at table s run Call.SetDefault = writes run (preset_of table s)
 rule_at table s run Call.End =
     if is_root run.cursor then None else ends run (completes table run.notes s run.cursor)
 

@@ -3,8 +3,8 @@ use Rattle.std.specs.Prelude.{◌≡◌, ℕ, List, refl}
 use Rattle.std.specs.Coded.{Coded, code_by, coded×, coded_ℕ, coded_list}
 use mathlib.Core.Path.{ap, ◌∙◌}
 use Rattle.fr_shape.specs.Code.{val_code}
-use Rattle.fr_shape.specs.Val.{Val, Vals, unit, none, some, product, no_vals, first}
-use Rattle.fr_model.specs.Tree.{as_struct, Tree, hole, entered, whole, begun, Trees, no_trees, branch, State}
+use Rattle.fr_shape.specs.Val.{Val, Vals, unit, none, some, product, list_of, no_vals, first}
+use Rattle.fr_model.specs.Tree.{as_struct, as_array, Tree, hole, entered, whole, begun, Trees, no_trees, branch, State}
 
 abbrev mutual
   pub stored : Tree → Val
@@ -12,6 +12,7 @@ abbrev mutual
   stored entered = unit
   stored (whole v) = some v
   stored (begun as_struct ts) = product (all_stored ts)
+  stored (begun as_array ts) = list_of (all_stored ts)
 
   pub all_stored : Trees → Vals
   all_stored no_trees = no_vals
@@ -22,6 +23,7 @@ abbrev mutual
   restored none = hole
   restored (some v) = whole v
   restored (product vs) = begun as_struct (all_restored vs)
+  restored (list_of vs) = begun as_array (all_restored vs)
   restored _ = entered
 
   pub all_restored : Vals → Trees
@@ -34,6 +36,7 @@ abbrev mutual
   stored_comes_back entered = refl
   stored_comes_back (whole v) = refl
   stored_comes_back (begun as_struct ts) = ap (begun as_struct) (all_stored_come_back ts)
+  stored_comes_back (begun as_array ts) = ap (begun as_array) (all_stored_come_back ts)
 
   pub all_stored_come_back : (ts : Trees) → all_restored (all_stored ts) ≡ ts
   all_stored_come_back no_trees = refl

@@ -1,15 +1,18 @@
 -- What each command does to a builder's state, or which refusal it meets: one function for each command. The words
 -- here mean what they say at tables that are served; a contract that cites them asks for one.
-use Rattle.std.specs.Prelude.{ℕ, ◌==◌, [], ◌∷◌, ◌++◌, length, nat_lt, Option, Some, None, Result, Ok, Err, if◌then◌else◌}
+use Rattle.std.specs.Prelude.{ℕ, ◌==◌, [], ◌∷◌, ◌++◌, List, length, nat_lt, nat_le, Option, Some, None, Result, Ok, Err, if◌then◌else◌}
 use Rattle.fr_shape.specs.declared.shape.Def.{Def}
+use Rattle.fr_shape.specs.declared.shape.ScalarKind.{ScalarKind}
 use Rattle.fr_shape.specs.declared.error.ReflectErrorKind.{ReflectErrorKind}
 use Rattle.fr_shape.specs.declared.error.Operation.{Operation}
 use Rattle.fr_shape.specs.declared.error.Invariant.{Invariant}
+use Rattle.fr_shape.specs.Fills.{preset_of}
+use Rattle.fr_shape.specs.Hooks.{Meanings}
 use Rattle.fr_shape.specs.Look.{Table, def_of}
 use Rattle.fr_shape.specs.Val.{Val, product}
 use Rattle.fr_model.specs.Commands.{Call}
-use Rattle.fr_model.specs.Places.{is_root, up, child_count}
-use Rattle.fr_model.specs.Tree.{as_struct, Tree, hole, entered, whole, begun, wholes, holes, change_child, change_at, tree_at, shape_in, State, one_more_call}
+use Rattle.fr_model.specs.Places.{is_root, up, child_count, child_shape, field_named}
+use Rattle.fr_model.specs.Tree.{Form, form_of, Tree, hole, entered, whole, begun, wholes, holes, fresh, change_child, change_at, tree_at, shape_in, State, one_more_call}
 use Rattle.fr_model.specs.Complete.{complete, lack, missing_value}
 
 -- the new state, unless there is something to refuse
@@ -23,93 +26,159 @@ operation_failed s operation = ReflectErrorKind.OperationFailed (record { 0 = s 
 abbrev pub violates : Invariant → ReflectErrorKind
 violates invariant = ReflectErrorKind.InvariantViolation invariant
 
--- begin_nth_field is refused but at a struct with a field of that number
-abbrev pub field_refusal : Def → ℕ → Option Operation
-field_refusal (Def.Struct struct) i =
-    if nat_lt i (length struct.fields) then None else Some Operation.FieldIndexOutOfBounds
-field_refusal Def.Opaque i = Some Operation.FieldOfOpaque
-field_refusal _ i = Some Operation.FieldOfOther
-
 abbrev pub at_shape : ℕ → Option Operation → Option ReflectErrorKind
 at_shape s (Some operation) = Some (operation_failed s operation)
 at_shape s None = None
 
--- a place as its children see it: an entered struct has a hole for each, a whole struct is begun with whole children
-abbrev pub opened : ℕ → Tree → Tree
-opened count entered = begun as_struct (holes count)
-opened count (whole (product vs)) = begun as_struct (wholes vs)
-opened count t = t
+-- Entering a child
 
--- a child that is entered: a hole is now entered, anything else stays as it is
-abbrev pub enter : Tree → Tree
-enter hole = entered
-enter t = t
+-- the first of two, if any
+abbrev pub first_refused : Option Operation → Option Operation → Option Operation
+first_refused (Some operation) later = Some operation
+first_refused None later = later
 
-abbrev pub enter_child : ℕ → ℕ → Tree → Tree
-enter_child count i t = change_child i enter (opened count t)
+-- the elements of a whole array can't be entered
+abbrev pub element_refusal : Tree → Option Operation
+element_refusal (whole v) = Some Operation.ElementOfWholeArray
+element_refusal _ = None
+
+-- begin_nth_field is refused but at a struct with a field of that number, and at an array with such an element, of up to
+-- 4,096, that isn't whole. Of several refusals of an array the first in this order is given: there is no such element;
+-- the array is too large; it is whole.
+abbrev pub field_refusal : Def → Tree → ℕ → Option Operation
+field_refusal (Def.Struct struct) t i =
+    if nat_lt i (length struct.fields) then None else Some Operation.FieldIndexOutOfBounds
+field_refusal (Def.Enum enumeration) t i = Some Operation.FieldOfUnselectedVariant
+field_refusal (Def.Array item n) t i =
+    first_refused (if nat_lt i n then None else Some Operation.ArrayIndexOutOfBounds)
+    (first_refused (if nat_le n 4096 then None else Some Operation.ArrayTooLarge) (element_refusal t))
+field_refusal (Def.Slice item) t i = Some Operation.FieldOfSlice
+field_refusal Def.Opaque t i = Some Operation.FieldOfOpaque
+field_refusal _ t i = Some Operation.FieldOfOther
+
+-- begin_field is refused but at a struct
+abbrev pub named_refusal : Def → Option Operation
+named_refusal (Def.Struct struct) = None
+named_refusal (Def.Enum enumeration) = Some Operation.NamedFieldOfUnselectedVariant
+named_refusal Def.Undefined = Some Operation.NamedFieldOfUndefined
+named_refusal (Def.Scalar kind) = Some Operation.NamedFieldOfPrimitive
+named_refusal Def.Str = Some Operation.NamedFieldOfPrimitive
+named_refusal (Def.Array item n) = Some Operation.NamedFieldOfSequence
+named_refusal (Def.Slice item) = Some Operation.NamedFieldOfSequence
+named_refusal Def.Opaque = Some Operation.NamedFieldOfOpaque
+named_refusal (Def.Pointer pointer) = Some Operation.NamedFieldOfPointer
+named_refusal _ = Some Operation.FieldOfOther
+
+-- a place as its children see it: an entered one has a hole for each, a whole one is begun with whole children
+abbrev pub opened : Form → (count : ℕ) → Tree → Tree
+opened form count entered = begun form (holes count)
+opened form count (whole (product vs)) = begun form (wholes vs)
+opened form count t = t
+
+-- a child of this definition that is entered: a hole is now fresh, anything else stays as it is
+abbrev pub enter : Def → Tree → Tree
+enter def hole = fresh def
+enter def t = t
+
+-- the place of shape s with its child i entered
+abbrev pub enter_child : Table → ℕ → ℕ → Tree → Tree
+enter_child table s i t =
+    change_child i (enter (def_of table (child_shape table s i))) (opened (form_of (def_of table s)) (child_count table s) t)
+
+-- child i of the cursor's place is entered, and the cursor goes there
+abbrev pub enters : Table → ℕ → State → ℕ → State
+enters table s state i = record {
+  tree = change_at state.cursor (enter_child table s i) state.tree;
+  cursor = state.cursor ++ i ∷ [];
+  calls = one_more_call state.calls;
+}
 
 abbrev pub begin_nth_field : Table → ℕ → State → ℕ → Result State ReflectErrorKind
 begin_nth_field table s state i =
-    unless_refused (at_shape s (field_refusal (def_of table s) i))
-    (record {
-      tree = change_at state.cursor (enter_child (child_count table s) i) state.tree;
-      cursor = state.cursor ++ i ∷ [];
-      calls = one_more_call state.calls;
-    })
+    unless_refused (at_shape s (field_refusal (def_of table s) (tree_at state.cursor state.tree) i)) (enters table s state i)
 
--- set is refused but with a value of the place's own shape; the value takes the place of all that stood there
+abbrev pub enters_named : Table → ℕ → State → Option ℕ → Result State ReflectErrorKind
+enters_named table s state (Some i) = Ok (enters table s state i)
+enters_named table s state None = Err (ReflectErrorKind.FieldError (record { 0 = s }))
+
+abbrev pub begins_named : Table → ℕ → State → Option ReflectErrorKind → Option ℕ → Result State ReflectErrorKind
+begins_named table s state (Some kind) found = Err kind
+begins_named table s state None found = enters_named table s state found
+
+-- begin_field enters the first field that is declared under the name, and is refused where there is none
+abbrev pub begin_field : Table → ℕ → State → (name : List ℕ) → Result State ReflectErrorKind
+begin_field table s state name =
+    begins_named table s state (at_shape s (named_refusal (def_of table s))) (field_named name (def_of table s))
+
+-- Putting a value
+
+-- the value takes the place of all that stood at the cursor
+abbrev pub puts : State → Val → State
+puts state v = record {
+  tree = change_at state.cursor (λ old. whole v) state.tree;
+  cursor = state.cursor;
+  calls = one_more_call state.calls;
+}
+
+-- set is refused but with a value of the place's own shape
 abbrev pub set_refusal : ℕ → ℕ → Option ReflectErrorKind
 set_refusal s given =
     if s == given then None else Some (ReflectErrorKind.WrongShape (record { 0 = s }) (record { 0 = given }))
 
 abbrev pub set : ℕ → State → ℕ → Val → Result State ReflectErrorKind
-set s state given v =
-    unless_refused (set_refusal s given)
-    (record {
-      tree = change_at state.cursor (λ old. whole v) state.tree;
-      cursor = state.cursor;
-      calls = one_more_call state.calls;
-    })
+set s state given v = unless_refused (set_refusal s given) (puts state v)
+
+abbrev pub puts_default : ℕ → State → Option Val → Result State ReflectErrorKind
+puts_default s state (Some v) = Ok (puts state v)
+puts_default s state None = Err (operation_failed s Operation.NoDefault)
+
+-- set_default puts the default of the place's shape, and is refused where it has none
+abbrev pub set_default : Table → ℕ → State → Result State ReflectErrorKind
+set_default table s state = puts_default s state (preset_of table s)
+
+-- Ending
 
 abbrev pub or_missing : ℕ → Option ReflectErrorKind → ReflectErrorKind
 or_missing s (Some kind) = kind
 or_missing s None = missing_value s
 
 -- why a place of shape s doesn't complete
-abbrev pub cause : Table → ℕ → Tree → ReflectErrorKind
-cause table s t = or_missing s (lack table s t)
+abbrev pub cause : Meanings → Table → ℕ → Tree → ReflectErrorKind
+cause hooks table s t = or_missing s (lack hooks table s t)
 
-abbrev pub ended : Table → ℕ → State → Option Val → Result State ReflectErrorKind
-ended table s state (Some v) =
+abbrev pub ended : Meanings → Table → ℕ → State → Option Val → Result State ReflectErrorKind
+ended hooks table s state (Some v) =
     Ok (record {
       tree = change_at state.cursor (λ old. whole v) state.tree;
       cursor = up state.cursor;
       calls = one_more_call state.calls;
     })
-ended table s state None = Err (cause table s (tree_at state.cursor state.tree))
+ended hooks table s state None = Err (cause hooks table s (tree_at state.cursor state.tree))
 
 -- end: not at the root; the place is completed and becomes whole, and the cursor goes up
-abbrev pub end : Table → ℕ → State → Result State ReflectErrorKind
-end table s state =
+abbrev pub end : Meanings → Table → ℕ → State → Result State ReflectErrorKind
+end hooks table s state =
     if is_root state.cursor then Err (violates Invariant.EndAtRoot)
-    else ended table s state (complete (tree_at state.cursor state.tree))
+    else ended hooks table s state (complete hooks table s (tree_at state.cursor state.tree))
 
 -- a command at a place of shape s
-abbrev pub step_at : Table → ℕ → State → Call → Result State ReflectErrorKind
-step_at table s state (Call.BeginNthField i) = begin_nth_field table s state i
-step_at table s state (Call.Set given v) = set s state given v
-step_at table s state Call.End = end table s state
+abbrev pub step_at : Meanings → Table → ℕ → State → Call → Result State ReflectErrorKind
+step_at hooks table s state (Call.BeginField name) = begin_field table s state name
+step_at hooks table s state (Call.BeginNthField i) = begin_nth_field table s state i
+step_at hooks table s state (Call.Set given v) = set s state given v
+step_at hooks table s state Call.SetDefault = set_default table s state
+step_at hooks table s state Call.End = end hooks table s state
 
 -- a command at the cursor, the root having shape `root`
-abbrev pub step : Table → ℕ → State → Call → Result State ReflectErrorKind
-step table root state command = step_at table (shape_in table root state.cursor state.tree) state command
+abbrev pub step : Meanings → Table → ℕ → State → Call → Result State ReflectErrorKind
+step hooks table root state command = step_at hooks table (shape_in table root state.cursor state.tree) state command
 
-abbrev pub built : Table → ℕ → Tree → Option Val → Result Val ReflectErrorKind
-built table root t (Some v) = Ok v
-built table root t None = Err (cause table root t)
+abbrev pub built : Meanings → Table → ℕ → Tree → Option Val → Result Val ReflectErrorKind
+built hooks table root t (Some v) = Ok v
+built hooks table root t None = Err (cause hooks table root t)
 
--- build, the last step: the cursor is at the root, which is completed
-abbrev pub build : Table → ℕ → State → Result Val ReflectErrorKind
-build table root state =
-    if is_root state.cursor then built table root state.tree (complete state.tree)
+-- build, the last step: the cursor is at the root, which is completed. (No served shape has an invariant to be asked.)
+abbrev pub build : Meanings → Table → ℕ → State → Result Val ReflectErrorKind
+build hooks table root state =
+    if is_root state.cursor then built hooks table root state.tree (complete hooks table root state.tree)
     else Err (violates Invariant.BuildOpenFrames)

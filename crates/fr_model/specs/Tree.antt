@@ -1,13 +1,21 @@
 -- What is being built, as one tree, and the state of a builder.
-use Rattle.std.specs.Prelude.{ℕ, zero, suc, ◌+◌, min, [], ◌∷◌}
-use Rattle.fr_shape.specs.Val.{Val, Vals, no_vals, first}
+use Rattle.std.specs.Prelude.{ℕ, zero, suc, ◌+◌, min, [], ◌∷◌, if◌then◌else◌}
+use Rattle.fr_shape.specs.declared.shape.Def.{Def}
+use Rattle.fr_shape.specs.Val.{Val, Vals, product, no_vals, first}
 use Rattle.fr_shape.specs.Tokens.{occurs}
-use Rattle.fr_shape.specs.Look.{Table}
+use Rattle.fr_shape.specs.Fills.{is_empty_struct}
+use Rattle.fr_shape.specs.Look.{Table, def_of}
 use Rattle.fr_model.specs.Places.{Place, child_shape}
 
 -- as what a place is begun
 pub data Form : Type 0 where
   as_struct : Form
+  as_array : Form
+
+-- as what a place of this definition is begun by entering a child
+abbrev pub form_of : Def → Form
+form_of (Def.Array t n) = as_array
+form_of _ = as_struct
 
 -- A place: never entered; entered, with nothing put in; holding a value; or begun, with a tree for each child.
 mutual
@@ -54,6 +62,7 @@ change_at (i ∷ place) change t = change_child i (λ child. change_at place cha
 -- the shape of child i of a place of shape s that is begun so
 abbrev pub child_as : Table → ℕ → Form → ℕ → ℕ
 child_as table s as_struct i = child_shape table s i
+child_as table s as_array i = child_shape table s i
 
 abbrev pub shape_below : Table → ℕ → ℕ → Tree → ℕ
 shape_below table s i (begun form ts) = child_as table s form i
@@ -100,6 +109,11 @@ pub record State : Type 0 where
 abbrev pub one_more_call : ℕ → ℕ
 one_more_call calls = min (calls + 1) 4294967295
 
--- a builder of which nothing was asked yet
-abbrev pub initial : State
-initial = record { tree = entered; cursor = []; calls = 0 }
+-- A place of this definition that is just entered: a struct without fields is whole with the empty product, as there is
+-- nothing to put in; at any other nothing was put in yet.
+abbrev pub fresh : Def → Tree
+fresh def = if is_empty_struct def then whole (product no_vals) else entered
+
+-- a builder of which nothing was asked yet, for a root of shape s
+abbrev pub initial : Table → ℕ → State
+initial table s = record { tree = fresh (def_of table s); cursor = []; calls = 0 }

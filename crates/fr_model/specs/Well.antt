@@ -1,21 +1,25 @@
 -- The states that a builder can be in.
-use Rattle.std.specs.Prelude.{◌≡◌, ℕ, zero, suc, ◌≤◌, true, [], ◌∷◌, length}
+use Rattle.std.specs.Prelude.{◌≡◌, ℕ, zero, suc, ◌≤◌, true, false, [], ◌∷◌, length}
 use Rattle.fr_shape.specs.declared.shape.Def.{Def}
 use Rattle.fr_shape.specs.Look.{Table, def_of}
 use Rattle.fr_shape.specs.Fits.{fits}
+use Rattle.fr_shape.specs.Fills.{is_empty_struct}
 use Rattle.fr_model.specs.Places.{Place}
-use Rattle.fr_model.specs.Tree.{Form, as_struct, Tree, hole, entered, whole, begun, Trees, no_trees, branch, child_as, count_trees, tree_occurs, State}
+use Rattle.fr_model.specs.Tree.{Form, as_struct, as_array, Tree, hole, entered, whole, begun, Trees, no_trees, branch, child_as, count_trees, tree_occurs, State}
 
--- a place of this definition may be begun so, with that many children
+-- a place of this definition may be begun so, with that many children: a struct with one for each field, an array with
+-- one for each element
 abbrev pub IsBegunAs : Def → Form → ℕ → Type 0
 IsBegunAs (Def.Struct struct) as_struct count = count ≡ length struct.fields
-IsBegunAs _ as_struct count = ⊥
+IsBegunAs (Def.Array item n) as_array count = count ≡ n
+IsBegunAs _ form count = ⊥
 
--- Each node suits its shape: what is whole fits it, and what is begun has one child a field.
+-- Each node suits its shape: what is whole fits it, and what is begun has one child for each field or element. What is
+-- entered isn't a struct without fields, which is whole as soon as it is entered.
 abbrev mutual
   pub Suits : Table → ℕ → Tree → Type 0
   Suits table s hole = Unit {0}
-  Suits table s entered = Unit {0}
+  Suits table s entered = is_empty_struct (def_of table s) ≡ false
   Suits table s (whole v) = fits table s v ≡ true
   Suits table s (begun form ts) = IsBegunAs (def_of table s) form (count_trees ts) × SuitAll table s form 0 ts
 

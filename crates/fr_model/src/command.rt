@@ -1,11 +1,13 @@
 //! The commands of a script: one variant for each consuming call of the builder.
-use fr_shape::{Items, ShapeId, Value};
+use fr_shape::{Items, ShapeId, Text, Value};
 
 /// A call of the builder with its arguments.
 #[derive(Drop)]
 pub enum Command {
+    BeginField(Text),
     BeginNthField(u32),
     Set(ShapeId, Value),
+    SetDefault,
     End,
 }
 

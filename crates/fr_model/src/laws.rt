@@ -1,10 +1,10 @@
 //! Laws of the definitions: each is the contract of a function that does nothing.
 ghost use Rattle.fr_model.specs.Agree.{MachineAgrees};
 ghost use Rattle.fr_model.specs.Covering.{ScanAgrees, WaysAgree};
-ghost use Rattle.fr_model.specs.Laws.{CompletesOrLacks, CompletingKeepsTokens, StartIsWell, StepKeepsTokens, StepKeepsWell};
+ghost use Rattle.fr_model.specs.Laws.{CompletesOrLacks, CompletingFits, CompletingKeepsTokens, StartIsWell, StepKeepsTokens, StepKeepsWell};
 
-/// For every script of fitting values over a served table, the run of the commands answers `Ok` exactly where the
-/// journal completes, and with the journal's value.
+/// For every script of fitting values over a checked and served table, whatever the hooks mean, the run of the commands
+/// answers `Ok` exactly where the journal completes, and with the journal's value.
 pub fn law_agree()
     ensures { MachineAgrees }
 {}
@@ -15,9 +15,10 @@ pub fn law_covering()
     ensures ways { WaysAgree }
 {}
 
-/// A place completes unless it lacks something, and what completes keeps its tokens.
+/// A place completes unless it lacks something, and what completes fits its shape and keeps its tokens.
 pub fn law_completes()
     ensures or_lacks { CompletesOrLacks }
+    ensures fits { CompletingFits }
     ensures tokens { CompletingKeepsTokens }
 {}
 
