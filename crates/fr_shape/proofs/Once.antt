@@ -1,7 +1,6 @@
 -- Conserving keeps or releases each token that is held once.
-use Rattle.std.proofs.Common.{◌≡◌, ◌⊎◌, inl, inr, ℕ, zero, suc, ◌+◌, ◌<◌, ◌≤◌, List, get_or, refl, arith}
-use Rattle.fr_shape.specs.Released.{Conserved}
-use Rattle.fr_shape.specs.Once.{EachKeptOrReleased, ConservingKeepsOrReleases}
+use Rattle.std.proofs.Common.{◌≡◌, ◌⊎◌, inl, inr, ℕ, zero, suc, ◌+◌, ◌≤◌, get_or, refl, arith}
+use Rattle.fr_shape.specs.Once.{ConservingKeepsOrReleases}
 
 -- a token that was held once, by how often it is left
 kept_or_released : (count risen left : ℕ) → count + 1 ≡ risen + left → count ≤ risen → ((left ≡ 1) × (risen ≡ count)) ⊎ ((left ≡ 0) × (risen ≡ suc count))

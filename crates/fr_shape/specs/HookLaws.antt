@@ -1,5 +1,5 @@
 -- Laws of what hooks mean, for proofs.
-use Rattle.std.specs.Prelude.{◌≡◌, ℕ}
+use Rattle.std.specs.Prelude.{◌≡◌}
 use mathlib.Core.Path.{subst}
 use Rattle.fr_shape.specs.Val.{Val}
 use Rattle.fr_shape.specs.Hooks.{Meaning, gives, IfGives, IsLawful, no_hooks}

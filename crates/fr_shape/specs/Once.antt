@@ -1,5 +1,5 @@
 -- Tokens that are held at most once.
-use Rattle.std.specs.Prelude.{◌≡◌, ◌⊎◌, ℕ, suc, ◌≤◌, List, slice_index}
+use Rattle.std.specs.Prelude.{◌≡◌, ◌⊎◌, ℕ, suc, List, slice_index}
 use Rattle.fr_shape.specs.Released.{Conserved}
 
 -- A token that was held is left once and its count is as before, or it is not left and its count rose by one. A token
