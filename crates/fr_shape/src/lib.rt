@@ -9,6 +9,7 @@ mod error;
 mod fitting;
 mod hooks;
 mod items;
+mod laws;
 mod ledger;
 mod parts;
 mod releasing;
@@ -34,6 +35,7 @@ pub use error::{
 pub use fitting::fits;
 pub use hooks::{HookFault, Hooks, NoHooks};
 pub use items::{Items, NotPushed, OutOfMemory};
+pub use laws::{law_conserved, law_hooks, law_no_hooks};
 pub use ledger::Ledger;
 pub use releasing::release;
 pub use shape::{
