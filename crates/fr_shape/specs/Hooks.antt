@@ -39,25 +39,27 @@ IfGives (gives v) So = So v
 IfGives (refuses message) So = ⊤
 IfGives unsupported So = ⊤
 
--- fits the target, wherever the table is checked and the target in its range
+-- Each of these is asked wherever the table is checked and the target in its range.
+
+-- fits the target
 abbrev pub FitsTarget : Table → (target : ℕ) → Val → Type 0
 FitsTarget table target v = IsChecked table → IsIn table target → fits table target v ≡ true
 
 -- holds each token at most as often as the source does
-abbrev pub HoldsTokensOf : (source v : Val) → Type 0
-HoldsTokensOf source v = (t : ℕ) → occurs v t ≤ occurs source t
+abbrev pub HoldsTokensOf : (source : Val) → Table → (target : ℕ) → Val → Type 0
+HoldsTokensOf source table target v = IsChecked table → IsIn table target → (t : ℕ) → occurs v t ≤ occurs source t
 
-abbrev pub HoldsNoToken : Val → Type 0
-HoldsNoToken v = tokens v ≡ []
+abbrev pub HoldsNoToken : Table → (target : ℕ) → Val → Type 0
+HoldsNoToken table target v = IsChecked table → IsIn table target → tokens v ≡ []
 
 -- What is given fits its target. Conversions make up no token, and parses give none.
 pub record IsLawful (hooks : Meanings) : Type 0 where
   pub converted_fits : (table : Table) (hook target : ℕ) (source : Val) → IfGives (hooks.convert table hook target source) (FitsTarget table target)
-  pub converted_tokens : (table : Table) (hook target : ℕ) (source : Val) → IfGives (hooks.convert table hook target source) (HoldsTokensOf source)
+  pub converted_tokens : (table : Table) (hook target : ℕ) (source : Val) → IfGives (hooks.convert table hook target source) (HoldsTokensOf source table target)
   pub parsed_fits : (table : Table) (hook target : ℕ) (text : List ℕ) → IfGives (hooks.parse table hook target text) (FitsTarget table target)
-  pub parsed_tokens : (table : Table) (hook target : ℕ) (text : List ℕ) → IfGives (hooks.parse table hook target text) HoldsNoToken
+  pub parsed_tokens : (table : Table) (hook target : ℕ) (text : List ℕ) → IfGives (hooks.parse table hook target text) (HoldsNoToken table target)
   pub parsed_bytes_fits : (table : Table) (hook target : ℕ) (bytes : List ℕ) → IfGives (hooks.parse_bytes table hook target bytes) (FitsTarget table target)
-  pub parsed_bytes_tokens : (table : Table) (hook target : ℕ) (bytes : List ℕ) → IfGives (hooks.parse_bytes table hook target bytes) HoldsNoToken
+  pub parsed_bytes_tokens : (table : Table) (hook target : ℕ) (bytes : List ℕ) → IfGives (hooks.parse_bytes table hook target bytes) (HoldsNoToken table target)
 
 -- no hooks: every check passes, and nothing is converted or parsed
 abbrev pub no_hooks : Meanings
