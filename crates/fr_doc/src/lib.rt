@@ -4,10 +4,12 @@
 
 mod adapters;
 mod clean;
+mod def_form;
 mod device;
 mod dyn_form;
 mod dyn_json;
 mod fault;
+mod field_form;
 mod form_error;
 mod json_parts;
 mod laws;
