@@ -1,7 +1,6 @@
 -- What a hole takes when its struct or variant is completed. A rule says where the template comes from, or that there is
 -- none; the fill is the template itself.
-use Rattle.std.specs.Prelude.{ℕ, Bool, false, true, not, ◌&&◌, ◌||◌, List, [], ◌∷◌, slice_get, Option, Some, None, option_map, is_some, if◌then◌else◌}
-use Rattle.fr_shape.specs.declared.value.Value.{Value}
+use Rattle.std.specs.Prelude.{ℕ, Bool, false, true, not, ◌&&◌, ◌||◌, List, [], ◌∷◌, slice_get, Option, Some, None, is_some, if◌then◌else◌}
 use Rattle.fr_shape.specs.declared.shape.Shape.{Shape}
 use Rattle.fr_shape.specs.declared.shape.Def.{Def}
 use Rattle.fr_shape.specs.declared.shape.StructKind.{StructKind}
@@ -10,10 +9,9 @@ use Rattle.fr_shape.specs.declared.shape.FieldRef.{FieldRef}
 use Rattle.fr_shape.specs.declared.shape.DefaultSource.{DefaultSource}
 use Rattle.fr_shape.specs.Look.{Table, def_of}
 use Rattle.fr_shape.specs.Val.{Val}
-use Rattle.fr_shape.specs.View.{view}
 
 abbrev pub preset_in : Option Shape → Option Val
-preset_in (Some shape) = option_map view shape.preset
+preset_in (Some shape) = shape.preset
 preset_in None = None
 
 -- the default of a shape, if it has one: its preset
@@ -84,7 +82,7 @@ takes_shape_default table container of_variant field =
     || (has_default table container && not of_variant))
 
 abbrev pub strict_by_mark : Option DefaultSource → (takes_unmarked : Bool) → StrictRule
-strict_by_mark (Some (DefaultSource.Custom v)) takes_unmarked = defaultable (of_field (view v))
+strict_by_mark (Some (DefaultSource.Custom v)) takes_unmarked = defaultable (of_field v)
 strict_by_mark (Some DefaultSource.FromTrait) takes_unmarked = defaultable of_shape
 strict_by_mark None takes_unmarked = if takes_unmarked then defaultable of_shape else required
 
@@ -118,7 +116,7 @@ takes_deferred_default table container field =
     || is_unit (def_of table field.shape.0) || is_collection (def_of table field.shape.0))
 
 abbrev pub deferred_by_mark : Option DefaultSource → (shape_has_default takes_unmarked : Bool) → DeferredRule
-deferred_by_mark (Some (DefaultSource.Custom v)) shape_has_default takes_unmarked = filled (of_field (view v))
+deferred_by_mark (Some (DefaultSource.Custom v)) shape_has_default takes_unmarked = filled (of_field v)
 deferred_by_mark (Some DefaultSource.FromTrait) shape_has_default takes_unmarked =
     if shape_has_default then filled of_shape else marked_without_default
 deferred_by_mark None shape_has_default takes_unmarked = if takes_unmarked then filled of_shape else missing

@@ -19,6 +19,7 @@ mod settling;
 mod shape;
 mod shaped;
 mod table;
+mod template;
 #[cfg(test)]
 mod tests;
 mod text;
@@ -45,5 +46,6 @@ pub use shape::{
 };
 pub use shaped::Shaped;
 pub use table::ShapeTable;
+pub use template::Template;
 pub use text::Text;
 pub use value::{Dyn, Value};

@@ -50,7 +50,7 @@ fn bounds_a_bool(alloc: Global) -> Result<ShapeTable, OutOfMemory> {
 
 fn presets_too_large(alloc: Global) -> Result<ShapeTable, OutOfMemory> {
     let mut byte = scalar(alloc, "u8", ScalarKind::U8)?;
-    byte.preset = Some(Value::Nat(256));
+    byte.preset = Some(Template::new(Value::Nat(256)));
     table_of(alloc, byte)
 }
 
@@ -68,7 +68,7 @@ fn names_no_hook(alloc: Global) -> Result<ShapeTable, OutOfMemory> {
 
 fn presets_some(alloc: Global) -> Result<ShapeTable, OutOfMemory> {
     let mut perhaps = shape(alloc, "o", Def::Option(ShapeId(0)))?;
-    perhaps.preset = Some(Value::Some(Box::new(alloc, Value::Nat(1))?));
+    perhaps.preset = Some(Template::new(Value::Some(Box::new(alloc, Value::Nat(1))?)));
     table_of_two(alloc, scalar(alloc, "u8", ScalarKind::U8)?, perhaps)
 }
 
