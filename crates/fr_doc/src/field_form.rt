@@ -127,7 +127,13 @@ fn read_field(alloc: Global, json: &Json) -> Result<Field, FormError>
 }
 
 /// A field of which nothing else is said.
-fn make_field(alloc: Global, name: &str, shape: ShapeId, default: Option<DefaultSource>, skip: bool) -> Result<Field, FormError>
+fn make_field(
+    alloc: Global,
+    name: &str,
+    shape: ShapeId,
+    default: Option<DefaultSource>,
+    skip: bool,
+) -> Result<Field, FormError>
     ensures { Reads plain_field
         (Some (described_field name.now shape.0 (option_map plain_default default) skip)) result }
 {

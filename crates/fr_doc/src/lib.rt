@@ -21,6 +21,8 @@ mod pieces;
 mod read_error;
 mod schedule;
 mod shape_form;
+#[cfg(test)]
+mod shape_tests;
 mod tag;
 #[cfg(test)]
 mod tests;

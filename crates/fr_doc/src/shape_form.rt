@@ -77,7 +77,13 @@ fn read_def_at(alloc: Global, found: Option<&Json>) -> Result<Def, FormError>
 }
 
 /// A shape of which nothing else is said.
-fn make_shape(alloc: Global, name: &str, def: Def, preset: Option<Value>, default_attr: bool) -> Result<Shape, FormError>
+fn make_shape(
+    alloc: Global,
+    name: &str,
+    def: Def,
+    preset: Option<Value>,
+    default_attr: bool,
+) -> Result<Shape, FormError>
     ensures { Reads plain_shape
         (Some (described_shape name.now (plain_def def) (option_map plain_value preset) default_attr)) result }
 {
