@@ -4,10 +4,8 @@ use Rattle.std.specs.Prelude.{ℕ, Bool, false, List, [], ◌∷◌, Option, Som
 use Rattle.std.specs.Str.{bytes_eq}
 use Rattle.serde_json.specs.Data.{Data, string, array, object, no_members, member}
 use Rattle.serde_json.specs.Find.{get, as_bool, as_str, as_object}
-use Rattle.fr_shape.specs.declared.value.Value.{Value}
 use Rattle.fr_shape.specs.declared.shape.Field.{Field}
 use Rattle.fr_shape.specs.declared.shape.DefaultSource.{DefaultSource}
-use Rattle.fr_shape.specs.Code.{back}
 use Rattle.fr_shape.specs.Val.{Val}
 use Rattle.fr_doc.specs.Keys.{has_no_other}
 use Rattle.fr_doc.specs.Numerals.{whole_number}
@@ -25,18 +23,10 @@ unfoldable pub flag_form : Option Data → Option Bool
 flag_form None = Some false
 flag_form (Some d) = as_bool d
 
--- a template that is given: it shows this value
-abbrev pub template : Val → Option Value
-template v = Some (back v)
-
 -- a template, where one is given
-unfoldable pub template_form : Option Data → Option (Option Value)
+unfoldable pub template_form : Option Data → Option (Option Val)
 template_form None = Some None
-template_form (Some d) = option_map template (value_form d)
-
--- a default of the field's own, which shows this value
-abbrev pub custom : Val → DefaultSource
-custom v = DefaultSource.Custom (back v)
+template_form (Some d) = option_map Some (value_form d)
 
 -- the default that has a name: that of the field's shape
 unfoldable pub named_source : List ℕ → Option DefaultSource
@@ -44,7 +34,7 @@ named_source word = if bytes_eq word (codes "trait") then Some DefaultSource.Fro
 
 -- the default under a key
 unfoldable pub keyed_source : List ℕ → Data → Option DefaultSource
-keyed_source key inner = if bytes_eq key (codes "custom") then option_map custom (value_form inner) else None
+keyed_source key inner = if bytes_eq key (codes "custom") then option_map DefaultSource.Custom (value_form inner) else None
 
 -- a name, or an object of exactly one key
 unfoldable pub source_form : Data → Option DefaultSource

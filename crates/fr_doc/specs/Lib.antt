@@ -9,7 +9,6 @@ pub mod FloatFree
 pub mod Keys
 pub mod Memory
 pub mod Numerals
-pub mod PlainShapes
 pub mod Printed
 pub mod Reading
 pub mod ShapeForms

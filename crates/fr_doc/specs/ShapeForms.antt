@@ -3,7 +3,7 @@ use Rattle.std.specs.Prelude.{ℕ, Bool, false, List, [], ◌∷◌, Option, Som
 use Rattle.std.specs.Option.{ok_or}
 use Rattle.serde_json.specs.Data.{Data, array}
 use Rattle.serde_json.specs.Find.{get, as_str, as_object}
-use Rattle.fr_shape.specs.declared.value.Value.{Value}
+use Rattle.fr_shape.specs.Val.{Val}
 use Rattle.fr_shape.specs.declared.shape.Shape.{Shape}
 use Rattle.fr_shape.specs.declared.shape.Def.{Def}
 use Rattle.fr_doc.specs.declared.fault.DocFault.{DocFault}
@@ -15,7 +15,7 @@ use Rattle.fr_doc.specs.Keys.{has_no_other}
 use Rattle.fr_doc.specs.Steps.{◌>>=◌}
 
 -- a shape of which this is said, and nothing else
-abbrev pub described_shape : (name : List ℕ) (def : Def) (preset : Option Value) (default_attr : Bool) → Shape
+abbrev pub described_shape : (name : List ℕ) (def : Def) (preset : Option Val) (default_attr : Bool) → Shape
 described_shape name def preset default_attr = record {
   name = name;
   def = def;
@@ -53,7 +53,7 @@ shape_form d = do
 abbrev pub shape_at : ℕ → Data → Result Shape DocFault
 shape_at i d = ok_or (shape_form d) (DocFault.BadForm (DocPlace.Shape i))
 
--- a table: an array of shapes. Its templates are plain
+-- a table: an array of shapes
 unfoldable pub shapes_form : Data → Result (List Shape) DocFault
 shapes_form (array ds) = each_at shape_at 0 ds
 shapes_form _ = Err (DocFault.BadForm DocPlace.Shapes)

@@ -7,7 +7,7 @@ use Rattle.std.specs.Option.{ok_or}
 use Rattle.std.specs.Str.{bytes_eq}
 use Rattle.serde_json.specs.Data.{Data, null, boolean, number, string, array, object, Items, no_items, item, no_members, member}
 use Rattle.serde_json.specs.Find.{get, as_str, as_object}
-use Rattle.fr_shape.specs.declared.value.Value.{Value}
+use Rattle.fr_shape.specs.Val.{Val}
 use Rattle.fr_shape.specs.declared.shape.Shape.{Shape}
 use Rattle.fr_shape.specs.declared.shape.Def.{Def}
 use Rattle.fr_shape.specs.declared.shape.StructKind.{StructKind}
@@ -128,7 +128,7 @@ given_served : (found : Option Data) → Passes serves_def (given_def found)
 given_served None = tt
 given_served (Some inner) = def_served inner
 
-described_served : (name : List ℕ) (def : Def) (preset : Option Value) (default_attr : Bool) → serves_def def ≡ true → serves (described_shape name def preset default_attr) ≡ true
+described_served : (name : List ℕ) (def : Def) (preset : Option Val) (default_attr : Bool) → serves_def def ≡ true → serves (described_shape name def preset default_attr) ≡ true
 described_served name def preset default_attr served = rw served
 
 form_served : (d : Data) → Passes serves (shape_form d)

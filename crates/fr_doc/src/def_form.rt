@@ -2,7 +2,6 @@
 ghost use Rattle.std.specs.Prelude.{◌≡◌, option_map};
 ghost use Rattle.serde_json.specs.View.{view as data_of};
 ghost use Rattle.fr_doc.specs.DefForms.{scalar_named, named_def, unit_form, pair_form, array_form, keyed_def, def_form};
-ghost use Rattle.fr_doc.specs.PlainShapes.{plain_def};
 ghost use Rattle.fr_doc.specs.Reading.{Reads};
 
 use crate::field_form::read_fields;
@@ -15,7 +14,7 @@ use std::alloc::Global;
 /// A definition's name, or an object of exactly one key.
 #[tactic(auto, unfolding(crate::specs::DefForms::def_form))]
 pub fn read_def(alloc: Global, json: &Json) -> Result<Def, FormError>
-    ensures { Reads plain_def (def_form (data_of json.now)) result }
+    ensures { Reads (λ def. def) (def_form (data_of json.now)) result }
 {
     match json {
         Json::String(word) => read_named_def(word.as_str()),
@@ -33,7 +32,7 @@ pub fn read_def(alloc: Global, json: &Json) -> Result<Def, FormError>
 /// The definition that has a name of its own.
 #[tactic(auto, unfolding(crate::specs::DefForms::named_def))]
 fn read_named_def(word: &str) -> Result<Def, FormError>
-    ensures { Reads plain_def (named_def word.now) result }
+    ensures { Reads (λ def. def) (named_def word.now) result }
 {
     match word {
         "opaque" => Ok(Def::Opaque),
@@ -68,7 +67,7 @@ fn find_scalar(word: &str) -> Option<ScalarKind>
 
 #[tactic(auto, unfolding(crate::specs::DefForms::keyed_def))]
 fn read_keyed_def(alloc: Global, key: &str, inner: &Json) -> Result<Def, FormError>
-    ensures { Reads plain_def (keyed_def key.now (data_of inner.now)) result }
+    ensures { Reads (λ def. def) (keyed_def key.now (data_of inner.now)) result }
 {
     match key {
         "struct" => Ok(Def::Struct(StructDef {
@@ -94,7 +93,7 @@ fn read_keyed_def(alloc: Global, key: &str, inner: &Json) -> Result<Def, FormErr
 /// A unit. Its array of fields is empty.
 #[tactic(auto, unfolding(crate::specs::DefForms::unit_form))]
 fn read_unit(alloc: Global, json: &Json) -> Result<Def, FormError>
-    ensures { Reads plain_def (unit_form (data_of json.now)) result }
+    ensures { Reads (λ def. def) (unit_form (data_of json.now)) result }
 {
     let Json::Array(items) = json else {
         return Err(FormError::Broken);
@@ -111,7 +110,7 @@ fn read_unit(alloc: Global, json: &Json) -> Result<Def, FormError>
 /// The shape of an array's items, and how many there are.
 #[tactic(auto, unfolding(crate::specs::DefForms::array_form))]
 fn read_array(json: &Json) -> Result<Def, FormError>
-    ensures { Reads plain_def (array_form (data_of json.now)) result }
+    ensures { Reads (λ def. def) (array_form (data_of json.now)) result }
 {
     let Some((shape, count)) = pair_of(json) else {
         return Err(FormError::Broken);

@@ -2,14 +2,13 @@
 ghost use Rattle.std.specs.Prelude.{◌≡◌, Some, option_map};
 ghost use Rattle.serde_json.specs.View.{view as data_of};
 ghost use Rattle.fr_doc.specs.FieldForms.{flag_form, template_form, named_source, keyed_source, source_form, default_form, described_field, field_form, fields_form};
-ghost use Rattle.fr_doc.specs.PlainShapes.{plain_value, plain_default, plain_field, plain_fields};
 ghost use Rattle.fr_doc.specs.Reading.{Reads};
 
 use crate::form_error::FormError;
 use crate::members::has_only;
 use crate::numerals::count_of;
 use crate::value_form::read_value;
-use fr_shape::{DefaultSource, Field, Items, ShapeId, Text, Value};
+use fr_shape::{DefaultSource, Field, Items, ShapeId, Template, Text};
 use serde_json::Value as Json;
 use std::alloc::Global;
 
@@ -26,12 +25,12 @@ pub fn flag_of(found: Option<&Json>) -> Option<bool>
 
 /// A template, if one is given.
 #[tactic(auto, unfolding(crate::specs::FieldForms::template_form))]
-pub fn read_template(alloc: Global, found: Option<&Json>) -> Result<Option<Value>, FormError>
-    ensures { Reads (λ read. option_map plain_value read)
+pub fn read_template(alloc: Global, found: Option<&Json>) -> Result<Option<Template>, FormError>
+    ensures { Reads (λ template. template)
         (template_form (option_map (λ d. data_of d.now) found.entry)) result }
 {
     match found {
-        Some(json) => Ok(Some(read_value(alloc, json)?)),
+        Some(json) => Ok(Some(Template::new(read_value(alloc, json)?))),
         None => Ok(None),
     }
 }
@@ -39,7 +38,7 @@ pub fn read_template(alloc: Global, found: Option<&Json>) -> Result<Option<Value
 /// A default's name, or an object of exactly one key.
 #[tactic(auto, unfolding(crate::specs::FieldForms::source_form))]
 fn read_source(alloc: Global, json: &Json) -> Result<DefaultSource, FormError>
-    ensures { Reads plain_default (source_form (data_of json.now)) result }
+    ensures { Reads (λ source. source) (source_form (data_of json.now)) result }
 {
     match json {
         Json::String(word) => read_named_source(word.as_str()),
@@ -57,7 +56,7 @@ fn read_source(alloc: Global, json: &Json) -> Result<DefaultSource, FormError>
 /// The default of the field's shape.
 #[tactic(auto, unfolding(crate::specs::FieldForms::named_source))]
 fn read_named_source(word: &str) -> Result<DefaultSource, FormError>
-    ensures { Reads plain_default (named_source word.now) result }
+    ensures { Reads (λ source. source) (named_source word.now) result }
 {
     match word {
         "trait" => Ok(DefaultSource::FromTrait),
@@ -68,10 +67,10 @@ fn read_named_source(word: &str) -> Result<DefaultSource, FormError>
 /// A template of the field's own.
 #[tactic(auto, unfolding(crate::specs::FieldForms::keyed_source))]
 fn read_keyed_source(alloc: Global, key: &str, inner: &Json) -> Result<DefaultSource, FormError>
-    ensures { Reads plain_default (keyed_source key.now (data_of inner.now)) result }
+    ensures { Reads (λ source. source) (keyed_source key.now (data_of inner.now)) result }
 {
     match key {
-        "custom" => Ok(DefaultSource::Custom(read_value(alloc, inner)?)),
+        "custom" => Ok(DefaultSource::Custom(Template::new(read_value(alloc, inner)?))),
         _ => Err(FormError::Broken),
     }
 }
@@ -79,7 +78,7 @@ fn read_keyed_source(alloc: Global, key: &str, inner: &Json) -> Result<DefaultSo
 /// A default, if one is given.
 #[tactic(auto, unfolding(crate::specs::FieldForms::default_form))]
 fn read_default(alloc: Global, found: Option<&Json>) -> Result<Option<DefaultSource>, FormError>
-    ensures { Reads (λ read. option_map plain_default read)
+    ensures { Reads (λ default. default)
         (default_form (option_map (λ d. data_of d.now) found.entry)) result }
 {
     match found {
@@ -91,7 +90,7 @@ fn read_default(alloc: Global, found: Option<&Json>) -> Result<Option<DefaultSou
 /// An array of fields.
 #[tactic(auto, unfolding(crate::specs::FieldForms::fields_form))]
 pub fn read_fields(alloc: Global, json: &Json) -> Result<Items<Field>, FormError>
-    ensures { Reads plain_fields (fields_form (data_of json.now)) result }
+    ensures { Reads (λ fields. fields) (fields_form (data_of json.now)) result }
 {
     let Json::Array(items) = json else {
         return Err(FormError::Broken);
@@ -105,7 +104,7 @@ pub fn read_fields(alloc: Global, json: &Json) -> Result<Items<Field>, FormError
 
 #[tactic(auto, unfolding(crate::specs::FieldForms::field_form))]
 fn read_field(alloc: Global, json: &Json) -> Result<Field, FormError>
-    ensures { Reads plain_field (field_form (data_of json.now)) result }
+    ensures { Reads (λ field. field) (field_form (data_of json.now)) result }
 {
     let Json::Object(members) = json else {
         return Err(FormError::Broken);
@@ -134,8 +133,7 @@ fn make_field(
     default: Option<DefaultSource>,
     skip: bool,
 ) -> Result<Field, FormError>
-    ensures { Reads plain_field
-        (Some (described_field name.now shape.0 (option_map plain_default default) skip)) result }
+    ensures { Reads (λ field. field) (Some (described_field name.now shape.0 default skip)) result }
 {
     Ok(Field {
         name: Text::new(alloc, name)?,

@@ -2,8 +2,7 @@
 ghost use Rattle.std.specs.Prelude.{◌≡◌, Some, option_map};
 ghost use Rattle.serde_json.specs.View.{view as data_of};
 ghost use Rattle.fr_doc.specs.DefForms.{given_def};
-ghost use Rattle.fr_doc.specs.Faults.{GivesFor};
-ghost use Rattle.fr_doc.specs.PlainShapes.{plain_value, plain_def, plain_shape, plain_shapes};
+ghost use Rattle.fr_doc.specs.Faults.{Gives};
 ghost use Rattle.fr_doc.specs.Reading.{Reads};
 ghost use Rattle.fr_doc.specs.ShapeForms.{described_shape, shape_form, shape_at, shapes_form};
 
@@ -12,14 +11,14 @@ use crate::fault::{DocFault, DocPlace, ReadError};
 use crate::field_form::{flag_of, read_template};
 use crate::form_error::FormError;
 use crate::members::has_only;
-use fr_shape::{Def, Items, Shape, Text, Value};
+use fr_shape::{Def, Items, Shape, Template, Text};
 use serde_json::Value as Json;
 use std::alloc::Global;
 
 /// The shapes of a table, or the fault of the first place whose form is broken.
 #[tactic(auto, unfolding(crate::specs::ShapeForms::shapes_form))]
 pub fn shapes_of(alloc: Global, json: &Json) -> Result<Items<Shape>, ReadError>
-    ensures { GivesFor plain_shapes (shapes_form (data_of json.now)) result }
+    ensures { Gives (shapes_form (data_of json.now)) result }
 {
     let Json::Array(items) = json else {
         return Err(ReadError::Fault(DocFault::BadForm(DocPlace::Shapes)));
@@ -33,7 +32,7 @@ pub fn shapes_of(alloc: Global, json: &Json) -> Result<Items<Shape>, ReadError>
 
 /// The shape of this number in the table's array.
 fn read_shape_at(alloc: Global, i: usize, json: &Json) -> Result<Shape, ReadError>
-    ensures { GivesFor plain_shape (shape_at i (data_of json.now)) result }
+    ensures { Gives (shape_at i (data_of json.now)) result }
 {
     match read_shape(alloc, json) {
         Ok(shape) => Ok(shape),
@@ -47,7 +46,7 @@ fn read_shape_at(alloc: Global, i: usize, json: &Json) -> Result<Shape, ReadErro
 
 #[tactic(auto, unfolding(crate::specs::ShapeForms::shape_form))]
 fn read_shape(alloc: Global, json: &Json) -> Result<Shape, FormError>
-    ensures { Reads plain_shape (shape_form (data_of json.now)) result }
+    ensures { Reads (λ shape. shape) (shape_form (data_of json.now)) result }
 {
     let Json::Object(members) = json else {
         return Err(FormError::Broken);
@@ -68,7 +67,7 @@ fn read_shape(alloc: Global, json: &Json) -> Result<Shape, FormError>
 
 /// A definition, which has to be there.
 fn read_def_at(alloc: Global, found: Option<&Json>) -> Result<Def, FormError>
-    ensures { Reads plain_def (given_def (option_map (λ d. data_of d.now) found.entry)) result }
+    ensures { Reads (λ def. def) (given_def (option_map (λ d. data_of d.now) found.entry)) result }
 {
     match found {
         Some(json) => read_def(alloc, json),
@@ -81,11 +80,10 @@ fn make_shape(
     alloc: Global,
     name: &str,
     def: Def,
-    preset: Option<Value>,
+    preset: Option<Template>,
     default_attr: bool,
 ) -> Result<Shape, FormError>
-    ensures { Reads plain_shape
-        (Some (described_shape name.now (plain_def def) (option_map plain_value preset) default_attr)) result }
+    ensures { Reads (λ shape. shape) (Some (described_shape name.now def preset default_attr)) result }
 {
     Ok(Shape {
         name: Text::new(alloc, name)?,

@@ -116,7 +116,7 @@ fn told_field(alloc: Global, field: &Field) -> Result<String, Fail> {
     let default = match &field.default {
         None => format!(in alloc; "required")?,
         Some(DefaultSource::FromTrait) => format!(in alloc; "trait")?,
-        Some(DefaultSource::Custom(value)) => told_value(alloc, value)?,
+        Some(DefaultSource::Custom(template)) => told_value(alloc, template.value())?,
     };
     let skip = if field.skip { "skipped" } else { "taken" };
     Ok(format!(in alloc; "{} {} {}", field.shape.0, default.as_str(), skip)?)
@@ -170,7 +170,7 @@ fn fields_are_read(rt: HostRuntime) -> Result<(), Fail> {
 fn told_preset(alloc: Global, shape: &Shape) -> Result<String, Fail> {
     let preset = match &shape.preset {
         None => format!(in alloc; "none")?,
-        Some(value) => told_value(alloc, value)?,
+        Some(template) => told_value(alloc, template.value())?,
     };
     Ok(format!(in alloc; "{} {}", preset.as_str(), shape.default_attr)?)
 }

@@ -143,4 +143,4 @@ pub record IsPlain (table : Table) (root : ℕ) : Type 0 where
   pub sized : is_sized (def_of table root) ≡ true
   pub plannable : IsPlannable table root
   pub plain :
-    (id : ℕ) (shape : Shape) → Reached table root id → slice_get table id ≡ Some shape → is_plain_shape shape ≡ true
+      (id : ℕ) (shape : Shape) → Reached table root id → slice_get table id ≡ Some shape → is_plain_shape shape ≡ true
