@@ -7,13 +7,15 @@ ghost use Rattle.fr_path.specs.Order.{walk_order};
 
 /// A step that is taken back after a push is the step pushed, and the path is as before the push.
 pub fn law_pop_undoes_push()
-    ensures { (before after : List PathStep) (step last : PathStep) → before ++ step ∷ [] ≡ after ++ last ∷ [] → (after ≡ before) × (last ≡ step) }
+    ensures { (before after : List PathStep) (step last : PathStep)
+        → before ++ step ∷ [] ≡ after ++ last ∷ [] → (after ≡ before) × (last ≡ step) }
 {}
 
 /// The order in which paths are walked is total, and only equal paths stand at one place of it.
 pub fn law_walk_order()
     ensures swapped { (p q : List PathStep) → walk_order p q ≡ ordering_reverse (walk_order q p) }
-    ensures transitive { (p q r : List PathStep) → walk_order p q ≡ Less → walk_order q r ≡ Less → walk_order p r ≡ Less }
+    ensures transitive { (p q r : List PathStep)
+        → walk_order p q ≡ Less → walk_order q r ≡ Less → walk_order p r ≡ Less }
     ensures equal { (p q : List PathStep) → (walk_order p q ≡ Equal) ↔ (p ≡ q) }
 {}
 

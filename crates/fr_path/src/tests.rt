@@ -1,9 +1,15 @@
 //! The text of paths over one table of shapes, and the order of the walk. The helpers leave out what finds no
 //! memory, and the tests then fail.
-use crate::{Path, PathStep as Step};
+ghost use Rattle.std.specs.Prelude.{◌≤◌};
+
+use crate::Path;
+use crate::PathStep::{
+    self, Deref, Entry, Field, Index, Inner, MapKey, MapValue, OptionSome, Proxy, ResultErr,
+    ResultOk, SetItem,
+};
 use fr_shape::{
-    Def, EnumDef, EnumRepr, Field, HookId, Items, KnownPointer, PointerDef, ScalarKind, Shape,
-    ShapeId, ShapeTable, StructDef, StructKind, Text, VariantDef,
+    Def, EnumDef, EnumRepr, HookId, Items, KnownPointer, PointerDef, ScalarKind, Shape, ShapeId,
+    ShapeTable, StructDef, StructKind, Text, VariantDef,
 };
 use std::alloc::Global;
 use std::process::Abort;
@@ -39,11 +45,11 @@ fn add(
     });
 }
 
-fn add_field(fields: &mut Items<Field>, alloc: Global, name: &str, shape: u32) {
+fn add_field(fields: &mut Items<fr_shape::Field>, alloc: Global, name: &str, shape: u32) {
     let (Ok(name), Ok(rename)) = (Text::new(alloc, name), Text::new(alloc, "renamed")) else {
         return;
     };
-    let _ = fields.push(Field {
+    let _ = fields.push(fr_shape::Field {
         name,
         rename: Some(rename),
         alias: None,
@@ -58,7 +64,7 @@ fn add_field(fields: &mut Items<Field>, alloc: Global, name: &str, shape: u32) {
 }
 
 /// The fields `id`, a number, and `xs`, a list.
-fn fields(alloc: Global) -> Items<Field> {
+fn fields(alloc: Global) -> Items<fr_shape::Field> {
     let mut fields = Items::new(alloc);
     add_field(&mut fields, alloc, "id", 1);
     add_field(&mut fields, alloc, "xs", 2);
@@ -130,8 +136,8 @@ fn add_containers(shapes: &mut Items<Shape>, alloc: Global) {
     add_pointer(shapes, alloc, None, 11, true);
 }
 
-/// The shapes 15 to 18: an opaque shape with a builder beside what it wraps, a wrapper, an option that converts, and
-/// a wrapper that doesn't convert. The builder and all that is wrapped is the struct, but for the first's, a u8.
+/// The shapes 15 to 18: an opaque shape whose builder is the struct and that wraps a u8, and around the struct a
+/// wrapper that converts, an option that converts, and a wrapper that doesn't.
 fn add_conversions(shapes: &mut Items<Shape>, alloc: Global) {
     let (convert, to) = (Some(HookId(0)), Some(ShapeId(0)));
     add(shapes, alloc, Def::Opaque, convert, Some(ShapeId(1)), to);
@@ -148,7 +154,9 @@ fn table(alloc: Global) -> ShapeTable {
     ShapeTable::new(alloc, shapes)
 }
 
-fn path<const N: usize>(alloc: Global, steps: [Step; N]) -> Path {
+fn path<const N: usize>(alloc: Global, steps: [PathStep; N]) -> Path
+    requires { N ≤ 3 }
+{
     let mut path = Path::new(alloc);
     for step in steps {
         let _ = path.push(step);
@@ -156,10 +164,10 @@ fn path<const N: usize>(alloc: Global, steps: [Step; N]) -> Path {
     path
 }
 
-fn entry(alloc: Global, key: &str) -> Step {
+fn entry(alloc: Global, key: &str) -> PathStep {
     match Text::new(alloc, key) {
-        Ok(key) => Step::Entry(key),
-        Err(_) => Step::Proxy,
+        Ok(key) => Entry(key),
+        Err(_) => Proxy,
     }
 }
 
@@ -180,46 +188,30 @@ fn names_fields_while_shapes_are_known(rt: HostRuntime) {
         (0, path(alloc, []), ""),
         (
             0,
-            path(alloc, [Step::Field(1), Step::Index(2), Step::OptionSome]),
+            path(alloc, [Field(1), Index(2), OptionSome]),
             "xs[2]::some",
         ),
-        (
-            3,
-            path(alloc, [Step::OptionSome, Step::Field(1)]),
-            "::some.xs",
-        ),
-        (5, path(alloc, [Step::Index(3), Step::Field(0)]), "[3].id"),
-        (6, path(alloc, [Step::ResultOk, Step::Field(0)]), "::ok.id"),
+        (3, path(alloc, [OptionSome, Field(1)]), "::some.xs"),
+        (5, path(alloc, [Index(3), Field(0)]), "[3].id"),
+        (6, path(alloc, [ResultOk, Field(0)]), "::ok.id"),
         (
             6,
-            path(alloc, [Step::ResultErr, Step::OptionSome, Step::Field(0)]),
+            path(alloc, [ResultErr, OptionSome, Field(0)]),
             "::err::some.id",
         ),
+        (7, path(alloc, [MapKey(4), Field(1)]), "[key 4].xs"),
         (
             7,
-            path(alloc, [Step::MapKey(4), Step::Field(1)]),
-            "[key 4].xs",
-        ),
-        (
-            7,
-            path(alloc, [Step::MapValue(5), Step::OptionSome, Step::Field(1)]),
+            path(alloc, [MapValue(5), OptionSome, Field(1)]),
             "[value 5]::some.xs",
         ),
-        (8, path(alloc, [Step::SetItem, Step::Field(0)]), "[item].id"),
-        (9, path(alloc, [Step::Deref, Step::Field(1)]), "::deref.xs"),
-        (10, path(alloc, [Step::Index(7), Step::Field(1)]), "[7].xs"),
-        (
-            12,
-            path(alloc, [entry(alloc, "a b"), Step::Index(0)]),
-            "[a b][0]",
-        ),
-        (15, path(alloc, [Step::Inner, Step::Field(1)]), "::inner.xs"),
-        (16, path(alloc, [Step::Inner, Step::Field(1)]), "::inner.xs"),
-        (
-            17,
-            path(alloc, [Step::OptionSome, Step::Field(1)]),
-            "::some.xs",
-        ),
+        (8, path(alloc, [SetItem, Field(0)]), "[item].id"),
+        (9, path(alloc, [Deref, Field(1)]), "::deref.xs"),
+        (10, path(alloc, [Index(7), Field(1)]), "[7].xs"),
+        (12, path(alloc, [entry(alloc, "a b"), Index(0)]), "[a b][0]"),
+        (15, path(alloc, [Inner, Field(1)]), "::inner.xs"),
+        (16, path(alloc, [Inner, Field(1)]), "::inner.xs"),
+        (17, path(alloc, [OptionSome, Field(1)]), "::some.xs"),
     ] {
         check(&rt, alloc, &table, root, &path, want);
     }
@@ -232,26 +224,18 @@ fn numbers_fields_once_shapes_are_lost(rt: HostRuntime) {
     let table = table(alloc);
     assert_eq!(rt; table.len(), 19);
     for (root, path, want) in [
-        (4, path(alloc, [Step::Field(0), Step::Field(1)]), "0.1"),
-        (0, path(alloc, [Step::Field(2), Step::Field(1)]), "2.1"),
-        (
-            0,
-            path(alloc, [Step::Field(0), Step::Field(1), Step::Field(0)]),
-            "id.1.0",
-        ),
-        (0, path(alloc, [Step::Proxy, Step::Field(1)]), "::proxy.1"),
-        (0, path(alloc, [Step::Deref, Step::Field(1)]), "::deref.1"),
-        (5, path(alloc, [Step::SetItem, Step::Field(1)]), "[item].1"),
-        (9, path(alloc, [Step::Index(0), Step::Field(1)]), "[0].1"),
-        (
-            10,
-            path(alloc, [Step::Deref, Step::Index(0), Step::Field(1)]),
-            "::deref[0].1",
-        ),
-        (13, path(alloc, [Step::Deref, Step::Field(1)]), "::deref.1"),
-        (14, path(alloc, [Step::Index(0), Step::Field(1)]), "[0].1"),
-        (17, path(alloc, [Step::Inner, Step::Field(1)]), "::inner.1"),
-        (18, path(alloc, [Step::Inner, Step::Field(1)]), "::inner.1"),
+        (4, path(alloc, [Field(0), Field(1)]), "0.1"),
+        (0, path(alloc, [Field(2), Field(1)]), "2.1"),
+        (0, path(alloc, [Field(0), Field(1), Field(0)]), "id.1.0"),
+        (0, path(alloc, [Proxy, Field(1)]), "::proxy.1"),
+        (0, path(alloc, [Deref, Field(1)]), "::deref.1"),
+        (5, path(alloc, [SetItem, Field(1)]), "[item].1"),
+        (9, path(alloc, [Index(0), Field(1)]), "[0].1"),
+        (10, path(alloc, [Deref, Index(0), Field(1)]), "::deref[0].1"),
+        (13, path(alloc, [Deref, Field(1)]), "::deref.1"),
+        (14, path(alloc, [Index(0), Field(1)]), "[0].1"),
+        (17, path(alloc, [Inner, Field(1)]), "::inner.1"),
+        (18, path(alloc, [Inner, Field(1)]), "::inner.1"),
     ] {
         check(&rt, alloc, &table, root, &path, want);
     }
@@ -262,13 +246,13 @@ fn numbers_fields_once_shapes_are_lost(rt: HostRuntime) {
 fn walks_longer_paths_first(rt: HostRuntime) {
     let alloc = rt.alloc();
     let walk = [
-        path(alloc, [Step::Field(0), Step::Deref, Step::Deref]),
-        path(alloc, [Step::Field(0), Step::Field(9)]),
-        path(alloc, [Step::Field(1), Step::Field(0)]),
-        path(alloc, [Step::Field(9)]),
-        path(alloc, [Step::Index(0)]),
-        path(alloc, [Step::MapKey(9)]),
-        path(alloc, [Step::MapValue(0)]),
+        path(alloc, [Field(0), Deref, Deref]),
+        path(alloc, [Field(0), Field(9)]),
+        path(alloc, [Field(1), Field(0)]),
+        path(alloc, [Field(9)]),
+        path(alloc, [Index(0)]),
+        path(alloc, [MapKey(9)]),
+        path(alloc, [MapValue(0)]),
         path(alloc, [entry(alloc, "a")]),
         path(alloc, [entry(alloc, "ab")]),
         path(alloc, [entry(alloc, "b")]),
@@ -285,9 +269,9 @@ fn walks_longer_paths_first(rt: HostRuntime) {
 #[test]
 fn goes_there_and_back(rt: HostRuntime) {
     let mut path = Path::new(rt.alloc());
-    assert!(rt; path.push(Step::Inner).is_ok() && path.push(Step::MapKey(3)).is_ok());
-    assert!(rt; path.len() == 2 && !path.is_empty() && path.steps()[1] == Step::MapKey(3));
-    assert!(rt; matches!(path.pop(), Some(Step::MapKey(3))));
-    assert!(rt; matches!(path.pop(), Some(Step::Inner)));
+    assert!(rt; path.push(Inner).is_ok() && path.push(MapKey(3)).is_ok());
+    assert!(rt; path.len() == 2 && !path.is_empty() && path.steps()[1] == MapKey(3));
+    assert!(rt; matches!(path.pop(), Some(MapKey(3))));
+    assert!(rt; matches!(path.pop(), Some(Inner)));
     assert!(rt; path.pop().is_none() && path.is_empty());
 }
