@@ -6,6 +6,7 @@ ghost use Rattle.std.specs.Cmp.Lexicographic.{nat_list_eq_equiv};
 
 use crate::OutOfMemory;
 use std::alloc::Global;
+use std::default::MadeWith;
 use std::marker::Model;
 
 /// A text in UTF-8. Contracts see the list of its bytes.
@@ -49,6 +50,17 @@ impl Text {
         ensures { IsTrue result ↔ (self.now ≡ []) }
     {
         self.text.is_empty()
+    }
+}
+
+/// The empty text, which takes no memory.
+impl MadeWith<Global> for Text {
+    ghost is_made_with = { λ t. t ≡ [] };
+
+    fn made_with(alloc: Global) -> Text {
+        Text {
+            text: String::new(alloc),
+        }
     }
 }
 
