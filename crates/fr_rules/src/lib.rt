@@ -1,7 +1,11 @@
 //! What a plan takes from the descriptions of shapes: lookups of fields and variants by their names.
 #![tactic(auto)]
 
+mod buckets;
 mod entries;
+mod pools;
 mod prefixes;
 
+pub use buckets::PrefixBucket;
 pub use entries::FieldLookupEntry;
+pub use pools::LookupPool;
