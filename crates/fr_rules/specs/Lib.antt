@@ -1,3 +1,5 @@
+pub mod Buckets
 pub mod Entries
+pub mod FieldLookups
 pub mod Pools
 pub mod Prefixes

@@ -16,6 +16,10 @@ is_long entry = nat_le 8 (length entry.name)
 abbrev pub prefix_len_of : List FieldLookupEntry → ℕ
 prefix_len_of entries = if nat_lt (length entries / 2) (count_by is_long entries) then 8 else 4
 
+-- the prefix of an entry's name
+abbrev pub prefix_in : (prefix_len : ℕ) → FieldLookupEntry → ℕ
+prefix_in prefix_len entry = prefix_of prefix_len entry.name
+
 -- the entry's name has this prefix
 abbrev pub has_prefix : (prefix_len prefix : ℕ) → FieldLookupEntry → Bool
-has_prefix prefix_len prefix entry = prefix_of prefix_len entry.name == prefix
+has_prefix prefix_len prefix entry = prefix_in prefix_len entry == prefix

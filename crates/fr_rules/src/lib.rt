@@ -3,9 +3,11 @@
 
 mod buckets;
 mod entries;
+mod field_lookups;
 mod pools;
 mod prefixes;
 
 pub use buckets::PrefixBucket;
 pub use entries::FieldLookupEntry;
+pub use field_lookups::FieldLookup;
 pub use pools::LookupPool;
