@@ -1,1 +1,5 @@
+pub mod Bucketed
+pub mod Finding
+pub mod Growth
+pub mod Parts
 pub mod Sorting

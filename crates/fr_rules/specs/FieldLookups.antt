@@ -1,10 +1,10 @@
 -- What it is for a lookup to stand for a list of entries.
-use Rattle.std.specs.Prelude.{◌≡◌, ℕ, ◌+◌, ◌<◌, ◌≤◌, List, length, IsPermutation}
+use Rattle.std.specs.Prelude.{◌≡◌, ℕ, ◌+◌, ◌<◌, ◌≤◌, List, [], length, IsPermutation}
 use Rattle.std.specs.List.Sorted.{IsNonDecreasingBy}
 use Rattle.fr_arena.specs.Ranges.{Range}
 use Rattle.fr_rules.specs.declared.entries.FieldLookupEntry.{FieldLookupEntry}
 use Rattle.fr_rules.specs.declared.field_lookups.FieldLookup.{FieldLookup}
-use Rattle.fr_rules.specs.Pools.{Pool, part_of}
+use Rattle.fr_rules.specs.Pools.{Pool, HasGrown, part_of}
 use Rattle.fr_rules.specs.Prefixes.{prefix_in, prefix_len_of}
 use Rattle.fr_rules.specs.Buckets.{IsBucketed}
 
@@ -27,3 +27,19 @@ IsLookupOf pool (FieldLookup.PrefixBuckets prefix_len stored buckets) entries =
 -- the lookup is one of this pool: there are entries that it stands for
 abbrev pub IsOfPool : Pool → FieldLookup → Type 0
 IsOfPool pool lookup = (entries : List FieldLookupEntry) × IsLookupOf pool lookup entries
+
+-- the lookup holds its entries itself
+abbrev pub IsSmall : FieldLookup → Type 0
+IsSmall (FieldLookup.Small own) = Unit {0}
+IsSmall (FieldLookup.PrefixBuckets prefix_len stored buckets) = ⊥
+
+-- the entries that the lookup holds itself
+abbrev pub own_entries : FieldLookup → List FieldLookupEntry
+own_entries (FieldLookup.Small own) = own.items
+own_entries (FieldLookup.PrefixBuckets prefix_len stored buckets) = []
+
+-- a lookup stands for the same entries after its pool grew
+abbrev pub LookupsStay : Type 0
+LookupsStay =
+    (before after : Pool) (lookup : FieldLookup) (entries : List FieldLookupEntry) → HasGrown before after
+    → IsLookupOf before lookup entries → IsLookupOf after lookup entries

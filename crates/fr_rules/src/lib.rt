@@ -9,5 +9,5 @@ mod prefixes;
 
 pub use buckets::PrefixBucket;
 pub use entries::FieldLookupEntry;
-pub use field_lookups::FieldLookup;
+pub use field_lookups::{FieldLookup, build_field_lookup, law_lookups_stay};
 pub use pools::LookupPool;
