@@ -3,3 +3,4 @@ pub mod Finding
 pub mod Growth
 pub mod Parts
 pub mod Sorting
+pub mod Variants

@@ -3,3 +3,4 @@ pub mod Entries
 pub mod FieldLookups
 pub mod Pools
 pub mod Prefixes
+pub mod VariantLookups

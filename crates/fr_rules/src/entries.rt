@@ -6,25 +6,13 @@ ghost use Rattle.fr_rules.specs.Entries.{entries_of, first_named};
 use fr_shape::{Field, Items, OutOfMemory, Text};
 use smallvec::SmallVec;
 use std::alloc::Global;
-use std::default::MadeWith;
 
 /// A name by which a field is found. `index` is the number of the field.
-#[derive(Drop)]
+#[derive(Drop, Default)]
 pub struct FieldLookupEntry {
     pub name: Text,
     pub index: u32,
     pub is_alias: bool,
-}
-
-/// What stands in a free place of a short lookup.
-impl MadeWith<Global> for FieldLookupEntry {
-    fn made_with(alloc: Global) -> FieldLookupEntry {
-        FieldLookupEntry {
-            name: Text::made_with(alloc),
-            index: 0,
-            is_alias: false,
-        }
-    }
 }
 
 /// The entries of the fields, in order.
