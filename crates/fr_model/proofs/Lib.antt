@@ -8,4 +8,5 @@ pub mod Opening
 pub mod Rows
 pub mod Steps
 pub mod Structs
+pub mod Templates
 pub mod Tokens
