@@ -1,11 +1,13 @@
 pub mod Agreement
 pub mod Beneath
+pub mod Children
 pub mod Completing
 pub mod Covering
 pub mod Cursor
 pub mod Moves
 pub mod Opening
 pub mod Rows
+pub mod Serving
 pub mod Steps
 pub mod Structs
 pub mod Templates

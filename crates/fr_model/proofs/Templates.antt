@@ -33,7 +33,7 @@ each_passes test (y ∷ ys) zero x all at =
 each_passes test (y ∷ ys) (suc i) x all at =
     each_passes test ys i x (both_true (test y) (list_all test ys) all).1 at
 
-nil_is : {X : Type 0} (xs : List X) → is_nil xs ≡ true → xs ≡ []
+pub nil_is : {X : Type 0} (xs : List X) → is_nil xs ≡ true → xs ≡ []
 nil_is [] h = refl
 nil_is (x ∷ xs) h = cc
 
