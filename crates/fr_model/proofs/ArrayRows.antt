@@ -1,5 +1,5 @@
 -- Worked scripts over arrays, by the machine and by the journal.
-use Rattle.std.proofs.Common.{◌≡◌, ℕ, List, [], ◌∷◌, None, Some, Ok, codes, refl}
+use Rattle.std.proofs.Common.{◌≡◌, List, [], ◌∷◌, None, Some, Ok, codes, refl}
 use Rattle.fr_shape.specs.declared.shape.Def.{Def}
 use Rattle.fr_shape.specs.declared.shape.ScalarKind.{ScalarKind}
 use Rattle.fr_shape.specs.declared.error.Operation.{Operation}

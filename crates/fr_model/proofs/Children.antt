@@ -1,5 +1,5 @@
 -- Which children may be entered, by the machine and by the journal.
-use Rattle.std.proofs.Common.{◌≡◌, ℕ, zero, suc, ◌+◌, ◌<◌, ◌≤◌, le-ltb, lt-ltb, ltb-true, Bool, true, false, not, ◌&&◌, if◌then◌else◌, List, [], ◌∷◌, length, nat_lt, nat_le, Option, Some, None, refl, sym, ◌∙◌, ap, arith}
+use Rattle.std.proofs.Common.{◌≡◌, ℕ, suc, ◌+◌, ◌<◌, ◌≤◌, le-ltb, lt-ltb, ltb-true, Bool, true, false, ◌&&◌, if◌then◌else◌, List, [], ◌∷◌, length, nat_lt, nat_le, Option, Some, None, refl, ap, arith}
 use Rattle.std.specs.Str.{bytes_eq}
 use Rattle.fr_shape.specs.declared.shape.Def.{Def}
 use Rattle.fr_shape.specs.declared.shape.ShapeId.{ShapeId}
@@ -9,9 +9,9 @@ use Rattle.fr_shape.specs.declared.error.Operation.{Operation}
 use Rattle.fr_shape.specs.Look.{Table, def_of}
 use Rattle.fr_shape.specs.Val.{Val}
 use Rattle.fr_model.specs.Places.{count_children, first_declared, field_named}
-use Rattle.fr_model.specs.Journal.{Journal, Held, written, held, is_written, may_enter_elements, may_enter_children, may_enter}
+use Rattle.fr_model.specs.Journal.{Journal, Held, held, is_written, may_enter_children}
 use Rattle.fr_model.specs.Tree.{Tree, hole, entered, whole, begun}
-use Rattle.fr_model.specs.Step.{element_refusal, first_refused, field_refusal, named_refusal}
+use Rattle.fr_model.specs.Step.{field_refusal, named_refusal}
 use Rattle.fr_model.specs.Well.{AtCursor}
 use Rattle.fr_model.proofs.Agreement.{IsWhole, by_value, by_entry, Agrees}
 use Rattle.fr_model.proofs.Opening.{IsOpen, Enterable, a_field, an_element}

@@ -1,18 +1,17 @@
 -- What completes, what fits of it, and what it holds.
-use Rattle.std.proofs.Common.{◌≡◌, ℕ, zero, suc, ◌+◌, true, is_none, is_some, Option, Some, None, refl, sym, ◌∙◌, ap, length, arith}
+use Rattle.std.proofs.Common.{◌≡◌, ℕ, zero, suc, ◌+◌, true, is_none, is_some, Option, Some, None, refl, ◌∙◌, ap, arith}
 use Rattle.fr_shape.specs.declared.error.ReflectErrorKind.{ReflectErrorKind}
 use Rattle.fr_shape.specs.declared.shape.Def.{Def}
-use Rattle.fr_shape.specs.declared.shape.Field.{Field}
 use Rattle.fr_shape.specs.Checked.{IsChecked}
 use Rattle.fr_shape.specs.Fills.{preset_of}
 use Rattle.fr_shape.specs.Fits.{fits, count_vals}
 use Rattle.fr_shape.specs.Hooks.{Meanings}
-use Rattle.fr_shape.specs.Look.{Table, def_of, field_in}
-use Rattle.fr_shape.specs.Val.{Val, Vals, none, product, no_vals, first}
+use Rattle.fr_shape.specs.Look.{Table, def_of}
+use Rattle.fr_shape.specs.Val.{Val, Vals, none, no_vals, first}
 use Rattle.fr_shape.specs.Tokens.{occurs, vals_occur}
-use Rattle.fr_model.specs.Places.{count_children, child_count, one_more, product_of, each_child, fill_at}
+use Rattle.fr_model.specs.Places.{child_count, one_more, product_of, each_child, fill_at}
 use Rattle.fr_model.specs.Tree.{Form, as_struct, as_array, Tree, hole, entered, whole, begun, Trees, no_trees, branch, child_as, count_trees, tree_occurs, trees_occur}
-use Rattle.fr_model.specs.Complete.{complete, complete_all, first_of, unless_there, failing_field, failing_child, unless_failing, valid_child, hole_takes, missing_child, made_of_fills, or_else, made_by, lack_of_hole, lack_of_holes, lack_by, lack, lack_among, missing_value}
+use Rattle.fr_model.specs.Complete.{complete, complete_all, first_of, unless_there, failing_child, unless_failing, valid_child, hole_takes, missing_child, made_of_fills, made_by, lack_of_hole, lack_of_holes, lack_by, lack, lack_among, missing_value}
 use Rattle.fr_model.specs.Well.{IsBegunAs, Suits, SuitAll}
 use Rattle.fr_model.proofs.Structs.{OneMore, one_more_is, ProductOf, product_is, ChildrenFit, product_fits, settled_option}
 use Rattle.fr_model.proofs.Templates.{IsTemplate, template_holds, preset_template, fill_template}

@@ -1,5 +1,5 @@
 -- The place to which a cursor leads, and a tree that is changed there.
-use Rattle.std.proofs.Common.{◌≡◌, ℕ, zero, suc, ◌+◌, true, [], ◌∷◌, ◌++◌, append-nil, Some, refl, sym, subst, arith}
+use Rattle.std.proofs.Common.{◌≡◌, ℕ, zero, suc, true, [], ◌∷◌, ◌++◌, append-nil, Some, refl, sym, subst, arith}
 use Rattle.fr_shape.specs.Checked.{IsChecked}
 use Rattle.fr_shape.specs.Hooks.{Meanings}
 use Rattle.fr_shape.specs.Look.{Table, def_of}

@@ -1,5 +1,5 @@
 -- What an admitted command does, and what it keeps.
-use Rattle.std.proofs.Common.{◌≡◌, ℕ, zero, suc, ◌+◌, ◌<◌, ◌≤◌, ◌==◌, eqb-true, Bool, true, false, if◌then◌else◌, List, [], ◌∷◌, ◌++◌, Option, Some, None, Result, Ok, Err, refl, ◌∙◌, ap, subst, arith}
+use Rattle.std.proofs.Common.{◌≡◌, ℕ, zero, suc, ◌+◌, ◌≤◌, ◌==◌, eqb-true, Bool, true, false, if◌then◌else◌, List, Option, Some, None, Result, Ok, Err, refl, ◌∙◌, ap, subst, arith}
 use Rattle.fr_shape.specs.declared.error.ReflectErrorKind.{ReflectErrorKind}
 use Rattle.fr_shape.specs.declared.error.Invariant.{Invariant}
 use Rattle.fr_shape.specs.Checked.{IsChecked}
@@ -8,10 +8,10 @@ use Rattle.fr_shape.specs.Hooks.{Meanings}
 use Rattle.fr_shape.specs.Look.{Table, def_of}
 use Rattle.fr_shape.specs.Val.{Val}
 use Rattle.fr_model.specs.Commands.{Call}
-use Rattle.fr_model.specs.Places.{Place, is_root, up, field_named}
+use Rattle.fr_model.specs.Places.{Place, is_root, up}
 use Rattle.fr_model.specs.Tree.{whole, tree_at, change_at, shape_in, State, one_more_call, initial, tree_occurs}
 use Rattle.fr_model.specs.Complete.{complete}
-use Rattle.fr_model.specs.Step.{violates, enter_child, enters, puts, puts_default, ended, step}
+use Rattle.fr_model.specs.Step.{violates, enter_child, enters, puts_default, ended, step}
 use Rattle.fr_model.specs.Scripts.{IsFitting, brings}
 use Rattle.fr_model.specs.Removed.{removed, removed_by, replaced}
 use Rattle.fr_model.specs.Laws.{IsFresh}

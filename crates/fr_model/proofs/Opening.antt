@@ -8,8 +8,8 @@ use Rattle.fr_shape.specs.Fills.{has_no_field, is_empty_struct}
 use Rattle.fr_shape.specs.Look.{Table, def_of}
 use Rattle.fr_shape.specs.Val.{Val, Vals, unit, product, no_vals, first}
 use Rattle.fr_shape.specs.Fits.{fits, fields_fit}
-use Rattle.fr_model.specs.Places.{count_children, child_count, child_shape, vals_nth}
-use Rattle.fr_model.specs.Journal.{entered_at, Journal, Held, in_parts, written, just_entered, untouched, at_least_entered, held}
+use Rattle.fr_model.specs.Places.{child_count, vals_nth}
+use Rattle.fr_model.specs.Journal.{entered_at, Journal, Held, written, just_entered, untouched, at_least_entered, held}
 use Rattle.fr_model.specs.Tree.{Form, as_struct, as_array, form_of, Tree, hole, entered, whole, begun, Trees, no_trees, branch, tree_nth, change_nth, change_child, child_as, count_trees, holes, wholes, fresh}
 use Rattle.fr_model.specs.Step.{opened, enter, enter_child}
 use Rattle.fr_model.specs.Well.{IsBegunAs, Suits, SuitAll, IsDone, AllDone, AtCursor, DoneBut, Leads}

@@ -1,5 +1,5 @@
 -- A served table's fields have no validator, so that each value is valid.
-use Rattle.std.proofs.Common.{◌≡◌, ℕ, true, false, not, ◌&&◌, List, [], ◌∷◌, slice_get, Option, Some, None, refl, ap}
+use Rattle.std.proofs.Common.{◌≡◌, ℕ, true, [], slice_get, Option, Some, None, refl, ap}
 use Rattle.fr_shape.specs.declared.shape.Shape.{Shape}
 use Rattle.fr_shape.specs.declared.shape.Def.{Def}
 use Rattle.fr_shape.specs.declared.shape.StructDef.{StructDef}
@@ -7,9 +7,9 @@ use Rattle.fr_shape.specs.declared.shape.Field.{Field}
 use Rattle.fr_shape.specs.declared.error.ReflectErrorKind.{ReflectErrorKind}
 use Rattle.fr_shape.specs.Hooks.{Meanings}
 use Rattle.fr_shape.specs.Look.{Table, def_of, field_in}
-use Rattle.fr_shape.specs.Served.{is_absent, is_nil, serves_field, serves_def, serves, IsServed}
+use Rattle.fr_shape.specs.Served.{is_nil, serves_field, serves_def, serves, IsServed}
 use Rattle.fr_shape.specs.Val.{Val}
-use Rattle.fr_model.specs.Complete.{first_failing, failing_field, failing_child, unless_failing, valid_child}
+use Rattle.fr_model.specs.Complete.{first_failing, failing_field, unless_failing, valid_child}
 use Rattle.fr_model.specs.Tree.{Form, as_struct, as_array}
 use Rattle.fr_model.proofs.Templates.{both_true, nil_is, each_passes, IsStructAt, struct_at}
 

@@ -1,7 +1,6 @@
 -- One command does the same to the journal and to the tree, and so does a whole script.
-use Rattle.std.proofs.Common.{◌≡◌, ℕ, ◌+◌, ◌==◌, eqb-true, Bool, true, false, if◌then◌else◌, List, [], ◌∷◌, ◌++◌, Option, Some, None, Result, Ok, Err, refl, sym, ◌∙◌, ap, ap₂, subst, arith}
+use Rattle.std.proofs.Common.{◌≡◌, ℕ, ◌+◌, ◌==◌, eqb-true, Bool, true, false, if◌then◌else◌, List, [], ◌∷◌, ◌++◌, Option, Some, None, Result, Ok, Err, refl, sym, ◌∙◌, ap, subst, arith}
 use Rattle.std.specs.Result.{result_ok}
-use Rattle.fr_shape.specs.declared.shape.Def.{Def}
 use Rattle.fr_shape.specs.declared.error.ReflectErrorKind.{ReflectErrorKind}
 use Rattle.fr_shape.specs.declared.error.Operation.{Operation}
 use Rattle.fr_shape.specs.declared.error.Invariant.{Invariant}
@@ -15,12 +14,11 @@ use Rattle.fr_shape.specs.Val.{Val}
 use Rattle.fr_model.specs.Commands.{Call}
 use Rattle.fr_model.specs.Places.{Place, is_root, field_named, shape_at}
 use Rattle.fr_model.specs.Journal.{entered_at, wrote_at, Journal, Held, held, longest, completes, Progress, initial_progress, may_enter, enters_child, begins, writes, ends, rule, then_rules, rules, outcome}
-use Rattle.fr_model.specs.Tree.{Tree, whole, tree_at, change_at, shape_in, State, fresh, initial}
+use Rattle.fr_model.specs.Tree.{Tree, whole, tree_at, shape_in, State, fresh, initial}
 use Rattle.fr_model.specs.Complete.{complete}
 use Rattle.fr_model.specs.Step.{unless_refused, field_refusal, named_refusal, at_shape, enter_child, enters, begins_named, puts, set_refusal, puts_default, violates, ended, step, built}
 use Rattle.fr_model.specs.Run.{Refusal, numbered, and_then, run_from}
 use Rattle.fr_model.specs.Scripts.{IsFitting, AllFitting}
-use Rattle.fr_model.specs.Well.{AtCursor}
 use Rattle.fr_model.proofs.Beneath.{along, held_along}
 use Rattle.fr_model.proofs.Agreement.{by_value, Agrees, agree_along, completes_tree, completes_at, under_entered, under_wrote, follow}
 use Rattle.fr_model.proofs.Children.{SeesWhole, sees_whole, may_enter_by, ChildOf, enterable, ChildCase, a_child, no_child, child_case, NamedCase, a_named, no_such_name, no_names, named_case}

@@ -1,5 +1,5 @@
 -- What a checked table's presets and defaults give: values that fit and hold no token.
-use Rattle.std.proofs.Common.{◌≡◌, ℕ, Bool, true, false, ◌&&◌, if◌then◌else◌, List, [], ◌∷◌, slice_get, Option, Some, None, option_map, option_to_list, zero, suc, refl, sym, ◌∙◌, ap, arith}
+use Rattle.std.proofs.Common.{◌≡◌, ℕ, Bool, true, false, ◌&&◌, List, [], ◌∷◌, slice_get, Option, Some, None, option_map, option_to_list, zero, suc, refl, sym, ◌∙◌, ap}
 use Rattle.std.specs.List.{list_all}
 use Rattle.fr_shape.specs.declared.value.Value.{Value}
 use Rattle.fr_shape.specs.declared.shape.Shape.{Shape}
@@ -7,16 +7,16 @@ use Rattle.fr_shape.specs.declared.shape.Def.{Def}
 use Rattle.fr_shape.specs.declared.shape.StructDef.{StructDef}
 use Rattle.fr_shape.specs.declared.shape.Field.{Field}
 use Rattle.fr_shape.specs.declared.shape.DefaultSource.{DefaultSource}
-use Rattle.fr_shape.specs.Checked.{IsChecked, fields_of, is_template, default_is_template, holds_none, is_none_val}
-use Rattle.fr_shape.specs.Fills.{preset_in, preset_of, Template, of_field, of_shape, template_of, StrictRule, defaultable, required, strict_by_mark, takes_shape_default, by_strict_rule, strict_fill}
-use Rattle.fr_shape.specs.Look.{Table, def_or_other, def_of, settled}
+use Rattle.fr_shape.specs.Checked.{IsChecked, fields_of, is_template, default_is_template, is_none_val}
+use Rattle.fr_shape.specs.Fills.{preset_in, preset_of, strict_by_mark, takes_shape_default, by_strict_rule, strict_fill}
+use Rattle.fr_shape.specs.Look.{Table, def_or_other, def_of}
 use Rattle.fr_shape.specs.Served.{is_nil}
 use Rattle.fr_shape.specs.Val.{Val, none}
 use Rattle.fr_shape.specs.View.{view}
 use Rattle.fr_shape.specs.Fits.{fits}
 use Rattle.fr_shape.specs.Tokens.{tokens, times, occurs}
 use Rattle.fr_shape.specs.TokenLaws.{occurs_times}
-use Rattle.fr_model.specs.Places.{shape_of_child, child_shape, fill_of_field, fill_by, fill_at}
+use Rattle.fr_model.specs.Places.{child_shape, fill_of_field, fill_by, fill_at}
 
 -- lists and tests
 
