@@ -1,12 +1,15 @@
 pub mod Adapter
 pub mod Causes
+pub mod DefForms
 pub mod DynForms
 pub mod FaultSteps
 pub mod Faults
+pub mod FieldForms
 pub mod FloatFree
 pub mod Keys
 pub mod Memory
 pub mod Numerals
+pub mod PlainShapes
 pub mod Printed
 pub mod Reading
 pub mod ShapeForms

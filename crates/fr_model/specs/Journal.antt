@@ -122,7 +122,7 @@ abbrev pub is_written : Held → Bool
 is_written (written v) = true
 is_written _ = false
 
--- the elements of an array of this many may be entered: up to 4,096 of them, where the array isn't whole
+-- an array of this many elements may be entered: it has at most 4,096, and isn't whole
 abbrev pub may_enter_elements : ℕ → Held → Bool
 may_enter_elements n held = nat_le n 4096 && not (is_written held)
 

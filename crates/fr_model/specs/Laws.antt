@@ -21,8 +21,8 @@ CompletesOrLacks =
     (hooks : Meanings) (table : Table) (s : ℕ) (tree : Tree)
     → is_none (complete hooks table s tree) ≡ is_some (lack hooks table s tree)
 
--- The value that a place makes, over a checked table whose shapes are those of the tree, holds each token as often as
--- the place does: what a hole or an entered place takes brings none.
+-- The value that a place makes, over a checked table and where each node suits its shape, holds each token as often as the
+-- place does: what a hole or an entered place takes brings none.
 abbrev pub CompletingKeepsTokens : Type 0
 CompletingKeepsTokens =
     (hooks : Meanings) (table : Table) (s : ℕ) (tree : Tree) (v : Val) (t : ℕ) → IsChecked table → IsIn table s

@@ -68,7 +68,8 @@ named_refusal Def.Opaque = Some Operation.NamedFieldOfOpaque
 named_refusal (Def.Pointer pointer) = Some Operation.NamedFieldOfPointer
 named_refusal _ = Some Operation.FieldOfOther
 
--- a place as its children see it: an entered one has a hole for each, a whole one is begun with whole children
+-- a place as its children see it: an entered one has a hole for each, a whole one is begun with whole children, a begun
+-- one stays as it is
 abbrev pub opened : Form → (count : ℕ) → Tree → Tree
 opened form count entered = begun form (holes count)
 opened form count (whole (product vs)) = begun form (wholes vs)

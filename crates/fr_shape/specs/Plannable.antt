@@ -12,7 +12,7 @@ use Rattle.fr_shape.specs.Look.{Table, IsIn, def_of}
 use Rattle.fr_shape.specs.Checked.{IsChecked, fields_of, proxies_of, contents_of, pointees_of, is_sized, is_present}
 use Rattle.fr_shape.specs.Served.{is_absent, is_nil}
 
--- what a wrapper goes on to, where it converts from it
+-- what an opaque or undefined shape is converted from: its builder, where it has a conversion too
 abbrev pub built_from : Shape → List ShapeId
 built_from shape = if is_present shape.convert then option_to_list shape.builder else []
 
@@ -124,7 +124,6 @@ visit table (suc depth) begun id =
 abbrev pub first_refusal : Table → ℕ → Option AllocError
 first_refusal table root = (visit table (suc (length table)) [] root).refused
 
--- the shape has no proxy, conversion or invariant, isn't dynamic, and none of its fields has a proxy or a validator
 abbrev pub is_dynamic : Def → Bool
 is_dynamic Def.Dynamic = true
 is_dynamic _ = false
@@ -132,6 +131,7 @@ is_dynamic _ = false
 abbrev pub is_plain_field : Field → Bool
 is_plain_field field = is_nil (proxies_of field.proxy field.format_proxies) && is_nil field.validators
 
+-- the shape has no proxy, conversion or invariant, isn't dynamic, and none of its fields has a proxy or a validator
 abbrev pub is_plain_shape : Shape → Bool
 is_plain_shape shape =
     is_nil (proxies_of shape.proxy shape.format_proxies) && is_absent shape.convert && is_absent shape.invariant

@@ -8,7 +8,7 @@ ghost use Rattle.fr_shape.specs.Released.{Room, RoseBy, Conserved};
 ghost use Rattle.fr_shape.specs.Hooks.{Meanings, Answers, IsDistinct, IsLawful, no_hooks};
 ghost use Rattle.fr_shape.specs.HookLaws.{no_hooks_are_lawful};
 
-use crate::{HookId, Ledger, ShapeId, ShapeTable, Text, Value, release};
+use crate::{HookId, Ledger, OutOfMemory, ShapeId, ShapeTable, Text, Value, release};
 use std::alloc::Global;
 
 /// Why a hook gives no value.
@@ -17,6 +17,16 @@ pub enum HookFault {
     Refused(Text),
     Unsupported,
     OutOfMemory,
+}
+
+impl From<OutOfMemory> for HookFault {
+    ghost use Rattle.fr_shape.specs.declared.hooks.HookFault.{HookFault};
+
+    ghost from_gives = { λ _ fault. fault ≡ HookFault.OutOfMemory };
+
+    fn from(_none: OutOfMemory) -> HookFault {
+        HookFault::OutOfMemory
+    }
 }
 
 /// The hooks that a table names by number. Each call answers what `means` says of its arguments.
