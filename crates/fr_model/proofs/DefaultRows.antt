@@ -1,5 +1,5 @@
 -- Worked scripts over tables with presets and defaults, by the machine and by the journal.
-use Rattle.std.proofs.Common.{◌≡◌, ℕ, List, [], ◌∷◌, None, Some, Ok, Result, codes, refl, ap}
+use Rattle.std.proofs.Common.{◌≡◌, ℕ, List, [], ◌∷◌, None, Some, Ok, Result, codes, refl}
 use Rattle.fr_shape.specs.declared.shape.Shape.{Shape}
 use Rattle.fr_shape.specs.declared.shape.Def.{Def}
 use Rattle.fr_shape.specs.declared.shape.ScalarKind.{ScalarKind}
@@ -7,26 +7,24 @@ use Rattle.fr_shape.specs.declared.shape.Field.{Field}
 use Rattle.fr_shape.specs.declared.shape.DefaultSource.{DefaultSource}
 use Rattle.fr_shape.specs.declared.error.ReflectErrorKind.{ReflectErrorKind}
 use Rattle.fr_shape.specs.declared.error.Operation.{Operation}
-use Rattle.fr_shape.specs.Code.{back, comes_back}
 use Rattle.fr_shape.specs.Hooks.{no_hooks}
 use Rattle.fr_shape.specs.Look.{Table}
 use Rattle.fr_shape.specs.Served.{IsServed}
 use Rattle.fr_shape.specs.Val.{Val, nat, none, list_of, product, no_vals, first}
 use Rattle.fr_model.specs.Commands.{Call}
 use Rattle.fr_model.specs.Complete.{missing_field, missing_value}
-use Rattle.fr_model.specs.Step.{operation_failed, puts}
+use Rattle.fr_model.specs.Step.{operation_failed}
 use Rattle.fr_model.specs.Journal.{journal_run}
-use Rattle.fr_model.specs.Run.{Refusal, run_from, full_run}
-use Rattle.fr_model.specs.Tree.{initial}
+use Rattle.fr_model.specs.Run.{Refusal, full_run}
 use Rattle.fr_model.proofs.Rows.{number, shape, field, struct, pair_of, set, begin, end, refused}
 
 -- to write tables and values
 
 abbrev defaulted : Shape → Val → Shape
-defaulted s v = record s { preset = Some (back v) }
+defaulted s v = record s { preset = Some v }
 
 abbrev with_default : Field → Val → Field
-with_default f v = record f { default = Some (DefaultSource.Custom (back v)) }
+with_default f v = record f { default = Some (DefaultSource.Custom v) }
 
 abbrev u32 : Shape
 u32 = shape (codes "u32") (Def.Scalar ScalarKind.U32)
@@ -55,10 +53,10 @@ own_is_served : IsServed own
 own_is_served = refl
 
 machine_takes_own : full_run no_hooks own 1 [] ≡ Ok (one_of (nat 5))
-machine_takes_own = ap (λ (v : Val). built (one_of v)) (comes_back (nat 5))
+machine_takes_own = refl
 
 journal_takes_own : journal_run own 1 [] ≡ Some (one_of (nat 5))
-journal_takes_own = ap (λ (v : Val). Some (one_of v)) (comes_back (nat 5))
+journal_takes_own = refl
 
 -- a field that was entered takes nothing, neither its own default
 entered_takes_none : full_run no_hooks own 1 (begin 0 ∷ end ∷ []) ≡ refused 1 (missing_value 0)
@@ -80,24 +78,22 @@ point_is_served : IsServed point
 point_is_served = refl
 
 machine_takes_preset : full_run no_hooks point 1 [] ≡ Ok (pair_of (nat 1) (nat 2))
-machine_takes_preset = ap (λ (v : Val). built v) (comes_back (pair_of (nat 1) (nat 2)))
+machine_takes_preset = refl
 
 journal_takes_preset : journal_run point 1 [] ≡ Some (pair_of (nat 1) (nat 2))
-journal_takes_preset = ap (λ (v : Val). Some v) (comes_back (pair_of (nat 1) (nat 2)))
+journal_takes_preset = refl
 
 -- once it has parts the other field takes its shape's default, and not the struct's
 machine_takes_fields : full_run no_hooks point 1 (begin 0 ∷ set 0 (nat 9) ∷ end ∷ []) ≡ Ok (pair_of (nat 9) (nat 0))
-machine_takes_fields = ap (λ (v : Val). built (pair_of (nat 9) v)) (comes_back (nat 0))
+machine_takes_fields = refl
 
 journal_takes_fields : journal_run point 1 (begin 0 ∷ set 0 (nat 9) ∷ end ∷ []) ≡ Some (pair_of (nat 9) (nat 0))
-journal_takes_fields = ap (λ (v : Val). Some (pair_of (nat 9) v)) (comes_back (nat 0))
+journal_takes_fields = refl
 
 -- `set_default` makes it whole, and then a field is entered anew
 machine_sets_default : full_run no_hooks point 1 (set_default ∷ named (codes "y") ∷ set 0 (nat 9) ∷ end ∷ [])
     ≡ Ok (pair_of (nat 1) (nat 9))
-machine_sets_default =
-    ap (λ (v : Val). run_from no_hooks point 1 1 (puts (initial point 1) v) (named (codes "y") ∷ set 0 (nat 9) ∷ end ∷ []))
-    (comes_back (pair_of (nat 1) (nat 2)))
+machine_sets_default = refl
 
 -- a struct without a default doesn't give its fields their shapes' defaults
 no_default_in_bare : full_run no_hooks point 2 [] ≡ refused 0 (missing_field 2 0)
@@ -108,7 +104,7 @@ scalar_takes_none : full_run no_hooks point 2 (begin 0 ∷ end ∷ []) ≡ refus
 scalar_takes_none = refl
 
 scalar_set_default : full_run no_hooks point 0 (set_default ∷ []) ≡ Ok (nat 0)
-scalar_set_default = ap (λ (v : Val). built v) (comes_back (nat 0))
+scalar_set_default = refl
 
 no_default_to_set : full_run no_hooks own 0 (set_default ∷ []) ≡ refused 0 (operation_failed 0 Operation.NoDefault)
 no_default_to_set = refl
@@ -128,10 +124,10 @@ marked_is_served : IsServed marked
 marked_is_served = refl
 
 machine_fills_unit : full_run no_hooks marked 2 (begin 1 ∷ set 0 (nat 1) ∷ end ∷ []) ≡ Ok (pair_of unit_product (nat 1))
-machine_fills_unit = ap (λ (v : Val). built (pair_of v (nat 1))) (comes_back unit_product)
+machine_fills_unit = refl
 
 journal_fills_unit : journal_run marked 2 (begin 1 ∷ set 0 (nat 1) ∷ end ∷ []) ≡ Some (pair_of unit_product (nat 1))
-journal_fills_unit = ap (λ (v : Val). Some (pair_of v (nat 1))) (comes_back unit_product)
+journal_fills_unit = refl
 
 -- without a default it has to be entered, and is whole then
 unit_is_missing : full_run no_hooks marked 4 (begin 1 ∷ set 0 (nat 1) ∷ end ∷ []) ≡ refused 3 (missing_field 4 0)
@@ -165,7 +161,7 @@ abbrev list_alone : List Call
 list_alone = named (codes "l") ∷ set 1 (list_of no_vals) ∷ end ∷ []
 
 machine_fills_option : full_run no_hooks mixed 3 list_alone ≡ Ok (pair_of none (list_of no_vals))
-machine_fills_option = ap (λ (v : Val). built (pair_of v (list_of no_vals))) (comes_back none)
+machine_fills_option = refl
 
 -- an option that was entered ends with its default
 machine_ends_option : full_run no_hooks mixed 3 (begin 0 ∷ end ∷ list_alone) ≡ Ok (pair_of none (list_of no_vals))

@@ -1,7 +1,6 @@
 -- What a checked table's presets and defaults give: values that fit and hold no token.
-use Rattle.std.proofs.Common.{◌≡◌, ℕ, Bool, true, false, ◌&&◌, List, [], ◌∷◌, slice_get, Option, Some, None, option_map, option_to_list, zero, suc, refl, sym, ◌∙◌, ap}
+use Rattle.std.proofs.Common.{◌≡◌, ℕ, Bool, true, false, ◌&&◌, List, [], ◌∷◌, slice_get, Option, Some, None, option_to_list, zero, suc, refl, sym, ◌∙◌, ap}
 use Rattle.std.specs.List.{list_all}
-use Rattle.fr_shape.specs.declared.value.Value.{Value}
 use Rattle.fr_shape.specs.declared.shape.Shape.{Shape}
 use Rattle.fr_shape.specs.declared.shape.Def.{Def}
 use Rattle.fr_shape.specs.declared.shape.StructDef.{StructDef}
@@ -12,7 +11,6 @@ use Rattle.fr_shape.specs.Fills.{preset_in, preset_of, strict_by_mark, takes_sha
 use Rattle.fr_shape.specs.Look.{Table, def_or_other, def_of}
 use Rattle.fr_shape.specs.Served.{is_nil}
 use Rattle.fr_shape.specs.Val.{Val, none}
-use Rattle.fr_shape.specs.View.{view}
 use Rattle.fr_shape.specs.Fits.{fits}
 use Rattle.fr_shape.specs.Tokens.{tokens, times, occurs}
 use Rattle.fr_shape.specs.TokenLaws.{occurs_times}
@@ -46,42 +44,34 @@ pub record IsTemplate (table : Table) (s : ℕ) (v : Val) : Type 0 where
 pub template_holds : (table : Table) (s : ℕ) (v : Val) (t : ℕ) → IsTemplate table s v → occurs v t ≡ 0
 template_holds table s v t template = occurs_times v t ∙ ap (λ (ts : List ℕ). times ts t) template.no_tokens
 
-tested_template : (table : Table) (s : ℕ) (value : Value) (v : Val) → is_template table s value ≡ true → view value ≡ v
-    → IsTemplate table s v
-tested_template table s value v tested is =
-    let both : (fits table s (view value) ≡ true) × (is_nil (tokens (view value)) ≡ true)
-    = both_true (fits table s (view value)) (is_nil (tokens (view value))) tested in
-    record { fit = rw (← is) both.0; no_tokens = rw (← is) (nil_is (tokens (view value)) both.1) }
+tested_template : (table : Table) (s : ℕ) (v : Val) → is_template table s v ≡ true → IsTemplate table s v
+tested_template table s v tested =
+    let both : (fits table s v ≡ true) × (is_nil (tokens v) ≡ true)
+    = both_true (fits table s v) (is_nil (tokens v)) tested in
+    record { fit = both.0; no_tokens = nil_is (tokens v) both.1 }
 
 -- presets
 
 pub record HasPreset (table : Table) (s : ℕ) (v : Val) : Type 0 where
   pub shape : Shape
-  pub value : Value
   pub is : slice_get table s ≡ Some shape
-  pub preset : shape.preset ≡ Some value
-  pub shows : view value ≡ v
+  pub preset : shape.preset ≡ Some v
 
 pub has_preset : (table : Table) (s : ℕ) (v : Val) → preset_of table s ≡ Some v → HasPreset table s v
 has_preset table s v e = go (slice_get table s) refl e
   where
-    of_shape : (shape : Shape) (preset : Option Value) → slice_get table s ≡ Some shape → shape.preset ≡ preset
-        → option_map view preset ≡ Some v → HasPreset table s v
-    of_shape shape (Some value) is held e = record { shape = shape; value = value; is = is; preset = held; shows = cc }
-    of_shape shape None is held e = cc
-
     go : (found : Option Shape) → slice_get table s ≡ found → preset_in found ≡ Some v → HasPreset table s v
-    go (Some shape) is e = of_shape shape shape.preset is refl e
+    go (Some shape) is e = record { shape = shape; is = is; preset = e }
     go None is e = cc
 
 pub preset_template : (table : Table) (s : ℕ) (v : Val) → IsChecked table → preset_of table s ≡ Some v
     → IsTemplate table s v
 preset_template table s v checked e =
-    tested_template table s has.value v
-    (both_true (is_template table s has.value) true
+    tested_template table s v
+    (both_true (is_template table s v) true
     (rw has.preset at (both_true (list_all (is_template table s) (option_to_list has.shape.preset))
     (list_all (λ (field : Field). default_is_template table field.shape.0 field.default) (fields_of has.shape.def))
-    (checked.templates s has.shape has.is)).0)).0 has.shows
+    (checked.templates s has.shape has.is)).0)).0
   where
     has : HasPreset table s v
     has = has_preset table s v e
@@ -90,7 +80,7 @@ preset_template table s v checked e =
 pub option_preset : (table : Table) (s t : ℕ) (v : Val) → IsChecked table → def_of table s ≡ Def.Option (record { 0 = t })
     → preset_of table s ≡ Some v → v ≡ none
 option_preset table s t v checked is e =
-    is_none v (rw has.shows at (rw (has.preset, here) at (checked.options s has.shape has.is)))
+    is_none v (rw (has.preset, here) at (checked.options s has.shape has.is))
   where
     has : HasPreset table s v
     has = has_preset table s v e
@@ -118,11 +108,11 @@ struct_at table s struct e = go (slice_get table s) refl e
     go (Some shape) is e = record { shape = shape; is = is; def = e }
     go None is e = cc
 
-default_template : (table : Table) (s : ℕ) (struct : StructDef) (i : ℕ) (field : Field) (value : Value)
+default_template : (table : Table) (s : ℕ) (struct : StructDef) (i : ℕ) (field : Field) (v : Val)
     → IsChecked table → def_of table s ≡ Def.Struct struct → slice_get struct.fields i ≡ Some field
-    → field.default ≡ Some (DefaultSource.Custom value) → IsTemplate table field.shape.0 (view value)
-default_template table s struct i field value checked is at marked =
-    tested_template table field.shape.0 value (view value) (rw marked at each) refl
+    → field.default ≡ Some (DefaultSource.Custom v) → IsTemplate table field.shape.0 v
+default_template table s struct i field v checked is at marked =
+    tested_template table field.shape.0 v (rw marked at each)
   where
     here : IsStructAt table s struct
     here = struct_at table s struct is
@@ -143,7 +133,7 @@ field_template table s struct i field v checked is at e =
     go : (mark : Option DefaultSource) (unmarked : Bool) → field.default ≡ mark
         → by_strict_rule table field (strict_by_mark mark unmarked) ≡ Some v → IsTemplate table field.shape.0 v
     go (Some (DefaultSource.Custom value)) unmarked marked e =
-        let same : view value ≡ v = cc in
+        let same : value ≡ v = cc in
         rw (← same) (default_template table s struct i field value checked is at marked)
     go (Some DefaultSource.FromTrait) unmarked marked e = preset_template table field.shape.0 v checked e
     go None true marked e = preset_template table field.shape.0 v checked e
