@@ -12,8 +12,8 @@ use Rattle.fr_shape.specs.Tokens.{occurs, vals_occur}
 use Rattle.fr_model.specs.Places.{child_count, one_more, product_of, each_child, fill_at}
 use Rattle.fr_model.specs.Tree.{Form, as_struct, as_array, Tree, hole, entered, whole, begun, Trees, no_trees, branch, child_as, count_trees, tree_occurs, trees_occur}
 use Rattle.fr_model.specs.Complete.{complete, complete_all, first_of, unless_there, failing_child, unless_failing, valid_child, hole_takes, missing_child, made_of_fills, made_by, lack_of_hole, lack_of_holes, lack_by, lack, lack_among, missing_value}
-use Rattle.fr_model.specs.Well.{Suits, SuitAll}
-use Rattle.fr_model.proofs.Structs.{OneMore, one_more_is, ProductOf, product_is, ChildrenFit, IsFullAs, begun_full, product_fits, settled_option}
+use Rattle.fr_model.specs.Well.{IsFullAs, Suits, SuitAll}
+use Rattle.fr_model.proofs.Structs.{OneMore, one_more_is, ProductOf, product_is, ChildrenFit, begun_full, product_fits, settled_option}
 use Rattle.fr_model.proofs.Templates.{IsTemplate, template_holds, preset_template, fill_template}
 
 -- either a value or a lack

@@ -9,7 +9,7 @@ use Rattle.fr_shape.specs.Val.{Val, Vals, product, no_vals, first}
 use Rattle.fr_shape.specs.Fits.{fits, all_fit, fields_fit, count_vals}
 use Rattle.fr_model.specs.Places.{child_shape, one_more, product_of}
 use Rattle.fr_model.specs.Tree.{Form, as_struct, as_array, Tree, Trees, no_trees, branch, tree_nth, change_nth, child_as, count_trees, holes, wholes}
-use Rattle.fr_model.specs.Well.{IsBegunAs, Suits, SuitAll}
+use Rattle.fr_model.specs.Well.{IsFullAs, IsBegunAs, Suits, SuitAll}
 use Rattle.fr_model.proofs.Templates.{both_true}
 
 -- definitions that stand for themselves
@@ -100,12 +100,6 @@ elements_all_fit table s t n is i (first v vs) fit =
     let here : fits table t.0 v ≡ true = rw shape at fit.0 in
     let others : all_fit table t.0 vs ≡ true = elements_all_fit table s t n is (suc i) vs fit.1 in
     rw (here, others) refl
-
--- one child for each field or element, be there none or ever so many
-abbrev pub IsFullAs : Def → Form → ℕ → Type 0
-IsFullAs (Def.Struct struct) as_struct count = count ≡ length struct.fields
-IsFullAs (Def.Array t n) as_array count = count ≡ n
-IsFullAs _ form count = ⊥
 
 pub begun_full : (def : Def) (form : Form) (count : ℕ) → IsBegunAs def form count → IsFullAs def form count
 begun_full (Def.Struct struct) as_struct count begun_as = begun_as.0
