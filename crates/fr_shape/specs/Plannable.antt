@@ -1,5 +1,5 @@
 -- Which shapes a root reaches, whether all of them can be planned, and which refusal comes first where not.
-use Rattle.std.specs.Prelude.{◌≡◌, ◌≢◌, ℕ, zero, suc, Bool, true, false, not, ◌&&◌, ◌||◌, List, [], ◌∷◌, ◌++◌, map, length, nat_eq, slice_get, Option, Some, None, option_to_list, if◌then◌else◌}
+use Rattle.std.specs.Prelude.{◌≡◌, ℕ, zero, suc, Bool, true, false, not, ◌&&◌, ◌||◌, List, [], ◌∷◌, ◌++◌, map, length, nat_eq, slice_get, Option, Some, None, option_to_list, if◌then◌else◌}
 use Rattle.std.specs.List.{Contains, list_all, list_any, flat_map}
 use Rattle.fr_shape.specs.declared.shape.Shape.{Shape}
 use Rattle.fr_shape.specs.declared.shape.ShapeId.{ShapeId}
@@ -8,7 +8,7 @@ use Rattle.fr_shape.specs.declared.shape.Field.{Field}
 use Rattle.fr_shape.specs.declared.shape.ProxyDef.{ProxyDef}
 use Rattle.fr_shape.specs.declared.error.AllocError.{AllocError}
 use Rattle.fr_shape.specs.declared.error.PlanFault.{PlanFault}
-use Rattle.fr_shape.specs.Look.{Table, IsIn, def_of}
+use Rattle.fr_shape.specs.Look.{Table, def_of}
 use Rattle.fr_shape.specs.Checked.{IsChecked, fields_of, proxies_of, contents_of, pointees_of, is_sized, is_present}
 use Rattle.fr_shape.specs.Served.{is_absent, is_nil}
 
