@@ -1,13 +1,12 @@
 -- The first entry of a name is among the entries with the name's prefix.
-use Rattle.std.proofs.Common.{◌≡◌, ◌≢◌, ℕ, ◌+◌, ◌-◌, ◌<◌, ◌≤◌, Bool, true, false, cond, eqb, List, [], ◌∷◌, ◌++◌, length, get_or, take, drop, map, Option, Some, refl, sym, ap, ◌∙◌, subst, inl, inr, arith}
+use Rattle.std.proofs.Common.{◌≡◌, ◌≢◌, ℕ, ◌+◌, ◌<◌, ◌≤◌, Bool, true, false, cond, List, [], ◌∷◌, length, get_or, Some, refl, ap, ◌∙◌, inl, inr, arith}
 use Rattle.std.specs.List.{filter, find, All, Contains}
-use Rattle.std.specs.List.Sorted.{IsStrictlyIncreasing, IsNonDecreasingBy, IsSortedByKey, IsPartitionPoint}
+use Rattle.std.specs.List.Sorted.{IsNonDecreasingBy, IsSortedByKey, IsPartitionPoint}
 use Rattle.std.specs.Ordering.{nat_cmp, ordering_index, is_lt}
 use Rattle.std.specs.declared.cmp.Ordering.TheVariants.{Less, Equal, Greater}
 use Rattle.std.specs.Option.{option_map}
-use Rattle.std.specs.Str.{bytes_eq}
 use Rattle.std.specs.Cmp.Lexicographic.{bytes_decides}
-use Rattle.std.proofs.lemmas.Bool.{eq-eqb, ne_eqb, cases_lt, cases_eq}
+use Rattle.std.proofs.lemmas.Bool.{eq-eqb, ne_eqb, cases_lt}
 use Rattle.std.proofs.lemmas.Bool.Decides.{nat_tests}
 use Rattle.std.proofs.lemmas.Cmp.{nat_cmp_total}
 use Rattle.std.proofs.lemmas.List.{get_or-map, length-map}
@@ -17,7 +16,7 @@ use Rattle.fr_rules.specs.declared.entries.FieldLookupEntry.{FieldLookupEntry}
 use Rattle.fr_rules.specs.declared.buckets.PrefixBucket.{PrefixBucket}
 use Rattle.fr_rules.specs.Entries.{is_named, first_named}
 use Rattle.fr_rules.specs.Prefixes.{prefix_of, prefix_in, has_prefix}
-use Rattle.fr_rules.specs.Buckets.{run_of, prefixes_of, IsInside, IsBucketed}
+use Rattle.fr_rules.specs.Buckets.{run_of, prefixes_of, IsBucketed}
 use Rattle.fr_rules.proofs.Sorting.{keeps_none}
 
 module _ {X : Type 0} (test kept : X → Bool) (keeps : (x : X) → test x ≡ true → kept x ≡ true) where

@@ -10,7 +10,7 @@ use Rattle.fr_rules.specs.declared.buckets.PrefixBucket.{PrefixBucket}
 use Rattle.fr_rules.specs.Buckets.{IsBucketed}
 use Rattle.fr_rules.specs.Pools.{Pool, Continues, HasGrown, part_of}
 use Rattle.fr_rules.specs.Prefixes.{prefix_in, prefix_len_of}
-use Rattle.fr_rules.specs.FieldLookups.{IsLongLookupOf, IsLookupOf, LookupsStay}
+use Rattle.fr_rules.specs.FieldLookups.{IsLongLookupOf, LookupsStay}
 use Rattle.fr_rules.proofs.Parts.{part_of_front, part_behind}
 
 -- as many entries are stored as there are

@@ -78,7 +78,7 @@ impl FieldLookup {
         ensures { (entries : List FieldLookupEntry) → IsLookupOf pool.now self.now entries → result ≡ first_named name.now entries }
     {
         match self {
-            FieldLookup::Small(entries) => first_named(name, entries.as_slice()),
+            FieldLookup::Small(_) => self.find_small(name),
             FieldLookup::PrefixBuckets {
                 prefix_len,
                 entries,

@@ -1,4 +1,4 @@
-use Rattle.std.proofs.Common.{◌+◌, ◌∷◌, [], ◌++◌, sym, subst}
+use Rattle.std.proofs.Common.{◌+◌, sym, subst}
 use Rattle.fr_rules.proofs.Bucketed.{DescribesFront, describes_more}
 use Rattle.fr_rules.proofs.buckets.buckets_of.Goals as goal
 
