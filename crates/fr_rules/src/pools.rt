@@ -61,7 +61,8 @@ impl LookupPool {
         entries: Vec<FieldLookupEntry>,
     ) -> Result<SliceRange<FieldLookupEntry>, OutOfMemory>
         ensures added { IfOk result (λ range. self.new.entries ≡ self.old.entries ++ entries.items) }
-        ensures range { IfOk result (λ range. range ≡ indices_from (length self.old.entries) (length entries.items)) }
+        ensures range { IfOk result (λ range. range
+            ≡ indices_from (length self.old.entries) (length entries.items)) }
         ensures others { self.new.buckets ≡ self.old.buckets }
         ensures grown { HasGrown self.old self.new }
     {
@@ -79,7 +80,8 @@ impl LookupPool {
         buckets: Vec<PrefixBucket>,
     ) -> Result<SliceRange<PrefixBucket>, OutOfMemory>
         ensures added { IfOk result (λ range. self.new.buckets ≡ self.old.buckets ++ buckets.items) }
-        ensures range { IfOk result (λ range. range ≡ indices_from (length self.old.buckets) (length buckets.items)) }
+        ensures range { IfOk result (λ range. range
+            ≡ indices_from (length self.old.buckets) (length buckets.items)) }
         ensures others { self.new.entries ≡ self.old.entries }
         ensures grown { HasGrown self.old self.new }
     {
