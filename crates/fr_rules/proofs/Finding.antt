@@ -1,13 +1,12 @@
 -- The first entry of a name is among the entries with the name's prefix.
-use Rattle.std.proofs.Common.{◌≡◌, ◌≢◌, ℕ, ◌+◌, ◌-◌, ◌<◌, ◌≤◌, Bool, true, false, cond, eqb, List, [], ◌∷◌, ◌++◌, length, get_or, take, drop, map, Option, Some, refl, sym, ap, ◌∙◌, subst, inl, inr, arith}
+use Rattle.std.proofs.Common.{◌≡◌, ◌≢◌, ℕ, ◌+◌, ◌<◌, ◌≤◌, Bool, true, false, cond, List, [], ◌∷◌, length, get_or, Some, refl, ap, ◌∙◌, inl, inr, arith}
 use Rattle.std.specs.List.{filter, find, All, Contains}
-use Rattle.std.specs.List.Sorted.{IsStrictlyIncreasing, IsNonDecreasingBy, IsSortedByKey, IsPartitionPoint}
+use Rattle.std.specs.List.Sorted.{IsNonDecreasingBy, IsSortedByKey, IsPartitionPoint}
 use Rattle.std.specs.Ordering.{nat_cmp, ordering_index, is_lt}
 use Rattle.std.specs.declared.cmp.Ordering.TheVariants.{Less, Equal, Greater}
 use Rattle.std.specs.Option.{option_map}
-use Rattle.std.specs.Str.{bytes_eq}
 use Rattle.std.specs.Cmp.Lexicographic.{bytes_decides}
-use Rattle.std.proofs.lemmas.Bool.{eq-eqb, ne_eqb, cases_lt, cases_eq}
+use Rattle.std.proofs.lemmas.Bool.{eq-eqb, ne_eqb, cases_lt}
 use Rattle.std.proofs.lemmas.Bool.Decides.{nat_tests}
 use Rattle.std.proofs.lemmas.Cmp.{nat_cmp_total}
 use Rattle.std.proofs.lemmas.List.{get_or-map, length-map}
@@ -17,7 +16,7 @@ use Rattle.fr_rules.specs.declared.entries.FieldLookupEntry.{FieldLookupEntry}
 use Rattle.fr_rules.specs.declared.buckets.PrefixBucket.{PrefixBucket}
 use Rattle.fr_rules.specs.Entries.{is_named, first_named}
 use Rattle.fr_rules.specs.Prefixes.{prefix_of, prefix_in, has_prefix}
-use Rattle.fr_rules.specs.Buckets.{run_of, prefixes_of, IsInside, IsBucketed}
+use Rattle.fr_rules.specs.Buckets.{run_of, prefixes_of, IsBucketed}
 use Rattle.fr_rules.proofs.Sorting.{keeps_none}
 
 module _ {X : Type 0} (test kept : X → Bool) (keeps : (x : X) → test x ≡ true → kept x ≡ true) where
@@ -43,7 +42,7 @@ pub first_in_run : (prefix_len : ℕ) (name : List ℕ) (entries : List FieldLoo
 first_in_run prefix_len name entries =
     ap (option_map (λ (entry : FieldLookupEntry). entry.index))
     (find-filter (is_named name) (has_prefix prefix_len (prefix_of prefix_len name))
-     (λ entry same. eq-eqb _ _ (ap (prefix_of prefix_len) (named name entry same))) entries)
+    (λ entry same. eq-eqb _ _ (ap (prefix_of prefix_len) (named name entry same))) entries)
 
 tied : (x y : ℕ) → nat_cmp x y ≡ Equal → x ≡ y
 tied x y = grind (arith, nat_tests)
@@ -79,16 +78,16 @@ module _ (prefix_len prefix : ℕ) (entries stored : List FieldLookupEntry) (buc
   -- where a search finds no bucket, no entry has the prefix
   pub none_found : (place : ℕ)
       → (IsNonDecreasingBy (λ (bucket : PrefixBucket). ordering_index (nat_cmp bucket.prefix prefix)) buckets
-        → IsPartitionPoint (λ (bucket : PrefixBucket). nat_cmp bucket.prefix prefix ≡ Less) (λ (bucket : PrefixBucket). nat_cmp bucket.prefix prefix ≡ Greater) buckets place)
+      → IsPartitionPoint (λ (bucket : PrefixBucket). nat_cmp bucket.prefix prefix ≡ Less) (λ (bucket : PrefixBucket). nat_cmp bucket.prefix prefix ≡ Greater) buckets place)
       → filter (has_prefix prefix_len prefix) entries ≡ []
   none_found place search =
       let point = search (searchable_from_sorted nat_cmp_total prefix_in_bucket buckets prefix sorted) in
       let differ : All (λ (bucket : PrefixBucket). bucket.prefix ≢ prefix) buckets = λ i blank within.
-          elim (cases_lt i place) [
-            | inl before ↦ less _ _ (point.0 i blank (omega arith) before)
-            | inr after ↦ greater _ _ (point.1 i blank after within)
-          ] in
+      elim (cases_lt i place) [
+        | inl before ↦ less _ _ (point.0 i blank (omega arith) before)
+        | inr after ↦ greater _ _ (point.1 i blank after within)
+      ] in
       keeps_none (has_prefix prefix_len prefix) entries
       (All-weaker (λ entry. Contains (prefixes_of buckets) (prefix_in prefix_len entry)) (λ entry. has_prefix prefix_len prefix entry ≡ false)
-       (λ entry there. ne_eqb _ _ (All-contains (λ p. p ≢ prefix) (prefixes_of buckets) (prefix_in prefix_len entry) (All-map (λ p. p ≢ prefix) prefix_in_bucket buckets differ) there))
-       entries described.complete)
+      (λ entry there. ne_eqb _ _ (All-contains (λ p. p ≢ prefix) (prefixes_of buckets) (prefix_in prefix_len entry) (All-map (λ p. p ≢ prefix) prefix_in_bucket buckets differ) there))
+      entries described.complete)

@@ -1,9 +1,9 @@
 -- Parts of lists, and lists that have an element.
-use Rattle.std.proofs.Common.{◌≡◌, ℕ, ◌+◌, ◌-◌, ◌<◌, ◌≤◌, List, [], ◌∷◌, ◌++◌, length, get_or, take, drop, refl, sym, ap, ◌∙◌, inl, inr, arith}
+use Rattle.std.proofs.Common.{◌≡◌, ℕ, ◌+◌, ◌-◌, ◌<◌, ◌≤◌, List, [], ◌∷◌, ◌++◌, length, get_or, take, drop, sym, ap, ◌∙◌, inl, inr, arith}
 use Rattle.std.specs.List.{All, slice_range}
 use Rattle.std.specs.List.Sorted.{IsStrictlyIncreasing}
 use Rattle.std.proofs.lemmas.Bool.{cases_lt}
-use Rattle.std.proofs.lemmas.List.{drop-append-le, take-append-le, length-append, length-drop, length_push, get_or_append_left, get_or_push, drop_at, take_all, take-take, take-append-drop, drop-take}
+use Rattle.std.proofs.lemmas.List.{drop-append-le, take-append-le, length-drop, length_push, get_or_append_left, get_or_push, drop_at, take_all, take-take, take-append-drop, drop-take}
 use Rattle.std.proofs.lemmas.List.Elements.{All-head}
 
 module _ {X : Type 0} where

@@ -1,5 +1,5 @@
 -- The names by which the fields of a list are found.
-use Rattle.std.specs.Prelude.{ℕ, ◌+◌, Bool, true, false, List, [], ◌∷◌, ◌++◌, Option, Some, None, find, map}
+use Rattle.std.specs.Prelude.{ℕ, ◌+◌, Bool, true, false, List, [], ◌∷◌, ◌++◌, Option, find, map}
 use Rattle.std.specs.Option.{option_map, option_to_list}
 use Rattle.std.specs.Str.{bytes_eq}
 use Rattle.fr_shape.specs.declared.shape.Field.{Field}

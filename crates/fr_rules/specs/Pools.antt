@@ -1,5 +1,5 @@
 -- What contracts see of the pool that holds the entries and buckets of all long lookups.
-use Rattle.std.specs.Prelude.{◌≡◌, ℕ, ◌+◌, List, ◌++◌, refl, slice_range}
+use Rattle.std.specs.Prelude.{◌≡◌, ◌+◌, List, ◌++◌, refl, slice_range}
 use Rattle.std.specs.Coded.{Coded, code_by, coded×, coded_list}
 use Rattle.fr_arena.specs.Ranges.{Range}
 use Rattle.fr_rules.specs.declared.entries.FieldLookupEntry.{FieldLookupEntry}

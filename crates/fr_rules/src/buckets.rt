@@ -26,7 +26,8 @@ pub(crate) fn sort_by_prefix(
     ensures same { IsPermutation entries.old.items entries.new.items }
     ensures len { length entries.new.items ≡ length entries.old.items }
     ensures sorted { OnOk result (IsNonDecreasingBy (prefix_in prefix_len) entries.new.items) }
-    ensures stable { OnOk result ((prefix : ℕ) → filter (has_prefix prefix_len prefix) entries.new.items ≡ filter (has_prefix prefix_len prefix) entries.old.items) }
+    ensures stable { OnOk result ((prefix : ℕ) → filter (has_prefix prefix_len prefix) entries.new.items
+        ≡ filter (has_prefix prefix_len prefix) entries.old.items) }
 {
     entries.sort_by_key(|entry| prefix_of(prefix_len, entry.name.as_str()))?;
     Ok(())
@@ -41,12 +42,14 @@ fn bucket_from(prefix_len: usize, sorted: &[FieldLookupEntry], start: usize) -> 
     ensures start { result.start ≡ start }
     ensures some { 0 < result.len }
     ensures within { start + result.len ≤ length sorted.now }
-    ensures run { All (λ entry. prefix_in prefix_len entry ≡ result.prefix) (take result.len (drop start sorted.now)) }
-    ensures others { All (λ entry. result.prefix < prefix_in prefix_len entry) (drop (start + result.len) sorted.now) }
+    ensures run { All (λ entry. prefix_in prefix_len entry ≡ result.prefix)
+        (take result.len (drop start sorted.now)) }
+    ensures others { All (λ entry. result.prefix < prefix_in prefix_len entry)
+        (drop (start + result.len) sorted.now) }
 {
     let prefix = prefix_of(prefix_len, sorted[start].name.as_str());
-    let len = sorted[start..]
-        .partition_point(|entry| prefix_of(prefix_len, entry.name.as_str()) == prefix);
+    let left = &sorted[start..];
+    let len = left.partition_point(|entry| prefix_of(prefix_len, entry.name.as_str()) == prefix);
     PrefixBucket {
         prefix,
         start: start as u32,

@@ -1,6 +1,5 @@
 //! The names by which a field is found.
 ghost use Rattle.std.specs.Prelude.{◌≡◌, IfOk};
-ghost use Rattle.fr_shape.specs.Checked.{effective_name};
 ghost use Rattle.fr_rules.specs.Entries.{entries_of, first_named};
 
 use fr_shape::{Field, Items, OutOfMemory, Text};
@@ -46,7 +45,7 @@ pub(crate) fn entries_of(
     Ok(entries)
 }
 
-/// The index of the first entry of this name.
+/// The number of the field in the first entry of this name.
 pub(crate) fn first_named(name: &str, entries: &[FieldLookupEntry]) -> Option<usize>
     ensures { result ≡ first_named name.now entries.now }
 {

@@ -1,6 +1,5 @@
 //! Lookups of fields by their names.
-ghost use Rattle.std.specs.Prelude.{◌≡◌, ◌<◌, ◌≤◌, ◌==◌, ℕ, List, length, filter, All, IfOk};
-
+ghost use Rattle.std.specs.Prelude.{◌≡◌, ◌<◌, ◌==◌, ℕ, List, length, filter, All, IfOk};
 ghost use Rattle.fr_rules.specs.Entries.{entries_of, first_named};
 ghost use Rattle.fr_rules.specs.Pools.{Pool, HasGrown};
 ghost use Rattle.fr_rules.specs.Prefixes.{has_prefix};
@@ -29,7 +28,8 @@ pub enum FieldLookup {
 
 /// The lookup of these fields by their effective names and aliases.
 ///
-/// A refusal may leave entries in the pool that no lookup names.
+/// It is refused too where a field's number or the pool would outgrow 32 bits. A refusal may leave entries in the pool
+/// that no lookup names.
 pub fn build_field_lookup(
     alloc: Global,
     fields: &Items<Field>,
@@ -76,10 +76,11 @@ impl FieldLookup {
     /// The pool is that in which the lookup was built, also after it grew.
     pub fn find(&self, name: &str, pool: &LookupPool) -> Option<usize>
         requires { IsOfPool pool.now self.now }
-        ensures { (entries : List FieldLookupEntry) → IsLookupOf pool.now self.now entries → result ≡ first_named name.now entries }
+        ensures { (entries : List FieldLookupEntry) → IsLookupOf pool.now self.now entries
+            → result ≡ first_named name.now entries }
     {
         match self {
-            FieldLookup::Small(entries) => first_named(name, entries.as_slice()),
+            FieldLookup::Small(_) => self.find_small(name),
             FieldLookup::PrefixBuckets {
                 prefix_len,
                 entries,
@@ -106,7 +107,8 @@ impl FieldLookup {
 
     /// Whether there is no entry.
     pub fn is_empty(&self) -> bool
-        ensures { (pool : Pool) (entries : List FieldLookupEntry) → IsLookupOf pool self.now entries → result ≡ (length entries == 0) }
+        ensures { (pool : Pool) (entries : List FieldLookupEntry) → IsLookupOf pool self.now entries
+            → result ≡ (length entries == 0) }
     {
         match self {
             FieldLookup::Small(entries) => entries.is_empty(),
@@ -122,7 +124,9 @@ fn run_with<'a>(
     buckets: &[PrefixBucket],
 ) -> &'a [FieldLookupEntry]
     requires { All (IsInside stored.now) buckets.now }
-    ensures { (prefix_len : ℕ) (entries : List FieldLookupEntry) → IsBucketed prefix_len entries stored.now buckets.now → result.now ≡ filter (has_prefix prefix_len prefix) entries }
+    ensures { (prefix_len : ℕ) (entries : List FieldLookupEntry)
+        → IsBucketed prefix_len entries stored.now buckets.now
+        → result.now ≡ filter (has_prefix prefix_len prefix) entries }
 {
     match buckets.binary_search_by_key(&prefix, |bucket| bucket.prefix) {
         Ok(place) => {
@@ -137,5 +141,4 @@ fn run_with<'a>(
 /// A lookup stands for the same entries after its pool grew.
 pub fn law_lookups_stay()
     ensures { LookupsStay }
-{
-}
+{}

@@ -61,14 +61,17 @@ impl LookupPool {
         entries: Vec<FieldLookupEntry>,
     ) -> Result<SliceRange<FieldLookupEntry>, OutOfMemory>
         ensures added { IfOk result (λ range. self.new.entries ≡ self.old.entries ++ entries.items) }
-        ensures range { IfOk result (λ range. range ≡ indices_from (length self.old.entries) (length entries.items)) }
+        ensures range { IfOk result (λ range. range
+            ≡ indices_from (length self.old.entries) (length entries.items)) }
         ensures others { self.new.buckets ≡ self.old.buckets }
         ensures grown { HasGrown self.old self.new }
     {
         if entries.len() > u32::MAX as usize - self.entries.len() {
             return Err(OutOfMemory);
         }
-        self.entries.alloc_extend(entries).map_err(|_refused| OutOfMemory)
+        self.entries
+            .alloc_extend(entries)
+            .map_err(|_refused| OutOfMemory)
     }
 
     /// Puts the buckets behind the others.
@@ -77,13 +80,16 @@ impl LookupPool {
         buckets: Vec<PrefixBucket>,
     ) -> Result<SliceRange<PrefixBucket>, OutOfMemory>
         ensures added { IfOk result (λ range. self.new.buckets ≡ self.old.buckets ++ buckets.items) }
-        ensures range { IfOk result (λ range. range ≡ indices_from (length self.old.buckets) (length buckets.items)) }
+        ensures range { IfOk result (λ range. range
+            ≡ indices_from (length self.old.buckets) (length buckets.items)) }
         ensures others { self.new.entries ≡ self.old.entries }
         ensures grown { HasGrown self.old self.new }
     {
         if buckets.len() > u32::MAX as usize - self.buckets.len() {
             return Err(OutOfMemory);
         }
-        self.buckets.alloc_extend(buckets).map_err(|_refused| OutOfMemory)
+        self.buckets
+            .alloc_extend(buckets)
+            .map_err(|_refused| OutOfMemory)
     }
 }

@@ -1,5 +1,5 @@
 //! Lookups of variants by their names.
-ghost use Rattle.std.specs.Prelude.{◌≡◌, ◌<◌, List, length, map, IfOk, IsTrue, OnOk, IsPermutation, IsSortedByKey};
+ghost use Rattle.std.specs.Prelude.{◌≡◌, List, IfOk, OnOk, IsPermutation, IsSortedByKey};
 ghost use Rattle.std.specs.Ordering.{nat_cmp};
 ghost use Rattle.std.specs.Cmp.Lexicographic.{slice_cmp};
 ghost use Rattle.fr_shape.specs.declared.shape.VariantDef.{VariantDef as Variant};
@@ -54,7 +54,8 @@ fn variant_entries(
 /// Sorts entries by their names, byte by byte.
 fn sort_by_name(entries: &mut Vec<(Text, u32)>) -> Result<(), OutOfMemory>
     ensures same { IsPermutation entries.old.items entries.new.items }
-    ensures sorted { OnOk result (IsSortedByKey (λ (entry : VariantEntry). entry.0) (slice_cmp nat_cmp) entries.new.items) }
+    ensures sorted { OnOk result (IsSortedByKey (λ (entry : VariantEntry). entry.0) (slice_cmp nat_cmp)
+        entries.new.items) }
 {
     entries.sort_by(|a, b| a.0.as_str().cmp(b.0.as_str()))?;
     Ok(())
@@ -73,7 +74,8 @@ fn first_numbered(name: &str, entries: &[(Text, u32)]) -> Option<usize>
 impl VariantLookup {
     /// The number of the variant of this whole name, which isn't marked `other`.
     pub fn find(&self, name: &str) -> Option<usize>
-        ensures { (variants : List Variant) → IsVariantLookupOf self.now variants → result ≡ variant_named name.now variants }
+        ensures { (variants : List Variant) → IsVariantLookupOf self.now variants
+            → result ≡ variant_named name.now variants }
     {
         match self {
             VariantLookup::Small(entries) => first_numbered(name, entries.as_slice()),

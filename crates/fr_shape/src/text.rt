@@ -12,6 +12,7 @@ use std::marker::Model;
 /// A text in UTF-8. Contracts see the list of its bytes.
 #[derive(Drop)]
 pub struct Text {
+    // None for the empty text of `default`, which has no allocator.
     text: Option<String>,
 }
 

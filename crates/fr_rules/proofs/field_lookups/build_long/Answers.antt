@@ -1,4 +1,4 @@
-use Rattle.std.proofs.Common.{◌≡◌, length, sym, ap, ◌∙◌, subst, arith}
+use Rattle.std.proofs.Common.{ap, ◌∙◌, subst, arith}
 use Rattle.fr_rules.specs.Buckets.{IsBucketed}
 use Rattle.fr_rules.specs.Prefixes.{prefix_len_of}
 use Rattle.fr_rules.proofs.Bucketed.{bucketed_before}

@@ -1,5 +1,5 @@
 -- Zeros behind the bytes of a name don't change the number.
-use Rattle.std.proofs.Common.{◌≡◌, ℕ, zero, suc, ◌-◌, length, min, take, drop, replicate, slice_index, List, [], ◌∷◌, ◌++◌, refl, sym, ap, ◌∙◌, subst, arith}
+use Rattle.std.proofs.Common.{◌≡◌, ℕ, zero, suc, ◌-◌, length, min, take, drop, replicate, slice_index, List, [], ◌∷◌, ◌++◌, refl, ap, ◌∙◌, arith}
 use Rattle.std.specs.Int.{w64, from_le_bytes, sum_through, byte_worth}
 use Rattle.std.proofs.lemmas.List.{take_min, drop-replicate}
 use Rattle.fr_rules.specs.Prefixes.{prefix_of}
@@ -21,7 +21,7 @@ number_is : (name part : List ℕ) (prefix_len len : ℕ) → part ≡ take len 
 number_is name part prefix_len len copied short =
     let shorter : len ≡ min prefix_len (length name) = omega arith in
     let front : part ≡ take prefix_len name = copied ∙ ap (λ n. take n name) shorter ∙ take_min prefix_len name in
-    ap (λ zeros. from_le_bytes w64 (part ++ zeros)) (drop-replicate len 8 0)
+    ap (λ zeros. from_le_bytes w64 (part ++ zeros)) {y = replicate (8 - len) 0} (drop-replicate len 8 0)
     ∙ (λ t. sum_through (λ i. byte_worth i (zeros_behind (8 - len) part i t)) 7)
     ∙ ap (from_le_bytes w64) front
 
@@ -30,5 +30,5 @@ unfolding prefix_of
 returns c =
     c.from_le_bytes.ensures
     ∙ number_is c.as_bytes-name.result.now c.copy_from_slice.new.self c.args.prefix_len c.min-len.result
-      c.copy_from_slice.ensures.after c.min-len.ensures
+    c.copy_from_slice.ensures.after c.min-len.ensures
     ∙ ap (λ name. from_le_bytes w64 (take c.args.prefix_len name)) c.as_bytes-name.ensures.value

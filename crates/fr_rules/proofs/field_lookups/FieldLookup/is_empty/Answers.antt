@@ -1,8 +1,5 @@
-use Rattle.std.proofs.Common.{◌≡◌, ◌+◌, ◌-◌, length, drop, eqb, sym, ap, ◌∙◌, subst, arith}
-use Rattle.std.proofs.lemmas.List.{length-take, length-drop}
-use Rattle.fr_rules.specs.declared.entries.FieldLookupEntry.{FieldLookupEntry}
-use Rattle.fr_rules.specs.declared.field_lookups.FieldLookup.{FieldLookup}
-use Rattle.fr_rules.specs.FieldLookups.{IsLongLookupOf, IsLookupOf}
+use Rattle.std.proofs.Common.{eqb, ap, ◌∙◌, subst}
+use Rattle.fr_rules.specs.FieldLookups.{IsLookupOf}
 use Rattle.fr_rules.proofs.Growth.{stored_all}
 use Rattle.fr_rules.proofs.field_lookups.FieldLookup.is_empty.Goals as goal
 
