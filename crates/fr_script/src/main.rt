@@ -14,7 +14,6 @@ mod marking;
 mod parts;
 mod released;
 mod report;
-mod rules;
 mod running;
 mod serving;
 mod sizes;
