@@ -1,5 +1,5 @@
 //! Hooks: what a user brings for checks, conversions and parsing.
-ghost use Rattle.std.specs.Prelude.{◌≡◌, IfOk, OnErr};
+ghost use Rattle.std.specs.Prelude.{◌≡◌, true, Err, IfOk, OnErr};
 ghost use Rattle.fr_shape.specs.View.{view};
 ghost use Rattle.fr_shape.specs.Look.{IsIn};
 ghost use Rattle.fr_shape.specs.Checked.{IsChecked};
@@ -95,7 +95,9 @@ impl Hooks for NoHooks {
 
     ghost lawful = { λ hooks. no_hooks_are_lawful };
 
-    fn check(&self, _h: HookId, _value: &Value) -> bool {
+    fn check(&self, _h: HookId, _value: &Value) -> bool
+        ensures { result ≡ true }
+    {
         true
     }
 
@@ -107,7 +109,11 @@ impl Hooks for NoHooks {
         _target: ShapeId,
         value: Value,
         ledger: &mut Ledger,
-    ) -> Result<Value, HookFault> {
+    ) -> Result<Value, HookFault>
+        requires room { Room (occurs (view value)) ledger.old }
+        ensures unsupported { result ≡ Err HookFault.Unsupported }
+        ensures released { RoseBy (occurs (view value)) ledger.old ledger.new }
+    {
         release(value, ledger);
         Err(HookFault::Unsupported)
     }
@@ -119,7 +125,9 @@ impl Hooks for NoHooks {
         _h: HookId,
         _target: ShapeId,
         _text: &str,
-    ) -> Result<Value, HookFault> {
+    ) -> Result<Value, HookFault>
+        ensures { result ≡ Err HookFault.Unsupported }
+    {
         Err(HookFault::Unsupported)
     }
 
@@ -130,7 +138,9 @@ impl Hooks for NoHooks {
         _h: HookId,
         _target: ShapeId,
         _bytes: &[u8],
-    ) -> Result<Value, HookFault> {
+    ) -> Result<Value, HookFault>
+        ensures { result ≡ Err HookFault.Unsupported }
+    {
         Err(HookFault::Unsupported)
     }
 }
