@@ -1,15 +1,12 @@
 -- A builder as its open places give it: the shape at which it works, what it holds, and its state after a change of
 -- the last place.
-use Rattle.std.proofs.Common.{◌≡◌, ℕ, ◌+◌, true, false, List, Ok, Err, nat_eq, refl, sym, ◌∙◌, ap, subst, arith}
-use Rattle.std.proofs.lemmas.Bool.{eq-eqb, ne_eqb}
+use Rattle.std.proofs.Common.{◌≡◌, ℕ, ◌+◌, List, refl, sym, ◌∙◌, ap, subst, arith}
 use Rattle.fr_shape.specs.Look.{Table}
 use Rattle.fr_shape.specs.Val.{Val}
 use Rattle.fr_shape.specs.Released.{Room}
 use Rattle.fr_shape.specs.TokenLaws.{Room_same, Room_fewer}
-use Rattle.fr_shape.specs.declared.shape.ShapeId.{ShapeId}
-use Rattle.fr_shape.specs.declared.error.ReflectErrorKind.{ReflectErrorKind}
 use Rattle.fr_model.specs.Tree.{Tree, whole, tree_at, change_at, tree_occurs, State, one_more_call}
-use Rattle.fr_model.specs.Step.{set}
+use Rattle.fr_model.specs.Step.{puts}
 use Rattle.fr_partial.specs.declared.frame.Piece.{Piece}
 use Rattle.fr_partial.specs.declared.frame.Frame.{Frame}
 use Rattle.fr_partial.specs.declared.frame.Parent.{Parent}
@@ -71,21 +68,8 @@ module _ (table : Table) (root : ℕ) (parents : List Parent) (frame : Frame) (c
   pub counted : (next : ℕ) → next ≡ one_more_call calls → one_more_call builder.state.calls ≡ next
   counted next e = ap (λ (b : Builder). one_more_call b.state.calls) (sym is) ∙ sym e
 
-  -- set_shape
-
-  pub set_admitted : (given : ℕ) (v : Val) (next : ℕ) → given ≡ frame.shape.0 → next ≡ one_more_call calls
-      → set (here builder) builder.state given v
-      ≡ Ok (record { tree = rebuild parents (whole v); cursor = opens parents; calls = next })
-  set_admitted given v next same count =
-      let test : nat_eq (here builder) given ≡ true = eq-eqb (here builder) given (here_of ∙ sym same) in
-      rw (test, changed_to (whole v) (λ old. whole v) refl, cursor_is, counted next count) refl
-
-  pub set_refused : (shape given : ShapeId) → frame.shape ≡ shape → ¬ (given.0 ≡ frame.shape.0) → (v : Val)
-      → set (here builder) builder.state given.0 v ≡ Err (ReflectErrorKind.WrongShape shape given)
-  set_refused shape given e different v =
-      let test : nat_eq (here builder) given.0 ≡ false
-      = ne_eqb (here builder) given.0 (λ h. different (sym h ∙ here_of)) in
-      rw test (ap (λ (expected : ShapeId). Err (ReflectErrorKind.WrongShape expected given)) (here_is ∙ e))
-    where
-      here_is : ◌≡◌ {A = ShapeId} (record { 0 = here builder }) frame.shape
-      here_is = ap (λ (n : ℕ). record { 0 = n }) here_of
+  -- a value in the stead of what stood at the place
+  pub puts_is : (v : Val) (next : ℕ) → next ≡ one_more_call calls
+      → record { tree = rebuild parents (whole v); cursor = opens parents; calls = next } ≡ puts builder.state v
+  puts_is v next count =
+      rw (changed_to (whole v) (λ old. whole v) refl, cursor_is, counted next count) refl

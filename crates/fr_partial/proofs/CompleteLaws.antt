@@ -1,321 +1,364 @@
--- Completing a place of a stack.
-use Rattle.std.proofs.Common.{◌≡◌, ℕ, suc, ◌+◌, ◌<◌, ◌^◌, Bool, true, false, ◌&&◌, List, [], ◌∷◌, length, Option, Some, None, slice_get, refl, ◌∙◌, ap, arith, IsSome, is_some, subst}
+-- What the place at which the builder works completes to, and what it lacks, by its children and their fills.
+use Rattle.std.proofs.Common.{◌≡◌, ℕ, zero, suc, ◌+◌, ◌<◌, ◌^◌, Bool, true, false, List, [], ◌∷◌, length, Option, Some, None, IsSome, option_map, slice_get, inl, inr, refl, sym, ◌∙◌, ap, subst, arith}
 use Rattle.fr_shape.specs.declared.value.Value.{Value}
-use Rattle.fr_shape.specs.declared.shape.Def.{Def}
-use Rattle.fr_shape.specs.declared.shape.StructDef.{StructDef}
-use Rattle.fr_shape.specs.declared.shape.Field.{Field}
-use Rattle.fr_shape.specs.Numbered.{IsNumbered, field_count}
-use Rattle.fr_shape.specs.Look.{Table, def_of, def_or_other, settled, settled_in}
-use Rattle.fr_shape.specs.Val.{Val, unit, product}
-use Rattle.fr_shape.specs.View.{view, vals_view}
 use Rattle.fr_shape.specs.declared.error.ReflectErrorKind.{ReflectErrorKind}
-use Rattle.fr_shape.specs.Tokens.{occurs}
-use Rattle.fr_shape.specs.Fits.{fits, fields_fit}
-use Rattle.fr_model.specs.Places.{child_shape}
-use Rattle.fr_model.specs.Tree.{as_struct, whole, begun, branch, wholes, tree_occurs, trees_occur}
-use Rattle.fr_model.specs.Complete.{complete, complete_all, lack, lack_among, lack_of_entered, missing_field}
+use Rattle.fr_shape.specs.declared.shape.Def.{Def}
+use Rattle.fr_shape.specs.declared.shape.Shape.{Shape}
+use Rattle.fr_shape.specs.declared.shape.StructDef.{StructDef}
+use Rattle.fr_shape.specs.Checked.{IsChecked}
+use Rattle.fr_shape.specs.Fills.{preset_of, preset_in}
+use Rattle.fr_shape.specs.Fits.{fits, count_vals}
+use Rattle.fr_shape.specs.Hooks.{Meanings, no_hooks}
+use Rattle.fr_shape.specs.Look.{Table, def_of, def_or_other}
+use Rattle.fr_shape.specs.Numbered.{IsNumbered, field_count}
+use Rattle.fr_shape.specs.Served.{IsServed, is_absent}
+use Rattle.fr_shape.specs.Tokens.{occurs, vals_occur}
+use Rattle.fr_shape.specs.Val.{Val, Vals, unit, none, product}
+use Rattle.fr_shape.specs.View.{view, vals_view}
+use Rattle.fr_model.specs.Complete.{complete, complete_all, lack, lack_among, lack_of_hole, lack_of_holes, lack_of_entered, made_of_entered, made_of_fills, valid_child, unless_failing, unless_there, first_of, hole_takes, missing_field, missing_value, missing_child, lack_by, made_by}
+use Rattle.fr_model.specs.Places.{child_count, child_shape, fill_at, each_child, product_of}
+use Rattle.fr_model.specs.Tree.{Form, as_struct, as_array, Tree, hole, whole, begun, tree_occurs}
+use Rattle.fr_model.specs.Well.{IsBegunAs}
 use Rattle.fr_partial.specs.declared.frame.Piece.{Piece}
-use Rattle.fr_partial.specs.Stack.{slot, slots, node, IsStructOf, IsChild, AreChildren, IsPiece}
+use Rattle.fr_partial.specs.Children.{is_placeholder, first_lacking, first_unfilled, there_or, filled, all_there}
+use Rattle.fr_partial.specs.Completing.{WantsMemory, IsLacking, WhyNot}
+use Rattle.fr_partial.specs.Filling.{has_no_hole}
+use Rattle.fr_partial.specs.Stack.{as_form, slot, slots, node, AreChildren, IsPiece}
+use Rattle.fr_partial.proofs.FitLaws.{FitEach, product_fits, none_fits}
+use Rattle.fr_partial.proofs.FillingLaws.{is_absent_value, is_there, there_is, filled_there, filled_lacks, lacking_below, each_there, each_lacks, unfilled_below, filled_fit, each_fit, filled_occurs, each_occurs}
 use Rattle.fr_partial.proofs.StackLaws.{slots_occur}
-use Rattle.fr_partial.specs.Children.{is_placeholder, first_missing, is_product}
+use Rattle.fr_partial.proofs.TemplateLaws.{IsTemplate, preset_template, fill_template, light_occurs, none_failing}
 
--- placeholders and values
+first_of_none : (a : Option ReflectErrorKind) → first_of a None ≡ a
+first_of_none (Some kind) = refl
+first_of_none None = refl
 
-pub is_absent : (v : Val) → is_placeholder v ≡ true → v ≡ unit
-is_absent unit h = refl
-is_absent _ h = cc
+pub none_mapped : (f : ℕ → ReflectErrorKind) (a : Option ℕ) → option_map f a ≡ None → a ≡ None
+none_mapped f (Some k) e = cc
+none_mapped f None e = refl
 
-pub is_there : (v : Val) → is_placeholder v ≡ false → slot v ≡ whole v
-is_there unit h = cc
-is_there _ h = refl
-
-pub fits_there : (table : Table) (s : ℕ) (v : Val) → fits table s v ≡ true → is_placeholder v ≡ false
-fits_there table s unit h = cc
-fits_there table s _ h = refl
-
-pub child_fits : (table : Table) (s : ℕ) (v : Val) → IsChild table s v → is_placeholder v ≡ false → fits table s v ≡ true
-child_fits table s unit child there = cc
-child_fits table s _ child there = child
-
-pub fits_child : (table : Table) (s : ℕ) (v : Val) → fits table s v ≡ true → IsChild table s v
-fits_child table s unit h = tt
-fits_child table s _ h = h
-
--- all children there, or the first that isn't
-
-pub all_there : (i : ℕ) (cs : List Value) → first_missing i cs ≡ None → complete_all (slots cs) ≡ Some (vals_view cs)
-all_there i [] h = refl
-all_there i (c ∷ cs) h = go (is_placeholder (view c)) refl (λ h'. all_there (suc i) cs h')
+-- a place without a hole among its children
+pub no_hole : (cs : List Value) → has_no_hole (slots cs) ≡ all_there cs
+no_hole [] = refl
+no_hole (c ∷ cs) = go (is_placeholder (view c)) refl (no_hole cs)
   where
-    go : (b : Bool) → is_placeholder (view c) ≡ b
-        → (first_missing (suc i) cs ≡ None → complete_all (slots cs) ≡ Some (vals_view cs))
-        → complete_all (slots (c ∷ cs)) ≡ Some (vals_view (c ∷ cs))
-    go true e rest = let none : Some i ≡ None = rw e at h in cc
-    go false e rest =
-        let those : complete_all (slots cs) ≡ Some (vals_view cs) = rest (rw e at h) in
-        rw (is_there (view c) e, those) refl
+    go : (b : Bool) → is_placeholder (view c) ≡ b → has_no_hole (slots cs) ≡ all_there cs
+        → has_no_hole (slots (c ∷ cs)) ≡ all_there (c ∷ cs)
+    go true e rest = rw (is_absent_value (view c) e) refl
+    go false e rest = rw (is_there (view c) e, e) rest
 
-pub record OneMissing (table : Table) (s i : ℕ) (cs : List Value) (k : ℕ) : Type 0 where
-  pub incomplete : complete_all (slots cs) ≡ None
-  pub lacks : lack_among table s as_struct i (slots cs) ≡ Some (missing_field s k)
+-- a product that is there
 
-pub one_missing : (table : Table) (s i : ℕ) (cs : List Value) (k : ℕ) → first_missing i cs ≡ Some k
-    → OneMissing table s i cs k
-one_missing table s i [] k h = cc
-one_missing table s i (c ∷ cs) k h =
-    go (is_placeholder (view c)) refl (λ h'. one_missing table s (suc i) cs k h')
+record Product (vs : Option Vals) (v : Val) : Type 0 where
+  those : Vals
+  there : vs ≡ Some those
+  is : product those ≡ v
+
+product_there : (vs : Option Vals) (v : Val) → product_of vs ≡ Some v → Product vs v
+product_there (Some those) v e =
+    let same : product those ≡ v = cc in
+    record { those = those; there = refl; is = same }
+product_there None v e = cc
+
+is_product_there : (vs : Option Vals) → IsSome vs → IsSome (product_of vs)
+is_product_there (Some those) h = refl
+is_product_there None h = cc
+
+missing_no_memory : (s : ℕ) (form : Form) (i : ℕ) → missing_child s form i ≡ ReflectErrorKind.OutOfMemory → ⊥
+missing_no_memory s as_struct i e = cc
+missing_no_memory s as_array i e = cc
+
+-- What a place makes agrees with what it lacks: it makes a value where it lacks nothing, and none where it lacks
+-- something, which is never memory.
+pub record Agree (lacking : Option ReflectErrorKind) (made : Option Val) : Type 0 where
+  pub made_whole : lacking ≡ None → IsSome made
+  pub not_made : (kind : ReflectErrorKind) → lacking ≡ Some kind → made ≡ None
+  pub not_memory : lacking ≡ Some ReflectErrorKind.OutOfMemory → ⊥
+
+agree_some : (v : Val) → Agree None (Some v)
+agree_some v = record { made_whole = λ e. refl; not_made = λ kind e. cc; not_memory = λ e. cc }
+
+agree_none : (kind : ReflectErrorKind) → (kind ≡ ReflectErrorKind.OutOfMemory → ⊥) → Agree (Some kind) None
+agree_none kind other =
+    record { made_whole = λ e. cc; not_made = λ k e. refl; not_memory = λ e. other (some_is kind ReflectErrorKind.OutOfMemory e) }
   where
-    go : (b : Bool) → is_placeholder (view c) ≡ b
-        → (first_missing (suc i) cs ≡ Some k → OneMissing table s (suc i) cs k) → OneMissing table s i (c ∷ cs) k
-    go true e rest =
-        let here : Some i ≡ Some k = rw e at h in
-        let which : i ≡ k = cc in
-        let absent : view c ≡ unit = is_absent (view c) e in
-        record {
-          incomplete = rw absent refl;
-          lacks = rw absent (ap (λ (n : ℕ). Some (missing_field s n)) which);
-        }
-    go false e rest =
-        let those : OneMissing table s (suc i) cs k = rest (rw e at h) in
-        let there : slot (view c) ≡ whole (view c) = is_there (view c) e in
-        let none : complete_all (slots cs) ≡ None = those.incomplete in
-        record { incomplete = rw (there, none) refl; lacks = rw there those.lacks }
+    some_is : (a b : ReflectErrorKind) → Some a ≡ Some b → a ≡ b
+    some_is a b e = cc
 
-none_lacking : (table : Table) (s i : ℕ) (cs : List Value) → first_missing i cs ≡ None
-    → lack_among table s as_struct i (slots cs) ≡ None
-none_lacking table s i [] h = refl
-none_lacking table s i (c ∷ cs) h = go (is_placeholder (view c)) refl (λ h'. none_lacking table s (suc i) cs h')
+agree_product : (s : ℕ) (form : Form) (missing : Option ℕ) (those : Option Vals) → (missing ≡ None → IsSome those)
+    → ((k : ℕ) → missing ≡ Some k → those ≡ None) → Agree (option_map (missing_child s form) missing) (product_of those)
+agree_product s form None those there lacks = record {
+  made_whole = λ e. is_product_there those (there refl);
+  not_made = λ kind e. cc;
+  not_memory = λ e. cc;
+}
+agree_product s form (Some k) those there lacks =
+    subst (λ (vs : Option Vals). Agree (Some (missing_child s form k)) (product_of vs)) (sym (lacks k refl))
+    (agree_none (missing_child s form k) (missing_no_memory s form k))
+
+agree_by : (def : Def) (preset : Option Val) (holes : Option ReflectErrorKind) (fills : Option Val) (s : ℕ)
+    → Agree holes fills → Agree (lack_by def preset holes (missing_value s)) (made_by def preset fills)
+agree_by (Def.Struct struct) (Some v) holes fills s agree = agree_some v
+agree_by (Def.Struct struct) None holes fills s agree = agree
+agree_by (Def.Option t) (Some v) holes fills s agree = agree_some none
+agree_by (Def.Option t) None holes fills s agree = agree_none (missing_value s) (λ e. missing_no_memory s as_array 0 e)
+agree_by _ preset holes fills s agree = agree_none (missing_value s) (λ e. missing_no_memory s as_array 0 e)
+
+-- what the fills of a checked table are
+
+pub fills_fit : (table : Table) (s : ℕ) → IsChecked table → (i : ℕ) (v : Val) → fill_at table s i ≡ Some v
+    → fits table (child_shape table s i) v ≡ true
+fills_fit table s checked i v e = (fill_template table s i v checked e).fitting
+
+pub fills_light : (table : Table) (s : ℕ) → IsChecked table → (i : ℕ) (v : Val) (t : ℕ) → fill_at table s i ≡ Some v
+    → occurs v t ≡ 0
+fills_light table s checked i v t e = light_occurs v t (fill_template table s i v checked e).light
+
+pub def_is : (table : Table) (s : ℕ) (entry : Shape) (def : Def) → Some entry ≡ slice_get table s → entry.def ≡ def
+    → def_of table s ≡ def
+def_is table s entry def get is = ap def_or_other (sym get) ∙ is
+
+lack_struct : (def : Def) (struct : StructDef) (preset : Option Val) (holes : Option ReflectErrorKind)
+    (kind : ReflectErrorKind) → def ≡ Def.Struct struct → preset ≡ None → lack_by def preset holes kind ≡ holes
+lack_struct def struct preset holes kind e p = rw (e, p) refl
+
+made_struct : (def : Def) (struct : StructDef) (preset fills : Option Val) → def ≡ Def.Struct struct → preset ≡ None
+    → made_by def preset fills ≡ fills
+made_struct def struct preset fills e p = rw (e, p) refl
+
+module _ (hooks : Meanings) (table : Table) (s : ℕ) (served : IsServed table) where
+  valid_is : (form : Form) (i : ℕ) (made : Option Val) → valid_child hooks table s form i made ≡ made
+  valid_is form i made = ap (λ f. unless_failing f made) (none_failing hooks table s form i made served)
+
+  hole_lacks : (form : Form) (i : ℕ)
+      → lack_of_hole hooks table s form i ≡ unless_there (hole_takes table s form i) (missing_child s form i)
+  hole_lacks form i =
+      ap (first_of (unless_there (hole_takes table s form i) (missing_child s form i)))
+      (none_failing hooks table s form i (hole_takes table s form i) served)
+      ∙ first_of_none (unless_there (hole_takes table s form i) (missing_child s form i))
+
+  -- an entered place
+
+  each_valid : (count i : ℕ)
+      → each_child (λ k. valid_child hooks table s as_struct k (fill_at table s k)) count i ≡ each_child (fill_at table s) count i
+  each_valid zero i = refl
+  each_valid (suc count) i = rw (valid_is as_struct i (fill_at table s i), each_valid count (suc i)) refl
+
+  pub made_is : made_of_fills hooks table s ≡ product_of (each_child (fill_at table s) (child_count table s) 0)
+  made_is = ap product_of (each_valid (child_count table s) 0)
+
+  pub holes_lack : (count i : ℕ)
+      → lack_of_holes hooks table s as_struct count i
+      ≡ option_map (missing_field s) (first_unfilled (fill_at table s) count i)
+  holes_lack zero i = refl
+  holes_lack (suc count) i = go (fill_at table s i) refl (holes_lack count (suc i))
+    where
+      go : (fill : Option Val) → fill_at table s i ≡ fill
+          → lack_of_holes hooks table s as_struct count (suc i)
+          ≡ option_map (missing_field s) (first_unfilled (fill_at table s) count (suc i))
+          → lack_of_holes hooks table s as_struct (suc count) i
+          ≡ option_map (missing_field s) (first_unfilled (fill_at table s) (suc count) i)
+      go (Some v) e rest = rw (hole_lacks as_struct i, e) rest
+      go None e rest = rw (hole_lacks as_struct i, e) refl
+
+  fills_agree : Agree (lack_of_holes hooks table s as_struct (child_count table s) 0) (made_of_fills hooks table s)
+  fills_agree =
+      subst (λ (lacking : Option ReflectErrorKind). Agree lacking (made_of_fills hooks table s))
+      (sym (holes_lack (child_count table s) 0))
+      (subst (λ (made : Option Val).
+      Agree (option_map (missing_field s) (first_unfilled (fill_at table s) (child_count table s) 0)) made)
+      (sym made_is)
+      (agree_product s as_struct (first_unfilled (fill_at table s) (child_count table s) 0)
+      (each_child (fill_at table s) (child_count table s) 0)
+      (each_there (fill_at table s) (child_count table s) 0) (each_lacks (fill_at table s) (child_count table s) 0)))
+
+  pub entered_agree : Agree (lack_of_entered hooks table s) (made_of_entered hooks table s)
+  entered_agree =
+      agree_by (def_of table s) (preset_of table s) (lack_of_holes hooks table s as_struct (child_count table s) 0)
+      (made_of_fills hooks table s) s fills_agree
+
+  pub record StructOfHoles (count : ℕ) : Type 0 where
+    pub lacks : lack_of_entered hooks table s ≡ option_map (missing_field s) (first_unfilled (fill_at table s) count 0)
+    pub made : made_of_entered hooks table s ≡ product_of (each_child (fill_at table s) count 0)
+
+  -- an entered struct whose shape has no default
+  pub struct_of_holes : (entry : Shape) (struct : StructDef) → Some entry ≡ slice_get table s → entry.def ≡ Def.Struct struct
+      → entry.preset ≡ None → StructOfHoles (length struct.fields)
+  struct_of_holes entry struct get def preset =
+      let d : def_of table s ≡ Def.Struct struct = def_is table s entry (Def.Struct struct) get def in
+      let p : preset_of table s ≡ None = ap preset_in (sym get) ∙ ap (option_map view) preset in
+      let n : child_count table s ≡ length struct.fields = rw d refl in
+      record {
+        lacks =
+            lack_struct (def_of table s) struct (preset_of table s)
+            (lack_of_holes hooks table s as_struct (child_count table s) 0) (missing_value s) d p
+            ∙ holes_lack (child_count table s) 0
+            ∙ ap (λ (k : ℕ). option_map (missing_field s) (first_unfilled (fill_at table s) k 0)) n;
+        made =
+            made_struct (def_of table s) struct (preset_of table s) (made_of_fills hooks table s) d p ∙ made_is
+            ∙ ap (λ (k : ℕ). product_of (each_child (fill_at table s) k 0)) n;
+      }
+
+  -- a begun place
+
+  module _ (form : Form) (count : ℕ) (begun_as : IsBegunAs (def_of table s) form count) where
+    takes_is : (i : ℕ) → hole_takes table s form i ≡ fill_at table s i
+    takes_is i = go (def_of table s) refl form begun_as
+      where
+        go : (def : Def) → def_of table s ≡ def → (form : Form) → IsBegunAs def form count
+            → hole_takes table s form i ≡ fill_at table s i
+        go def e as_struct b = refl
+        go (Def.Array t n) e as_array b = rw e refl
+        go (Def.Struct struct) e as_array b = absurd b
+        go _ e as_array b = absurd b
+
+    pub slots_complete : (i : ℕ) (cs : List Value)
+        → complete_all hooks table s form i (slots cs) ≡ filled (fill_at table s) i cs
+    slots_complete i [] = refl
+    slots_complete i (c ∷ cs) = go (is_placeholder (view c)) refl (slots_complete (suc i) cs)
+      where
+        go : (b : Bool) → is_placeholder (view c) ≡ b
+            → complete_all hooks table s form (suc i) (slots cs) ≡ filled (fill_at table s) (suc i) cs
+            → complete_all hooks table s form i (slots (c ∷ cs)) ≡ filled (fill_at table s) i (c ∷ cs)
+        go true e rest =
+            rw (is_absent_value (view c) e, valid_is form i (hole_takes table s form i), takes_is i, rest) refl
+        go false e rest =
+            rw (is_there (view c) e, there_is (view c) (fill_at table s i) e, valid_is form i (Some (view c)), rest) refl
+
+    pub slots_lack : (i : ℕ) (cs : List Value)
+        → lack_among hooks table s form i (slots cs)
+        ≡ option_map (missing_child s form) (first_lacking (fill_at table s) i cs)
+    slots_lack i [] = refl
+    slots_lack i (c ∷ cs) = go (is_placeholder (view c)) refl (slots_lack (suc i) cs)
+      where
+        hole_here : (fill : Option Val) → fill_at table s i ≡ fill → view c ≡ unit
+            → lack_among hooks table s form (suc i) (slots cs)
+            ≡ option_map (missing_child s form) (first_lacking (fill_at table s) (suc i) cs)
+            → lack_among hooks table s form i (slots (c ∷ cs))
+            ≡ option_map (missing_child s form) (first_lacking (fill_at table s) i (c ∷ cs))
+        hole_here (Some v) f e rest = rw (e, hole_lacks form i, takes_is i, f) rest
+        hole_here None f e rest = rw (e, hole_lacks form i, takes_is i, f) refl
+
+        go : (b : Bool) → is_placeholder (view c) ≡ b
+            → lack_among hooks table s form (suc i) (slots cs)
+            ≡ option_map (missing_child s form) (first_lacking (fill_at table s) (suc i) cs)
+            → lack_among hooks table s form i (slots (c ∷ cs))
+            ≡ option_map (missing_child s form) (first_lacking (fill_at table s) i (c ∷ cs))
+        go true e rest = hole_here (fill_at table s i) refl (is_absent_value (view c) e) rest
+        go false e rest =
+            rw (is_there (view c) e, none_failing hooks table s form i (Some (view c)) served, e) rest
+
+    pub begun_complete : (cs : List Value)
+        → complete hooks table s (begun form (slots cs)) ≡ product_of (filled (fill_at table s) 0 cs)
+    begun_complete cs = ap product_of (slots_complete 0 cs)
+
+    pub begun_lacks_nothing : (cs : List Value) → lack hooks table s (begun form (slots cs)) ≡ None
+        → first_lacking (fill_at table s) 0 cs ≡ None
+    begun_lacks_nothing cs e =
+        none_mapped (missing_child s form) (first_lacking (fill_at table s) 0 cs) (sym (slots_lack 0 cs) ∙ e)
+
+    pub begun_agree : (cs : List Value)
+        → Agree (lack hooks table s (begun form (slots cs))) (complete hooks table s (begun form (slots cs)))
+    begun_agree cs =
+        subst (λ (lacking : Option ReflectErrorKind). Agree lacking (complete hooks table s (begun form (slots cs))))
+        (sym (slots_lack 0 cs))
+        (subst (λ (made : Option Val).
+        Agree (option_map (missing_child s form) (first_lacking (fill_at table s) 0 cs)) made)
+        (sym (begun_complete cs))
+        (agree_product s form (first_lacking (fill_at table s) 0 cs) (filled (fill_at table s) 0 cs)
+        (filled_there (fill_at table s) 0 cs) (filled_lacks (fill_at table s) 0 cs)))
+
+-- pieces
+
+pub piece_agrees : (hooks : Meanings) (table : Table) (s : ℕ) (piece : Piece) → IsServed table → IsPiece table s piece
+    → Agree (lack hooks table s (node piece)) (complete hooks table s (node piece))
+piece_agrees hooks table s Piece.Entered served suits = entered_agree hooks table s served
+piece_agrees hooks table s (Piece.Whole v) served suits = agree_some (view v)
+piece_agrees hooks table s (Piece.Begun form children) served suits =
+    begun_agree hooks table s served (as_form form) (length children.items) suits.0 children.items
+
+-- a place that isn't completed for want of memory makes a value and takes a template
+pub only_wants : (table : Table) (s : ℕ) (piece : Piece) (kind : ReflectErrorKind) → IsServed table → IsPiece table s piece
+    → WhyNot table s (node piece) kind → kind ≡ ReflectErrorKind.OutOfMemory → WantsMemory table s (node piece) kind
+only_wants table s piece kind served suits (inl wants) memory = wants
+only_wants table s piece kind served suits (inr lacking) memory =
+    absurd
+    ((piece_agrees no_hooks table s piece served suits).not_memory
+    (lacking.lacks ∙ ap (λ (k : ReflectErrorKind). Some k) memory))
+
+-- what is made fits, and holds the tokens that the place held
+
+pub record Made (table : Table) (s : ℕ) (held : ℕ → ℕ) (v : Val) : Type 0 where
+  pub fitting : fits table s v ≡ true
+  pub tokens : (t : ℕ) → held t ≡ occurs v t
+
+made_of_holes : (hooks : Meanings) (table : Table) (s : ℕ) (v : Val) → IsChecked table → IsServed table → (count : ℕ)
+    → IsBegunAs (def_of table s) as_struct count → count ≡ child_count table s → made_of_fills hooks table s ≡ Some v
+    → Made table s (λ t. 0) v
+made_of_holes hooks table s v checked served count begun_as counts e =
+    let those : Product (each_child (fill_at table s) (child_count table s) 0) v
+    = product_there (each_child (fill_at table s) (child_count table s) 0) v (sym (made_is hooks table s served) ∙ e) in
+    let each : FitEach table s 0 those.those × (count_vals those.those ≡ child_count table s)
+    = each_fit (fill_at table s) table s (fills_fit table s checked) (child_count table s) 0 those.those those.there in
+    subst (Made table s (λ t. 0)) those.is
+    (record {
+      fitting = product_fits table s as_struct count those.those begun_as (each.1 ∙ sym counts) each.0;
+      tokens = λ t.
+          sym
+          (each_occurs (fill_at table s) (fills_light table s checked) (child_count table s) 0 those.those t those.there);
+    })
+
+entered_made : (hooks : Meanings) (table : Table) (s : ℕ) (v : Val) → IsChecked table → IsServed table
+    → made_of_entered hooks table s ≡ Some v → Made table s (λ t. 0) v
+entered_made hooks table s v checked served e = go (def_of table s) refl (preset_of table s) refl e
   where
-    go : (b : Bool) → is_placeholder (view c) ≡ b
-        → (first_missing (suc i) cs ≡ None → lack_among table s as_struct (suc i) (slots cs) ≡ None)
-        → lack_among table s as_struct i (slots (c ∷ cs)) ≡ None
-    go true e rest = let none : Some i ≡ None = rw e at h in cc
-    go false e rest = let there : slot (view c) ≡ whole (view c) = is_there (view c) e in rw there (rest (rw e at h))
+    go : (def : Def) → def_of table s ≡ def → (preset : Option Val) → preset_of table s ≡ preset
+        → made_by def preset (made_of_fills hooks table s) ≡ Some v → Made table s (λ t. 0) v
+    go (Def.Struct struct) d (Some w) p made =
+        let same : w ≡ v = cc in
+        let template : IsTemplate table s v = preset_template table s v checked (p ∙ ap (λ (x : Val). Some x) same) in
+        record { fitting = template.fitting; tokens = λ t. sym (light_occurs v t template.light) }
+    go (Def.Struct struct) d None p made =
+        made_of_holes hooks table s v checked served (length struct.fields) (rw d refl) (rw d refl) made
+    go (Def.Option t) d (Some w) p made =
+        let same : none ≡ v = cc in
+        subst (Made table s (λ t. 0)) same (record { fitting = none_fits table s t d; tokens = λ t. refl })
+    go (Def.Option t) d None p made = cc
+    go _ d preset p made = cc
 
-pub missing_below : (i : ℕ) (cs : List Value) (k : ℕ) → first_missing i cs ≡ Some k → k < i + length cs
-missing_below i [] k h = cc
-missing_below i (c ∷ cs) k h = go (is_placeholder (view c)) refl (λ h'. missing_below (suc i) cs k h')
-  where
-    go : (b : Bool) → is_placeholder (view c) ≡ b → (first_missing (suc i) cs ≡ Some k → k < suc i + length cs)
-        → k < i + length (c ∷ cs)
-    go true e rest =
-        let here : Some i ≡ Some k = rw e at h in
-        let which : i ≡ k = cc in
-        omega arith
-    go false e rest = let below : k < suc i + length cs = rest (rw e at h) in omega arith
+pub piece_made : (hooks : Meanings) (table : Table) (s : ℕ) (piece : Piece) (v : Val) → IsChecked table → IsServed table
+    → IsPiece table s piece → complete hooks table s (node piece) ≡ Some v → Made table s (tree_occurs (node piece)) v
+piece_made hooks table s Piece.Entered v checked served suits e = entered_made hooks table s v checked served e
+piece_made hooks table s (Piece.Whole w) v checked served suits e =
+    let same : view w ≡ v = cc in
+    subst (Made table s (occurs (view w))) same (record { fitting = suits; tokens = λ t. refl })
+piece_made hooks table s (Piece.Begun form children) v checked served suits e =
+    let those : Product (filled (fill_at table s) 0 children.items) v
+    = product_there (filled (fill_at table s) 0 children.items) v
+    (sym (begun_complete hooks table s served (as_form form) (length children.items) suits.0 children.items) ∙ e) in
+    let each : FitEach table s 0 those.those × (count_vals those.those ≡ length children.items)
+    = filled_fit (fill_at table s) table s (fills_fit table s checked) 0 children.items those.those suits.1 those.there in
+    subst (Made table s (tree_occurs (begun (as_form form) (slots children.items)))) those.is
+    (record {
+      fitting = product_fits table s (as_form form) (length children.items) those.those suits.0 each.1 each.0;
+      tokens = λ t.
+          slots_occur children.items t
+          ∙ sym
+          (filled_occurs (fill_at table s) (fills_light table s checked) 0 children.items those.those t those.there);
+    })
 
--- a begun struct
+-- how many children a begun struct has
 
-pub begun_completes : (cs : List Value) → first_missing 0 cs ≡ None
-    → complete (begun as_struct (slots cs)) ≡ Some (product (vals_view cs))
-begun_completes cs h = let those : complete_all (slots cs) ≡ Some (vals_view cs) = all_there 0 cs h in rw those refl
-
-pub begun_incomplete : (cs : List Value) (k : ℕ) → first_missing 0 cs ≡ Some k
-    → complete (begun as_struct (slots cs)) ≡ None
-begun_incomplete cs k h =
-    let those : complete_all (slots cs) ≡ None = (one_missing [] 0 0 cs k h).incomplete in rw those refl
-
-pub begun_lacks : (table : Table) (s : ℕ) (cs : List Value) (k : ℕ) → first_missing 0 cs ≡ Some k
-    → lack table s (begun as_struct (slots cs)) ≡ Some (missing_field s k)
-begun_lacks table s cs k h = (one_missing table s 0 cs k h).lacks
-
-pub begun_lacks_nothing : (table : Table) (s : ℕ) (cs : List Value) → first_missing 0 cs ≡ None
-    → lack table s (begun as_struct (slots cs)) ≡ None
-begun_lacks_nothing table s cs h = none_lacking table s 0 cs h
-
--- structs and their fields
-
-pub few_children : (table : Table) (s n : ℕ) → IsNumbered table → IsStructOf (def_of table s) n → n < 2 ^ 32
+pub few_children : (table : Table) (s n : ℕ) → IsNumbered table → IsBegunAs (def_of table s) as_struct n → n < 2 ^ 32
 few_children table s n numbered h = go (def_of table s) refl h
   where
-    go : (def : Def) → def_of table s ≡ def → IsStructOf def n → n < 2 ^ 32
+    go : (def : Def) → def_of table s ≡ def → IsBegunAs def as_struct n → n < 2 ^ 32
     go (Def.Struct struct) e count =
         let few : field_count (def_of table s) < 2 ^ 32 = numbered.fields s in
         let few_here : length struct.fields < 2 ^ 32 = rw e at few in
         omega (arith, count)
     go _ e count = absurd count
 
-pub record AsStruct (table : Table) (s n : ℕ) : Type 0 where
-  pub struct : StructDef
-  pub is : def_of table s ≡ Def.Struct struct
-  pub count : length struct.fields ≡ n
-
-pub as_struct_of : (table : Table) (s n : ℕ) → IsStructOf (def_of table s) n → AsStruct table s n
-as_struct_of table s n h = go (def_of table s) refl h
-  where
-    go : (def : Def) → def_of table s ≡ def → IsStructOf def n → AsStruct table s n
-    go (Def.Struct struct) e count = record { struct = struct; is = e; count = count }
-    go _ e count = absurd count
-
-settled_below : (table whole_table : Table) (s : ℕ) (struct : StructDef)
-    → def_or_other (slice_get whole_table s) ≡ Def.Struct struct → (n : ℕ) → settled_in whole_table (suc n) s ≡ Def.Struct struct
-settled_below table whole_table s struct e n = rw e refl
-
-pub settled_struct : (table : Table) (s : ℕ) (struct : StructDef)
-    → def_of table s ≡ Def.Struct struct → settled table s ≡ Def.Struct struct
-settled_struct [] s struct e = cc
-settled_struct (shape ∷ shapes) s struct e = rw e refl
-
--- The fields from number i on, as a list of their own.
-abbrev AreFrom : List Field → ℕ → List Field → Type 0
-AreFrom all i fields = (k : ℕ) → slice_get all (i + k) ≡ slice_get fields k
-
-next_are : (all : List Field) (i : ℕ) (field : Field) (fields : List Field)
-    → AreFrom all i (field ∷ fields) → AreFrom all (suc i) fields
-next_are all i field fields from k =
-    let e : suc i + k ≡ i + suc k = omega arith in
-    ap (slice_get all) e ∙ from (suc k)
-
-first_is : (all : List Field) (i : ℕ) (field : Field) (fields : List Field)
-    → AreFrom all i (field ∷ fields) → slice_get all i ≡ Some field
-first_is all i field fields from =
-    let e : i ≡ i + 0 = omega arith in
-    ap (slice_get all) e ∙ from 0
-
--- the children of a whole struct of these fields, from number i on
-pub record Opened (table : Table) (s i : ℕ) (fields : List Field) (cs : List Value) : Type 0 where
-  pub count : length fields ≡ length cs
-  pub children : AreChildren table s i cs
-  pub whole : slots cs ≡ wholes (vals_view cs)
-
-both_true : (a b : Bool) → (a && b) ≡ true → (a ≡ true) × (b ≡ true)
-both_true true true h = (refl, refl)
-both_true true false h = cc
-both_true false b h = cc
-
-module _ (table : Table) (s : ℕ) (struct : StructDef) (is : def_of table s ≡ Def.Struct struct) where
-  field_shape : (i : ℕ) (field : Field) → slice_get struct.fields i ≡ Some field → child_shape table s i ≡ field.shape.0
-  field_shape i field e = rw (is, e) refl
-
-  -- children that are all there and fit, as the fields say
-  children_fit : (i : ℕ) (fields : List Field) (cs : List Value) → AreFrom struct.fields i fields
-      → length fields ≡ length cs → AreChildren table s i cs → first_missing i cs ≡ None
-      → fields_fit table fields (vals_view cs) ≡ true
-  children_fit i [] [] from count children there = refl
-  children_fit i [] (c ∷ cs) from count children there = absurd (omega arith)
-  children_fit i (field ∷ fields) [] from count children there = absurd (omega arith)
-  children_fit i (field ∷ fields) (c ∷ cs) from count children there =
-      go (is_placeholder (view c)) refl
-      (λ h. children_fit (suc i) fields cs (next_are struct.fields i field fields from) (omega arith) children.1 h)
-    where
-      go : (b : Bool) → is_placeholder (view c) ≡ b
-          → (first_missing (suc i) cs ≡ None → fields_fit table fields (vals_view cs) ≡ true)
-          → fields_fit table (field ∷ fields) (vals_view (c ∷ cs)) ≡ true
-      go true e rest = let none : Some i ≡ None = rw e at there in cc
-      go false e rest =
-          let shape : child_shape table s i ≡ field.shape.0
-          = field_shape i field (first_is struct.fields i field fields from) in
-          let here : fits table field.shape.0 (view c) ≡ true
-          = rw shape at (child_fits table (child_shape table s i) (view c) children.0 e) in
-          let others : fields_fit table fields (vals_view cs) ≡ true = rest (rw e at there) in
-          rw (here, others) refl
-
-  pub product_fits : (cs : List Value) → length struct.fields ≡ length cs → AreChildren table s 0 cs
-      → first_missing 0 cs ≡ None → fits table s (product (vals_view cs)) ≡ true
-  product_fits cs count children there =
-      rw (settled_struct table s struct is)
-      (children_fit 0 struct.fields cs (λ k. ap (slice_get struct.fields) (omega arith)) count children there)
-
-  -- what fits a struct has one fitting child a field, and so is whole where its children are
-  fields_fit_children : (i : ℕ) (fields : List Field) (cs : List Value) → AreFrom struct.fields i fields
-      → fields_fit table fields (vals_view cs) ≡ true → Opened table s i fields cs
-  fields_fit_children i [] [] from h = record { count = refl; children = tt; whole = refl }
-  fields_fit_children i [] (c ∷ cs) from h = cc
-  fields_fit_children i (field ∷ fields) [] from h = cc
-  fields_fit_children i (field ∷ fields) (c ∷ cs) from h =
-      let both : (fits table field.shape.0 (view c) ≡ true) × (fields_fit table fields (vals_view cs) ≡ true)
-      = both_true (fits table field.shape.0 (view c)) (fields_fit table fields (vals_view cs)) h in
-      let rest : Opened table s (suc i) fields cs
-      = fields_fit_children (suc i) fields cs (next_are struct.fields i field fields from) both.1 in
-      let shape : child_shape table s i ≡ field.shape.0
-      = field_shape i field (first_is struct.fields i field fields from) in
-      let there : slot (view c) ≡ whole (view c)
-      = is_there (view c) (fits_there table field.shape.0 (view c) both.0) in
-      record {
-        count = ap suc rest.count;
-        children = (rw shape (fits_child table field.shape.0 (view c) both.0), rest.children);
-        whole = ap (λ t. branch t (slots cs)) there ∙ ap (branch (whole (view c))) rest.whole;
-      }
-
-  pub opened_struct : (cs : List Value) → fits table s (product (vals_view cs)) ≡ true
-      → Opened table s 0 struct.fields cs
-  opened_struct cs h =
-      fields_fit_children 0 struct.fields cs (λ k. ap (slice_get struct.fields) (omega arith))
-      (rw (settled_struct table s struct is) at h)
-
-  pub only_products_fit : (v : Val) → fits table s v ≡ true → is_product v ≡ true
-  only_products_fit (product vs) h = refl
-  only_products_fit unit h = cc
-  only_products_fit _ h = let h' = rw (settled_struct table s struct is) at h in cc
-
--- pieces
-
-pub begun_made : (cs : List Value) → IsSome (complete (begun as_struct (slots cs)))
-    → complete (begun as_struct (slots cs)) ≡ Some (product (vals_view cs))
-begun_made cs some = go (first_missing 0 cs) refl
-  where
-    go : (missing : Option ℕ) → first_missing 0 cs ≡ missing
-        → complete (begun as_struct (slots cs)) ≡ Some (product (vals_view cs))
-    go (Some k) h =
-        let none : complete (begun as_struct (slots cs)) ≡ None = begun_incomplete cs k h in
-        let no : is_some (complete (begun as_struct (slots cs))) ≡ false = rw none refl in
-        cc
-    go None h = begun_completes cs h
-
-complete_is : (piece : Piece) (v : Val) → complete (node piece) ≡ Some v → IsSome (complete (node piece))
-complete_is piece v e = rw e refl
-
-pub complete_fits : (table : Table) (s : ℕ) (piece : Piece) (v : Val) → IsPiece table s piece
-    → complete (node piece) ≡ Some v → fits table s v ≡ true
-complete_fits table s Piece.Entered v suits e = cc
-complete_fits table s (Piece.Whole w) v suits e = let same : view w ≡ v = cc in subst (λ (x : Val). fits table s x ≡ true) same suits
-complete_fits table s (Piece.Begun children) v suits e = go (first_missing 0 children.items) refl
-  where
-    struct : AsStruct table s (length children.items)
-    struct = as_struct_of table s (length children.items) suits.0
-
-    go : (missing : Option ℕ) → first_missing 0 children.items ≡ missing → fits table s v ≡ true
-    go (Some k) h = let none : complete (begun as_struct (slots children.items)) ≡ None = begun_incomplete children.items k h in cc
-    go None h =
-        let all : complete (begun as_struct (slots children.items)) ≡ Some (product (vals_view children.items))
-        = begun_completes children.items h in
-        let same : product (vals_view children.items) ≡ v = cc in
-        subst (λ (x : Val). fits table s x ≡ true) same
-        (product_fits table s struct.struct struct.is children.items struct.count suits.1 h)
-
-pub complete_occurs : (piece : Piece) (v : Val) (t : ℕ) → complete (node piece) ≡ Some v
-    → tree_occurs (node piece) t ≡ occurs v t
-complete_occurs Piece.Entered v t e = cc
-complete_occurs (Piece.Whole w) v t e = let same : view w ≡ v = cc in ap (λ (x : Val). occurs x t) same
-complete_occurs (Piece.Begun children) v t e = go (first_missing 0 children.items) refl
-  where
-    go : (missing : Option ℕ) → first_missing 0 children.items ≡ missing → trees_occur (slots children.items) t ≡ occurs v t
-    go (Some k) h = let none : complete (begun as_struct (slots children.items)) ≡ None = begun_incomplete children.items k h in cc
-    go None h =
-        let all : complete (begun as_struct (slots children.items)) ≡ Some (product (vals_view children.items))
-        = begun_completes children.items h in
-        let same : product (vals_view children.items) ≡ v = cc in
-        slots_occur children.items t ∙ ap (λ (x : Val). occurs x t) same
-
-lack_of_entered_is : (def : Def) (s : ℕ) → lack_of_entered def s ≡ ReflectErrorKind.OutOfMemory → ⊥
-lack_of_entered_is (Def.Struct struct) s e = cc
-lack_of_entered_is _ s e = cc
-
--- what a place lacks is never memory
-pub lacks_no_memory : (table : Table) (s : ℕ) (piece : Piece)
-    → lack table s (node piece) ≡ Some ReflectErrorKind.OutOfMemory → ⊥
-lacks_no_memory table s Piece.Entered e =
-    let is : lack_of_entered (def_of table s) s ≡ ReflectErrorKind.OutOfMemory = cc in
-    lack_of_entered_is (def_of table s) s is
-lacks_no_memory table s (Piece.Whole v) e = cc
-lacks_no_memory table s (Piece.Begun children) e = go (first_missing 0 children.items) refl
-  where
-    go : (missing : Option ℕ) → first_missing 0 children.items ≡ missing → ⊥
-    go (Some k) h =
-        let is : lack table s (begun as_struct (slots children.items)) ≡ Some (missing_field s k)
-        = begun_lacks table s children.items k h in
-        cc
-    go None h =
-        let is : lack table s (begun as_struct (slots children.items)) ≡ None
-        = begun_lacks_nothing table s children.items h in
-        cc
+pub few_fields : (table : Table) (s : ℕ) (struct : StructDef) → IsNumbered table → def_of table s ≡ Def.Struct struct
+    → length struct.fields < 2 ^ 32
+few_fields table s struct numbered e = few_children table s (length struct.fields) numbered (rw e refl)

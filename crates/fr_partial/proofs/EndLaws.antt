@@ -1,24 +1,31 @@
 -- Going up from a place: the state that `end` leaves, and what it is refused for.
-use Rattle.std.proofs.Common.{◌≡◌, ℕ, ◌+◌, true, false, List, [], ◌∷◌, ◌++◌, length, Some, None, Ok, Err, set, length-set, refl, sym, ◌∙◌, ap, subst, arith}
+use Rattle.std.proofs.Common.{◌≡◌, ℕ, ◌+◌, true, false, List, [], ◌∷◌, ◌++◌, length, Option, Some, None, IsSome, Ok, Err, IsErr, set, length-set, refl, sym, ◌∙◌, ap, subst, arith}
 use Rattle.fr_shape.specs.declared.value.Value.{Value}
 use Rattle.fr_shape.specs.declared.error.ReflectErrorKind.{ReflectErrorKind}
+use Rattle.fr_shape.specs.Checked.{IsChecked}
+use Rattle.fr_shape.specs.Hooks.{no_hooks}
+use Rattle.fr_shape.specs.Served.{IsServed}
+use Rattle.fr_shape.specs.Val.{Val}
 use Rattle.fr_shape.specs.Look.{Table, def_of}
 use Rattle.fr_shape.specs.Fits.{fits}
 use Rattle.fr_shape.specs.Tokens.{occurs, vals_occur}
 use Rattle.fr_shape.specs.View.{view, vals_view}
 use Rattle.fr_model.specs.Places.{Place, is_root, up, child_shape}
-use Rattle.fr_model.specs.Tree.{Tree, as_struct, whole, begun, tree_at, tree_occurs, trees_occur, one_more_call}
+use Rattle.fr_model.specs.Tree.{Tree, whole, begun, tree_at, tree_occurs, trees_occur, one_more_call}
 use Rattle.fr_model.specs.Complete.{complete, lack}
-use Rattle.fr_model.specs.Step.{end, cause, or_missing}
+use Rattle.fr_model.specs.Well.{IsBegunAs}
+use Rattle.fr_model.specs.Step.{end, build, cause, or_missing}
 use Rattle.fr_partial.specs.declared.frame.Piece.{Piece}
 use Rattle.fr_partial.specs.declared.frame.Frame.{Frame}
 use Rattle.fr_partial.specs.declared.frame.Parent.{Parent}
 use Rattle.fr_partial.specs.Builder.{Builder, here, holds}
-use Rattle.fr_partial.specs.Stack.{slot, slots, node, around, rebuild, opens, IsStructOf, AreChildren, IsChain, parents_hold}
-use Rattle.fr_partial.proofs.BuilderLaws.{builder_of, here_of, holds_of, changed_to, cursor_is, tree_here, counted}
+use Rattle.fr_partial.specs.Completing.{IsLacking}
+use Rattle.fr_partial.specs.Stack.{as_form, slot, slots, node, around, rebuild, opens, AreChildren, IsChain, parents_hold}
+use Rattle.fr_partial.proofs.BuilderLaws.{builder_of, state_of, here_of, holds_of, changed_to, cursor_is, tree_here, counted}
 use Rattle.fr_partial.proofs.ChildrenLaws.{slots_set, absent_within, vals_occur_set, children_set}
-use Rattle.fr_partial.proofs.CompleteLaws.{is_there, fits_there, fits_child, complete_fits, complete_occurs}
-use Rattle.fr_partial.proofs.StackLaws.{rebuild_last, opens_last, up_last, parents_hold_last, slots_occur, occurs_rebuild, Popped, chain_pop}
+use Rattle.fr_partial.proofs.CompleteLaws.{Made, piece_made}
+use Rattle.fr_partial.proofs.FillingLaws.{is_there, fits_there, fits_child}
+use Rattle.fr_partial.proofs.StackLaws.{rebuild_last, opens_last, up_last, parents_hold_last, slots_occur, occurs_rebuild, chain_frame, Popped, chain_pop}
 
 not_root : (place : Place) (i : ℕ) → is_root (place ++ i ∷ []) ≡ false
 not_root [] i = refl
@@ -26,7 +33,8 @@ not_root (j ∷ place) i = refl
 
 module _ (table : Table) (root : ℕ) (above : List Parent) (parent : Parent) (frame : Frame) (calls : ℕ)
     (parents : List Parent) (last : parents ≡ above ++ parent ∷ []) (chain : IsChain table root parents frame)
-    (builder : Builder) (is : builder_of table root parents frame.piece calls ≡ builder) where
+    (builder : Builder) (is : builder_of table root parents frame.piece calls ≡ builder)
+    (checked : IsChecked table) (served : IsServed table) where
   pub popped : Popped table root above parent frame
   popped = chain_pop table root above parent frame (subst (λ (ps : List Parent). IsChain table root ps frame) last chain)
 
@@ -50,14 +58,21 @@ module _ (table : Table) (root : ℕ) (above : List Parent) (parent : Parent) (f
   shapes_is : builder.shapes ≡ table
   shapes_is = ap (λ (b : Builder). b.shapes) (sym is)
 
-  pub child_fits_parent : (v : Value) → complete (node frame.piece) ≡ Some (view v)
+  -- the value that the place makes
+  made : (v : Value) → complete no_hooks table frame.shape.0 (node frame.piece) ≡ Some (view v)
+      → Made table frame.shape.0 (tree_occurs (node frame.piece)) (view v)
+  made v e =
+      piece_made no_hooks table frame.shape.0 frame.piece (view v) checked served
+      (chain_frame table root parents frame chain).piece e
+
+  pub child_fits_parent : (v : Value) → complete no_hooks table frame.shape.0 (node frame.piece) ≡ Some (view v)
       → fits table (child_shape table parent.shape.0 parent.child) (view v) ≡ true
   child_fits_parent v e =
-      complete_fits table (child_shape table parent.shape.0 parent.child) frame.piece (view v) popped.below.piece e
+      subst (λ (s : ℕ). fits table s (view v) ≡ true) popped.below.shape (made v e).fitting
 
-  written : (v : Value) → complete (node frame.piece) ≡ Some (view v)
+  written : (v : Value) → complete no_hooks table frame.shape.0 (node frame.piece) ≡ Some (view v)
       → rebuild parents (whole (view v))
-      ≡ rebuild above (begun as_struct (slots (set parent.children.items parent.child v)))
+      ≡ rebuild above (begun (as_form parent.form) (slots (set parent.children.items parent.child v)))
   written v e =
       let there : slot (view v) ≡ whole (view v)
       = is_there (view v)
@@ -65,20 +80,28 @@ module _ (table : Table) (root : ℕ) (above : List Parent) (parent : Parent) (f
       ap (λ (ps : List Parent). rebuild ps (whole (view v))) last
       ∙ rebuild_last above parent (whole (view v))
       ∙ ap (λ (t : Tree). rebuild above (around parent t)) (sym there)
-      ∙ ap (λ ts. rebuild above (begun as_struct ts))
+      ∙ ap (λ ts. rebuild above (begun (as_form parent.form) ts))
       (sym (slots_set parent.children.items parent.child v (absent_within parent.children.items parent.child popped.above.absent)))
 
-  pub end_completes : (v : Value) (next : ℕ) (children : List Value) → complete (node frame.piece) ≡ Some (view v)
+  pub complete_here : complete no_hooks builder.shapes (here builder) (tree_at builder.state.cursor builder.state.tree)
+      ≡ complete no_hooks table frame.shape.0 (node frame.piece)
+  complete_here =
+      ap (λ (t : Table). complete no_hooks t (here builder) (tree_at builder.state.cursor builder.state.tree)) shapes_is
+      ∙ ap (λ (s : ℕ). complete no_hooks table s (tree_at builder.state.cursor builder.state.tree))
+      (here_of table root parents frame calls chain builder is)
+      ∙ ap (complete no_hooks table frame.shape.0) (tree_here table root parents frame calls chain builder is)
+
+  pub end_completes : (v : Value) (next : ℕ) (children : List Value) → complete no_hooks table frame.shape.0 (node frame.piece) ≡ Some (view v)
       → next ≡ one_more_call calls → children ≡ set parent.children.items parent.child v
-      → end builder.shapes (here builder) builder.state
-      ≡ Ok (record { tree = rebuild above (begun as_struct (slots children)); cursor = opens above; calls = next })
+      → end no_hooks builder.shapes (here builder) builder.state
+      ≡ Ok (record { tree = rebuild above (begun (as_form parent.form) (slots children)); cursor = opens above; calls = next })
   end_completes v next children e count wrote =
-      let made : complete (tree_at builder.state.cursor builder.state.tree) ≡ Some (view v)
-      = ap complete (tree_here table root parents frame calls chain builder is) ∙ e in
+      let makes : complete no_hooks builder.shapes (here builder) (tree_at builder.state.cursor builder.state.tree) ≡ Some (view v)
+      = complete_here ∙ e in
       let gone_up : up builder.state.cursor ≡ opens above = ap up cursor_popped ∙ up_last (opens above) parent.child in
       rw (
         below_root,
-        made,
+        makes,
         changed_to table root parents frame calls chain builder is (whole (view v)) (λ old. whole (view v)) refl,
         gone_up,
         counted table root parents frame calls chain builder is next count,
@@ -86,52 +109,83 @@ module _ (table : Table) (root : ℕ) (above : List Parent) (parent : Parent) (f
         wrote,
       ) refl
 
-  pub end_refused : (kind : ReflectErrorKind) → complete (node frame.piece) ≡ None
-      → lack table frame.shape.0 (node frame.piece) ≡ Some kind
-      → end builder.shapes (here builder) builder.state ≡ Err kind
-  end_refused kind e lacks =
+  pub end_refused : (kind : ReflectErrorKind) → IsLacking table frame.shape.0 (node frame.piece) kind
+      → end no_hooks builder.shapes (here builder) builder.state ≡ Err kind
+  end_refused kind lacking =
       let at : tree_at builder.state.cursor builder.state.tree ≡ node frame.piece
       = tree_here table root parents frame calls chain builder is in
-      let made : complete (tree_at builder.state.cursor builder.state.tree) ≡ None = ap complete at ∙ e in
-      let why : cause builder.shapes (here builder) (tree_at builder.state.cursor builder.state.tree) ≡ kind
-      = ap (λ (t : Table). cause t (here builder) (tree_at builder.state.cursor builder.state.tree)) shapes_is
-      ∙ ap (λ (s : ℕ). cause table s (tree_at builder.state.cursor builder.state.tree))
+      let none : complete no_hooks builder.shapes (here builder) (tree_at builder.state.cursor builder.state.tree) ≡ None
+      = complete_here ∙ lacking.incomplete in
+      let why : cause no_hooks builder.shapes (here builder) (tree_at builder.state.cursor builder.state.tree) ≡ kind
+      = ap (λ (t : Table). cause no_hooks t (here builder) (tree_at builder.state.cursor builder.state.tree)) shapes_is
+      ∙ ap (λ (s : ℕ). cause no_hooks table s (tree_at builder.state.cursor builder.state.tree))
       (here_of table root parents frame calls chain builder is)
-      ∙ ap (cause table frame.shape.0) at
-      ∙ ap (or_missing frame.shape.0) lacks in
-      rw (below_root, made) (ap Err why)
+      ∙ ap (cause no_hooks table frame.shape.0) at
+      ∙ ap (or_missing frame.shape.0) lacking.lacks in
+      rw (below_root, none) (ap Err why)
+
+  -- where a value is made, nothing is refused
+  pub end_not_refused : IsSome (complete no_hooks table frame.shape.0 (node frame.piece))
+      → IsErr (end no_hooks builder.shapes (here builder) builder.state) → ⊥
+  end_not_refused some refused = go (complete no_hooks table frame.shape.0 (node frame.piece)) refl some
+    where
+      go : (made : Option Val) → complete no_hooks table frame.shape.0 (node frame.piece) ≡ made → IsSome made → ⊥
+      go (Some v) e h =
+          let makes : complete no_hooks builder.shapes (here builder) (tree_at builder.state.cursor builder.state.tree) ≡ Some v
+          = complete_here ∙ e in
+          let no : false ≡ true = rw (below_root, makes) at refused in
+          cc
+      go None e h = cc
 
   -- the place that is worked at then
 
-  pub open_above : (children : List Value) (v : Value) → complete (node frame.piece) ≡ Some (view v)
+  pub open_above : (children : List Value) (v : Value) → complete no_hooks table frame.shape.0 (node frame.piece) ≡ Some (view v)
       → children ≡ set parent.children.items parent.child v
-      → IsStructOf (def_of table parent.shape.0) (length children) × AreChildren table parent.shape.0 0 children
+      → IsBegunAs (def_of table parent.shape.0) (as_form parent.form) (length children) × AreChildren table parent.shape.0 0 children
   open_above children v e wrote =
-      subst (λ (cs : List Value). IsStructOf (def_of table parent.shape.0) (length cs) × AreChildren table parent.shape.0 0 cs)
+      subst (λ (cs : List Value). IsBegunAs (def_of table parent.shape.0) (as_form parent.form) (length cs) × AreChildren table parent.shape.0 0 cs)
       (sym wrote) (
-        subst (IsStructOf (def_of table parent.shape.0)) (sym (length-set parent.children.items parent.child v))
-            popped.above.struct,
+        subst (IsBegunAs (def_of table parent.shape.0) (as_form parent.form)) (sym (length-set parent.children.items parent.child v))
+            popped.above.begun,
         children_set table parent.shape.0 0 parent.children.items parent.child v popped.above.children
             (fits_child table (child_shape table parent.shape.0 (0 + parent.child)) (view v)
             (subst (λ (i : ℕ). fits table (child_shape table parent.shape.0 i) (view v) ≡ true) (omega arith)
             (child_fits_parent v e))),
       )
 
-  pub holds_after : (v : Value) (children : List Value) → complete (node frame.piece) ≡ Some (view v)
+  pub holds_after : (v : Value) (children : List Value) → complete no_hooks table frame.shape.0 (node frame.piece) ≡ Some (view v)
       → children ≡ set parent.children.items parent.child v → (t : ℕ)
-      → holds builder t ≡ tree_occurs (rebuild above (begun as_struct (slots children))) t
+      → holds builder t ≡ tree_occurs (rebuild above (begun (as_form parent.form) (slots children))) t
   holds_after v children e wrote t =
       let before : holds builder t
       ≡ (parents_hold above t + vals_occur (vals_view parent.children.items) t) + tree_occurs (node frame.piece) t
       = holds_popped t in
-      let made : tree_occurs (node frame.piece) t ≡ occurs (view v) t = complete_occurs frame.piece (view v) t e in
+      let same : tree_occurs (node frame.piece) t ≡ occurs (view v) t = (made v e).tokens t in
       let wider : vals_occur (vals_view children) t ≡ vals_occur (vals_view parent.children.items) t + occurs (view v) t
       = ap (λ (cs : List Value). vals_occur (vals_view cs) t) wrote
       ∙ vals_occur_set parent.children.items parent.child v t popped.above.absent in
       let those : trees_occur (slots children) t ≡ vals_occur (vals_view children) t = slots_occur children t in
-      let after : tree_occurs (rebuild above (begun as_struct (slots children))) t
-      ≡ parents_hold above t + tree_occurs (begun as_struct (slots children)) t
+      let after : tree_occurs (rebuild above (begun (as_form parent.form) (slots children))) t
+      ≡ parents_hold above t + tree_occurs (begun (as_form parent.form) (slots children)) t
       = occurs_rebuild table root above (record { shape = parent.shape; piece = Piece.Entered })
-      (begun as_struct (slots children)) t
+      (begun (as_form parent.form) (slots children)) t
       (popped.instead (record { shape = parent.shape; piece = Piece.Entered }) (record { shape = refl; piece = tt })) in
       omega arith
+
+-- where the root makes a value, `build` isn't refused
+pub build_not_refused : (table : Table) (root : ℕ) (parents : List Parent) (frame : Frame) (calls : ℕ) (builder : Builder)
+    → builder_of table root parents frame.piece calls ≡ builder → parents ≡ [] → root ≡ frame.shape.0
+    → IsSome (complete no_hooks table frame.shape.0 (node frame.piece))
+    → IsErr (build no_hooks builder.shapes builder.root builder.state) → ⊥
+build_not_refused table root parents frame calls builder is none shape some refused =
+    go (complete no_hooks table root (node frame.piece)) refl
+    (subst (λ (s : ℕ). IsSome (complete no_hooks table s (node frame.piece))) (sym shape) some)
+  where
+    inside : IsErr (build no_hooks table root (state_of [] frame.piece calls))
+    inside =
+        subst (λ (ps : List Parent). IsErr (build no_hooks table root (state_of ps frame.piece calls))) none
+        (subst (λ (b : Builder). IsErr (build no_hooks b.shapes b.root b.state)) (sym is) refused)
+
+    go : (made : Option Val) → complete no_hooks table root (node frame.piece) ≡ made → IsSome made → ⊥
+    go (Some v) e h = let no : false ≡ true = rw e at inside in cc
+    go None e h = cc

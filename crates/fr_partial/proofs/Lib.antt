@@ -3,6 +3,9 @@ pub mod BuilderLaws
 pub mod ChildrenLaws
 pub mod CompleteLaws
 pub mod EndLaws
+pub mod FillingLaws
+pub mod FitLaws
 pub mod OpenLaws
+pub mod PutLaws
 pub mod StackLaws
-pub mod TestLaws
+pub mod TemplateLaws

@@ -6,10 +6,10 @@ use Rattle.fr_shape.specs.Val.{Val, unit}
 use Rattle.fr_shape.specs.View.{view, vals_view}
 use Rattle.fr_shape.specs.Tokens.{occurs, vals_occur}
 use Rattle.fr_model.specs.Places.{up, child_shape}
-use Rattle.fr_model.specs.Tree.{as_struct, Tree, begun, branch, tree_nth, change_nth, tree_at, change_at, shape_in, tree_occurs, trees_occur}
+use Rattle.fr_model.specs.Tree.{Form, as_struct, as_array, Tree, begun, child_as, branch, tree_nth, change_nth, tree_at, change_at, shape_in, tree_occurs, trees_occur}
 use Rattle.fr_partial.specs.declared.frame.Frame.{Frame}
 use Rattle.fr_partial.specs.declared.frame.Parent.{Parent}
-use Rattle.fr_partial.specs.Stack.{slot, slots, around, rebuild, opens, IsPlaceholder, IsParent, IsFrame, IsChain, parents_hold}
+use Rattle.fr_partial.specs.Stack.{as_form, slot, slots, around, rebuild, opens, IsPlaceholder, IsParent, IsFrame, IsChain, parents_hold}
 
 -- the stack's end
 
@@ -75,6 +75,11 @@ around_occurs (c ∷ cs) (suc i) u t absent =
     = around_occurs cs i u t absent in
     omega arith
 
+-- however a place is begun, its children have the shapes that its definition says
+child_as_is : (table : Table) (s : ℕ) (form : Form) (i : ℕ) → child_as table s form i ≡ child_shape table s i
+child_as_is table s as_struct i = refl
+child_as_is table s as_array i = refl
+
 -- the whole stack
 
 pub tree_at_rebuild : (table : Table) (s : ℕ) (parents : List Parent) (frame : Frame) (t : Tree)
@@ -88,7 +93,7 @@ pub change_at_rebuild : (table : Table) (s : ℕ) (parents : List Parent) (frame
     → IsChain table s parents frame → change_at (opens parents) g (rebuild parents t) ≡ rebuild parents (g t)
 change_at_rebuild table s [] frame g t chain = refl
 change_at_rebuild table s (parent ∷ parents) frame g t chain =
-    ap (begun as_struct)
+    ap (begun (as_form parent.form))
     (change_of_change parent.children.items parent.child (λ child. change_at (opens parents) g child)
     (rebuild parents t) chain.0.absent)
     ∙ ap (around parent) (change_at_rebuild table (child_shape table s parent.child) parents frame g t chain.1)
@@ -97,7 +102,11 @@ pub shape_in_rebuild : (table : Table) (s : ℕ) (parents : List Parent) (frame 
     → IsChain table s parents frame → shape_in table s (opens parents) (rebuild parents t) ≡ frame.shape.0
 shape_in_rebuild table s [] frame t chain = sym chain.shape
 shape_in_rebuild table s (parent ∷ parents) frame t chain =
-    ap (shape_in table (child_shape table s parent.child) (opens parents))
+    ap (λ (shape : ℕ).
+    shape_in table shape (opens parents)
+    (tree_nth parent.child (change_nth parent.child (λ old. rebuild parents t) (slots parent.children.items))))
+    (child_as_is table s (as_form parent.form) parent.child)
+    ∙ ap (shape_in table (child_shape table s parent.child) (opens parents))
     (child_of_change parent.children.items parent.child (rebuild parents t) chain.0.absent)
     ∙ shape_in_rebuild table (child_shape table s parent.child) parents frame t chain.1
 

@@ -41,10 +41,10 @@ abbrev pub left : Result Builder ReflectErrorKind → ℕ → ℕ
 left (Ok after) t = holds after t
 left (Err kind) t = 0
 
--- The answer of `build` is what is meant, made by as many calls as the builder had.
+-- The answer of `build` is what is meant, made by as many calls as the builder had, or want of memory.
 abbrev pub IsBuilt : Builder → Result Val ReflectErrorKind → Result BuiltValue ReflectErrorKind → Type 0
 IsBuilt before meant (Ok built) = (meant ≡ Ok built.value) × (built.calls ≡ before.state.calls)
-IsBuilt before meant (Err kind) = meant ≡ Err kind
+IsBuilt before meant (Err kind) = (kind ≡ ReflectErrorKind.OutOfMemory) ⊎ (meant ≡ Err kind)
 
 -- how often a token stands in the answer of `build`
 abbrev pub left_built : Result BuiltValue ReflectErrorKind → ℕ → ℕ

@@ -1,15 +1,18 @@
 -- The open places of a builder as one tree. Only the contracts inside this crate speak of them.
 use Rattle.std.specs.Prelude.{◌≡◌, ℕ, suc, ◌+◌, true, List, [], ◌∷◌, map, length, Option, Some, None, slice_get}
 use Rattle.fr_shape.specs.declared.value.Value.{Value}
-use Rattle.fr_shape.specs.declared.shape.Def.{Def}
+use Rattle.fr_shape.specs.Checked.{IsChecked}
 use Rattle.fr_shape.specs.Numbered.{IsNumbered}
+use Rattle.fr_shape.specs.Served.{IsServed}
 use Rattle.fr_shape.specs.Look.{Table, def_of}
 use Rattle.fr_shape.specs.Val.{Val, unit}
 use Rattle.fr_shape.specs.View.{view, vals_view}
 use Rattle.fr_shape.specs.Tokens.{vals_occur}
 use Rattle.fr_shape.specs.Fits.{fits}
 use Rattle.fr_model.specs.Places.{Place, child_shape}
-use Rattle.fr_model.specs.Tree.{as_struct, Tree, hole, entered, whole, begun, Trees, no_trees, branch, change_nth}
+use Rattle.fr_model.specs.Tree.{Form as TreeForm, as_struct, as_array, Tree, hole, entered, whole, begun, Trees, no_trees, branch, change_nth}
+use Rattle.fr_model.specs.Well.{IsBegunAs}
+use Rattle.fr_partial.specs.declared.frame.Form.{Form}
 use Rattle.fr_partial.specs.declared.frame.Piece.{Piece}
 use Rattle.fr_partial.specs.declared.frame.Frame.{Frame}
 use Rattle.fr_partial.specs.declared.frame.Parent.{Parent}
@@ -23,15 +26,19 @@ abbrev pub slots : List Value → Trees
 slots [] = no_trees
 slots (v ∷ vs) = branch (slot (view v)) (slots vs)
 
+abbrev pub as_form : Form → TreeForm
+as_form Form.Struct = as_struct
+as_form Form.Array = as_array
+
 -- what stands at the place at which the builder works
 abbrev pub node : Piece → Tree
 node Piece.Entered = entered
 node (Piece.Whole v) = whole (view v)
-node (Piece.Begun children) = begun as_struct (slots children.items)
+node (Piece.Begun form children) = begun (as_form form) (slots children.items)
 
 -- a place above, with this at its open child
 abbrev pub around : Parent → Tree → Tree
-around parent t = begun as_struct (change_nth parent.child (λ old. t) (slots parent.children.items))
+around parent t = begun (as_form parent.form) (change_nth parent.child (λ old. t) (slots parent.children.items))
 
 -- the whole tree, the root's place first among those above
 abbrev pub rebuild : List Parent → Tree → Tree
@@ -41,11 +48,6 @@ rebuild (parent ∷ parents) t = around parent (rebuild parents t)
 -- the way from the root to the place
 abbrev pub opens : List Parent → Place
 opens parents = map (λ (parent : Parent). parent.child) parents
-
--- a struct with that many fields
-abbrev pub IsStructOf : Def → ℕ → Type 0
-IsStructOf (Def.Struct struct) count = length struct.fields ≡ count
-IsStructOf _ count = ⊥
 
 -- a child is not there yet, or fits its shape
 abbrev pub IsChild : Table → ℕ → Val → Type 0
@@ -60,18 +62,18 @@ AreChildren table s i (v ∷ vs) = IsChild table (child_shape table s i) (view v
 abbrev pub IsPiece : Table → ℕ → Piece → Type 0
 IsPiece table s Piece.Entered = Unit {0}
 IsPiece table s (Piece.Whole v) = fits table s (view v) ≡ true
-IsPiece table s (Piece.Begun children) =
-    IsStructOf (def_of table s) (length children.items) × AreChildren table s 0 children.items
+IsPiece table s (Piece.Begun form children) =
+    IsBegunAs (def_of table s) (as_form form) (length children.items) × AreChildren table s 0 children.items
 
 -- a value that isn't there yet
 abbrev pub IsPlaceholder : Option Value → Type 0
 IsPlaceholder (Some v) = view v ≡ unit
 IsPlaceholder None = ⊥
 
--- a place above: a begun struct whose open child isn't there
+-- a place above: a begun one whose open child isn't there
 pub record IsParent (table : Table) (s : ℕ) (parent : Parent) : Type 0 where
   pub shape : parent.shape.0 ≡ s
-  pub struct : IsStructOf (def_of table s) (length parent.children.items)
+  pub begun : IsBegunAs (def_of table s) (as_form parent.form) (length parent.children.items)
   pub children : AreChildren table s 0 parent.children.items
   pub absent : IsPlaceholder (slice_get parent.children.items parent.child)
 
@@ -85,9 +87,11 @@ IsChain table s [] frame = IsFrame table s frame
 IsChain table s (parent ∷ parents) frame =
     IsParent table s parent × IsChain table (child_shape table s parent.child) parents frame
 
--- The open places of a builder over a table, for a root of shape s.
+-- The open places of a builder over a table that it serves, for a root of shape s.
 pub record IsOpen (table : Table) (s : ℕ) (parents : List Parent) (frame : Frame) : Type 0 where
   pub numbered : IsNumbered table
+  pub checked : IsChecked table
+  pub served : IsServed table
   pub chain : IsChain table s parents frame
 
 -- how often the places above hold a token

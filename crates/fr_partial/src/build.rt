@@ -1,8 +1,11 @@
 //! `build` and `abandon`: the two ends of a builder.
-ghost use Rattle.std.specs.Prelude.{◌≡◌, true, IfOk};
+ghost use Rattle.std.specs.Prelude.{◌≡◌, true, IfOk, IsErr};
 ghost use Rattle.fr_shape.specs.Fits.{fits};
+ghost use Rattle.fr_shape.specs.Hooks.{no_hooks};
 ghost use Rattle.fr_shape.specs.Released.{Room, RoseBy, Conserved};
 ghost use Rattle.fr_model.specs.Step.{build};
+ghost use Rattle.fr_model.specs.Tree.{tree_at};
+ghost use Rattle.fr_partial.specs.Filling.{fills_nothing};
 ghost use Rattle.fr_partial.specs.Builder.{holds, IsBuilt, left_built};
 
 use crate::completing::complete;
@@ -11,16 +14,18 @@ use crate::{Built, Partial};
 use fr_shape::{Invariant, Ledger, ReflectErrorKind};
 
 impl<'t> Partial<'t> {
-    /// Completes the root and hands its value over. Takes no memory.
+    /// Completes the root and hands its value over. Only copies of templates want memory, and what is lacking is found
+    /// before any is made.
     pub fn build(self, ledger: &mut Ledger) -> Result<Built, ReflectErrorKind>
         requires { Room (holds self) ledger.old }
-        ensures built { IsBuilt self.entry (build self.entry.shapes self.entry.root self.entry.state) result }
+        ensures built { IsBuilt self.entry (build no_hooks self.entry.shapes self.entry.root self.entry.state) result }
         ensures fits { IfOk result (λ built. fits self.entry.shapes self.entry.root built.value ≡ true) }
         ensures tokens { Conserved (holds self.entry) ledger.old (left_built result) ledger.new }
-        ensures memory { result ≡ Err ReflectErrorKind.OutOfMemory → ⊥ }
+        ensures memory { fills_nothing (tree_at self.entry.state.cursor self.entry.state.tree) ≡ true → result ≡ Err ReflectErrorKind.OutOfMemory → ⊥ }
+        ensures refused { IsErr (build no_hooks self.entry.shapes self.entry.root self.entry.state) → result ≡ Err ReflectErrorKind.OutOfMemory → ⊥ }
     {
         let Partial {
-            alloc: _,
+            alloc,
             table,
             root: _,
             parents,
@@ -28,7 +33,7 @@ impl<'t> Partial<'t> {
             calls,
         } = self;
         if parents.is_empty() {
-            match complete(table, frame, ledger) {
+            match complete(alloc, table, frame, ledger) {
                 Ok(value) => Ok(Built { value, calls }),
                 Err(kind) => Err(kind),
             }

@@ -1,9 +1,9 @@
-//! The children of a begun struct: a list of values, in which `Value::Unit` stands for one not there yet.
+//! The children of a begun place: a list of values, in which `Value::Unit` stands for one not there yet.
 ghost use Rattle.std.specs.Prelude.{◌≡◌, ◌<◌, true, length, slice_get, slice_set, Some, IfOk};
 ghost use Rattle.std.specs.List.{All};
 ghost use Rattle.fr_shape.specs.Val.{unit, product};
 ghost use Rattle.fr_shape.specs.View.{view, vals_view};
-ghost use Rattle.fr_partial.specs.Children.{is_placeholder, first_missing, is_product};
+ghost use Rattle.fr_partial.specs.Children.{is_placeholder, is_product};
 
 use fr_shape::{Items, OutOfMemory, Value};
 use std::alloc::Global;
@@ -13,18 +13,6 @@ pub fn is_placeholder(v: &Value) -> bool
     ensures { result ≡ is_placeholder (view v.now) }
 {
     matches!(v, Value::Unit)
-}
-
-/// The number of the first child that isn't there yet.
-pub fn first_missing(children: &[Value]) -> Option<usize>
-    ensures { result ≡ first_missing 0 children.now }
-{
-    for i in 0..children.len() {
-        if is_placeholder(&children[i]) {
-            return Some(i);
-        }
-    }
-    None
 }
 
 /// So many children, none of them there yet.

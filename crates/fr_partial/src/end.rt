@@ -1,7 +1,10 @@
 //! `end`: the place at which the builder works becomes whole, and the builder goes up.
-ghost use Rattle.std.specs.Prelude.{◌≡◌};
+ghost use Rattle.std.specs.Prelude.{◌≡◌, true, IsErr};
+ghost use Rattle.fr_shape.specs.Hooks.{no_hooks};
 ghost use Rattle.fr_shape.specs.Released.{Room, Conserved};
 ghost use Rattle.fr_model.specs.Step.{end};
+ghost use Rattle.fr_model.specs.Tree.{tree_at};
+ghost use Rattle.fr_partial.specs.Filling.{fills_nothing};
 ghost use Rattle.fr_partial.specs.Builder.{here, holds, IsStep, left};
 
 use crate::Partial;
@@ -12,12 +15,14 @@ use crate::releasing::{release_children, release_parents, release_piece};
 use fr_shape::{Invariant, Ledger, ReflectErrorKind};
 
 impl<'t> Partial<'t> {
-    /// Completes the place, writes its value into the place above, and goes there. Takes no memory.
+    /// Completes the place, writes its value into the place above, and goes there. Only copies of templates want
+    /// memory, and what is lacking is found before any is made.
     pub fn end(self, ledger: &mut Ledger) -> Result<Partial<'t>, ReflectErrorKind>
         requires { Room (holds self) ledger.old }
-        ensures step { IsStep self.entry (end self.entry.shapes (here self.entry) self.entry.state) result }
+        ensures step { IsStep self.entry (end no_hooks self.entry.shapes (here self.entry) self.entry.state) result }
         ensures tokens { Conserved (holds self.entry) ledger.old (left result) ledger.new }
-        ensures memory { result ≡ Err ReflectErrorKind.OutOfMemory → ⊥ }
+        ensures memory { fills_nothing (tree_at self.entry.state.cursor self.entry.state.tree) ≡ true → result ≡ Err ReflectErrorKind.OutOfMemory → ⊥ }
+        ensures refused { IsErr (end no_hooks self.entry.shapes (here self.entry) self.entry.state) → result ≡ Err ReflectErrorKind.OutOfMemory → ⊥ }
     {
         let Partial {
             alloc,
@@ -35,10 +40,11 @@ impl<'t> Partial<'t> {
         };
         let Parent {
             shape,
+            form,
             mut children,
             child,
         } = parent;
-        match complete(table, frame, ledger) {
+        match complete(alloc, table, frame, ledger) {
             Ok(value) => {
                 put(&mut children, child, value);
                 Ok(Partial {
@@ -48,7 +54,7 @@ impl<'t> Partial<'t> {
                     parents,
                     frame: Frame {
                         shape,
-                        piece: Piece::Begun(children),
+                        piece: Piece::Begun(form, children),
                     },
                     calls: calls.saturating_add(1),
                 })

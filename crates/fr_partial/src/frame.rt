@@ -1,12 +1,19 @@
 //! The places that a builder has open: the one at which it works, and those above it.
 use fr_shape::{ShapeId, Value};
 
-/// What was put at a place so far. In a begun struct `Value::Unit` stands for a field not there yet.
+/// As what a place is begun.
+#[derive(Clone, Copy)]
+pub enum Form {
+    Struct,
+    Array,
+}
+
+/// What was put at a place so far. Where it is begun, `Value::Unit` stands for a child not there yet.
 #[derive(Drop)]
 pub enum Piece {
     Entered,
     Whole(Value),
-    Begun(Vec<Value>),
+    Begun(Form, Vec<Value>),
 }
 
 /// The place at which the builder works.
@@ -20,13 +27,16 @@ pub struct Frame {
 #[derive(Drop)]
 pub struct Parent {
     pub shape: ShapeId,
+    pub form: Form,
     pub children: Vec<Value>,
     pub child: usize,
 }
 
-/// What a table says of a field that may be entered: its shape, and how many fields there are.
-#[derive(Drop)]
-pub struct Field {
+/// What a table says of a child that may be entered: its shape, as what the place around it is begun, and how many
+/// children that has.
+#[derive(Clone, Copy)]
+pub struct Child {
     pub shape: ShapeId,
+    pub form: Form,
     pub count: usize,
 }

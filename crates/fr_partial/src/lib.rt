@@ -1,6 +1,9 @@
 //! `Partial`: a builder of a value of a type known at run time, one call at a time.
 #![tactic(auto)]
 
+mod admitting;
+mod begin;
+mod begin_field;
 mod begin_nth_field;
 mod build;
 mod built;
@@ -8,9 +11,13 @@ mod children;
 mod completing;
 mod end;
 mod entering;
+mod filling;
 mod frame;
+mod lacking;
 mod partial;
+mod putting;
 mod releasing;
+mod set_default;
 mod set_shape;
 #[cfg(test)]
 mod tests;

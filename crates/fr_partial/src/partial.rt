@@ -1,11 +1,13 @@
 //! The builder.
 ghost use Rattle.std.specs.Prelude.{◌≡◌, IfOk, IsOk};
+ghost use Rattle.fr_shape.specs.Checked.{IsChecked};
 ghost use Rattle.fr_shape.specs.Look.{IsIn};
 ghost use Rattle.fr_shape.specs.Numbered.{IsNumbered};
 ghost use Rattle.fr_shape.specs.Served.{IsServed};
 ghost use Rattle.fr_model.specs.Tree.{initial};
 
-use crate::frame::{Frame, Parent, Piece};
+use crate::entering::fresh;
+use crate::frame::{Frame, Parent};
 use fr_shape::{OutOfMemory, ShapeId, ShapeTable};
 use std::alloc::Global;
 use std::marker::Model;
@@ -54,10 +56,11 @@ impl<'t> Partial<'t> {
     ) -> Result<Partial<'t>, OutOfMemory>
         requires shape { IsIn table.now id.0 }
         requires numbered { IsNumbered table.now }
+        requires checked { IsChecked table.now }
         requires served { IsServed table.now }
         ensures shapes { IfOk result (λ p. p.shapes ≡ table.now) }
         ensures root { IfOk result (λ p. p.root ≡ id.0) }
-        ensures state { IfOk result (λ p. p.state ≡ initial) }
+        ensures state { IfOk result (λ p. p.state ≡ initial table.now id.0) }
         ensures succeeds { IsOk result }
     {
         Ok(Partial {
@@ -67,7 +70,7 @@ impl<'t> Partial<'t> {
             parents: Vec::new(alloc),
             frame: Frame {
                 shape: id,
-                piece: Piece::Entered,
+                piece: fresh(alloc, table, id),
             },
             calls: 0,
         })

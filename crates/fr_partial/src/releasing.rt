@@ -26,7 +26,7 @@ pub fn release_piece(piece: Piece, ledger: &mut Ledger)
     match piece {
         Piece::Entered => {}
         Piece::Whole(v) => release(v, ledger),
-        Piece::Begun(children) => release_children(children, ledger),
+        Piece::Begun(_, children) => release_children(children, ledger),
     }
 }
 

@@ -7,8 +7,6 @@ ghost use Rattle.fr_model.specs.Step.{set};
 ghost use Rattle.fr_partial.specs.Builder.{here, holds, IsStep, left};
 
 use crate::Partial;
-use crate::frame::{Frame, Piece};
-use crate::releasing::{release_all, release_piece};
 use fr_shape::{Ledger, ReflectErrorKind, Shaped, release};
 
 impl<'t> Partial<'t> {
@@ -24,36 +22,14 @@ impl<'t> Partial<'t> {
         ensures tokens { Conserved (λ t. holds self.entry t + occurs value.value t) ledger.old (left result) ledger.new }
         ensures memory { result ≡ Err ReflectErrorKind.OutOfMemory → ⊥ }
     {
-        let Partial {
-            alloc,
-            table,
-            root,
-            parents,
-            frame,
-            calls,
-        } = self;
-        let Frame { shape, piece } = frame;
+        let expected = self.frame.shape;
         let actual = value.shape();
-        if actual.0 == shape.0 {
-            release_piece(piece, ledger);
-            Ok(Partial {
-                alloc,
-                table,
-                root,
-                parents,
-                frame: Frame {
-                    shape,
-                    piece: Piece::Whole(value.into_value()),
-                },
-                calls: calls.saturating_add(1),
-            })
+        if actual.0 == expected.0 {
+            Ok(self.put(value.into_value(), ledger))
         } else {
             release(value.into_value(), ledger);
-            release_all(parents, piece, ledger);
-            Err(ReflectErrorKind::WrongShape {
-                expected: shape,
-                actual,
-            })
+            self.abandon(ledger);
+            Err(ReflectErrorKind::WrongShape { expected, actual })
         }
     }
 }

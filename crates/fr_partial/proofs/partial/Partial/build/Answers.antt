@@ -1,19 +1,24 @@
-use Rattle.std.proofs.Common.{◌≡◌, ℕ, List, [], ◌∷◌, refl, vec_len, Some, length, slice_index, sym, ap, ◌∙◌, subst, true, arith}
+use Rattle.std.proofs.Common.{◌≡◌, ℕ, List, [], ◌∷◌, refl, vec_len, Some, length, slice_index, sym, ap, ◌∙◌, subst, true, false, arith}
 use Rattle.std.proofs.lemmas.Bool.{eqb-true}
 use Rattle.fr_shape.specs.declared.error.ReflectErrorKind.{ReflectErrorKind}
 use Rattle.fr_shape.specs.Tokens.{occurs}
 use Rattle.fr_shape.specs.View.{view}
-use Rattle.fr_model.specs.Tree.{tree_occurs}
+use Rattle.fr_model.specs.Tree.{tree_at, tree_occurs}
 use Rattle.fr_partial.specs.declared.frame.Parent.{Parent}
 use Rattle.fr_partial.specs.declared.frame.Frame.{Frame}
 use Rattle.fr_shape.specs.Fits.{fits}
+use Rattle.fr_shape.specs.Hooks.{no_hooks}
 use Rattle.fr_shape.specs.Look.{Table}
 use Rattle.fr_partial.specs.Builder.{Builder, holds}
+use Rattle.fr_partial.specs.Completing.{WantsMemory}
+use Rattle.fr_partial.specs.Filling.{fills_nothing}
 use Rattle.fr_partial.specs.Stack.{node, IsFrame, IsChain, parents_hold}
-use Rattle.fr_partial.proofs.CompleteLaws.{complete_fits, complete_occurs, lacks_no_memory}
-use Rattle.fr_partial.proofs.BuilderLaws.{places_hold, holds_of, room_of, room_here}
+use Rattle.fr_partial.proofs.CompleteLaws.{Made, piece_made, only_wants}
+use Rattle.fr_partial.proofs.StackLaws.{chain_frame}
+use Rattle.fr_partial.proofs.BuilderLaws.{places_hold, holds_of, room_of, room_here, tree_here}
+use Rattle.fr_partial.proofs.EndLaws.{build_not_refused}
 use Rattle.fr_partial.proofs.partial.Partial.build.Goals as goal
-use Rattle.fr_partial.proofs.partial.Partial.build.Goals.{After-is_empty}
+use Rattle.fr_partial.proofs.partial.Partial.build.Goals.{After-is_empty, In-Ok, In-Err}
 
 held : (c : After-is_empty) (t : ℕ)
     → holds c.args.self t ≡ places_hold c.self.inside.parents.items c.self.inside.frame.piece t
@@ -30,6 +35,15 @@ pub release_all-requires : goal.release_all-requires
 release_all-requires c =
     room_of c.self.inside.table.now c.self.inside.root.0 c.self.inside.parents.items c.self.inside.frame
     c.self.inside.calls c.self.invariant.chain c.args.self c.self.view_is c.args.ledger.now c.requires
+
+made : (c : In-Ok)
+    → Made c.self.inside.table.now c.self.inside.frame.shape.0 (tree_occurs (node c.self.inside.frame.piece)) (view c.in-Ok.value)
+made c =
+    piece_made no_hooks c.self.inside.table.now c.self.inside.frame.shape.0 c.self.inside.frame.piece (view c.in-Ok.value)
+    c.self.invariant.checked c.self.invariant.served
+    (chain_frame c.self.inside.table.now c.self.inside.root.0 c.self.inside.parents.items c.self.inside.frame
+    c.self.invariant.chain).piece
+    c.in-Ok.ensures.value
 
 no_parents : (parents : List Parent) → length parents ≡ 0 → parents ≡ []
 no_parents [] h = refl
@@ -49,8 +63,8 @@ returns-in-Ok-clause-fits c =
     = at_root c.self.inside.table.now c.self.inside.root.0 c.self.inside.parents.items c.self.inside.frame
     (omega (arith, c.self.inside.parents.ok.0)) c.self.invariant.chain in
     subst (λ (builder : Builder). fits builder.shapes builder.root (view c.in-Ok.value) ≡ true) c.self.view_is
-    (complete_fits c.self.inside.table.now c.self.inside.root.0 c.self.inside.frame.piece (view c.in-Ok.value)
-    root.piece c.in-Ok.ensures.value)
+    (subst (λ (s : ℕ). fits c.self.inside.table.now s (view c.in-Ok.value) ≡ true) root.shape
+    (made (goal.at.returns-in-Ok-clause-fits c).In-Ok).fitting)
 
 none_above : (parents : List Parent) (t : ℕ) → length parents ≡ 0 → parents_hold parents t ≡ 0
 none_above [] t h = refl
@@ -64,8 +78,8 @@ returns-in-Ok-clause-tokens c = record {
       = eqb-true (vec_len c.self.inside.parents) 0 (sym c.if-is_empty.ensures) in
       let none : parents_hold c.self.inside.parents.items t ≡ 0
       = none_above c.self.inside.parents.items t (omega (arith, c.self.inside.parents.ok.0)) in
-      let made : tree_occurs (node c.self.inside.frame.piece) t ≡ occurs (view c.in-Ok.value) t
-      = complete_occurs c.self.inside.frame.piece (view c.in-Ok.value) t c.in-Ok.ensures.value in
+      let same : tree_occurs (node c.self.inside.frame.piece) t ≡ occurs (view c.in-Ok.value) t
+      = (made (goal.at.returns-in-Ok-clause-tokens c).In-Ok).tokens t in
       let kept : slice_index c.complete.new.ledger t ≡ slice_index c.args.ledger.now t
       = ap (λ ledger. slice_index ledger t) c.in-Ok.ensures.kept in
       let all : holds c.args.self t ≡ places_hold c.self.inside.parents.items c.self.inside.frame.piece t
@@ -77,11 +91,39 @@ returns-in-Ok-clause-tokens c = record {
       omega arith;
 }
 
+wants : (c : In-Err) → c.in-Err.kind ≡ ReflectErrorKind.OutOfMemory
+    → WantsMemory c.self.inside.table.now c.self.inside.frame.shape.0 (node c.self.inside.frame.piece) c.in-Err.kind
+wants c is =
+    only_wants c.self.inside.table.now c.self.inside.frame.shape.0 c.self.inside.frame.piece c.in-Err.kind
+    c.self.invariant.served
+    (chain_frame c.self.inside.table.now c.self.inside.root.0 c.self.inside.parents.items c.self.inside.frame
+    c.self.invariant.chain).piece
+    c.in-Err.ensures.why is
+
 pub returns-then-is_empty-clause-memory : goal.returns-then-is_empty-clause-memory
-returns-then-is_empty-clause-memory c e =
+returns-then-is_empty-clause-memory c nothing e =
     let is : c.in-Err.kind ≡ ReflectErrorKind.OutOfMemory = cc in
-    lacks_no_memory c.self.inside.table.now c.self.inside.frame.shape.0 c.self.inside.frame.piece
-    (c.in-Err.ensures.kind ∙ ap Some is)
+    let takes : fills_nothing (node c.self.inside.frame.piece) ≡ false
+    = (wants (goal.at.returns-then-is_empty-clause-memory c).In-Err is).takes in
+    let at : tree_at c.args.self.state.cursor c.args.self.state.tree ≡ node c.self.inside.frame.piece
+    = tree_here c.self.inside.table.now c.self.inside.root.0 c.self.inside.parents.items c.self.inside.frame
+    c.self.inside.calls c.self.invariant.chain c.args.self c.self.view_is in
+    let no : false ≡ true = sym takes ∙ ap fills_nothing (sym at) ∙ nothing in
+    cc
+
+pub returns-then-is_empty-clause-refused : goal.returns-then-is_empty-clause-refused
+returns-then-is_empty-clause-refused c refused e =
+    let is : c.in-Err.kind ≡ ReflectErrorKind.OutOfMemory = cc in
+    let empty : vec_len c.self.inside.parents ≡ 0
+    = eqb-true (vec_len c.self.inside.parents) 0 (sym c.if-is_empty.ensures) in
+    let none : c.self.inside.parents.items ≡ []
+    = no_parents c.self.inside.parents.items (omega (arith, c.self.inside.parents.ok.0)) in
+    let root : IsFrame c.self.inside.table.now c.self.inside.root.0 c.self.inside.frame
+    = at_root c.self.inside.table.now c.self.inside.root.0 c.self.inside.parents.items c.self.inside.frame
+    (omega (arith, c.self.inside.parents.ok.0)) c.self.invariant.chain in
+    build_not_refused c.self.inside.table.now c.self.inside.root.0 c.self.inside.parents.items c.self.inside.frame
+    c.self.inside.calls c.args.self c.self.view_is none (sym root.shape)
+    (wants (goal.at.returns-then-is_empty-clause-refused c).In-Err is).complete refused
 
 pub returns-clause-tokens : goal.returns-clause-tokens
 returns-clause-tokens c = record {

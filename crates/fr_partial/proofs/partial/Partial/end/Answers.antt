@@ -1,18 +1,20 @@
-use Rattle.std.proofs.Common.{◌≡◌, ℕ, ◌+◌, Some, length, slice_index, refl, ap, ◌∙◌, inr, arith}
+use Rattle.std.proofs.Common.{◌≡◌, ℕ, ◌+◌, Some, length, slice_index, true, false, refl, sym, ap, ◌∙◌, inl, inr, arith}
 use Rattle.fr_shape.specs.declared.error.ReflectErrorKind.{ReflectErrorKind}
 use Rattle.fr_shape.specs.TokenLaws.{both, Room_same, Room_fewer, Room_risen}
 use Rattle.fr_shape.specs.Tokens.{vals_occur}
 use Rattle.fr_shape.specs.View.{vals_view}
-use Rattle.fr_model.specs.Tree.{as_struct, begun, tree_occurs}
+use Rattle.fr_model.specs.Tree.{begun, tree_at, tree_occurs}
 use Rattle.fr_partial.specs.Builder.{Builder, holds}
-use Rattle.fr_partial.specs.Stack.{node, slots, rebuild, parents_hold}
+use Rattle.fr_partial.specs.Completing.{WantsMemory}
+use Rattle.fr_partial.specs.Filling.{fills_nothing}
+use Rattle.fr_partial.specs.Stack.{as_form, node, slots, rebuild, parents_hold}
 use Rattle.fr_partial.proofs.StackLaws.{Popped, chain_frame}
 use Rattle.fr_partial.proofs.ChildrenLaws.{absent_within}
-use Rattle.fr_partial.proofs.CompleteLaws.{lacks_no_memory}
-use Rattle.fr_partial.proofs.BuilderLaws.{room_here}
-use Rattle.fr_partial.proofs.EndLaws.{popped, holds_popped, end_completes, end_refused, open_above, holds_after}
+use Rattle.fr_partial.proofs.BuilderLaws.{room_here, tree_here}
+use Rattle.fr_partial.proofs.CompleteLaws.{only_wants}
+use Rattle.fr_partial.proofs.EndLaws.{popped, holds_popped, end_completes, end_refused, end_not_refused, open_above, holds_after}
 use Rattle.fr_partial.proofs.partial.Partial.end.Goals as goal
-use Rattle.fr_partial.proofs.partial.Partial.end.Goals.{In-Some}
+use Rattle.fr_partial.proofs.partial.Partial.end.Goals.{In-Some, After-release_parents}
 
 split : (c : In-Some) (t : ℕ)
     → holds c.args.self t
@@ -20,15 +22,13 @@ split : (c : In-Some) (t : ℕ)
     + tree_occurs (node c.self.inside.frame.piece) t
 split c t =
     holds_popped c.self.inside.table.now c.self.inside.root.0 c.pop.new.self.items c.in-Some.parent c.self.inside.frame
-    c.self.inside.calls c.self.inside.parents.items c.in-Some.ensures.items c.self.invariant.chain c.args.self
-    c.self.view_is t
+    c.self.inside.calls c.self.inside.parents.items c.in-Some.ensures.items c.self.invariant.chain c.args.self c.self.view_is c.self.invariant.checked c.self.invariant.served t
 
 above : (c : In-Some)
     → Popped c.self.inside.table.now c.self.inside.root.0 c.pop.new.self.items c.in-Some.parent c.self.inside.frame
 above c =
     popped c.self.inside.table.now c.self.inside.root.0 c.pop.new.self.items c.in-Some.parent c.self.inside.frame
-    c.self.inside.calls c.self.inside.parents.items c.in-Some.ensures.items c.self.invariant.chain c.args.self
-    c.self.view_is
+    c.self.inside.calls c.self.inside.parents.items c.in-Some.ensures.items c.self.invariant.chain c.args.self c.self.view_is c.self.invariant.checked c.self.invariant.served
 
 pub release_piece-requires : goal.release_piece-requires
 release_piece-requires c =
@@ -53,6 +53,8 @@ put-requires c =
 pub invariant_of-result : goal.invariant_of-result
 invariant_of-result c = record {
   numbered = c.self.invariant.numbered;
+  checked = c.self.invariant.checked;
+  served = c.self.invariant.served;
   chain =
       (above (goal.at.invariant_of-result c).In-Some).instead _
       (record {
@@ -60,7 +62,7 @@ invariant_of-result c = record {
         piece =
             open_above c.self.inside.table.now c.self.inside.root.0 c.pop.new.self.items c.in-Some.parent
             c.self.inside.frame c.self.inside.calls c.self.inside.parents.items c.in-Some.ensures.items
-            c.self.invariant.chain c.args.self c.self.view_is c.put.new.children.items c.in-Ok.value
+            c.self.invariant.chain c.args.self c.self.view_is c.self.invariant.checked c.self.invariant.served c.put.new.children.items c.in-Ok.value
             c.in-Ok.ensures.value c.put.ensures;
       });
 }
@@ -93,7 +95,7 @@ pub returns-in-Ok-clause-step : goal.returns-in-Ok-clause-step
 returns-in-Ok-clause-step c = (
   end_completes c.self.inside.table.now c.self.inside.root.0 c.pop.new.self.items c.in-Some.parent
       c.self.inside.frame c.self.inside.calls c.self.inside.parents.items c.in-Some.ensures.items
-      c.self.invariant.chain c.args.self c.self.view_is c.in-Ok.value c.saturating_add.result
+      c.self.invariant.chain c.args.self c.self.view_is c.self.invariant.checked c.self.invariant.served c.in-Ok.value c.saturating_add.result
       c.put.new.children.items c.in-Ok.ensures.value c.saturating_add.ensures c.put.ensures,
   ap (λ (b : Builder). b.shapes) c.self.view_is,
   ap (λ (b : Builder). b.root) c.self.view_is,
@@ -104,10 +106,10 @@ returns-in-Ok-clause-tokens c = record {
   same_length = ap length c.in-Ok.ensures.kept;
   kept_or_released = λ t.
       let same : holds c.args.self t
-      ≡ tree_occurs (rebuild c.pop.new.self.items (begun as_struct (slots c.put.new.children.items))) t
+      ≡ tree_occurs (rebuild c.pop.new.self.items (begun (as_form c.in-Some.parent.form) (slots c.put.new.children.items))) t
       = holds_after c.self.inside.table.now c.self.inside.root.0 c.pop.new.self.items c.in-Some.parent
       c.self.inside.frame c.self.inside.calls c.self.inside.parents.items c.in-Some.ensures.items
-      c.self.invariant.chain c.args.self c.self.view_is c.in-Ok.value c.put.new.children.items
+      c.self.invariant.chain c.args.self c.self.view_is c.self.invariant.checked c.self.invariant.served c.in-Ok.value c.put.new.children.items
       c.in-Ok.ensures.value c.put.ensures t in
       let kept : slice_index c.complete.new.ledger t ≡ slice_index c.args.ledger.now t
       = ap (λ ledger. slice_index ledger t) c.in-Ok.ensures.kept in
@@ -120,11 +122,15 @@ returns-in-Ok-clause-tokens c = record {
 
 pub returns-in-Err-clause-step : goal.returns-in-Err-clause-step
 returns-in-Err-clause-step c =
-    inr
-    (end_refused c.self.inside.table.now c.self.inside.root.0 c.pop.new.self.items c.in-Some.parent
-    c.self.inside.frame c.self.inside.calls c.self.inside.parents.items c.in-Some.ensures.items
-    c.self.invariant.chain c.args.self c.self.view_is c.in-Err.kind c.in-Err.ensures.incomplete
-    c.in-Err.ensures.kind)
+    elim c.in-Err.ensures.why [
+      inl wants ↦ inl wants.memory
+      | inr lacking ↦
+        inr
+        (end_refused c.self.inside.table.now c.self.inside.root.0 c.pop.new.self.items c.in-Some.parent
+        c.self.inside.frame c.self.inside.calls c.self.inside.parents.items c.in-Some.ensures.items
+        c.self.invariant.chain c.args.self c.self.view_is c.self.invariant.checked c.self.invariant.served c.in-Err.kind
+        lacking)
+    ]
 
 pub returns-in-Err-clause-tokens : goal.returns-in-Err-clause-tokens
 returns-in-Err-clause-tokens c = record {
@@ -143,8 +149,29 @@ returns-in-Err-clause-tokens c = record {
       (arith, c.release_parents.ensures.each t, c.release_children.ensures.each t, c.in-Err.ensures.released.each t);
 }
 
+wants : (c : After-release_parents) → c.in-Err.kind ≡ ReflectErrorKind.OutOfMemory
+    → WantsMemory c.self.inside.table.now c.self.inside.frame.shape.0 (node c.self.inside.frame.piece) c.in-Err.kind
+wants c is =
+    only_wants c.self.inside.table.now c.self.inside.frame.shape.0 c.self.inside.frame.piece c.in-Err.kind
+    c.self.invariant.served
+    (chain_frame c.self.inside.table.now c.self.inside.root.0 c.self.inside.parents.items c.self.inside.frame
+    c.self.invariant.chain).piece
+    c.in-Err.ensures.why is
+
 pub returns-in-Err-clause-memory : goal.returns-in-Err-clause-memory
-returns-in-Err-clause-memory c e =
+returns-in-Err-clause-memory c nothing e =
     let is : c.in-Err.kind ≡ ReflectErrorKind.OutOfMemory = cc in
-    lacks_no_memory c.self.inside.table.now c.self.inside.frame.shape.0 c.self.inside.frame.piece
-    (c.in-Err.ensures.kind ∙ ap Some is)
+    let takes : fills_nothing (node c.self.inside.frame.piece) ≡ false = (wants c is).takes in
+    let at : tree_at c.args.self.state.cursor c.args.self.state.tree ≡ node c.self.inside.frame.piece
+    = tree_here c.self.inside.table.now c.self.inside.root.0 c.self.inside.parents.items c.self.inside.frame
+    c.self.inside.calls c.self.invariant.chain c.args.self c.self.view_is in
+    let no : false ≡ true = sym takes ∙ ap fills_nothing (sym at) ∙ nothing in
+    cc
+
+pub returns-in-Err-clause-refused : goal.returns-in-Err-clause-refused
+returns-in-Err-clause-refused c refused e =
+    let is : c.in-Err.kind ≡ ReflectErrorKind.OutOfMemory = cc in
+    end_not_refused c.self.inside.table.now c.self.inside.root.0 c.pop.new.self.items c.in-Some.parent
+    c.self.inside.frame c.self.inside.calls c.self.inside.parents.items c.in-Some.ensures.items
+    c.self.invariant.chain c.args.self c.self.view_is c.self.invariant.checked c.self.invariant.served
+    (wants c is).complete refused

@@ -1,0 +1,165 @@
+-- What a checked table says of its templates, and a served one of validators.
+use Rattle.std.proofs.Common.{◌≡◌, ℕ, suc, zero, Bool, true, false, List, [], ◌∷◌, Option, Some, None, slice_get, option_map, refl, sym, ◌∙◌, ap, subst}
+use Rattle.std.specs.List.{list_all}
+use Rattle.std.specs.Prelude.{option_to_list}
+use Rattle.fr_shape.specs.declared.value.Value.{Value}
+use Rattle.fr_shape.specs.declared.shape.Shape.{Shape}
+use Rattle.fr_shape.specs.declared.shape.Def.{Def}
+use Rattle.fr_shape.specs.declared.shape.Field.{Field}
+use Rattle.fr_shape.specs.declared.shape.DefaultSource.{DefaultSource}
+use Rattle.fr_shape.specs.Checked.{IsChecked, is_template, default_is_template, templates_fit, fields_of}
+use Rattle.fr_shape.specs.Fills.{preset_of, strict_fill, takes_shape_default}
+use Rattle.fr_shape.specs.Fits.{fits}
+use Rattle.fr_shape.specs.Hooks.{Meanings}
+use Rattle.fr_shape.specs.Look.{Table, def_of, field_in}
+use Rattle.fr_shape.specs.Served.{IsServed, serves, serves_def, serves_field, is_nil}
+use Rattle.fr_shape.specs.Tokens.{tokens, times, occurs}
+use Rattle.fr_shape.specs.TokenLaws.{occurs_times}
+use Rattle.fr_shape.specs.Val.{Val, unit}
+use Rattle.fr_shape.specs.View.{view}
+use Rattle.fr_model.specs.Complete.{failing_child, first_failing}
+use Rattle.fr_model.specs.Places.{fill_at, child_shape}
+use Rattle.fr_model.specs.Tree.{Form, as_struct, as_array}
+use Rattle.fr_partial.specs.Children.{is_placeholder}
+use Rattle.fr_partial.proofs.FitLaws.{both_true, field_shape}
+
+all_at : {X : Type 0} (p : X → Bool) (xs : List X) (i : ℕ) (x : X) → list_all p xs ≡ true → slice_get xs i ≡ Some x
+    → p x ≡ true
+all_at p [] i x h e = cc
+all_at p (y ∷ ys) zero x h e =
+    let same : y ≡ x = cc in
+    ap p (sym same) ∙ (both_true (p y) (list_all p ys) h).0
+all_at p (y ∷ ys) (suc i) x h e = all_at p ys i x (both_true (p y) (list_all p ys) h).1 e
+
+nil_is : {X : Type 0} (xs : List X) → is_nil xs ≡ true → xs ≡ []
+nil_is [] h = refl
+nil_is (x ∷ xs) h = cc
+
+-- a value that fits a shape and holds no token
+pub record IsTemplate (table : Table) (s : ℕ) (v : Val) : Type 0 where
+  pub fitting : fits table s v ≡ true
+  pub light : tokens v ≡ []
+
+pub light_occurs : (v : Val) (t : ℕ) → tokens v ≡ [] → occurs v t ≡ 0
+light_occurs v t e = occurs_times v t ∙ ap (λ (ts : List ℕ). times ts t) e
+
+template_is : (table : Table) (s : ℕ) (w : Value) → is_template table s w ≡ true → IsTemplate table s (view w)
+template_is table s w h =
+    let both : (fits table s (view w) ≡ true) × (is_nil (tokens (view w)) ≡ true)
+    = both_true (fits table s (view w)) (is_nil (tokens (view w))) h in
+    record { fitting = both.0; light = nil_is (tokens (view w)) both.1 }
+
+in_preset : (table : Table) (s : ℕ) (preset : Option Value) (v : Val)
+    → list_all (is_template table s) (option_to_list preset) ≡ true → option_map view preset ≡ Some v
+    → IsTemplate table s v
+in_preset table s None v h e = cc
+in_preset table s (Some w) v h e =
+    let same : view w ≡ v = cc in
+    subst (IsTemplate table s) same (template_is table s w (both_true (is_template table s w) true h).0)
+
+pub preset_template : (table : Table) (s : ℕ) (v : Val) → IsChecked table → preset_of table s ≡ Some v
+    → IsTemplate table s v
+preset_template table s v checked e = go (slice_get table s) refl
+  where
+    go : (found : Option Shape) → slice_get table s ≡ found → IsTemplate table s v
+    go None h = let none : preset_of table s ≡ None = rw h refl in cc
+    go (Some shape) h =
+        in_preset table s shape.preset v
+        (both_true (list_all (is_template table s) (option_to_list shape.preset))
+        (list_all (λ (field : Field). default_is_template table field.shape.0 field.default) (fields_of shape.def))
+        (checked.templates s shape h)).0
+        (rw h at e)
+
+field_template : (table : Table) (s : ℕ) (field : Field) (v : Val) → IsChecked table
+    → default_is_template table field.shape.0 field.default ≡ true → strict_fill table s false field ≡ Some v
+    → IsTemplate table field.shape.0 v
+field_template table s field v checked own e = go field.default refl
+  where
+    unmarked : (takes : Bool) → field.default ≡ None → takes_shape_default table s false field ≡ takes
+        → IsTemplate table field.shape.0 v
+    unmarked true mark takes = preset_template table field.shape.0 v checked (rw (mark, takes) at e)
+    unmarked false mark takes = let none : None ≡ Some v = rw (mark, takes) at e in cc
+
+    go : (mark : Option DefaultSource) → field.default ≡ mark → IsTemplate table field.shape.0 v
+    go None mark = unmarked (takes_shape_default table s false field) mark refl
+    go (Some DefaultSource.FromTrait) mark = preset_template table field.shape.0 v checked (rw mark at e)
+    go (Some (DefaultSource.Custom w)) mark =
+        let is : Some (view w) ≡ Some v = rw mark at e in
+        let same : view w ≡ v = cc in
+        subst (IsTemplate table field.shape.0) same (template_is table field.shape.0 w (rw mark at own))
+
+-- what a child takes where it is a hole
+pub fill_template : (table : Table) (s i : ℕ) (v : Val) → IsChecked table → fill_at table s i ≡ Some v
+    → IsTemplate table (child_shape table s i) v
+fill_template table s i v checked e = go (slice_get table s) refl
+  where
+    go : (found : Option Shape) → slice_get table s ≡ found → IsTemplate table (child_shape table s i) v
+    go None h = let none : fill_at table s i ≡ None = rw h refl in cc
+    go (Some shape) h = at_def shape.def refl
+      where
+        defaults : list_all (λ (field : Field). default_is_template table field.shape.0 field.default) (fields_of shape.def) ≡ true
+        defaults =
+            (both_true (list_all (is_template table s) (option_to_list shape.preset))
+            (list_all (λ (field : Field). default_is_template table field.shape.0 field.default) (fields_of shape.def))
+            (checked.templates s shape h)).1
+
+        at_def : (def : Def) → shape.def ≡ def → IsTemplate table (child_shape table s i) v
+        at_def (Def.Struct struct) is = at_field (slice_get struct.fields i) refl
+          where
+            def : def_of table s ≡ Def.Struct struct
+            def = rw (h, is) refl
+
+            at_field : (found : Option Field) → slice_get struct.fields i ≡ found → IsTemplate table (child_shape table s i) v
+            at_field None at = let none : fill_at table s i ≡ None = rw (def, at) refl in cc
+            at_field (Some field) at =
+                let fill : strict_fill table s false field ≡ Some v = rw (def, at) at e in
+                let own : default_is_template table field.shape.0 field.default ≡ true
+                = all_at (λ (field : Field). default_is_template table field.shape.0 field.default) struct.fields i field
+                (rw is at defaults) at in
+                subst (λ (n : ℕ). IsTemplate table n v) (sym (field_shape table s struct i field def at))
+                (field_template table s field v checked own fill)
+        at_def _ is = let none : fill_at table s i ≡ None = rw (h, is) refl in cc
+
+-- no validator of a served table is asked
+
+served_def : (shape : Shape) → serves shape ≡ true → serves_def shape.def ≡ true
+served_def shape h = go (serves_def shape.def) refl
+  where
+    go : (b : Bool) → serves_def shape.def ≡ b → serves_def shape.def ≡ true
+    go true e = e
+    go false e = let no : false ≡ true = rw e at h in cc
+
+no_validators : (field : Field) → serves_field field ≡ true → field.validators ≡ []
+no_validators field h = nil_is field.validators (both_true _ (is_nil field.validators) h).1
+
+none_fails : (hooks : Meanings) (table : Table) (s i : ℕ) (field : Field) (made : Option Val) → field.validators ≡ []
+    → (def : Def) → def_of table s ≡ def → field_in def None i ≡ Some field
+    → failing_child hooks table s as_struct i made ≡ None
+none_fails hooks table s i field None none def e at = rw (e, at) refl
+none_fails hooks table s i field (Some v) none def e at = rw (e, at, none) refl
+
+pub none_failing : (hooks : Meanings) (table : Table) (s : ℕ) (form : Form) (i : ℕ) (made : Option Val) → IsServed table
+    → failing_child hooks table s form i made ≡ None
+none_failing hooks table s as_array i made served = refl
+none_failing hooks table s as_struct i made served = go (slice_get table s) refl
+  where
+    go : (found : Option Shape) → slice_get table s ≡ found → failing_child hooks table s as_struct i made ≡ None
+    go None h = rw h refl
+    go (Some shape) h = at_def shape.def refl
+      where
+        at_def : (def : Def) → shape.def ≡ def → failing_child hooks table s as_struct i made ≡ None
+        at_def (Def.Struct struct) is = at_field (slice_get struct.fields i) refl
+          where
+            def : def_of table s ≡ Def.Struct struct
+            def = rw (h, is) refl
+
+            fields : list_all serves_field struct.fields ≡ true
+            fields = rw is at (served_def shape (all_at serves table s shape served h))
+
+            at_field : (found : Option Field) → slice_get struct.fields i ≡ found
+                → failing_child hooks table s as_struct i made ≡ None
+            at_field None at = rw (def, at) refl
+            at_field (Some field) at =
+                none_fails hooks table s i field made
+                (no_validators field (all_at serves_field struct.fields i field fields at)) (Def.Struct struct) def at
+        at_def _ is = rw (h, is) refl

@@ -1,0 +1,76 @@
+use Rattle.std.proofs.Common.{◌≡◌, ℕ, ◌+◌, true, false, Ok, Some, Result, is_err, refl, inr, sym, ap, ◌∙◌, subst, arith}
+use Rattle.fr_shape.specs.declared.error.ReflectErrorKind.{ReflectErrorKind}
+use Rattle.fr_shape.specs.Released.{Conserved}
+use Rattle.fr_shape.specs.TokenLaws.{Room_same, Conserved_same}
+use Rattle.fr_shape.specs.Tokens.{occurs}
+use Rattle.fr_shape.specs.Val.{Val}
+use Rattle.fr_shape.specs.View.{view}
+use Rattle.fr_model.specs.Step.{puts, set_default}
+use Rattle.fr_model.specs.Tree.{State}
+use Rattle.fr_partial.specs.Builder.{holds, here, left}
+use Rattle.fr_partial.proofs.PutLaws.{fits_here, default_there, default_missing}
+use Rattle.fr_partial.proofs.TemplateLaws.{IsTemplate, preset_template, light_occurs}
+use Rattle.fr_partial.proofs.partial.Partial.set_default.Goals as goal
+use Rattle.fr_partial.proofs.partial.Partial.set_default.Goals.{In-Some, In-Ok}
+
+template : (c : In-Some)
+    → IsTemplate c.self.inside.table.now c.self.inside.frame.shape.0 (view c.in-Some.template.now)
+template c =
+    preset_template c.self.inside.table.now c.self.inside.frame.shape.0 (view c.in-Some.template.now)
+    c.self.invariant.checked (sym c.in-Some.ensures)
+
+nothing_more : (c : In-Ok) (t : ℕ) → occurs (view c.in-Ok.value) t ≡ 0
+nothing_more c t =
+    ap (λ (v : Val). occurs v t) c.in-Ok.ensures.copy
+    ∙ light_occurs (view c.in-Some.template.now) t
+    (preset_template c.self.inside.table.now c.self.inside.frame.shape.0 (view c.in-Some.template.now)
+    c.self.invariant.checked (sym c.in-Some.ensures)).light
+
+pub returns-in_default-clause-step : goal.returns-in_default-clause-step
+returns-in_default-clause-step c =
+    inr
+    (default_missing c.self.inside.table.now c.self.inside.root.0 c.self.inside.parents.items c.self.inside.frame
+    c.self.inside.calls c.self.invariant.chain c.args.self c.self.view_is
+    (sym c.in_default.ensures))
+
+pub clone_template-requires : goal.clone_template-requires
+clone_template-requires c = record { no_token = (template (goal.at.clone_template-requires c).In-Some).light }
+
+pub put-requires-clause-fits : goal.put-requires-clause-fits
+put-requires-clause-fits c =
+    fits_here c.self.inside.table.now c.self.inside.root.0 c.self.inside.parents.items c.self.inside.frame
+    c.self.inside.calls c.self.invariant.chain c.args.self c.self.view_is c.self.inside.frame.shape.0
+    (view c.in-Ok.value) refl
+    (rw c.in-Ok.ensures.copy (template (goal.at.put-requires-clause-fits c).In-Some).fitting)
+
+pub put-requires-clause-room : goal.put-requires-clause-room
+put-requires-clause-room c =
+    Room_same (holds c.args.self) (λ t. holds c.args.self t + occurs (view c.in-Ok.value) t) c.args.ledger.now
+    (λ t. omega (arith, nothing_more (goal.at.put-requires-clause-room c).In-Ok t)) c.requires
+
+pub returns-in-Ok-clause-step : goal.returns-in-Ok-clause-step
+returns-in-Ok-clause-step c = (
+  default_there c.self.inside.table.now c.self.inside.root.0 c.self.inside.parents.items c.self.inside.frame
+    c.self.inside.calls c.self.invariant.chain c.args.self c.self.view_is (view c.in-Some.template.now)
+      (sym c.in-Some.ensures)
+      ∙ ap (λ (v : Val). Ok (puts c.args.self.state v)) (sym c.in-Ok.ensures.copy)
+      ∙ ap (λ (s : State). Ok s) (sym c.put.ensures.state),
+  c.put.ensures.shapes,
+  c.put.ensures.root,
+)
+
+pub returns-in-Ok-clause-tokens : goal.returns-in-Ok-clause-tokens
+returns-in-Ok-clause-tokens c =
+    Conserved_same (λ t. holds c.args.self t + occurs (view c.in-Ok.value) t) (holds c.args.self) c.args.ledger.now
+    (holds c.put.result) (left (Ok c.put.result)) c.put.new.ledger
+    (λ t. omega (arith, nothing_more (goal.at.returns-in-Ok-clause-tokens c).In-Ok t)) (λ t. refl) c.put.ensures.tokens
+
+pub returns-in-Err-clause-refused : goal.returns-in-Err-clause-refused
+returns-in-Err-clause-refused c refused e =
+    let there : set_default c.args.self.shapes (here c.args.self) c.args.self.state
+    ≡ Ok (puts c.args.self.state (view c.in-Some.template.now))
+    = default_there c.self.inside.table.now c.self.inside.root.0 c.self.inside.parents.items c.self.inside.frame
+    c.self.inside.calls c.self.invariant.chain c.args.self c.self.view_is (view c.in-Some.template.now)
+    (sym c.in-Some.ensures) in
+    let no : false ≡ true = rw there at refused in
+    cc

@@ -1,0 +1,57 @@
+//! Going on to a child of the place at which the builder works.
+ghost use Rattle.std.specs.Prelude.{◌≡◌, Ok, None};
+ghost use Rattle.fr_shape.specs.Look.{def_of};
+ghost use Rattle.fr_shape.specs.Released.{Room, Conserved};
+ghost use Rattle.fr_model.specs.Step.{enters, field_refusal};
+ghost use Rattle.fr_model.specs.Tree.{tree_at};
+ghost use Rattle.fr_partial.specs.Builder.{here, holds, IsStep, left};
+
+use crate::Partial;
+use crate::admitting::child_of;
+use crate::entering::enter_child;
+use crate::releasing::{release_children, release_parents, release_piece};
+use fr_shape::{Ledger, ReflectErrorKind};
+
+impl<'t> Partial<'t> {
+    /// Enters a child that may be entered. Its place above may want memory.
+    pub(crate) fn enter(
+        self,
+        i: usize,
+        ledger: &mut Ledger,
+    ) -> Result<Partial<'t>, ReflectErrorKind>
+        requires room { Room (holds self) ledger.old }
+        requires admitted { field_refusal (def_of self.shapes (here self)) (tree_at self.state.cursor self.state.tree) i ≡ None }
+        ensures step { IsStep self.entry (Ok (enters self.entry.shapes (here self.entry) self.entry.state i)) result }
+        ensures tokens { Conserved (holds self.entry) ledger.old (left result) ledger.new }
+    {
+        let Partial {
+            alloc,
+            table,
+            root,
+            mut parents,
+            frame,
+            calls,
+        } = self;
+        let child = child_of(table, frame.shape, i);
+        let Ok((above, below)) = enter_child(alloc, table, frame, i, child) else {
+            release_parents(parents, ledger);
+            return Err(ReflectErrorKind::OutOfMemory);
+        };
+        match parents.push(above) {
+            Ok(()) => Ok(Partial {
+                alloc,
+                table,
+                root,
+                parents,
+                frame: below,
+                calls: calls.saturating_add(1),
+            }),
+            Err(refused) => {
+                release_piece(below.piece, ledger);
+                release_children(refused.value.children, ledger);
+                release_parents(parents, ledger);
+                Err(ReflectErrorKind::OutOfMemory)
+            }
+        }
+    }
+}

@@ -1,0 +1,35 @@
+//! `begin_field`: on to a field that is told by its name.
+ghost use Rattle.std.specs.Prelude.{◌≡◌};
+ghost use Rattle.fr_shape.specs.Released.{Room, Conserved};
+ghost use Rattle.fr_model.specs.Step.{begin_field};
+ghost use Rattle.fr_partial.specs.Builder.{here, holds, IsStep, left};
+
+use crate::Partial;
+use crate::admitting::{field_named, named_refusal};
+use fr_shape::{Ledger, ReflectErrorKind};
+
+impl<'t> Partial<'t> {
+    /// Enters the first field that is declared under this name. One that holds something already keeps it.
+    pub fn begin_field(
+        self,
+        field_name: &str,
+        ledger: &mut Ledger,
+    ) -> Result<Partial<'t>, ReflectErrorKind>
+        requires { Room (holds self) ledger.old }
+        ensures step { IsStep self.entry (begin_field self.entry.shapes (here self.entry) self.entry.state field_name.now) result }
+        ensures tokens { Conserved (holds self.entry) ledger.old (left result) ledger.new }
+    {
+        let shape = self.frame.shape;
+        if let Some(operation) = named_refusal(self.table, shape) {
+            self.abandon(ledger);
+            return Err(ReflectErrorKind::OperationFailed { shape, operation });
+        }
+        match field_named(self.table, shape, field_name) {
+            Some(i) => self.enter(i, ledger),
+            None => {
+                self.abandon(ledger);
+                Err(ReflectErrorKind::FieldError { shape })
+            }
+        }
+    }
+}

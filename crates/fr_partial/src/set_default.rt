@@ -1,0 +1,36 @@
+//! `set_default`: the default of its shape at the place at which the builder works.
+ghost use Rattle.std.specs.Prelude.{◌≡◌, IsErr};
+ghost use Rattle.fr_shape.specs.Released.{Room, Conserved};
+ghost use Rattle.fr_model.specs.Step.{set_default};
+ghost use Rattle.fr_partial.specs.Builder.{here, holds, IsStep, left};
+
+use crate::Partial;
+use crate::filling::preset_of;
+use fr_shape::{Ledger, Operation, ReflectErrorKind, clone_template};
+
+impl<'t> Partial<'t> {
+    /// Puts a copy of the default of the place's shape there, in the stead of all that was put at the place and beneath
+    /// it. What a default is missing for is refused as that, and never for want of memory.
+    pub fn set_default(self, ledger: &mut Ledger) -> Result<Partial<'t>, ReflectErrorKind>
+        requires { Room (holds self) ledger.old }
+        ensures step { IsStep self.entry (set_default self.entry.shapes (here self.entry) self.entry.state) result }
+        ensures tokens { Conserved (holds self.entry) ledger.old (left result) ledger.new }
+        ensures refused { IsErr (set_default self.entry.shapes (here self.entry) self.entry.state) → result ≡ Err ReflectErrorKind.OutOfMemory → ⊥ }
+    {
+        let shape = self.frame.shape;
+        let Some(template) = preset_of(self.table, shape) else {
+            self.abandon(ledger);
+            return Err(ReflectErrorKind::OperationFailed {
+                shape,
+                operation: Operation::NoDefault,
+            });
+        };
+        match clone_template(self.alloc, template) {
+            Ok(value) => Ok(self.put(value, ledger)),
+            Err(_) => {
+                self.abandon(ledger);
+                Err(ReflectErrorKind::OutOfMemory)
+            }
+        }
+    }
+}
