@@ -132,10 +132,16 @@ module _ (table : Table) where
   checked_passes checked =
       rules_kept (rules_of table) 1 (
         checked.ids,
-        (checked.names,
-        (checked.sizes,
-        (checked.variants,
-        (checked.validators, (checked.templates, (checked.conversions, (checked.hooks, (checked.options, tt)))))))),
+        (
+          checked.names,
+          (
+            checked.sizes,
+            (
+              checked.variants,
+              (checked.validators, (checked.templates, (checked.conversions, (checked.hooks, (checked.options, tt))))),
+            ),
+          ),
+        ),
       )
 
   pub broken_refused : (rule entry : ℕ) → 1 ≤ rule → rule ≤ 9 → IsBrokenAt table rule entry → EarlierRulesHold table rule

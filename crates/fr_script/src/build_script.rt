@@ -117,9 +117,7 @@ fn release_command(command: Command, ledger: &mut Ledger)
 {
     match command {
         Command::Set(_, value) => release(value, ledger),
-        Command::BeginField(_)
-        | Command::BeginNthField(_)
-        | Command::SetDefault
-        | Command::End => {}
+        Command::BeginField(_) | Command::BeginNthField(_) | Command::SetDefault | Command::End =>
+            {}
     }
 }

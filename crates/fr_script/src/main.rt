@@ -14,6 +14,8 @@ mod marking;
 mod parts;
 mod released;
 mod report;
+#[cfg(test)]
+mod row_tests;
 mod running;
 mod serving;
 mod sizes;
