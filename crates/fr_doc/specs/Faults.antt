@@ -8,9 +8,3 @@ abbrev pub Gives : {X : Type 0} → Result X DocFault → Result X ReadError →
 Gives part (Ok found) = part ≡ Ok found
 Gives part (Err (ReadError.Fault fault)) = part ≡ Err fault
 Gives part (Err ReadError.Memory) = ⊤
-
--- the same, where what was read is seen as what the part holds
-abbrev pub GivesFor : {A X : Type 0} → (A → X) → Result X DocFault → Result A ReadError → Type 0
-GivesFor seen part (Ok found) = part ≡ Ok (seen found)
-GivesFor seen part (Err (ReadError.Fault fault)) = part ≡ Err fault
-GivesFor seen part (Err ReadError.Memory) = ⊤

@@ -10,7 +10,7 @@ use Rattle.fr_shape.specs.Look.{Table, def_of}
 use Rattle.fr_shape.specs.Served.{IsServed}
 use Rattle.fr_shape.specs.Val.{Val, product, no_vals}
 use Rattle.fr_model.specs.Places.{Place, count_children, child_count, one_more, product_of, each_child, child_shape, fill_by, fill_at}
-use Rattle.fr_model.specs.Journal.{Note, entered_at, wrote_at, Journal, Held, in_parts, written, just_entered, untouched, held, longest, entered_struct, by_entered, entered_value, by_held, child_makes, completes_within, completes}
+use Rattle.fr_model.specs.Journal.{Note, entered_at, wrote_at, Journal, Held, in_parts, written, just_entered, untouched, held, longest, entered_struct, by_entered, entered_value, by_held, by_parts, child_makes, completes_within, completes}
 use Rattle.fr_model.specs.Tree.{Form, as_struct, as_array, Tree, hole, entered, whole, begun, Trees, no_trees, branch, tree_nth, change_nth, tree_at, change_at, shape_in, child_as, count_trees}
 use Rattle.fr_model.specs.Complete.{complete, complete_all, valid_child, hole_takes, or_else, made_by, made_of_entered}
 use Rattle.fr_model.specs.Well.{IsBegunAs, Suits, SuitAll, DoneBut, Leads}
@@ -38,8 +38,8 @@ abbrev mutual
 
 -- completing
 
-by_parts : (h : Held) (parts of_entered : Option Val) → h ≡ in_parts → by_held h parts of_entered ≡ parts
-by_parts h parts of_entered e = rw e refl
+by_in_parts : (h : Held) (parts of_entered : Option Val) → h ≡ in_parts → by_held h parts of_entered ≡ parts
+by_in_parts h parts of_entered e = rw e refl
 
 by_written : (h : Held) (parts of_entered : Option Val) (v : Val) → h ≡ written v
     → by_held h parts of_entered ≡ Some v
@@ -53,9 +53,16 @@ by_untouched : (h : Held) (parts of_entered : Option Val) → h ≡ untouched �
 by_untouched h parts of_entered e = rw e refl
 
 pub begun_count : (def : Def) (form : Form) (n : ℕ) → IsBegunAs def form n → n ≡ count_children def
-begun_count (Def.Struct struct) as_struct n count = count
-begun_count (Def.Array t m) as_array n count = count
-begun_count _ _ n count = absurd count
+begun_count (Def.Struct struct) as_struct n begun_as = begun_as.0
+begun_count (Def.Array t m) as_array n begun_as = begun_as.0
+begun_count _ _ n begun_as = absurd begun_as
+
+-- what is begun has parts
+begun_makes : (def : Def) (form : Form) (n : ℕ) (of_parts : Option Val) → IsBegunAs def form n
+    → by_parts def of_parts ≡ of_parts
+begun_makes (Def.Struct struct) as_struct n of_parts begun_as = refl
+begun_makes (Def.Array t m) as_array n of_parts begun_as = refl
+begun_makes _ _ n of_parts begun_as = absurd begun_as
 
 -- a hole takes what the journal says of an untouched child
 begun_takes : (table : Table) (s : ℕ) (form : Form) (n : ℕ) → IsBegunAs (def_of table s) form n → (k : ℕ)
@@ -162,7 +169,8 @@ mutual
   completes_tree hooks table (whole v) steps s notes checked served suits agrees long =
       whole_same table s v (held notes []) _ agrees
   completes_tree hooks table (begun form ts) steps s notes checked served suits agrees long =
-      by_parts (held notes []) _ _ agrees.0
+      by_in_parts (held notes []) _ _ agrees.0
+      ∙ begun_makes (def_of table s) form (count_trees ts) _ suits.0
       ∙ ap (λ (n : ℕ). product_of (each_child (child_value table steps notes s []) n 0))
       (sym (begun_count (def_of table s) form (count_trees ts) suits.0))
       ∙ ap product_of

@@ -1,9 +1,9 @@
 -- A journal as one child of a place sees it, with places counted from that child on.
 use Rattle.std.proofs.Common.{◌≡◌, ℕ, zero, suc, ◌-◌, ◌≤◌, true, false, ◌==◌, if◌then◌else◌, [], ◌∷◌, ◌++◌, Option, refl, ◌∙◌, ap, ap₂, arith}
-use Rattle.fr_shape.specs.Look.{Table}
-use Rattle.fr_shape.specs.Val.{Val}
+use Rattle.fr_shape.specs.Look.{Table, def_of}
+use Rattle.fr_shape.specs.Val.{Val, Vals}
 use Rattle.fr_model.specs.Places.{Place, child_count, child_shape, part, part_at, one_more, product_of, each_child, fill_at}
-use Rattle.fr_model.specs.Journal.{entered_at, wrote_at, Journal, beside, standing, Held, in_parts, written, just_entered, untouched, after_write, at_least_entered, after_entry, held, longest, entered_value, by_held, child_makes, completes_within}
+use Rattle.fr_model.specs.Journal.{entered_at, wrote_at, Journal, beside, standing, Held, in_parts, written, just_entered, untouched, after_write, at_least_entered, after_entry, held, longest, entered_value, by_held, by_parts, child_makes, completes_within}
 
 -- the notes that bear on child i: those at it or beneath it, and what was written above it
 abbrev pub down : ℕ → Journal → Journal
@@ -53,7 +53,7 @@ pub completes_down : (table : Table) (steps : ℕ) (notes : Journal) (s i : ℕ)
 completes_down table zero notes s i here = refl
 completes_down table (suc steps) notes s i here =
     ap₂ (λ (h : Held) (parts : Option Val). by_held h parts (entered_value table s)) (held_down i notes here)
-    (ap product_of
+    (ap (λ (values : Option Vals). by_parts (def_of table s) (product_of values))
     (each_same (child_value table steps notes s (i ∷ here)) (child_value table steps (down i notes) s here)
     (child_count table s) 0
     (λ k. ap₂ (λ (h : Held) (own : Option Val). child_makes h (fill_at table s k) own)

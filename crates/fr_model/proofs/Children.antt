@@ -1,5 +1,5 @@
 -- Which children may be entered, by the machine and by the journal.
-use Rattle.std.proofs.Common.{◌≡◌, ℕ, suc, ◌+◌, ◌<◌, ◌≤◌, le-ltb, lt-ltb, ltb-true, Bool, true, false, ◌&&◌, if◌then◌else◌, List, [], ◌∷◌, length, nat_lt, nat_le, Option, Some, None, refl, ap, arith}
+use Rattle.std.proofs.Common.{◌≡◌, ℕ, suc, ◌+◌, ◌<◌, ◌≤◌, le-ltb, lt-ltb, ltb-true, leb-true, Bool, true, false, ◌&&◌, if◌then◌else◌, List, [], ◌∷◌, length, nat_lt, nat_le, Option, Some, None, refl, ap, arith}
 use Rattle.std.specs.Str.{bytes_eq}
 use Rattle.fr_shape.specs.declared.shape.Def.{Def}
 use Rattle.fr_shape.specs.declared.shape.ShapeId.{ShapeId}
@@ -54,11 +54,11 @@ may_enter_by def i h = nat_lt i (count_children def) && may_enter_children def h
 -- an enterable child of a place of this definition
 pub data ChildOf (def : Def) (i : ℕ) (t : Tree) : Type 0 where
   field_of : (struct : StructDef) → def ≡ Def.Struct struct → i < length struct.fields → ChildOf def i t
-  element_of : (item : ShapeId) (n : ℕ) → def ≡ Def.Array item n → i < n → IsOpen t → ChildOf def i t
+  element_of : (item : ShapeId) (n : ℕ) → def ≡ Def.Array item n → i < n → n ≤ 4096 → IsOpen t → ChildOf def i t
 
 pub enterable : (table : Table) (s i : ℕ) (t : Tree) → ChildOf (def_of table s) i t → Enterable table s i t
 enterable table s i t (field_of struct is below) = a_field struct is below
-enterable table s i t (element_of item n is below not_whole) = an_element item n is below not_whole
+enterable table s i t (element_of item n is below few not_whole) = an_element item n is below few not_whole
 
 pub data ChildCase (def : Def) (i : ℕ) (t : Tree) : Type 0 where
   a_child : ChildOf def i t → field_refusal def t i ≡ None
@@ -82,11 +82,11 @@ array_case item n i t true false e f = no_child Operation.ArrayTooLarge (rw (e, 
 array_case item n i (whole v) true true e f =
     no_child Operation.ElementOfWholeArray (rw (e, f) refl) (λ h sees. rw (e, f, sees) refl)
 array_case item n i hole true true e f =
-    a_child (element_of item n refl (ltb-true i n e) tt) (rw (e, f) refl) (λ h sees. rw (e, f, sees) refl)
+    a_child (element_of item n refl (ltb-true i n e) (leb-true n 4096 f) tt) (rw (e, f) refl) (λ h sees. rw (e, f, sees) refl)
 array_case item n i entered true true e f =
-    a_child (element_of item n refl (ltb-true i n e) tt) (rw (e, f) refl) (λ h sees. rw (e, f, sees) refl)
+    a_child (element_of item n refl (ltb-true i n e) (leb-true n 4096 f) tt) (rw (e, f) refl) (λ h sees. rw (e, f, sees) refl)
 array_case item n i (begun form ts) true true e f =
-    a_child (element_of item n refl (ltb-true i n e) tt) (rw (e, f) refl) (λ h sees. rw (e, f, sees) refl)
+    a_child (element_of item n refl (ltb-true i n e) (leb-true n 4096 f) tt) (rw (e, f) refl) (λ h sees. rw (e, f, sees) refl)
 
 pub child_case : (def : Def) (i : ℕ) (t : Tree) → ChildCase def i t
 child_case (Def.Struct struct) i t = struct_case struct i t (nat_lt i (length struct.fields)) refl

@@ -12,8 +12,8 @@ use Rattle.fr_shape.specs.Tokens.{occurs, vals_occur}
 use Rattle.fr_model.specs.Places.{child_count, one_more, product_of, each_child, fill_at}
 use Rattle.fr_model.specs.Tree.{Form, as_struct, as_array, Tree, hole, entered, whole, begun, Trees, no_trees, branch, child_as, count_trees, tree_occurs, trees_occur}
 use Rattle.fr_model.specs.Complete.{complete, complete_all, first_of, unless_there, failing_child, unless_failing, valid_child, hole_takes, missing_child, made_of_fills, made_by, lack_of_hole, lack_of_holes, lack_by, lack, lack_among, missing_value}
-use Rattle.fr_model.specs.Well.{IsBegunAs, Suits, SuitAll}
-use Rattle.fr_model.proofs.Structs.{OneMore, one_more_is, ProductOf, product_is, ChildrenFit, product_fits, settled_option}
+use Rattle.fr_model.specs.Well.{IsFullAs, Suits, SuitAll}
+use Rattle.fr_model.proofs.Structs.{OneMore, one_more_is, ProductOf, product_is, ChildrenFit, begun_full, product_fits, settled_option}
 use Rattle.fr_model.proofs.Templates.{IsTemplate, template_holds, preset_template, fill_template}
 
 -- either a value or a lack
@@ -210,14 +210,14 @@ made_of_template : (table : Table) (s : ℕ) (v : Val) → IsTemplate table s v 
 made_of_template table s v template = record { fit = template.fit; hold = λ t. template_holds table s v t template }
 
 made_of_children : (table : Table) (s : ℕ) (form : Form) (count : ℕ) (held : ℕ → ℕ) (children : Option Vals) (v : Val)
-    → IsBegunAs (def_of table s) form count
+    → IsFullAs (def_of table s) form count
     → ((vs : Vals) → children ≡ Some vs → Children table s form 0 count held vs) → product_of children ≡ Some v
     → Made table s held v
-made_of_children table s form count held children v begun_as each e =
+made_of_children table s form count held children v full_as each e =
     let parts : ProductOf children v = product_is children v e in
     let those : Children table s form 0 count held parts.parts = each parts.parts parts.parts_are in
     rw parts.same (record {
-      fit = product_fits table s form parts.parts (rw those.counted begun_as) those.fit;
+      fit = product_fits table s form parts.parts (rw those.counted full_as) those.fit;
       hold = those.hold;
     })
 
@@ -248,7 +248,7 @@ mutual
       let same : u ≡ v = cc in rw (← same) (record { fit = suits; hold = λ t. refl })
   completing_makes hooks table (begun form trees) s v checked suits e =
       made_of_children table s form (count_trees trees) (λ t. trees_occur trees t)
-      (complete_all hooks table s form 0 trees) v suits.0
+      (complete_all hooks table s form 0 trees) v (begun_full (def_of table s) form (count_trees trees) suits.0)
       (λ vs. all_completing_make hooks table trees s form 0 vs checked suits.1) e
 
   all_completing_make : (hooks : Meanings) (table : Table) (trees : Trees) (s : ℕ) (form : Form) (i : ℕ) (vs : Vals)

@@ -1,5 +1,5 @@
 -- A place at the cursor as its children see it, and the entry of one of them.
-use Rattle.std.proofs.Common.{◌≡◌, ℕ, zero, suc, ◌+◌, ◌<◌, Bool, true, false, if◌then◌else◌, List, [], ◌∷◌, length, refl, sym, ◌∙◌, ap, subst, arith}
+use Rattle.std.proofs.Common.{◌≡◌, ℕ, zero, suc, ◌+◌, ◌<◌, ◌≤◌, Bool, true, false, if◌then◌else◌, List, [], ◌∷◌, length, refl, sym, ◌∙◌, ap, subst, arith}
 use Rattle.fr_shape.specs.declared.shape.Def.{Def}
 use Rattle.fr_shape.specs.declared.shape.ShapeId.{ShapeId}
 use Rattle.fr_shape.specs.declared.shape.StructDef.{StructDef}
@@ -22,19 +22,23 @@ abbrev pub IsOpen : Tree → Type 0
 IsOpen (whole v) = ⊥
 IsOpen _ = Unit {0}
 
--- child i of the place of shape s may be entered: a field of a struct, or an element of an array that isn't whole
+-- child i of the place of shape s may be entered: a field of a struct, or an element of an array that isn't whole and not
+-- too large
 pub data Enterable (table : Table) (s i : ℕ) (t : Tree) : Type 0 where
   a_field : (struct : StructDef) → def_of table s ≡ Def.Struct struct → i < length struct.fields → Enterable table s i t
-  an_element : (item : ShapeId) (n : ℕ) → def_of table s ≡ Def.Array item n → i < n → IsOpen t → Enterable table s i t
+  an_element : (item : ShapeId) (n : ℕ) → def_of table s ≡ Def.Array item n → i < n → n ≤ 4096 → IsOpen t
+      → Enterable table s i t
 
 within : (table : Table) (s i : ℕ) (t : Tree) → Enterable table s i t → i < child_count table s
 within table s i t (a_field struct is below) = rw is below
-within table s i t (an_element item n is below not_whole) = rw is below
+within table s i t (an_element item n is below few not_whole) = rw is below
 
 begins_as : (table : Table) (s i : ℕ) (t : Tree) (n : ℕ) → Enterable table s i t → n ≡ child_count table s
     → IsBegunAs (def_of table s) (form_of (def_of table s)) n
-begins_as table s i t n (a_field struct is below) e = let there = rw is at e in rw is there
-begins_as table s i t n (an_element item m is below not_whole) e = let there = rw is at e in rw is there
+begins_as table s i t n (a_field struct is below) e =
+    let there : n ≡ length struct.fields = rw is at e in rw is (there, omega arith)
+begins_as table s i t n (an_element item m is below few not_whole) e =
+    let there : n ≡ m = rw is at e in rw is (there, few)
 
 begun_form : (def : Def) (form : Form) (n : ℕ) → IsBegunAs def form n → form ≡ form_of def
 begun_form (Def.Struct struct) as_struct n h = refl
@@ -99,26 +103,26 @@ product_agrees table s vs notes (by_value is) =
 product_agrees table s no_vals notes (by_entry is empty same) = tt
 product_agrees table s (first v vs) notes (by_entry is empty same) = cc
 
-opening_product : (table : Table) (s : ℕ) (struct : StructDef) (vs : Vals) → def_of table s ≡ Def.Struct struct
-    → fields_fit table struct.fields vs ≡ true → Opening table s as_struct (whole (product vs))
-opening_product table s struct vs is fit =
+opening_product : (table : Table) (s i : ℕ) (struct : StructDef) (vs : Vals) → def_of table s ≡ Def.Struct struct
+    → i < length struct.fields → fields_fit table struct.fields vs ≡ true → Opening table s as_struct (whole (product vs))
+opening_product table s i struct vs is below fit =
     let suits : WholesSuit table s 0 struct.fields vs
     = wholes_suit table s struct is 0 struct.fields vs (all_from struct.fields) fit in
     record {
       children = wholes vs;
       is = refl;
-      begun_as = rw is suits.count;
+      begun_as = rw is (suits.count, omega (arith, suits.count));
       suit = suits.suit;
       done = wholes_done vs;
       agree = product_agrees table s vs;
     }
 
-opening_whole : (table : Table) (s : ℕ) (struct : StructDef) (v : Val) → def_of table s ≡ Def.Struct struct
-    → fits table s v ≡ true → Opening table s as_struct (whole v)
-opening_whole table s struct (product vs) is fit =
-    opening_product table s struct vs is (rw (settled_struct table s struct is) at fit)
-opening_whole table s struct unit is fit = cc
-opening_whole table s struct _ is fit = let none = rw (settled_struct table s struct is) at fit in cc
+opening_whole : (table : Table) (s i : ℕ) (struct : StructDef) (v : Val) → def_of table s ≡ Def.Struct struct
+    → i < length struct.fields → fits table s v ≡ true → Opening table s as_struct (whole v)
+opening_whole table s i struct (product vs) is below fit =
+    opening_product table s i struct vs is below (rw (settled_struct table s struct is) at fit)
+opening_whole table s i struct unit is below fit = cc
+opening_whole table s i struct _ is below fit = let none = rw (settled_struct table s struct is) at fit in cc
 
 opening_begun : (table : Table) (s : ℕ) (form : Form) (ts : Trees) → AllDone ts → Suits table s (begun form ts)
     → Opening table s form (begun form ts)
@@ -138,8 +142,8 @@ opening table s i entered enterable at suits =
     opening_entered table s (form_of (def_of table s)) (begins_as table s i entered (child_count table s) enterable refl)
 opening table s i (whole v) (a_field struct is below) at suits =
     subst (λ (form : Form). Opening table s form (whole v)) (sym (ap form_of is))
-    (opening_whole table s struct v is suits)
-opening table s i (whole v) (an_element item n is below not_whole) at suits = absurd not_whole
+    (opening_whole table s i struct v is below suits)
+opening table s i (whole v) (an_element item n is below few not_whole) at suits = absurd not_whole
 opening table s i (begun form ts) enterable at suits =
     subst (λ (known : Form). Opening table s known (begun form ts))
     (begun_form (def_of table s) form (count_trees ts) suits.0) (opening_begun table s form ts at suits)

@@ -9,7 +9,7 @@ use Rattle.fr_shape.specs.Val.{Val, Vals, product, no_vals, first}
 use Rattle.fr_shape.specs.Fits.{fits, all_fit, fields_fit, count_vals}
 use Rattle.fr_model.specs.Places.{child_shape, one_more, product_of}
 use Rattle.fr_model.specs.Tree.{Form, as_struct, as_array, Tree, Trees, no_trees, branch, tree_nth, change_nth, child_as, count_trees, holes, wholes}
-use Rattle.fr_model.specs.Well.{IsBegunAs, Suits, SuitAll}
+use Rattle.fr_model.specs.Well.{IsFullAs, IsBegunAs, Suits, SuitAll}
 use Rattle.fr_model.proofs.Templates.{both_true}
 
 -- definitions that stand for themselves
@@ -101,12 +101,17 @@ elements_all_fit table s t n is i (first v vs) fit =
     let others : all_fit table t.0 vs ≡ true = elements_all_fit table s t n is (suc i) vs fit.1 in
     rw (here, others) refl
 
+pub begun_full : (def : Def) (form : Form) (count : ℕ) → IsBegunAs def form count → IsFullAs def form count
+begun_full (Def.Struct struct) as_struct count begun_as = begun_as.0
+begun_full (Def.Array t n) as_array count begun_as = begun_as.0
+begun_full _ _ count begun_as = absurd begun_as
+
 -- fitting children, one for each field or element, make a value that fits
-pub product_fits : (table : Table) (s : ℕ) (form : Form) (vs : Vals) → IsBegunAs (def_of table s) form (count_vals vs)
+pub product_fits : (table : Table) (s : ℕ) (form : Form) (vs : Vals) → IsFullAs (def_of table s) form (count_vals vs)
     → ChildrenFit table s form 0 vs → fits table s (product vs) ≡ true
 product_fits table s form vs count fit = go (def_of table s) form refl count fit
   where
-    go : (def : Def) (form : Form) → def_of table s ≡ def → IsBegunAs def form (count_vals vs)
+    go : (def : Def) (form : Form) → def_of table s ≡ def → IsFullAs def form (count_vals vs)
         → ChildrenFit table s form 0 vs → fits table s (product vs) ≡ true
     go (Def.Struct struct) as_struct is count fit =
         rw (settled_struct table s struct is)

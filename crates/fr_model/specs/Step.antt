@@ -1,5 +1,5 @@
 -- What each command does to a builder's state, or which refusal it meets: one function for each command. The words
--- here mean what they say at tables that are served; a contract that cites them asks for one.
+-- here mean what they say at tables that are served.
 use Rattle.std.specs.Prelude.{ℕ, ◌==◌, [], ◌∷◌, ◌++◌, List, length, nat_lt, nat_le, Option, Some, None, Result, Ok, Err, if◌then◌else◌}
 use Rattle.fr_shape.specs.declared.shape.Def.{Def}
 use Rattle.fr_shape.specs.declared.error.ReflectErrorKind.{ReflectErrorKind}

@@ -10,11 +10,11 @@ use Rattle.fr_partial.proofs.CompleteLaws.{StructOfHoles, struct_of_holes, none_
 use Rattle.fr_partial.proofs.TemplateLaws.{preset_template}
 use Rattle.fr_partial.proofs.completing.made_of_entered.Goals as goal
 
-pub clone_template-requires : goal.clone_template-requires
-clone_template-requires c = record {
+pub copy_template-requires : goal.copy_template-requires
+copy_template-requires c = record {
   no_token =
-      (preset_template c.args.table.now c.args.shape.0 (view c.in-Struct-Some.template) c.requires.checked
-      (ap preset_in (sym c.in-Some.ensures.value) ∙ ap (option_map view) c.in-Struct-Some.is-1)).light;
+      (preset_template c.args.table.now c.args.shape.0 c.in-Struct-Some.template c.requires.checked
+      (ap preset_in (sym c.in-Some.ensures.value) ∙ c.in-Struct-Some.is-1)).light;
 }
 
 pub made_of_fills-requires-clause-nothing_lacks : goal.made_of_fills-requires-clause-nothing_lacks
