@@ -108,7 +108,9 @@ module _ (ledger : List ℕ) where
         let parts = chosen (is_valid_call table ledger before (Call.Set shape v)) (first_invalid table ledger (tokens v ++ before) (i + 1) calls) i is in
         let tests = both (nat_lt shape (length table) && fits table shape v) (are_new ledger before (tokens v)) parts.0 in
         after before (tokens v) t (occurs v t) (brought calls t) (occurs_times v t) (tokens_new (tokens v) before t tests.1) (script_new calls (tokens v ++ before) (i + 1) t parts.1)
+    script_new (Call.BeginField name ∷ calls) before i t is = rw zero-add (script_new calls before (i + 1) t is)
     script_new (Call.BeginNthField index ∷ calls) before i t is = rw zero-add (script_new calls before (i + 1) t is)
+    script_new (Call.SetDefault ∷ calls) before i t is = rw zero-add (script_new calls before (i + 1) t is)
     script_new (Call.End ∷ calls) before i t is = rw zero-add (script_new calls before (i + 1) t is)
 
     all_fit : (script : List Call) (before : List ℕ) (i : ℕ) → first_invalid table ledger before i script ≡ None → AllFitting table script
@@ -118,7 +120,9 @@ module _ (ledger : List ℕ) where
         let tests = both (nat_lt shape (length table) && fits table shape v) (are_new ledger before (tokens v)) parts.0 in
         let fitting = both (nat_lt shape (length table)) (fits table shape v) tests.0 in
         ((ltb-true shape (length table) fitting.0, fitting.1), all_fit calls (tokens v ++ before) (i + 1) parts.1)
+    all_fit (Call.BeginField name ∷ calls) before i is = (tt, all_fit calls before (i + 1) is)
     all_fit (Call.BeginNthField index ∷ calls) before i is = (tt, all_fit calls before (i + 1) is)
+    all_fit (Call.SetDefault ∷ calls) before i is = (tt, all_fit calls before (i + 1) is)
     all_fit (Call.End ∷ calls) before i is = (tt, all_fit calls before (i + 1) is)
 
     pub valid_where_none_invalid : (script : List Call) → first_invalid table ledger [] 0 script ≡ None → IsValid table script ledger
