@@ -26,9 +26,9 @@ module _ (prefix_len : ℕ) where
   below_next done bucket next inside run below =
       let some : 0 < length (run_of done bucket) = omega (arith, length-take (bucket.start + bucket.len - bucket.start) (drop bucket.start done), length-drop bucket.start done) in
       let same : All (λ entry. key entry ≡ bucket.prefix) (run_of done bucket) =
-          All-same (λ entry. key entry ≡ bucket.prefix) _ _ run
-          (All-weaker (λ entry. has_prefix prefix_len bucket.prefix entry ≡ true) (λ entry. key entry ≡ bucket.prefix) (λ entry passes. eqb-true _ _ passes) _
-           (filter_passes (has_prefix prefix_len bucket.prefix) done)) in
+      All-same (λ entry. key entry ≡ bucket.prefix) _ _ run
+      (All-weaker (λ entry. has_prefix prefix_len bucket.prefix entry ≡ true) (λ entry. key entry ≡ bucket.prefix) (λ entry passes. eqb-true _ _ passes) _
+      (filter_passes (has_prefix prefix_len bucket.prefix) done)) in
       from_some (λ entry. key entry ≡ bucket.prefix) (λ entry. key entry < next) (bucket.prefix < next) (λ entry e less. subst (λ n. n < next) e less)
       (run_of done bucket) some same
       (All-take (λ entry. key entry < next) _ _ (All-drop (λ entry. key entry < next) _ _ below))
@@ -43,19 +43,19 @@ module _ (prefix_len : ℕ) where
     old_run : (b : PrefixBucket) → IsInside done b → IsRun done done b → b.prefix < bucket.prefix → IsRun (done ++ run) (done ++ run) b
     old_run b inside is less =
         let none : filter (has_prefix prefix_len b.prefix) run ≡ [] =
-            keeps_none _ run (All-weaker (λ entry. key entry ≡ bucket.prefix) (λ entry. has_prefix prefix_len b.prefix entry ≡ false)
-              (λ entry e. ne_eqb _ _ (λ other. absurd (omega arith))) run same) in
+        keeps_none _ run (All-weaker (λ entry. key entry ≡ bucket.prefix) (λ entry. has_prefix prefix_len b.prefix entry ≡ false)
+        (λ entry e. ne_eqb _ _ (λ other. absurd (omega arith))) run same) in
         part_of_front done run b.start b.len inside.1 ∙ is
         ∙ sym (filter-append (has_prefix prefix_len b.prefix) done run ∙ ap (λ l. filter (has_prefix prefix_len b.prefix) done ++ l) none ∙ append-nil _)
 
     new_run : IsRun (done ++ run) (done ++ run) bucket
     new_run =
         let none : filter (has_prefix prefix_len bucket.prefix) done ≡ [] =
-            keeps_none _ done (All-weaker (λ entry. key entry < bucket.prefix) (λ entry. has_prefix prefix_len bucket.prefix entry ≡ false)
-              (λ entry less. ne_eqb _ _ (λ other. absurd (omega arith))) done below) in
+        keeps_none _ done (All-weaker (λ entry. key entry < bucket.prefix) (λ entry. has_prefix prefix_len bucket.prefix entry ≡ false)
+        (λ entry less. ne_eqb _ _ (λ other. absurd (omega arith))) done below) in
         let all : filter (has_prefix prefix_len bucket.prefix) run ≡ run =
-            keeps_all _ run (All-weaker (λ entry. key entry ≡ bucket.prefix) (λ entry. has_prefix prefix_len bucket.prefix entry ≡ true)
-              (λ entry e. eq-eqb _ _ e) run same) in
+        keeps_all _ run (All-weaker (λ entry. key entry ≡ bucket.prefix) (λ entry. has_prefix prefix_len bucket.prefix entry ≡ true)
+        (λ entry e. eq-eqb _ _ e) run same) in
         part_behind done run bucket.start bucket.len starts long
         ∙ sym (filter-append (has_prefix prefix_len bucket.prefix) done run ∙ ap (λ l. l ++ filter (has_prefix prefix_len bucket.prefix) run) none ∙ all)
 
@@ -79,10 +79,10 @@ module _ (prefix_len : ℕ) where
       complete =
           subst (λ prefixes. All (λ entry. Contains prefixes (key entry)) (done ++ run)) (sym with_prefix)
           (All-append (λ entry. Contains (prefixes_of buckets ++ bucket.prefix ∷ []) (key entry)) done run
-           (All-weaker (λ entry. Contains (prefixes_of buckets) (key entry)) (λ entry. Contains (prefixes_of buckets ++ bucket.prefix ∷ []) (key entry))
-            (λ entry there. Contains-append_left _ _ _ there) done described.complete)
-           (All-weaker (λ entry. key entry ≡ bucket.prefix) (λ entry. Contains (prefixes_of buckets ++ bucket.prefix ∷ []) (key entry))
-            (λ entry e. subst (Contains (prefixes_of buckets ++ bucket.prefix ∷ [])) (sym e) (Contains-push _ _)) run same));
+          (All-weaker (λ entry. Contains (prefixes_of buckets) (key entry)) (λ entry. Contains (prefixes_of buckets ++ bucket.prefix ∷ []) (key entry))
+          (λ entry there. Contains-append_left _ _ _ there) done described.complete)
+          (All-weaker (λ entry. key entry ≡ bucket.prefix) (λ entry. Contains (prefixes_of buckets ++ bucket.prefix ∷ []) (key entry))
+          (λ entry e. subst (Contains (prefixes_of buckets ++ bucket.prefix ∷ [])) (sym e) (Contains-push _ _)) run same));
     }
 
   -- the buckets describe the sorted entries before `start`, whose prefixes are all below those of the others
@@ -125,7 +125,7 @@ module _ (prefix_len : ℕ) where
     below_run : All (λ entry. key entry < bucket.prefix) (take start sorted)
     below_run = All-weaker (λ entry. All (λ other. key entry < key other) (drop start sorted)) (λ entry. key entry < bucket.prefix)
         (λ entry less. from_some (λ other. key entry < key other) (λ other. key other ≡ bucket.prefix) (key entry < bucket.prefix)
-          (λ other above e. subst (λ n. key entry < n) e above) next_run (omega (arith, long_run)) (All-take (λ other. key entry < key other) bucket.len _ less) same)
+        (λ other above e. subst (λ n. key entry < n) e above) next_run (omega (arith, long_run)) (All-take (λ other. key entry < key other) bucket.len _ less) same)
         (take start sorted) front.below
 
     pub describes_more : DescribesFront sorted (start + bucket.len) (buckets ++ bucket ∷ [])
@@ -137,13 +137,13 @@ module _ (prefix_len : ℕ) where
       below =
           subst (All (λ entry. All (λ other. key entry < key other) (drop (start + bucket.len) sorted))) both
           (All-append (λ entry. All (λ other. key entry < key other) (drop (start + bucket.len) sorted)) (take start sorted) next_run
-           (All-weaker (λ entry. All (λ other. key entry < key other) (drop start sorted)) (λ entry. All (λ other. key entry < key other) (drop (start + bucket.len) sorted))
-            (λ entry less. subst (All (λ other. key entry < key other)) (drop-drop bucket.len start sorted) (All-drop (λ other. key entry < key other) bucket.len (drop start sorted) less))
-            (take start sorted) front.below)
-           (All-weaker (λ entry. key entry ≡ bucket.prefix) (λ entry. All (λ other. key entry < key other) (drop (start + bucket.len) sorted))
-            (λ entry e. All-weaker (λ other. bucket.prefix < key other) (λ other. key entry < key other)
-              (λ other above. subst (λ n. n < key other) (sym e) above) (drop (start + bucket.len) sorted) others)
-            next_run same));
+          (All-weaker (λ entry. All (λ other. key entry < key other) (drop start sorted)) (λ entry. All (λ other. key entry < key other) (drop (start + bucket.len) sorted))
+          (λ entry less. subst (All (λ other. key entry < key other)) (drop-drop bucket.len start sorted) (All-drop (λ other. key entry < key other) bucket.len (drop start sorted) less))
+          (take start sorted) front.below)
+          (All-weaker (λ entry. key entry ≡ bucket.prefix) (λ entry. All (λ other. key entry < key other) (drop (start + bucket.len) sorted))
+          (λ entry e. All-weaker (λ other. bucket.prefix < key other) (λ other. key entry < key other)
+          (λ other above. subst (λ n. n < key other) (sym e) above) (drop (start + bucket.len) sorted) others)
+          next_run same));
     }
 
   pub describes_all : (sorted : List FieldLookupEntry) (start : ℕ) (buckets : List PrefixBucket) → DescribesFront sorted start buckets → length sorted ≤ start

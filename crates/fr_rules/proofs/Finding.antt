@@ -43,7 +43,7 @@ pub first_in_run : (prefix_len : ℕ) (name : List ℕ) (entries : List FieldLoo
 first_in_run prefix_len name entries =
     ap (option_map (λ (entry : FieldLookupEntry). entry.index))
     (find-filter (is_named name) (has_prefix prefix_len (prefix_of prefix_len name))
-     (λ entry same. eq-eqb _ _ (ap (prefix_of prefix_len) (named name entry same))) entries)
+    (λ entry same. eq-eqb _ _ (ap (prefix_of prefix_len) (named name entry same))) entries)
 
 tied : (x y : ℕ) → nat_cmp x y ≡ Equal → x ≡ y
 tied x y = grind (arith, nat_tests)
@@ -79,16 +79,16 @@ module _ (prefix_len prefix : ℕ) (entries stored : List FieldLookupEntry) (buc
   -- where a search finds no bucket, no entry has the prefix
   pub none_found : (place : ℕ)
       → (IsNonDecreasingBy (λ (bucket : PrefixBucket). ordering_index (nat_cmp bucket.prefix prefix)) buckets
-        → IsPartitionPoint (λ (bucket : PrefixBucket). nat_cmp bucket.prefix prefix ≡ Less) (λ (bucket : PrefixBucket). nat_cmp bucket.prefix prefix ≡ Greater) buckets place)
+      → IsPartitionPoint (λ (bucket : PrefixBucket). nat_cmp bucket.prefix prefix ≡ Less) (λ (bucket : PrefixBucket). nat_cmp bucket.prefix prefix ≡ Greater) buckets place)
       → filter (has_prefix prefix_len prefix) entries ≡ []
   none_found place search =
       let point = search (searchable_from_sorted nat_cmp_total prefix_in_bucket buckets prefix sorted) in
       let differ : All (λ (bucket : PrefixBucket). bucket.prefix ≢ prefix) buckets = λ i blank within.
-          elim (cases_lt i place) [
-            | inl before ↦ less _ _ (point.0 i blank (omega arith) before)
-            | inr after ↦ greater _ _ (point.1 i blank after within)
-          ] in
+      elim (cases_lt i place) [
+        | inl before ↦ less _ _ (point.0 i blank (omega arith) before)
+        | inr after ↦ greater _ _ (point.1 i blank after within)
+      ] in
       keeps_none (has_prefix prefix_len prefix) entries
       (All-weaker (λ entry. Contains (prefixes_of buckets) (prefix_in prefix_len entry)) (λ entry. has_prefix prefix_len prefix entry ≡ false)
-       (λ entry there. ne_eqb _ _ (All-contains (λ p. p ≢ prefix) (prefixes_of buckets) (prefix_in prefix_len entry) (All-map (λ p. p ≢ prefix) prefix_in_bucket buckets differ) there))
-       entries described.complete)
+      (λ entry there. ne_eqb _ _ (All-contains (λ p. p ≢ prefix) (prefixes_of buckets) (prefix_in prefix_len entry) (All-map (λ p. p ≢ prefix) prefix_in_bucket buckets differ) there))
+      entries described.complete)

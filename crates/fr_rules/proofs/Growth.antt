@@ -17,15 +17,20 @@ use Rattle.fr_rules.proofs.Parts.{part_of_front, part_behind}
 pub stored_all : (pool : Pool) (prefix_len : ℕ) (stored buckets : Range) (entries : List FieldLookupEntry)
     → IsLongLookupOf pool prefix_len stored buckets entries → stored.len ≡ length entries
 stored_all pool prefix_len stored buckets entries long =
-    omega (arith, length_permutation entries (part_of pool.entries stored) long.same_entries, long.entries_inside,
-      length-take (stored.start + stored.len - stored.start) (drop stored.start pool.entries), length-drop stored.start pool.entries)
+    omega (
+      arith,
+      length_permutation entries (part_of pool.entries stored) long.same_entries,
+      long.entries_inside,
+      length-take (stored.start + stored.len - stored.start) (drop stored.start pool.entries),
+      length-drop stored.start pool.entries,
+    )
 
 module _ {X : Type 0} (before more after : List X) (range : Range) (grew : after ≡ before ++ more) (behind : range ≡ indices_from (length before) (length more)) where
   -- the part of what was put behind a list
   part_added : more ≡ part_of after range
   part_added =
       sym (ap (λ l. part_of l range) grew ∙ ap (part_of (before ++ more)) behind
-        ∙ part_behind before more (length before) (length more) refl refl)
+      ∙ part_behind before more (length before) (length more) refl refl)
 
   added_inside : range.start + range.len ≤ length after
   added_inside =

@@ -96,7 +96,7 @@ module _ {X : Type 0} (key : X → ℕ) where
           let differs : key (get_or rest (len + i) d) ≢ key first = eqb-false _ _ (point.1 (len + i) d (omega arith) inside) in
           let above : key first ≤ key (get_or rest (len + i) d) = from_first (len + i) d inside in
           let more : key first < key (get_or rest (len + i) d) = omega arith in
-          rw at more
+          rw at more;
     }
 
     -- the same, from what a search for the end of the run says

@@ -29,12 +29,12 @@ numbered_from : (name : List ℕ) (i : ℕ) (variants : List VariantDef)
 numbered_from name i [] = refl
 numbered_from name i (variant ∷ variants) =
     elim variant.other as (λ b. first_numbered name (cond b (variant_entries_from (i + 1) variants) ((name_of variant, i) ∷ variant_entries_from (i + 1) variants))
-        ≡ cond (not b && bytes_eq (name_of variant) name) (Some i) (position_from (is_found_by name) (i + 1) variants)) [
+    ≡ cond (not b && bytes_eq (name_of variant) name) (Some i) (position_from (is_found_by name) (i + 1) variants)) [
       | true ↦ numbered_from name (i + 1) variants
       | false ↦
           elim (bytes_eq (name_of variant) name) as (λ b. option_map (λ (entry : VariantEntry). entry.1)
-              (cond b (Some (name_of variant, i)) (find (λ (entry : VariantEntry). bytes_eq entry.0 name) (variant_entries_from (i + 1) variants)))
-              ≡ cond b (Some i) (position_from (is_found_by name) (i + 1) variants)) [
+          (cond b (Some (name_of variant, i)) (find (λ (entry : VariantEntry). bytes_eq entry.0 name) (variant_entries_from (i + 1) variants)))
+          ≡ cond b (Some i) (position_from (is_found_by name) (i + 1) variants)) [
             | true ↦ refl
             | false ↦ numbered_from name (i + 1) variants
           ]
@@ -94,15 +94,15 @@ found_at name (first ∷ entries) entry (suc k) apart within at same =
     let inside : k < length entries = omega arith in
     let once : list_any (bytes_eq first.0) (map name_in entries) ≡ false = is_not _ parts.0 in
     let differs : bytes_eq first.0 name ≡ false =
-        elim (bytes_eq first.0 name) as (λ b. bytes_eq first.0 name ≡ b → b ≡ false) [
-          | true ↦ λ equal.
-              let twice : bytes_eq first.0 (get_or entries k entry).0 ≡ true =
-                  (bytes_decides first.0 (get_or entries k entry).0).1 ((bytes_decides first.0 name).0 equal ∙ sym same ∙ sym (ap name_in at)) in
-              let again : list_any (bytes_eq first.0) (map name_in entries) ≡ true =
-                  or_at (λ l. list_any (bytes_eq first.0) (map name_in l)) (λ (e : VariantEntry). bytes_eq first.0 e.0) refl (λ _ _. refl) entries k entry inside twice in
-              sym again ∙ once
-          | false ↦ λ _. refl
-        ] refl in
+    elim (bytes_eq first.0 name) as (λ b. bytes_eq first.0 name ≡ b → b ≡ false) [
+      | true ↦ λ equal.
+          let twice : bytes_eq first.0 (get_or entries k entry).0 ≡ true =
+          (bytes_decides first.0 (get_or entries k entry).0).1 ((bytes_decides first.0 name).0 equal ∙ sym same ∙ sym (ap name_in at)) in
+          let again : list_any (bytes_eq first.0) (map name_in entries) ≡ true =
+          or_at (λ l. list_any (bytes_eq first.0) (map name_in l)) (λ (e : VariantEntry). bytes_eq first.0 e.0) refl (λ _ _. refl) entries k entry inside twice in
+          sym again ∙ once
+      | false ↦ λ _. refl
+    ] refl in
     numbered_at_front name first entries false differs ∙ found_at name entries entry k parts.1 inside at same
 
 absent : (name : List ℕ) (entries : List VariantEntry) → All (λ (entry : VariantEntry). bytes_eq entry.0 name ≡ false) entries → first_numbered name entries ≡ None
@@ -139,15 +139,15 @@ module _ (name : List ℕ) (variants : List VariantDef) (sorted : List VariantEn
 
   pub absent_sorted : (place : ℕ) → IsSortedByKey name_in order sorted
       → (IsNonDecreasingBy (λ (entry : VariantEntry). ordering_index (order entry.0 name)) sorted
-        → IsPartitionPoint (λ (entry : VariantEntry). order entry.0 name ≡ Less) (λ (entry : VariantEntry). order entry.0 name ≡ Greater) sorted place)
+      → IsPartitionPoint (λ (entry : VariantEntry). order entry.0 name ≡ Less) (λ (entry : VariantEntry). order entry.0 name ≡ Greater) sorted place)
       → None ≡ variant_named name variants
   absent_sorted place up search =
       let point = search (searchable_from_sorted nat_list_cmp_total name_in sorted name up) in
       let none : All (λ (entry : VariantEntry). bytes_eq entry.0 name ≡ false) sorted = λ k blank within.
-          elim (cases_lt k place) [
-            | inl before ↦ differ _ _ (λ same. (level name).0 (subst (λ xs. order xs name ≡ Less) same (point.0 k blank (omega arith) before)))
-            | inr after ↦ differ _ _ (λ same. (level name).1 (subst (λ xs. order xs name ≡ Greater) same (point.1 k blank after within)))
-          ] in
+      elim (cases_lt k place) [
+        | inl before ↦ differ _ _ (λ same. (level name).0 (subst (λ xs. order xs name ≡ Less) same (point.0 k blank (omega arith) before)))
+        | inr after ↦ differ _ _ (λ same. (level name).1 (subst (λ xs. order xs name ≡ Greater) same (point.1 k blank after within)))
+      ] in
       sym (absent name (variant_entries variants)
-        (All-permutation (λ (entry : VariantEntry). bytes_eq entry.0 name ≡ false) sorted (variant_entries variants) (IsPermutation-sym (variant_entries variants) sorted moved) none))
+      (All-permutation (λ (entry : VariantEntry). bytes_eq entry.0 name ≡ false) sorted (variant_entries variants) (IsPermutation-sym (variant_entries variants) sorted moved) none))
       ∙ numbered name variants

@@ -45,8 +45,8 @@ fn bucket_from(prefix_len: usize, sorted: &[FieldLookupEntry], start: usize) -> 
     ensures others { All (λ entry. result.prefix < prefix_in prefix_len entry) (drop (start + result.len) sorted.now) }
 {
     let prefix = prefix_of(prefix_len, sorted[start].name.as_str());
-    let len = sorted[start..]
-        .partition_point(|entry| prefix_of(prefix_len, entry.name.as_str()) == prefix);
+    let len = sorted[start..].partition_point(|entry| prefix_of(prefix_len, entry.name.as_str())
+        == prefix);
     PrefixBucket {
         prefix,
         start: start as u32,

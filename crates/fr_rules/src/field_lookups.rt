@@ -1,6 +1,5 @@
 //! Lookups of fields by their names.
 ghost use Rattle.std.specs.Prelude.{◌≡◌, ◌<◌, ◌≤◌, ◌==◌, ℕ, List, length, filter, All, IfOk};
-
 ghost use Rattle.fr_rules.specs.Entries.{entries_of, first_named};
 ghost use Rattle.fr_rules.specs.Pools.{Pool, HasGrown};
 ghost use Rattle.fr_rules.specs.Prefixes.{has_prefix};
@@ -137,5 +136,4 @@ fn run_with<'a>(
 /// A lookup stands for the same entries after its pool grew.
 pub fn law_lookups_stay()
     ensures { LookupsStay }
-{
-}
+{}

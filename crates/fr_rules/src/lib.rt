@@ -6,6 +6,8 @@ mod entries;
 mod field_lookups;
 mod pools;
 mod prefixes;
+#[cfg(test)]
+mod tests;
 mod variant_lookups;
 
 pub use buckets::PrefixBucket;

@@ -68,7 +68,9 @@ impl LookupPool {
         if entries.len() > u32::MAX as usize - self.entries.len() {
             return Err(OutOfMemory);
         }
-        self.entries.alloc_extend(entries).map_err(|_refused| OutOfMemory)
+        self.entries
+            .alloc_extend(entries)
+            .map_err(|_refused| OutOfMemory)
     }
 
     /// Puts the buckets behind the others.
@@ -84,6 +86,8 @@ impl LookupPool {
         if buckets.len() > u32::MAX as usize - self.buckets.len() {
             return Err(OutOfMemory);
         }
-        self.buckets.alloc_extend(buckets).map_err(|_refused| OutOfMemory)
+        self.buckets
+            .alloc_extend(buckets)
+            .map_err(|_refused| OutOfMemory)
     }
 }

@@ -8,10 +8,7 @@ use crate::FieldLookupEntry;
 pub(crate) fn prefix_len_of(entries: &[FieldLookupEntry]) -> usize
     ensures { result ≡ prefix_len_of entries.now }
 {
-    let long = entries
-        .iter()
-        .filter(|entry| entry.name.len() >= 8)
-        .count();
+    let long = entries.iter().filter(|entry| entry.name.len() >= 8).count();
     if long > entries.len() / 2 { 8 } else { 4 }
 }
 

@@ -7,4 +7,4 @@ loop-start-preserved c =
     let bucket = c.bucket_from-bucket in
     subst (DescribesFront c.args.prefix_len c.args.sorted.now (c.loop-start.start + bucket.result.len)) (sym c.in_ok-push.ensures.items)
     (describes_more c.args.prefix_len c.args.sorted.now c.loop-start.start c.loop-start.buckets.items bucket.result c.loop-start.invariant
-     bucket.ensures.start bucket.ensures.some bucket.ensures.within bucket.ensures.run bucket.ensures.others)
+    bucket.ensures.start bucket.ensures.some bucket.ensures.within bucket.ensures.run bucket.ensures.others)

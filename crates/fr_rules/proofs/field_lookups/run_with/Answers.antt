@@ -12,4 +12,4 @@ returns-in-Ok c prefix_len entries described =
 pub returns-in-Err : goal.returns-in-Err
 returns-in-Err c prefix_len entries described =
     sym (none_found prefix_len c.args.prefix entries c.args.stored.now c.args.buckets.now described c.in-Err.field-0
-     (c.in-Err.ensures.position (λ (bucket : PrefixBucket). bucket.prefix) (always_returns_same _ _ _ (λ a r f k. search rules))))
+    (c.in-Err.ensures.position (λ (bucket : PrefixBucket). bucket.prefix) (always_returns_same _ _ _ (λ a r f k. search rules))))

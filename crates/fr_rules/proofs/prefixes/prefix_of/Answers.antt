@@ -30,5 +30,5 @@ unfolding prefix_of
 returns c =
     c.from_le_bytes.ensures
     ∙ number_is c.as_bytes-name.result.now c.copy_from_slice.new.self c.args.prefix_len c.min-len.result
-      c.copy_from_slice.ensures.after c.min-len.ensures
+    c.copy_from_slice.ensures.after c.min-len.ensures
     ∙ ap (λ name. from_le_bytes w64 (take c.args.prefix_len name)) c.as_bytes-name.ensures.value
