@@ -4,3 +4,4 @@ pub mod Growth
 pub mod Parts
 pub mod Sorting
 pub mod Variants
+pub mod Within
