@@ -5,3 +5,4 @@ pub mod Parts
 pub mod Sorting
 pub mod Variants
 pub mod Within
+pub mod Pieces
