@@ -6,6 +6,9 @@ ghost use Rattle.fr_rules.specs.FillRules.{told_strict, told_deferred};
 
 use fr_shape::{Def, DefaultSource, Field, FieldRef, ShapeId, ShapeTable, StructKind};
 
+#[cfg(test)]
+mod tests;
+
 /// What a strict completion does with a hole: it takes a default, or the caller has to fill the field.
 #[derive(Clone, Copy, PartialEq, Eq)]
 pub enum FillRule {

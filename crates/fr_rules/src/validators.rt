@@ -1,13 +1,15 @@
-//! Tests of a field's value, each with the kind of the scalar that it is made for.
-ghost use Rattle.std.specs.Prelude.{◌≡◌, ◌↔◌, true, IsOk, IfErr};
+//! Validators of a field's value, each with the kind of the scalar that it is made for.
+ghost use Rattle.std.specs.Prelude.{◌≡◌, ◌↔◌, IsOk, IsTrue, IfErr};
 ghost use Rattle.fr_shape.specs.View.{view};
-ghost use Rattle.fr_shape.specs.Hooks.{Meanings};
 ghost use Rattle.fr_shape.specs.Validators.{bytes_in, number_in, is_compared, is_least, is_most, begins_with, is_within, is_url};
 ghost use Rattle.fr_rules.specs.Validators.{passes_held, IsRefusal};
 
 use crate::messages::message;
 use fr_shape::{FieldRef, HookId, Hooks, OutOfMemory, ReflectErrorKind, ScalarKind, Text, Value};
 use std::alloc::Global;
+
+#[cfg(test)]
+mod tests;
 
 /// A validator of a field, ready to be run.
 #[derive(Drop)]
@@ -40,8 +42,8 @@ impl PrecomputedValidator {
         value: &Value,
         field: FieldRef,
     ) -> Result<(), ReflectErrorKind>
-        ensures ok { IsOk result ↔ (passes_held (H.means hooks.now).check self.now.kind (view value.now) ≡ true) }
-        ensures err { IfErr result (IsRefusal field self.now.kind (view value.now)) }
+        ensures passing { IsOk result ↔ IsTrue (passes_held (H.means hooks.now).check self.now.kind (view value.now)) }
+        ensures failing { IfErr result (IsRefusal field self.now.kind (view value.now)) }
     {
         if passes(hooks, &self.kind, value) {
             return Ok(());
