@@ -1,5 +1,5 @@
 -- A text begins with another, or has it further on, just where the tests of std say so.
-use Rattle.std.proofs.Common.{◌≡◌, ◌↔◌, ℕ, Bool, true, false, ◌&&◌, ◌||◌, ◌⊎◌, eqb, List, [], ◌∷◌, ◌++◌, length, take, refl, sym, ap, ◌∙◌, subst, inl, inr}
+use Rattle.std.proofs.Common.{◌≡◌, ◌↔◌, ℕ, Bool, true, false, ◌&&◌, ◌||◌, eqb, List, [], ◌∷◌, ◌++◌, refl, sym, ap, ◌∙◌, inl, inr}
 use Rattle.std.specs.List.{starts_with}
 use Rattle.std.specs.Str.Iter.{HasSubslice}
 use Rattle.std.proofs.lemmas.Bool.{eqb-true, and_parts, or_cases, true≢false, eq-eqb}
