@@ -4,3 +4,5 @@ pub mod Growth
 pub mod Parts
 pub mod Sorting
 pub mod Variants
+pub mod Within
+pub mod Pieces
