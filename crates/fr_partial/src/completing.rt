@@ -81,11 +81,7 @@ fn made_of_fills(
 }
 
 /// The value of a place that was only entered.
-fn made_of_entered(
-    alloc: Global,
-    table: &ShapeTable,
-    shape: ShapeId,
-) -> Result<Value, OutOfMemory>
+fn made_of_entered(alloc: Global, table: &ShapeTable, shape: ShapeId) -> Result<Value, OutOfMemory>
     requires checked { IsChecked table.now }
     requires served { IsServed table.now }
     requires nothing_lacks { lack_of_entered no_hooks table.now shape.0 ≡ None }

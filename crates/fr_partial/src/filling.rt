@@ -62,11 +62,7 @@ fn takes_shape_default(table: &ShapeTable, container: ShapeId, field: &Field) ->
 
 /// The template that a hole of a struct's field takes, by the first rule that holds: the field's own; its shape's
 /// default, where it is marked so; the same unmarked.
-fn template_of<'a>(
-    table: &'a ShapeTable,
-    container: ShapeId,
-    field: &'a Field,
-) -> Option<&'a Value>
+fn template_of<'a>(table: &'a ShapeTable, container: ShapeId, field: &'a Field) -> Option<&'a Value>
     ensures { option_map view (option_copied result) ≡ strict_fill table.now container.0 false field.now }
 {
     match &field.default {

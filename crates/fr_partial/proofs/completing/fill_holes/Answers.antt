@@ -1,8 +1,7 @@
-use Rattle.std.proofs.Common.{◌≡◌, ◌<◌, ◌+◌, List, Vec, Global, set, length, Some, get_or, refl, sym, ap, ◌∙◌, subst, true, false, arith}
+use Rattle.std.proofs.Common.{◌+◌, List, Vec, Global, sym, ap, ◌∙◌, subst, arith}
 use Rattle.fr_shape.specs.declared.value.Value.{Value}
 use Rattle.fr_shape.specs.View.{view}
 use Rattle.fr_model.specs.Places.{fill_at, child_shape}
-use Rattle.fr_partial.specs.Children.{is_placeholder}
 use Rattle.fr_partial.proofs.FillingLaws.{Progress, progress_begins, progress_there, progress_fill, progress_set, progress_full, progress_ends, fits_there}
 use Rattle.fr_partial.proofs.TemplateLaws.{fill_template, light_occurs, IsTemplate}
 use Rattle.fr_partial.proofs.completing.fill_holes.Goals as goal
@@ -30,23 +29,23 @@ returns-in_err-copy-clause-memory c h =
 pub loop-i-preserved : goal.loop-i-preserved
 loop-i-preserved c =
     elim c.if-is_placeholder.branch [
-      then-is_placeholder+in_ok-copy w ↦
-        let template : IsTemplate c.args.table.now (child_shape c.args.table.now c.args.shape.0 c.loop-i.i) (view w.in_ok-copy.copy)
-        = fill_template c.args.table.now c.args.shape.0 c.loop-i.i (view w.in_ok-copy.copy) c.requires.checked w.in_ok-copy.ensures in
-        subst (λ (cs : List Value). Progress (fill_at c.args.table.now c.args.shape.0) c.args.children.now.items cs (c.loop-i.i + 1))
-        (sym (ap (λ (cs : Vec Value Global). cs.items) w.children-is ∙ w.put.ensures))
-        (progress_set (fill_at c.args.table.now c.args.shape.0) c.args.children.now.items c.loop-i.children.items c.loop-i.i
-        c.loop-i.invariant c.index.result.now (omega (arith, c.loop-i.invariant.count)) c.index.ensures
-        w.in_ok-copy.copy (sym c.is_placeholder.ensures ∙ w.if-is_placeholder.true) w.in_ok-copy.ensures
-        (fits_there c.args.table.now (child_shape c.args.table.now c.args.shape.0 c.loop-i.i) (view w.in_ok-copy.copy)
-        template.fitting)
-        (λ t. light_occurs (view w.in_ok-copy.copy) t template.light))
+      | then-is_placeholder+in_ok-copy w ↦
+          let template : IsTemplate c.args.table.now (child_shape c.args.table.now c.args.shape.0 c.loop-i.i) (view w.in_ok-copy.copy)
+          = fill_template c.args.table.now c.args.shape.0 c.loop-i.i (view w.in_ok-copy.copy) c.requires.checked w.in_ok-copy.ensures in
+          subst (λ (cs : List Value). Progress (fill_at c.args.table.now c.args.shape.0) c.args.children.now.items cs (c.loop-i.i + 1))
+          (sym (ap (λ (cs : Vec Value Global). cs.items) w.children-is ∙ w.put.ensures))
+          (progress_set (fill_at c.args.table.now c.args.shape.0) c.args.children.now.items c.loop-i.children.items c.loop-i.i
+          c.loop-i.invariant c.index.result.now (omega (arith, c.loop-i.invariant.count)) c.index.ensures
+          w.in_ok-copy.copy (sym c.is_placeholder.ensures ∙ w.if-is_placeholder.true) w.in_ok-copy.ensures
+          (fits_there c.args.table.now (child_shape c.args.table.now c.args.shape.0 c.loop-i.i) (view w.in_ok-copy.copy)
+          template.fitting)
+          (λ t. light_occurs (view w.in_ok-copy.copy) t template.light))
       | else-is_placeholder w ↦
-        subst (λ (cs : List Value). Progress (fill_at c.args.table.now c.args.shape.0) c.args.children.now.items cs (c.loop-i.i + 1))
-        (ap (λ (cs : Vec Value Global). cs.items) (sym w.children-is))
-        (progress_there (fill_at c.args.table.now c.args.shape.0) c.args.children.now.items c.loop-i.children.items c.loop-i.i
-        c.loop-i.invariant c.index.result.now (omega (arith, c.loop-i.invariant.count)) c.index.ensures
-        (sym c.is_placeholder.ensures ∙ w.if-is_placeholder.false))
+          subst (λ (cs : List Value). Progress (fill_at c.args.table.now c.args.shape.0) c.args.children.now.items cs (c.loop-i.i + 1))
+          (ap (λ (cs : Vec Value Global). cs.items) (sym w.children-is))
+          (progress_there (fill_at c.args.table.now c.args.shape.0) c.args.children.now.items c.loop-i.children.items c.loop-i.i
+          c.loop-i.invariant c.index.result.now (omega (arith, c.loop-i.invariant.count)) c.index.ensures
+          (sym c.is_placeholder.ensures ∙ w.if-is_placeholder.false))
     ]
 
 pub returns-clause-filled : goal.returns-clause-filled

@@ -1,4 +1,4 @@
-use Rattle.std.proofs.Common.{◌≡◌, ℕ, ◌+◌, Some, length, slice_index, true, false, refl, sym, ap, ◌∙◌, inl, inr, arith}
+use Rattle.std.proofs.Common.{◌≡◌, ℕ, ◌+◌, length, slice_index, true, false, refl, sym, ap, ◌∙◌, inl, inr, arith}
 use Rattle.fr_shape.specs.declared.error.ReflectErrorKind.{ReflectErrorKind}
 use Rattle.fr_shape.specs.TokenLaws.{both, Room_same, Room_fewer, Room_risen}
 use Rattle.fr_shape.specs.Tokens.{vals_occur}
@@ -123,13 +123,13 @@ returns-in-Ok-clause-tokens c = record {
 pub returns-in-Err-clause-step : goal.returns-in-Err-clause-step
 returns-in-Err-clause-step c =
     elim c.in-Err.ensures.why [
-      inl wants ↦ inl wants.memory
+      | inl wants ↦ inl wants.memory
       | inr lacking ↦
-        inr
-        (end_refused c.self.inside.table.now c.self.inside.root.0 c.pop.new.self.items c.in-Some.parent
-        c.self.inside.frame c.self.inside.calls c.self.inside.parents.items c.in-Some.ensures.items
-        c.self.invariant.chain c.args.self c.self.view_is c.self.invariant.checked c.self.invariant.served c.in-Err.kind
-        lacking)
+          inr
+          (end_refused c.self.inside.table.now c.self.inside.root.0 c.pop.new.self.items c.in-Some.parent
+          c.self.inside.frame c.self.inside.calls c.self.inside.parents.items c.in-Some.ensures.items
+          c.self.invariant.chain c.args.self c.self.view_is c.self.invariant.checked c.self.invariant.served c.in-Err.kind
+          lacking)
     ]
 
 pub returns-in-Err-clause-tokens : goal.returns-in-Err-clause-tokens

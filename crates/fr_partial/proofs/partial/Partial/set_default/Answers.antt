@@ -1,6 +1,4 @@
-use Rattle.std.proofs.Common.{◌≡◌, ℕ, ◌+◌, true, false, Ok, Some, Result, is_err, refl, inr, sym, ap, ◌∙◌, subst, arith}
-use Rattle.fr_shape.specs.declared.error.ReflectErrorKind.{ReflectErrorKind}
-use Rattle.fr_shape.specs.Released.{Conserved}
+use Rattle.std.proofs.Common.{◌≡◌, ℕ, ◌+◌, true, false, Ok, refl, inr, sym, ap, ◌∙◌, arith}
 use Rattle.fr_shape.specs.TokenLaws.{Room_same, Conserved_same}
 use Rattle.fr_shape.specs.Tokens.{occurs}
 use Rattle.fr_shape.specs.Val.{Val}
@@ -51,7 +49,7 @@ put-requires-clause-room c =
 pub returns-in-Ok-clause-step : goal.returns-in-Ok-clause-step
 returns-in-Ok-clause-step c = (
   default_there c.self.inside.table.now c.self.inside.root.0 c.self.inside.parents.items c.self.inside.frame
-    c.self.inside.calls c.self.invariant.chain c.args.self c.self.view_is (view c.in-Some.template.now)
+      c.self.inside.calls c.self.invariant.chain c.args.self c.self.view_is (view c.in-Some.template.now)
       (sym c.in-Some.ensures)
       ∙ ap (λ (v : Val). Ok (puts c.args.self.state v)) (sym c.in-Ok.ensures.copy)
       ∙ ap (λ (s : State). Ok s) (sym c.put.ensures.state),

@@ -19,7 +19,7 @@ put-requires-clause-fits c =
 pub returns-then-actual-expected-clause-step : goal.returns-then-actual-expected-clause-step
 returns-then-actual-expected-clause-step c = (
   set_admitted c.self.inside.table.now c.self.inside.root.0 c.self.inside.parents.items c.self.inside.frame
-    c.self.inside.calls c.self.invariant.chain c.args.self c.self.view_is c.args.value.shape c.args.value.value
+      c.self.inside.calls c.self.invariant.chain c.args.self c.self.view_is c.args.value.shape c.args.value.value
       (sym c.shape-actual.ensures ∙ c.if-actual-expected.true)
       ∙ ap (λ (v : Val). Ok (puts c.args.self.state v)) (sym c.into_value.ensures)
       ∙ ap (λ (s : State). Ok s) (sym c.put.ensures.state),
