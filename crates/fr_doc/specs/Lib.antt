@@ -1,8 +1,10 @@
 pub mod Adapter
 pub mod Causes
+pub mod DefForms
 pub mod DynForms
 pub mod FaultSteps
 pub mod Faults
+pub mod FieldForms
 pub mod FloatFree
 pub mod Keys
 pub mod Memory

@@ -1,43 +1,26 @@
--- The shapes that JSON stands for. Other forms will follow; so far each is broken.
-use Rattle.std.specs.Prelude.{ℕ, false, List, [], ◌∷◌, Option, Some, None, option_map, Result, Err, codes, if◌then◌else◌}
+-- The tables that JSON stands for. Other keys of a shape will follow; so far each is broken.
+use Rattle.std.specs.Prelude.{ℕ, Bool, false, List, [], ◌∷◌, Option, Some, None, Result, Err, codes, if◌then◌else◌}
 use Rattle.std.specs.Option.{ok_or}
-use Rattle.std.specs.Str.{bytes_eq}
-use Rattle.serde_json.specs.Data.{Data, string, array, object, no_members, member}
+use Rattle.serde_json.specs.Data.{Data, array}
 use Rattle.serde_json.specs.Find.{get, as_str, as_object}
+use Rattle.fr_shape.specs.Val.{Val}
 use Rattle.fr_shape.specs.declared.shape.Shape.{Shape}
 use Rattle.fr_shape.specs.declared.shape.Def.{Def}
-use Rattle.fr_shape.specs.declared.shape.ScalarKind.{ScalarKind}
-use Rattle.fr_shape.specs.declared.shape.StructKind.{StructKind}
-use Rattle.fr_shape.specs.declared.shape.Field.{Field}
 use Rattle.fr_doc.specs.declared.fault.DocFault.{DocFault}
 use Rattle.fr_doc.specs.declared.fault.DocPlace.{DocPlace}
+use Rattle.fr_doc.specs.DefForms.{given_def}
 use Rattle.fr_doc.specs.FaultSteps.{each_at}
+use Rattle.fr_doc.specs.FieldForms.{under_key, flag_form, template_form}
 use Rattle.fr_doc.specs.Keys.{has_no_other}
-use Rattle.fr_doc.specs.Numerals.{whole_number}
-use Rattle.fr_doc.specs.Steps.{◌>>=◌, each}
+use Rattle.fr_doc.specs.Steps.{◌>>=◌}
 
--- a field with a name and a shape, and nothing else said of it
-abbrev pub plain_field : List ℕ → ℕ → Field
-plain_field name shape = record {
-  name = name;
-  rename = None;
-  alias = None;
-  shape = record { 0 = shape };
-  default = None;
-  skip = false;
-  flatten = false;
-  proxy = None;
-  format_proxies = [];
-  validators = [];
-}
-
--- a shape with a name and a definition, and nothing else said of it
-abbrev pub plain_shape : List ℕ → Def → Shape
-plain_shape name def = record {
+-- a shape of which this is said, and nothing else
+abbrev pub described_shape : (name : List ℕ) (def : Def) (preset : Option Val) (default_attr : Bool) → Shape
+described_shape name def preset default_attr = record {
   name = name;
   def = def;
-  preset = None;
-  default_attr = false;
+  preset = preset;
+  default_attr = default_attr;
   inner = None;
   builder = None;
   convert = None;
@@ -52,60 +35,19 @@ plain_shape name def = record {
   bytes_ok = false;
 }
 
--- what stands under a key
-abbrev pub under_key : {X : Type 0} → List ℕ → (Data → Option X) → Data → Option X
-under_key key form d = do
-  inner ← get key d
-  form inner
+abbrev pub shape_keys : List (List ℕ)
+shape_keys = codes "name" ∷ codes "def" ∷ codes "preset" ∷ codes "default_attr" ∷ []
 
--- an object of a name and a shape's number
-unfoldable pub field_form : Data → Option Field
-field_form d = do
-  members ← as_object d
-  if has_no_other members (codes "name" ∷ codes "shape" ∷ []) then (do
-    name ← under_key (codes "name") as_str d
-    shape ← under_key (codes "shape") whole_number d
-    Some (plain_field name shape)) else None
-
-abbrev pub one_or_more : {X : Type 0} → List X → Option (List X)
-one_or_more [] = None
-one_or_more (x ∷ xs) = Some (x ∷ xs)
-
--- an array of one or more fields
-unfoldable pub fields_form : Data → Option (List Field)
-fields_form (array ds) = do
-  fields ← each field_form ds
-  one_or_more fields
-fields_form _ = None
-
-abbrev pub struct_of : List Field → Def
-struct_of fields = Def.Struct (record { kind = StructKind.Struct; fields = fields })
-
--- the definition that has a name of its own
-unfoldable pub named_def : List ℕ → Option Def
-named_def word =
-    if bytes_eq word (codes "u32") then Some (Def.Scalar ScalarKind.U32) else
-    if bytes_eq word (codes "String") then Some (Def.Scalar ScalarKind.String) else
-    if bytes_eq word (codes "opaque") then Some Def.Opaque else None
-
--- the definition under a key
-unfoldable pub keyed_def : List ℕ → Data → Option Def
-keyed_def key inner = if bytes_eq key (codes "struct") then option_map struct_of (fields_form inner) else None
-
--- a name, or an object of exactly one key
-unfoldable pub def_form : Data → Option Def
-def_form (string word) = named_def word
-def_form (object (member key inner no_members)) = keyed_def key inner
-def_form _ = None
-
--- an object of a name and a definition
+-- an object of a name and a definition, perhaps with a preset, perhaps with the attribute that its fields default
 unfoldable pub shape_form : Data → Option Shape
 shape_form d = do
   members ← as_object d
-  if has_no_other members (codes "name" ∷ codes "def" ∷ []) then (do
+  if has_no_other members shape_keys then (do
     name ← under_key (codes "name") as_str d
-    def ← under_key (codes "def") def_form d
-    Some (plain_shape name def)) else None
+    def ← given_def (get (codes "def") d)
+    preset ← template_form (get (codes "preset") d)
+    default_attr ← flag_form (get (codes "default_attr") d)
+    Some (described_shape name def preset default_attr)) else None
 
 -- the shape that an item of the table's array is
 abbrev pub shape_at : ℕ → Data → Result Shape DocFault

@@ -7,17 +7,19 @@ use Rattle.std.specs.Option.{ok_or}
 use Rattle.std.specs.Str.{bytes_eq}
 use Rattle.serde_json.specs.Data.{Data, null, boolean, number, string, array, object, Items, no_items, item, no_members, member}
 use Rattle.serde_json.specs.Find.{get, as_str, as_object}
+use Rattle.fr_shape.specs.Val.{Val}
 use Rattle.fr_shape.specs.declared.shape.Shape.{Shape}
 use Rattle.fr_shape.specs.declared.shape.Def.{Def}
-use Rattle.fr_shape.specs.declared.shape.ScalarKind.{ScalarKind}
-use Rattle.fr_shape.specs.declared.shape.Field.{Field}
+use Rattle.fr_shape.specs.declared.shape.StructKind.{StructKind}
 use Rattle.fr_shape.specs.Served.{serves, serves_def, serves_field, IsServed}
 use Rattle.fr_doc.specs.declared.fault.DocFault.{DocFault}
+use Rattle.fr_doc.specs.DefForms.{scalar_named, named_def, struct_of, option_of, list_of, unit_form, pair_form, array_form, keyed_def, def_form, given_def}
 use Rattle.fr_doc.specs.FaultSteps.{each_at}
 use Rattle.fr_doc.specs.FaultSteps.{◌>>=◌ as ◌>>=!◌}
+use Rattle.fr_doc.specs.FieldForms.{under_key, flag_form, template_form, default_form, field_keys, field_form, fields_form}
 use Rattle.fr_doc.specs.Keys.{has_no_other}
 use Rattle.fr_doc.specs.Numerals.{whole_number}
-use Rattle.fr_doc.specs.ShapeForms.{plain_shape, under_key, one_or_more, struct_of, field_form, fields_form, named_def, keyed_def, def_form, shape_form, shape_at, shapes_form}
+use Rattle.fr_doc.specs.ShapeForms.{described_shape, shape_keys, shape_form, shape_at, shapes_form}
 use Rattle.fr_doc.specs.Steps.{◌>>=◌, each}
 
 -- `passes` holds of what a form gives, where it gives something
@@ -44,9 +46,11 @@ field_served : (d : Data) → Passes serves_field (field_form d)
 unfolding field_form
 field_served d =
     after_step serves_field (as_object d) _ (λ members _.
-    where_true serves_field (has_no_other members (codes "name" ∷ codes "shape" ∷ [])) _ (
+    where_true serves_field (has_no_other members field_keys) _ (
     after_step serves_field (under_key (codes "name") as_str d) _ (λ name _.
-    after_step serves_field (under_key (codes "shape") whole_number d) _ (λ shape _. refl))))
+    after_step serves_field (under_key (codes "shape") whole_number d) _ (λ shape _.
+    after_step serves_field (default_form (get (codes "default") d)) _ (λ default _.
+    after_step serves_field (flag_form (get (codes "skip") d)) _ (λ skip _. refl))))))
 
 each_served : (ds : Items) → Passes (list_all serves_field) (each field_form ds)
 each_served no_items = refl
@@ -55,35 +59,59 @@ each_served (item d ds) =
     after_step (list_all serves_field) (each field_form ds) _ (λ xs are.
     and_from _ _ (given serves_field (field_form d) x (field_served d) is) (given (list_all serves_field) (each field_form ds) xs (each_served ds) are)))
 
-struct_served : (fields : List Field) → list_all serves_field fields ≡ true → Passes serves_def (option_map struct_of (one_or_more fields))
-struct_served [] served = tt
-struct_served (f ∷ fs) served = served
+mapped : {X Y : Type 0} (passes : X → Bool) (through : Y → Bool) (make : X → Y) → ((x : X) → passes x ≡ true → through (make x) ≡ true) → (form : Option X) → Passes passes form → Passes through (option_map make form)
+mapped passes through make keeps None served = tt
+mapped passes through make keeps (Some x) served = keeps x served
 
-after_map : {X Y Z : Type 0} (passes : Z → Bool) (make : Y → Z) (form : Option X) (next : X → Option Y) → ((x : X) → form ≡ Some x → Passes passes (option_map make (next x))) → Passes passes (option_map make (form >>= next))
-after_map passes make None next rest = tt
-after_map passes make (Some x) next rest = rest x refl
+-- a definition of any parts serves
+made : {X : Type 0} (make : X → Def) → ((x : X) → serves_def (make x) ≡ true) → (form : Option X) → Passes serves_def (option_map make form)
+made make serves None = tt
+made make serves (Some x) = serves x
 
-fields_served : (d : Data) → Passes serves_def (option_map struct_of (fields_form d))
+fields_served : (d : Data) → Passes (list_all serves_field) (fields_form d)
 unfolding fields_form
-fields_served (array ds) =
-    after_map serves_def struct_of (each field_form ds) one_or_more (λ fields are.
-    struct_served fields (given (list_all serves_field) (each field_form ds) fields (each_served ds) are))
+fields_served (array ds) = each_served ds
 fields_served null = tt
 fields_served (boolean b) = tt
 fields_served (number n) = tt
 fields_served (string s) = tt
 fields_served (object ms) = tt
 
+struct_served : (kind : StructKind) (d : Data) → Passes serves_def (option_map (struct_of kind) (fields_form d))
+struct_served kind d = mapped (list_all serves_field) serves_def (struct_of kind) (λ fields served. served) (fields_form d) (fields_served d)
+
+unit_served : (d : Data) → Passes serves_def (unit_form d)
+unfolding unit_form
+unit_served (array no_items) = refl
+unit_served (array (item d ds)) = tt
+unit_served null = tt
+unit_served (boolean b) = tt
+unit_served (number n) = tt
+unit_served (string s) = tt
+unit_served (object ms) = tt
+
+array_served : (d : Data) → Passes serves_def (array_form d)
+unfolding array_form
+array_served d =
+    after_step serves_def (pair_form d) _ (λ pair _.
+    after_step serves_def (whole_number pair.0) _ (λ t _.
+    after_step serves_def (whole_number pair.1) _ (λ n _. refl)))
+
 named_served : (word : List ℕ) → Passes serves_def (named_def word)
 unfolding named_def
 named_served word =
-    first_or serves_def (bytes_eq word (codes "u32")) (Some (Def.Scalar ScalarKind.U32)) _ refl (
-    first_or serves_def (bytes_eq word (codes "String")) (Some (Def.Scalar ScalarKind.String)) _ refl (
-    first_or serves_def (bytes_eq word (codes "opaque")) (Some Def.Opaque) None refl tt))
+    first_or serves_def (bytes_eq word (codes "opaque")) (Some Def.Opaque) _ refl (made Def.Scalar (λ kind. refl) (scalar_named word))
 
 keyed_served : (key : List ℕ) (inner : Data) → Passes serves_def (keyed_def key inner)
 unfolding keyed_def
-keyed_served key inner = where_true serves_def (bytes_eq key (codes "struct")) _ (fields_served inner)
+keyed_served key inner =
+    first_or serves_def (bytes_eq key (codes "struct")) _ _ (struct_served StructKind.Struct inner) (
+    first_or serves_def (bytes_eq key (codes "tuple")) _ _ (struct_served StructKind.Tuple inner) (
+    first_or serves_def (bytes_eq key (codes "tuple_struct")) _ _ (struct_served StructKind.TupleStruct inner) (
+    first_or serves_def (bytes_eq key (codes "unit")) _ _ (unit_served inner) (
+    first_or serves_def (bytes_eq key (codes "option")) _ _ (made option_of (λ t. refl) (whole_number inner)) (
+    first_or serves_def (bytes_eq key (codes "list")) _ _ (made list_of (λ t. refl) (whole_number inner)) (
+    where_true serves_def (bytes_eq key (codes "array")) _ (array_served inner)))))))
 
 def_served : (d : Data) → Passes serves_def (def_form d)
 unfolding def_form
@@ -96,21 +124,23 @@ def_served (boolean b) = tt
 def_served (number n) = tt
 def_served (array ds) = tt
 
-def_under_served : (found : Option Data) → Passes serves_def (found >>= def_form)
-def_under_served None = tt
-def_under_served (Some inner) = def_served inner
+given_served : (found : Option Data) → Passes serves_def (given_def found)
+given_served None = tt
+given_served (Some inner) = def_served inner
 
-plain_served : (name : List ℕ) (def : Def) → serves_def def ≡ true → serves (plain_shape name def) ≡ true
-plain_served name def served = rw served
+described_served : (name : List ℕ) (def : Def) (preset : Option Val) (default_attr : Bool) → serves_def def ≡ true → serves (described_shape name def preset default_attr) ≡ true
+described_served name def preset default_attr served = rw served
 
 form_served : (d : Data) → Passes serves (shape_form d)
 unfolding shape_form
 form_served d =
     after_step serves (as_object d) _ (λ members _.
-    where_true serves (has_no_other members (codes "name" ∷ codes "def" ∷ [])) _ (
+    where_true serves (has_no_other members shape_keys) _ (
     after_step serves (under_key (codes "name") as_str d) _ (λ name _.
-    after_step serves (under_key (codes "def") def_form d) _ (λ def is.
-    plain_served name def (given serves_def (under_key (codes "def") def_form d) def (def_under_served (get (codes "def") d)) is)))))
+    after_step serves (given_def (get (codes "def") d)) _ (λ def is.
+    after_step serves (template_form (get (codes "preset") d)) _ (λ preset _.
+    after_step serves (flag_form (get (codes "default_attr") d)) _ (λ default_attr _.
+    described_served name def preset default_attr (given serves_def (given_def (get (codes "def") d)) def (given_served (get (codes "def") d)) is)))))))
 
 pub shape_served : (d : Data) (shape : Shape) → shape_form d ≡ Some shape → serves shape ≡ true
 shape_served d shape is = given serves (shape_form d) shape (form_served d) is

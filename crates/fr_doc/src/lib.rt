@@ -4,10 +4,12 @@
 
 mod adapters;
 mod clean;
+mod def_form;
 mod device;
 mod dyn_form;
 mod dyn_json;
 mod fault;
+mod field_form;
 mod form_error;
 mod json_parts;
 mod laws;
@@ -19,6 +21,8 @@ mod pieces;
 mod read_error;
 mod schedule;
 mod shape_form;
+#[cfg(test)]
+mod shape_tests;
 mod tag;
 #[cfg(test)]
 mod tests;

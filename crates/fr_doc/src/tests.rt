@@ -1,5 +1,5 @@
 //! The forms of the prose as texts, read and printed.
-use crate::{DocFault, DocPlace, ReadError, has_float, json_of, shapes_of, value_of};
+use crate::{json_of, value_of};
 use serde_json::Value as Json;
 use std::alloc::Global;
 use std::test::Fail;
@@ -93,55 +93,6 @@ fn broken_forms_stand_for_no_value(rt: HostRuntime) -> Result<(), Fail> {
     ] {
         let printed = reprinted(rt.alloc(), text)?;
         assert!(rt; printed.is_empty(), "{text}");
-    }
-    Ok(())
-}
-
-#[test]
-fn a_table_is_read(rt: HostRuntime) -> Result<(), Fail> {
-    let alloc = rt.alloc();
-    let json = Json::from_str(
-        alloc,
-        "[{\"name\":\"u32\",\"def\":\"u32\"},{\"name\":\"P\",\"def\":{\"struct\":[{\"name\":\"x\",\"shape\":0}]}}]",
-    )?;
-    assert!(rt; !has_float(&json));
-    let Ok(shapes) = shapes_of(alloc, &json) else {
-        return Err(Fail::from("not read"));
-    };
-    assert_eq!(rt; shapes.len(), 2);
-    let Some(shape) = shapes.get(1) else {
-        return Err(Fail::from("no second shape"));
-    };
-    assert_eq!(rt; shape.name.as_str(), "P");
-    Ok(())
-}
-
-#[test]
-fn a_tables_fault_is_its_first(rt: HostRuntime) -> Result<(), Fail> {
-    let alloc = rt.alloc();
-    for (text, place) in [
-        ("{}", DocPlace::Shapes),
-        (
-            "[{\"name\":\"u32\",\"def\":\"u32\"},1,2]",
-            DocPlace::Shape(1),
-        ),
-        (
-            "[{\"name\":\"u32\",\"def\":\"u32\",\"transparent\":true}]",
-            DocPlace::Shape(0),
-        ),
-        (
-            "[{\"name\":\"E\",\"def\":{\"struct\":[]}}]",
-            DocPlace::Shape(0),
-        ),
-    ] {
-        let json = Json::from_str(alloc, text)?;
-        let Err(error) = shapes_of(alloc, &json) else {
-            return Err(Fail::from("read"));
-        };
-        assert!(rt;
-            error == ReadError::Fault(DocFault::BadForm(place)),
-            "{text}"
-        );
     }
     Ok(())
 }

@@ -1,18 +1,19 @@
 -- The place to which a cursor leads, and a tree that is changed there.
-use Rattle.std.proofs.Common.{◌≡◌, ℕ, zero, suc, ◌<◌, true, [], ◌∷◌, ◌++◌, length, append-nil, Some, refl, sym, subst, arith}
-use Rattle.fr_shape.specs.declared.shape.Def.{Def}
-use Rattle.fr_shape.specs.declared.shape.StructDef.{StructDef}
+use Rattle.std.proofs.Common.{◌≡◌, ℕ, zero, suc, true, [], ◌∷◌, ◌++◌, append-nil, Some, refl, sym, subst, arith}
+use Rattle.fr_shape.specs.Checked.{IsChecked}
+use Rattle.fr_shape.specs.Hooks.{Meanings}
 use Rattle.fr_shape.specs.Look.{Table, def_of}
 use Rattle.fr_shape.specs.Val.{Val}
 use Rattle.fr_shape.specs.Fits.{fits}
-use Rattle.fr_model.specs.Places.{Place, up, child_count, child_shape, shape_at}
-use Rattle.fr_model.specs.Tree.{as_struct, Tree, whole, begun, Trees, no_trees, branch, tree_nth, change_nth, tree_at, change_at, shape_in, child_as}
+use Rattle.fr_model.specs.Places.{Place, up, child_shape, shape_at}
+use Rattle.fr_model.specs.Tree.{as_struct, as_array, Tree, whole, begun, Trees, no_trees, branch, tree_nth, change_nth, tree_at, change_at, shape_in, child_as, tree_occurs}
 use Rattle.fr_model.specs.Complete.{complete}
 use Rattle.fr_model.specs.Step.{enter_child}
 use Rattle.fr_model.specs.Well.{IsBegunAs, Suits, AllDone, AtCursor, DoneBut, Leads}
 use Rattle.fr_model.proofs.Agreement.{leads_child}
-use Rattle.fr_model.proofs.Structs.{complete_fits, count_change, suit_change, suit_nth}
-use Rattle.fr_model.proofs.Opening.{Entry, entry}
+use Rattle.fr_model.proofs.Completing.{Made, completing_makes}
+use Rattle.fr_model.proofs.Structs.{count_change, suit_change, suit_nth}
+use Rattle.fr_model.proofs.Opening.{Enterable, Entry, entry}
 
 -- what stands at the cursor
 
@@ -34,6 +35,8 @@ pub same_shape : (table : Table) (s : ℕ) (here : Place) (t : Tree) → Leads h
     → shape_at table s here ≡ shape_in table s here t
 same_shape table s [] t leads = refl
 same_shape table s (i ∷ here) (begun as_struct ts) leads =
+    same_shape table (child_shape table s i) here (tree_nth i ts) (leads_child i (λ child. Leads here child) ts leads)
+same_shape table s (i ∷ here) (begun as_array ts) leads =
     same_shape table (child_shape table s i) here (tree_nth i ts) (leads_child i (λ child. Leads here child) ts leads)
 same_shape table s (i ∷ here) _ leads = absurd leads
 
@@ -91,26 +94,23 @@ pub record IsSound (table : Table) (root : ℕ) (here : Place) (t : Tree) : Type
   pub suits : Suits table root t
   pub leads : Leads here t
 
-pub entry_at : (table : Table) (root : ℕ) (here : Place) (t : Tree) (i : ℕ) (struct : StructDef)
-    → def_of table (shape_in table root here t) ≡ Def.Struct struct → i < length struct.fields
-    → IsSound table root here t
+pub entry_at : (table : Table) (root : ℕ) (here : Place) (t : Tree) (i : ℕ)
+    → Enterable table (shape_in table root here t) i (tree_at here t) → IsSound table root here t
     → Entry table (shape_in table root here t) i (tree_at here t)
-    (enter_child (child_count table (shape_in table root here t)) i (tree_at here t))
-entry_at table root here t i struct is within sound =
-    entry table (shape_in table root here t) i struct (tree_at here t) is within (at_cursor here t sound.leads)
+    (enter_child table (shape_in table root here t) i (tree_at here t))
+entry_at table root here t i enterable sound =
+    entry table (shape_in table root here t) i (tree_at here t) enterable (at_cursor here t sound.leads)
     (suits_at table root here t sound.leads sound.suits)
 
-pub sound_begun : (table : Table) (root : ℕ) (here : Place) (t : Tree) (i : ℕ) (struct : StructDef)
-    → def_of table (shape_in table root here t) ≡ Def.Struct struct → i < length struct.fields
-    → IsSound table root here t
-    → IsSound table root (here ++ i ∷ []) (change_at here (enter_child (child_count table (shape_in table root here t)) i) t)
-sound_begun table root here t i struct is within sound =
-    let child = entry_at table root here t i struct is within sound in
+pub sound_begun : (table : Table) (root : ℕ) (here : Place) (t : Tree) (i : ℕ)
+    → Enterable table (shape_in table root here t) i (tree_at here t) → IsSound table root here t
+    → IsSound table root (here ++ i ∷ []) (change_at here (enter_child table (shape_in table root here t) i) t)
+sound_begun table root here t i enterable sound =
+    let child = entry_at table root here t i enterable sound in
     record {
-      suits = suits_changed table root here t (enter_child (child_count table (shape_in table root here t)) i)
-          sound.leads sound.suits child.suits;
-      leads = leads_on here (i ∷ []) t (enter_child (child_count table (shape_in table root here t)) i) sound.leads
-          child.leads;
+      suits = suits_changed table root here t (enter_child table (shape_in table root here t) i) sound.leads sound.suits
+          child.suits;
+      leads = leads_on here (i ∷ []) t (enter_child table (shape_in table root here t) i) sound.leads child.leads;
     }
 
 pub sound_set : (table : Table) (root : ℕ) (here : Place) (t : Tree) (v : Val)
@@ -122,11 +122,20 @@ sound_set table root here t v fit sound = record {
       (leads_on here [] t (λ old. whole v) sound.leads tt);
 }
 
-pub sound_ended : (table : Table) (root : ℕ) (here : Place) (t : Tree) (v : Val) → complete (tree_at here t) ≡ Some v
-    → IsSound table root here t → IsSound table root (up here) (change_at here (λ old. whole v) t)
-sound_ended table root here t v e sound = record {
-  suits = suits_changed table root here t (λ old. whole v) sound.leads sound.suits
-      (complete_fits table (tree_at here t) (shape_in table root here t) v
-      (suits_at table root here t sound.leads sound.suits) e);
-  leads = leads_up here t v sound.leads;
-}
+-- what the place at the cursor makes
+pub made_at : (hooks : Meanings) (table : Table) (root : ℕ) (here : Place) (t : Tree) (v : Val) → IsChecked table
+    → complete hooks table (shape_in table root here t) (tree_at here t) ≡ Some v → IsSound table root here t
+    → Made table (shape_in table root here t) (λ k. tree_occurs (tree_at here t) k) v
+made_at hooks table root here t v checked e sound =
+    completing_makes hooks table (tree_at here t) (shape_in table root here t) v checked
+    (suits_at table root here t sound.leads sound.suits) e
+
+pub sound_ended : (hooks : Meanings) (table : Table) (root : ℕ) (here : Place) (t : Tree) (v : Val) → IsChecked table
+    → complete hooks table (shape_in table root here t) (tree_at here t) ≡ Some v → IsSound table root here t
+    → IsSound table root (up here) (change_at here (λ old. whole v) t)
+sound_ended hooks table root here t v checked e sound =
+    let made = made_at hooks table root here t v checked e sound in
+    record {
+      suits = suits_changed table root here t (λ old. whole v) sound.leads sound.suits made.fit;
+      leads = leads_up here t v sound.leads;
+    }

@@ -9,6 +9,7 @@ use Rattle.fr_shape.specs.declared.shape.Field.{Field}
 use Rattle.fr_shape.specs.declared.error.ReflectErrorKind.{ReflectErrorKind}
 use Rattle.fr_shape.specs.declared.error.Operation.{Operation}
 use Rattle.fr_shape.specs.declared.error.Invariant.{Invariant}
+use Rattle.fr_shape.specs.Hooks.{no_hooks}
 use Rattle.fr_shape.specs.Look.{Table}
 use Rattle.fr_shape.specs.Served.{IsServed}
 use Rattle.fr_shape.specs.Fits.{fits}
@@ -23,10 +24,10 @@ use Rattle.fr_model.specs.Removed.{removed}
 
 -- to write tables and scripts
 
-abbrev number : ℕ → ShapeId
+abbrev pub number : ℕ → ShapeId
 number n = record { 0 = n }
 
-abbrev shape : List ℕ → Def → Shape
+abbrev pub shape : List ℕ → Def → Shape
 shape name def = record {
   name = name;
   def = def;
@@ -46,7 +47,7 @@ shape name def = record {
   bytes_ok = false;
 }
 
-abbrev field : List ℕ → ℕ → Field
+abbrev pub field : List ℕ → ℕ → Field
 field name s = record {
   name = name;
   rename = None;
@@ -60,22 +61,22 @@ field name s = record {
   validators = [];
 }
 
-abbrev struct : List Field → Def
+abbrev pub struct : List Field → Def
 struct fields = Def.Struct (record { kind = StructKind.Struct; fields = fields })
 
-abbrev pair_of : Val → Val → Val
+abbrev pub pair_of : Val → Val → Val
 pair_of v w = product (first v (first w no_vals))
 
-abbrev set : ℕ → Val → Call
+abbrev pub set : ℕ → Val → Call
 set s v = Call.Set s v
 
-abbrev begin : ℕ → Call
+abbrev pub begin : ℕ → Call
 begin i = Call.BeginNthField i
 
-abbrev end : Call
+abbrev pub end : Call
 end = Call.End
 
-abbrev refused : ℕ → ReflectErrorKind → Result Val Refusal
+abbrev pub refused : ℕ → ReflectErrorKind → Result Val Refusal
 refused n kind = Err (record { number = n; kind = kind })
 
 -- a struct in a struct
@@ -99,7 +100,7 @@ whole_script =
 abbrev whole_value : Val
 whole_value = pair_of (text (codes "hi")) (pair_of (nat 42) (nat 43))
 
-machine_builds : full_run nested 3 whole_script ≡ Ok whole_value
+machine_builds : full_run no_hooks nested 3 whole_script ≡ Ok whole_value
 machine_builds = refl
 
 journal_builds : journal_run nested 3 whole_script ≡ Some whole_value
@@ -107,31 +108,31 @@ journal_builds = refl
 
 -- what is refused, at which command and why
 
-nothing_put_in : full_run nested 3 [] ≡ refused 0 (missing_field 3 0)
+nothing_put_in : full_run no_hooks nested 3 [] ≡ refused 0 (missing_field 3 0)
 nothing_put_in = refl
 
-no_value : full_run nested 0 [] ≡ refused 0 (missing_value 0)
+no_value : full_run no_hooks nested 0 [] ≡ refused 0 (missing_value 0)
 no_value = refl
 
-first_field_missing : full_run nested 3 (begin 1 ∷ end ∷ []) ≡ refused 1 (missing_field 2 0)
+first_field_missing : full_run no_hooks nested 3 (begin 1 ∷ end ∷ []) ≡ refused 1 (missing_field 2 0)
 first_field_missing = refl
 
 -- the first hole, not the field that was entered last
-second_field_missing : full_run nested 3 (begin 1 ∷ begin 0 ∷ set 0 (nat 42) ∷ end ∷ end ∷ [])
+second_field_missing : full_run no_hooks nested 3 (begin 1 ∷ begin 0 ∷ set 0 (nat 42) ∷ end ∷ end ∷ [])
     ≡ refused 4 (missing_field 2 1)
 second_field_missing = refl
 
-end_at_the_root : full_run nested 3 (end ∷ []) ≡ refused 0 (violates Invariant.EndAtRoot)
+end_at_the_root : full_run no_hooks nested 3 (end ∷ []) ≡ refused 0 (violates Invariant.EndAtRoot)
 end_at_the_root = refl
 
-wrong_shape : full_run nested 3 (begin 0 ∷ set 0 (nat 42) ∷ [])
+wrong_shape : full_run no_hooks nested 3 (begin 0 ∷ set 0 (nat 42) ∷ [])
     ≡ refused 1 (ReflectErrorKind.WrongShape (number 1) (number 0))
 wrong_shape = refl
 
-no_fields : full_run nested 3 (begin 1 ∷ begin 1 ∷ begin 1 ∷ []) ≡ refused 2 (operation_failed 0 Operation.FieldOfOther)
+no_fields : full_run no_hooks nested 3 (begin 1 ∷ begin 1 ∷ begin 1 ∷ []) ≡ refused 2 (operation_failed 0 Operation.FieldOfOther)
 no_fields = refl
 
-no_third_field : full_run nested 3 (begin 2 ∷ []) ≡ refused 0 (operation_failed 3 Operation.FieldIndexOutOfBounds)
+no_third_field : full_run no_hooks nested 3 (begin 2 ∷ []) ≡ refused 0 (operation_failed 3 Operation.FieldIndexOutOfBounds)
 no_third_field = refl
 
 none_by_journal : journal_run nested 3 [] ≡ None
@@ -160,7 +161,7 @@ opaque_is_served = refl
 abbrev left_open : List Call
 left_open = begin 0 ∷ begin 0 ∷ set 0 (token 0) ∷ end ∷ begin 1 ∷ set 1 (nat 5) ∷ end ∷ []
 
-machine_refuses_open : full_run opaque 3 left_open ≡ refused 7 (violates Invariant.BuildOpenFrames)
+machine_refuses_open : full_run no_hooks opaque 3 left_open ≡ refused 7 (violates Invariant.BuildOpenFrames)
 machine_refuses_open = refl
 
 journal_refuses_open : journal_run opaque 3 left_open ≡ None
@@ -170,14 +171,14 @@ abbrev cell : ℕ → ℕ → Val
 cell t n = pair_of (token t) (nat n)
 
 -- a second value takes the first one's place
-machine_keeps_second : full_run opaque 2 (set 2 (cell 0 1) ∷ set 2 (cell 1 2) ∷ []) ≡ Ok (cell 1 2)
+machine_keeps_second : full_run no_hooks opaque 2 (set 2 (cell 0 1) ∷ set 2 (cell 1 2) ∷ []) ≡ Ok (cell 1 2)
 machine_keeps_second = refl
 
 journal_keeps_second : journal_run opaque 2 (set 2 (cell 0 1) ∷ set 2 (cell 1 2) ∷ []) ≡ Some (cell 1 2)
 journal_keeps_second = refl
 
 -- and the first one's token is dropped
-second_drops_first : removed opaque 2 (record { tree = whole (cell 0 1); cursor = []; calls = 1 }) (set 2 (cell 1 2)) 0 ≡ 1
+second_drops_first : removed no_hooks opaque 2 (record { tree = whole (cell 0 1); cursor = []; calls = 1 }) (set 2 (cell 1 2)) 0 ≡ 1
 second_drops_first = refl
 
 cell_fits : fits opaque 2 (cell 0 1) ≡ true
@@ -187,7 +188,7 @@ cell_fits = refl
 abbrev entered_anew : List Call
 entered_anew = set 3 (pair_of (cell 0 1) (cell 1 2)) ∷ begin 0 ∷ set 2 (cell 2 3) ∷ end ∷ []
 
-machine_enters_anew : full_run opaque 3 entered_anew ≡ Ok (pair_of (cell 2 3) (cell 1 2))
+machine_enters_anew : full_run no_hooks opaque 3 entered_anew ≡ Ok (pair_of (cell 2 3) (cell 1 2))
 machine_enters_anew = refl
 
 journal_enters_anew : journal_run opaque 3 entered_anew ≡ Some (pair_of (cell 2 3) (cell 1 2))

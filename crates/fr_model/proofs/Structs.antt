@@ -1,38 +1,33 @@
--- Trees of structs and their values: what fits opens into fitting children, and what completes fits.
-use Rattle.std.proofs.Common.{◌≡◌, ℕ, zero, suc, ◌+◌, Bool, true, false, ◌&&◌, List, [], ◌∷◌, length, slice_get, Option, Some, None, refl, sym, ◌∙◌, ap, subst, arith}
+-- Trees of structs and arrays and their values: what fits opens into fitting children, and fitting children make what fits.
+use Rattle.std.proofs.Common.{◌≡◌, ℕ, zero, suc, ◌+◌, eq-eqb, true, List, [], ◌∷◌, length, slice_get, Option, Some, None, refl, sym, ◌∙◌, ap, subst, arith}
 use Rattle.fr_shape.specs.declared.shape.Def.{Def}
+use Rattle.fr_shape.specs.declared.shape.ShapeId.{ShapeId}
 use Rattle.fr_shape.specs.declared.shape.StructDef.{StructDef}
 use Rattle.fr_shape.specs.declared.shape.Field.{Field}
 use Rattle.fr_shape.specs.Look.{Table, def_of, settled}
 use Rattle.fr_shape.specs.Val.{Val, Vals, product, no_vals, first}
-use Rattle.fr_shape.specs.Fits.{fits, fields_fit}
+use Rattle.fr_shape.specs.Fits.{fits, all_fit, fields_fit, count_vals}
 use Rattle.fr_model.specs.Places.{child_shape, one_more, product_of}
-use Rattle.fr_model.specs.Tree.{Form, as_struct, Tree, hole, entered, whole, begun, Trees, no_trees, branch, tree_nth, change_nth, child_as, count_trees, holes, wholes}
-use Rattle.fr_model.specs.Complete.{complete, complete_all}
-use Rattle.fr_model.specs.Well.{IsBegunAs, Suits, SuitAll}
+use Rattle.fr_model.specs.Tree.{Form, as_struct, as_array, Tree, Trees, no_trees, branch, tree_nth, change_nth, child_as, count_trees, holes, wholes}
+use Rattle.fr_model.specs.Well.{IsFullAs, IsBegunAs, Suits, SuitAll}
+use Rattle.fr_model.proofs.Templates.{both_true}
 
--- a shape that is a struct, with this many fields
-pub record IsStruct (def : Def) (count : ℕ) : Type 0 where
-  pub struct : StructDef
-  pub is : def ≡ Def.Struct struct
-  pub fields : count ≡ length struct.fields
-
-pub begun_struct : (def : Def) (count : ℕ) → IsBegunAs def as_struct count → IsStruct def count
-begun_struct (Def.Struct struct) count h = record { struct = struct; is = refl; fields = h }
-begun_struct _ count h = absurd h
-
-pub struct_fields : (def : Def) (struct : StructDef) (count : ℕ) → def ≡ Def.Struct struct → IsBegunAs def as_struct count
-    → count ≡ length struct.fields
-struct_fields def struct count is h = rw is at h
-
-pub struct_begun : (def : Def) (struct : StructDef) (count : ℕ) → def ≡ Def.Struct struct → count ≡ length struct.fields
-    → IsBegunAs def as_struct count
-struct_begun def struct count is fields = rw is fields
+-- definitions that stand for themselves
 
 pub settled_struct : (table : Table) (s : ℕ) (struct : StructDef) → def_of table s ≡ Def.Struct struct
     → settled table s ≡ Def.Struct struct
 settled_struct [] s struct e = cc
 settled_struct (shape ∷ shapes) s struct e = rw e refl
+
+pub settled_array : (table : Table) (s : ℕ) (t : ShapeId) (n : ℕ) → def_of table s ≡ Def.Array t n
+    → settled table s ≡ Def.Array t n
+settled_array [] s t n e = cc
+settled_array (shape ∷ shapes) s t n e = rw e refl
+
+pub settled_option : (table : Table) (s : ℕ) (t : ShapeId) → def_of table s ≡ Def.Option t
+    → settled table s ≡ Def.Option t
+settled_option [] s t e = cc
+settled_option (shape ∷ shapes) s t e = rw e refl
 
 -- the fields from number i on, as a list of their own
 abbrev pub AreFrom : List Field → ℕ → List Field → Type 0
@@ -49,11 +44,6 @@ first_is all i field fields from = let e : i ≡ i + 0 = omega arith in ap (slic
 
 pub all_from : (all : List Field) → AreFrom all 0 all
 all_from all k = ap (slice_get all) (omega arith)
-
-both_true : (a b : Bool) → (a && b) ≡ true → (a ≡ true) × (b ≡ true)
-both_true true true h = (refl, refl)
-both_true true false h = cc
-both_true false b h = cc
 
 -- what completes
 
@@ -82,40 +72,53 @@ field_shape : (table : Table) (s : ℕ) (struct : StructDef) (i : ℕ) (field : 
     → slice_get struct.fields i ≡ Some field → child_shape table s i ≡ field.shape.0
 field_shape table s struct i field is e = rw (is, e) refl
 
-product_fits : (table : Table) (s : ℕ) (struct : StructDef) (vs : Vals) → def_of table s ≡ Def.Struct struct
-    → fields_fit table struct.fields vs ≡ true → fits table s (product vs) ≡ true
-product_fits table s struct vs is fit = rw (settled_struct table s struct is) fit
+-- children that fit, of a place of shape s that is begun so, from number i on
+abbrev pub ChildrenFit : Table → ℕ → Form → ℕ → Vals → Type 0
+ChildrenFit table s form i no_vals = Unit {0}
+ChildrenFit table s form i (first v vs) =
+    (fits table (child_as table s form i) v ≡ true) × ChildrenFit table s form (suc i) vs
 
-mutual
-  pub complete_fits : (table : Table) (t : Tree) (s : ℕ) (v : Val) → Suits table s t → complete t ≡ Some v
-      → fits table s v ≡ true
-  complete_fits table hole s v suits e = cc
-  complete_fits table entered s v suits e = cc
-  complete_fits table (whole u) s v suits e = let same : u ≡ v = cc in rw (← same) suits
-  complete_fits table (begun as_struct ts) s v suits e =
-      let struct : IsStruct (def_of table s) (count_trees ts) = begun_struct (def_of table s) (count_trees ts) suits.0 in
-      let made : ProductOf (complete_all ts) v = product_is (complete_all ts) v e in
-      rw made.same
-      (product_fits table s struct.struct made.parts struct.is
-      (children_fit table ts s struct.struct struct.is 0 struct.struct.fields made.parts (all_from struct.struct.fields)
-      struct.fields suits.1 made.parts_are))
+fields_all_fit : (table : Table) (s : ℕ) (struct : StructDef) → def_of table s ≡ Def.Struct struct
+    → (i : ℕ) (fields : List Field) (vs : Vals) → AreFrom struct.fields i fields → count_vals vs ≡ length fields
+    → ChildrenFit table s as_struct i vs → fields_fit table fields vs ≡ true
+fields_all_fit table s struct is i [] no_vals from count fit = refl
+fields_all_fit table s struct is i [] (first v vs) from count fit = absurd (omega arith)
+fields_all_fit table s struct is i (field ∷ fields) no_vals from count fit = absurd (omega arith)
+fields_all_fit table s struct is i (field ∷ fields) (first v vs) from count fit =
+    let shape : child_shape table s i ≡ field.shape.0
+    = field_shape table s struct i field is (first_is struct.fields i field fields from) in
+    let here : fits table field.shape.0 v ≡ true = rw shape at fit.0 in
+    let others : fields_fit table fields vs ≡ true
+    = fields_all_fit table s struct is (suc i) fields vs (next_are struct.fields i field fields from) (omega arith) fit.1 in
+    rw (here, others) refl
 
-  children_fit : (table : Table) (ts : Trees) (s : ℕ) (struct : StructDef) → def_of table s ≡ Def.Struct struct
-      → (i : ℕ) (fields : List Field) (vs : Vals) → AreFrom struct.fields i fields → count_trees ts ≡ length fields
-      → SuitAll table s as_struct i ts → complete_all ts ≡ Some vs → fields_fit table fields vs ≡ true
-  children_fit table no_trees s struct is i [] vs from count suits e = let none : no_vals ≡ vs = cc in rw (← none) refl
-  children_fit table no_trees s struct is i (field ∷ fields) vs from count suits e = absurd (omega arith)
-  children_fit table (branch t ts) s struct is i [] vs from count suits e = absurd (omega arith)
-  children_fit table (branch t ts) s struct is i (field ∷ fields) vs from count suits e =
-      let parts : OneMore (complete t) (complete_all ts) vs = one_more_is (complete t) (complete_all ts) vs e in
-      let shape : child_shape table s i ≡ field.shape.0
-      = field_shape table s struct i field is (first_is struct.fields i field fields from) in
-      let here : fits table field.shape.0 parts.head ≡ true
-      = rw shape at (complete_fits table t (child_shape table s i) parts.head suits.0 parts.head_is) in
-      let others : fields_fit table fields parts.tail ≡ true
-      = children_fit table ts s struct is (suc i) fields parts.tail (next_are struct.fields i field fields from)
-      (omega arith) suits.1 parts.tail_is in
-      rw (parts.same, here, others) refl
+elements_all_fit : (table : Table) (s : ℕ) (t : ShapeId) (n : ℕ) → def_of table s ≡ Def.Array t n → (i : ℕ) (vs : Vals)
+    → ChildrenFit table s as_array i vs → all_fit table t.0 vs ≡ true
+elements_all_fit table s t n is i no_vals fit = refl
+elements_all_fit table s t n is i (first v vs) fit =
+    let shape : child_shape table s i ≡ t.0 = rw is refl in
+    let here : fits table t.0 v ≡ true = rw shape at fit.0 in
+    let others : all_fit table t.0 vs ≡ true = elements_all_fit table s t n is (suc i) vs fit.1 in
+    rw (here, others) refl
+
+pub begun_full : (def : Def) (form : Form) (count : ℕ) → IsBegunAs def form count → IsFullAs def form count
+begun_full (Def.Struct struct) as_struct count begun_as = begun_as.0
+begun_full (Def.Array t n) as_array count begun_as = begun_as.0
+begun_full _ _ count begun_as = absurd begun_as
+
+-- fitting children, one for each field or element, make a value that fits
+pub product_fits : (table : Table) (s : ℕ) (form : Form) (vs : Vals) → IsFullAs (def_of table s) form (count_vals vs)
+    → ChildrenFit table s form 0 vs → fits table s (product vs) ≡ true
+product_fits table s form vs count fit = go (def_of table s) form refl count fit
+  where
+    go : (def : Def) (form : Form) → def_of table s ≡ def → IsFullAs def form (count_vals vs)
+        → ChildrenFit table s form 0 vs → fits table s (product vs) ≡ true
+    go (Def.Struct struct) as_struct is count fit =
+        rw (settled_struct table s struct is)
+        (fields_all_fit table s struct is 0 struct.fields vs (all_from struct.fields) count fit)
+    go (Def.Array t n) as_array is count fit =
+        rw (settled_array table s t n is, eq-eqb (count_vals vs) n count, elements_all_fit table s t n is 0 vs fit) refl
+    go _ _ is count fit = absurd count
 
 -- what is opened
 
@@ -128,9 +131,9 @@ pub count_holes : (n : ℕ) → count_trees (holes n) ≡ n
 count_holes zero = refl
 count_holes (suc n) = ap suc (count_holes n)
 
-pub holes_suit : (table : Table) (s i n : ℕ) → SuitAll table s as_struct i (holes n)
-holes_suit table s i zero = tt
-holes_suit table s i (suc n) = (tt, holes_suit table s (suc i) n)
+pub holes_suit : (table : Table) (s : ℕ) (form : Form) (i n : ℕ) → SuitAll table s form i (holes n)
+holes_suit table s form i zero = tt
+holes_suit table s form i (suc n) = (tt, holes_suit table s form (suc i) n)
 
 pub record WholesSuit (table : Table) (s i : ℕ) (fields : List Field) (vs : Vals) : Type 0 where
   pub count : count_trees (wholes vs) ≡ length fields

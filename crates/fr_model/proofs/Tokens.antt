@@ -1,9 +1,12 @@
 -- How often a token stands in a tree that is changed at one place.
-use Rattle.std.proofs.Common.{◌≡◌, ℕ, zero, suc, ◌+◌, ◌<◌, [], ◌∷◌, refl, ◌∙◌, arith}
+use Rattle.std.proofs.Common.{◌≡◌, ℕ, zero, suc, ◌+◌, ◌<◌, Bool, true, false, if◌then◌else◌, [], ◌∷◌, refl, ◌∙◌, arith}
+use Rattle.fr_shape.specs.declared.shape.Def.{Def}
+use Rattle.fr_shape.specs.Fills.{is_empty_struct}
+use Rattle.fr_shape.specs.Look.{Table, def_of}
 use Rattle.fr_shape.specs.Val.{Vals, product, no_vals, first}
 use Rattle.fr_shape.specs.Tokens.{vals_occur}
-use Rattle.fr_model.specs.Places.{Place}
-use Rattle.fr_model.specs.Tree.{Tree, hole, entered, whole, begun, Trees, no_trees, branch, tree_nth, change_nth, tree_at, change_child, change_at, count_trees, holes, wholes, tree_occurs, trees_occur}
+use Rattle.fr_model.specs.Places.{Place, child_count, child_shape}
+use Rattle.fr_model.specs.Tree.{Form, form_of, fresh, Tree, hole, entered, whole, begun, Trees, no_trees, branch, tree_nth, change_nth, tree_at, change_child, change_at, count_trees, holes, wholes, tree_occurs, trees_occur}
 use Rattle.fr_model.specs.Step.{opened, enter, enter_child}
 use Rattle.fr_model.specs.Well.{Leads}
 use Rattle.fr_model.proofs.Agreement.{leads_within, leads_child}
@@ -18,27 +21,40 @@ wholes_hold : (vs : Vals) (t : ℕ) → trees_occur (wholes vs) t ≡ vals_occur
 wholes_hold no_vals t = refl
 wholes_hold (first v vs) t = let rest = wholes_hold vs t in omega arith
 
-opened_holds : (count : ℕ) (tree : Tree) (t : ℕ) → tree_occurs (opened count tree) t ≡ tree_occurs tree t
-opened_holds count entered t = holes_hold count t
-opened_holds count (whole (product vs)) t = wholes_hold vs t
-opened_holds count _ t = refl
+opened_holds : (form : Form) (count : ℕ) (tree : Tree) (t : ℕ)
+    → tree_occurs (opened form count tree) t ≡ tree_occurs tree t
+opened_holds form count entered t = holes_hold count t
+opened_holds form count (whole (product vs)) t = wholes_hold vs t
+opened_holds form count _ t = refl
 
-enter_holds : (tree : Tree) (t : ℕ) → tree_occurs (enter tree) t ≡ tree_occurs tree t
-enter_holds hole t = refl
-enter_holds _ t = refl
+-- a fresh place holds no token
+pub fresh_holds : (def : Def) (t : ℕ) → tree_occurs (fresh def) t ≡ 0
+fresh_holds def t = go (is_empty_struct def)
+  where
+    go : (b : Bool) → tree_occurs (if b then whole (product no_vals) else entered) t ≡ 0
+    go true = refl
+    go false = refl
 
-enter_nth_holds : (i : ℕ) (trees : Trees) (t : ℕ) → trees_occur (change_nth i enter trees) t ≡ trees_occur trees t
-enter_nth_holds i no_trees t = refl
-enter_nth_holds zero (branch tree trees) t = let here = enter_holds tree t in omega arith
-enter_nth_holds (suc i) (branch tree trees) t = let rest = enter_nth_holds i trees t in omega arith
+enter_holds : (def : Def) (tree : Tree) (t : ℕ) → tree_occurs (enter def tree) t ≡ tree_occurs tree t
+enter_holds def hole t = fresh_holds def t
+enter_holds def _ t = refl
 
-enter_in_holds : (i : ℕ) (tree : Tree) (t : ℕ) → tree_occurs (change_child i enter tree) t ≡ tree_occurs tree t
-enter_in_holds i (begun form trees) t = enter_nth_holds i trees t
-enter_in_holds i _ t = refl
+enter_nth_holds : (def : Def) (i : ℕ) (trees : Trees) (t : ℕ)
+    → trees_occur (change_nth i (enter def) trees) t ≡ trees_occur trees t
+enter_nth_holds def i no_trees t = refl
+enter_nth_holds def zero (branch tree trees) t = let here = enter_holds def tree t in omega arith
+enter_nth_holds def (suc i) (branch tree trees) t = let rest = enter_nth_holds def i trees t in omega arith
 
-pub enter_child_holds : (count i : ℕ) (tree : Tree) (t : ℕ)
-    → tree_occurs (enter_child count i tree) t ≡ tree_occurs tree t
-enter_child_holds count i tree t = enter_in_holds i (opened count tree) t ∙ opened_holds count tree t
+enter_in_holds : (def : Def) (i : ℕ) (tree : Tree) (t : ℕ)
+    → tree_occurs (change_child i (enter def) tree) t ≡ tree_occurs tree t
+enter_in_holds def i (begun form trees) t = enter_nth_holds def i trees t
+enter_in_holds def i _ t = refl
+
+pub enter_child_holds : (table : Table) (s i : ℕ) (tree : Tree) (t : ℕ)
+    → tree_occurs (enter_child table s i tree) t ≡ tree_occurs tree t
+enter_child_holds table s i tree t =
+    enter_in_holds (def_of table (child_shape table s i)) i (opened (form_of (def_of table s)) (child_count table s) tree) t
+    ∙ opened_holds (form_of (def_of table s)) (child_count table s) tree t
 
 -- a change at the cursor
 

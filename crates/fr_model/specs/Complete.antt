@@ -7,7 +7,7 @@ use Rattle.fr_shape.specs.declared.error.ReflectErrorKind.{ReflectErrorKind}
 use Rattle.fr_shape.specs.Fills.{preset_of}
 use Rattle.fr_shape.specs.Hooks.{Meanings}
 use Rattle.fr_shape.specs.Look.{Table, def_of, field_in}
-use Rattle.fr_shape.specs.Val.{Val, Vals, none, product, no_vals, first}
+use Rattle.fr_shape.specs.Val.{Val, Vals, none, no_vals}
 use Rattle.fr_shape.specs.Validators.{passes_at, message}
 use Rattle.fr_model.specs.Places.{child_count, one_more, product_of, each_child, fill_at}
 use Rattle.fr_model.specs.Tree.{Form, as_struct, as_array, Tree, hole, entered, whole, begun, Trees, no_trees, branch, child_as}

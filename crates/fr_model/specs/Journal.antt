@@ -85,6 +85,12 @@ abbrev pub entered_value : Table → ℕ → Option Val
 entered_value table s =
     by_entered (def_of table s) (preset_of table s) (product_of (each_child (fill_at table s) (child_count table s) 0))
 
+-- what a place of this definition makes of its parts: only a struct or an array has any
+abbrev pub by_parts : Def → (of_parts : Option Val) → Option Val
+by_parts (Def.Struct struct) of_parts = of_parts
+by_parts (Def.Array t n) of_parts = of_parts
+by_parts _ of_parts = None
+
 abbrev pub by_held : Held → (of_parts of_entered : Option Val) → Option Val
 by_held in_parts of_parts of_entered = of_parts
 by_held (written v) of_parts of_entered = Some v
@@ -96,15 +102,15 @@ abbrev pub child_makes : Held → (fill own : Option Val) → Option Val
 child_makes untouched fill own = fill
 child_makes _ fill own = own
 
--- The value that a place of shape s makes, or none. A place with a whole value makes it. A place with parts makes the
--- product of its children's values, of which an untouched one takes its fill, and none where one of them makes none. It
--- goes down only at parts, so one step more than the longest place has is enough.
+-- The value that a place of shape s makes, or none. A place with a whole value makes it. A place with parts, which only
+-- a struct or an array has, makes the product of its children's values, of which an untouched one takes its fill, and none
+-- where one of them makes none. It goes down only at parts, so one step more than the longest place has is enough.
 abbrev pub completes_within : Table → ℕ → Journal → ℕ → Place → Option Val
 completes_within table zero notes s here = None
 completes_within table (suc steps) notes s here =
     by_held (held notes here)
-    (product_of (each_child (λ i. child_makes (held notes (here ++ i ∷ [])) (fill_at table s i)
-    (completes_within table steps notes (child_shape table s i) (here ++ i ∷ []))) (child_count table s) 0))
+    (by_parts (def_of table s) (product_of (each_child (λ i. child_makes (held notes (here ++ i ∷ [])) (fill_at table s i)
+    (completes_within table steps notes (child_shape table s i) (here ++ i ∷ []))) (child_count table s) 0)))
     (entered_value table s)
 
 abbrev pub completes : Table → Journal → ℕ → Place → Option Val
@@ -122,7 +128,7 @@ abbrev pub is_written : Held → Bool
 is_written (written v) = true
 is_written _ = false
 
--- the elements of an array of this many may be entered: up to 4,096 of them, where the array isn't whole
+-- an array of this many elements may be entered: it has at most 4,096, and isn't whole
 abbrev pub may_enter_elements : ℕ → Held → Bool
 may_enter_elements n held = nat_le n 4096 && not (is_written held)
 

@@ -1,8 +1,7 @@
 -- What each command does to a builder's state, or which refusal it meets: one function for each command. The words
--- here mean what they say at tables that are served; a contract that cites them asks for one.
+-- here mean what they say at tables that are served.
 use Rattle.std.specs.Prelude.{ℕ, ◌==◌, [], ◌∷◌, ◌++◌, List, length, nat_lt, nat_le, Option, Some, None, Result, Ok, Err, if◌then◌else◌}
 use Rattle.fr_shape.specs.declared.shape.Def.{Def}
-use Rattle.fr_shape.specs.declared.shape.ScalarKind.{ScalarKind}
 use Rattle.fr_shape.specs.declared.error.ReflectErrorKind.{ReflectErrorKind}
 use Rattle.fr_shape.specs.declared.error.Operation.{Operation}
 use Rattle.fr_shape.specs.declared.error.Invariant.{Invariant}
@@ -69,7 +68,8 @@ named_refusal Def.Opaque = Some Operation.NamedFieldOfOpaque
 named_refusal (Def.Pointer pointer) = Some Operation.NamedFieldOfPointer
 named_refusal _ = Some Operation.FieldOfOther
 
--- a place as its children see it: an entered one has a hole for each, a whole one is begun with whole children
+-- a place as its children see it: an entered one has a hole for each, a whole one is begun with whole children, a begun
+-- one stays as it is
 abbrev pub opened : Form → (count : ℕ) → Tree → Tree
 opened form count entered = begun form (holes count)
 opened form count (whole (product vs)) = begun form (wholes vs)

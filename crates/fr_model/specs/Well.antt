@@ -1,5 +1,5 @@
 -- The states that a builder can be in.
-use Rattle.std.specs.Prelude.{◌≡◌, ℕ, zero, suc, ◌≤◌, true, false, [], ◌∷◌, length}
+use Rattle.std.specs.Prelude.{◌≡◌, ℕ, zero, suc, ◌<◌, ◌≤◌, true, false, [], ◌∷◌, length}
 use Rattle.fr_shape.specs.declared.shape.Def.{Def}
 use Rattle.fr_shape.specs.Look.{Table, def_of}
 use Rattle.fr_shape.specs.Fits.{fits}
@@ -7,11 +7,17 @@ use Rattle.fr_shape.specs.Fills.{is_empty_struct}
 use Rattle.fr_model.specs.Places.{Place}
 use Rattle.fr_model.specs.Tree.{Form, as_struct, as_array, Tree, hole, entered, whole, begun, Trees, no_trees, branch, child_as, count_trees, tree_occurs, State}
 
--- a place of this definition may be begun so, with that many children: a struct with one for each field, an array with
--- one for each element
+-- a place of this definition has all its children, begun so: a struct one for each field, an array one for each element
+abbrev pub IsFullAs : Def → Form → ℕ → Type 0
+IsFullAs (Def.Struct struct) as_struct count = count ≡ length struct.fields
+IsFullAs (Def.Array item n) as_array count = count ≡ n
+IsFullAs _ form count = ⊥
+
+-- a place of this definition may be begun so, with that many children: a struct that has fields, with one for each; an
+-- array of at most 4,096 elements, with one for each
 abbrev pub IsBegunAs : Def → Form → ℕ → Type 0
-IsBegunAs (Def.Struct struct) as_struct count = count ≡ length struct.fields
-IsBegunAs (Def.Array item n) as_array count = count ≡ n
+IsBegunAs (Def.Struct struct) as_struct count = (count ≡ length struct.fields) × (0 < count)
+IsBegunAs (Def.Array item n) as_array count = (count ≡ n) × (n ≤ 4096)
 IsBegunAs _ form count = ⊥
 
 -- Each node suits its shape: what is whole fits it, and what is begun has one child for each field or element. What is

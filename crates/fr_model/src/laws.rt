@@ -15,19 +15,22 @@ pub fn law_covering()
     ensures ways { WaysAgree }
 {}
 
-/// A place completes unless it lacks something, and what completes fits its shape and keeps its tokens.
+/// A place completes unless it lacks something. Over a checked table, what completes of a tree that suits its shape fits
+/// that shape and keeps its tokens.
 pub fn law_completes()
     ensures or_lacks { CompletesOrLacks }
     ensures fits { CompletingFits }
     ensures tokens { CompletingKeepsTokens }
 {}
 
-/// An admitted command drops the tokens that it brings and those that were there, but for those that are there now.
+/// Over a checked table, an admitted command in a well state drops the tokens that it brings and those that were there,
+/// but for those that are there now.
 pub fn law_removed()
     ensures { StepKeepsTokens }
 {}
 
-/// A builder begins in a well state, and each admitted command that fits and is fresh keeps its state well.
+/// A builder begins in a well state, whatever its table and its root; over a checked table each admitted command that
+/// fits and is fresh keeps its state well.
 pub fn law_well()
     ensures start { StartIsWell }
     ensures step { StepKeepsWell }

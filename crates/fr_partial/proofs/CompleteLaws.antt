@@ -18,7 +18,7 @@ use Rattle.fr_shape.specs.View.{view}
 use Rattle.fr_model.specs.Complete.{complete, complete_all, lack, lack_among, lack_of_hole, lack_of_holes, lack_of_entered, made_of_entered, made_of_fills, valid_child, unless_failing, unless_there, first_of, hole_takes, missing_field, missing_value, missing_child, lack_by, made_by}
 use Rattle.fr_model.specs.Places.{child_count, child_shape, fill_at, each_child, product_of}
 use Rattle.fr_model.specs.Tree.{Form, as_struct, as_array, begun, tree_occurs}
-use Rattle.fr_model.specs.Well.{IsBegunAs}
+use Rattle.fr_model.specs.Well.{IsFullAs}
 use Rattle.fr_partial.specs.declared.frame.Piece.{Piece}
 use Rattle.fr_partial.specs.Children.{is_placeholder, first_lacking, first_unfilled, filled, all_there}
 use Rattle.fr_partial.specs.Completing.{WantsMemory, WhyNot}
@@ -186,7 +186,7 @@ module _ (hooks : Meanings) (table : Table) (s : ℕ) (served : IsServed table) 
       → entry.preset ≡ None → StructOfHoles (length struct.fields)
   struct_of_holes entry struct get def preset =
       let d : def_of table s ≡ Def.Struct struct = def_is table s entry (Def.Struct struct) get def in
-      let p : preset_of table s ≡ None = ap preset_in (sym get) ∙ ap (option_map view) preset in
+      let p : preset_of table s ≡ None = ap preset_in (sym get) ∙ preset in
       let n : child_count table s ≡ length struct.fields = rw d refl in
       record {
         lacks =
@@ -201,11 +201,11 @@ module _ (hooks : Meanings) (table : Table) (s : ℕ) (served : IsServed table) 
 
   -- a begun place
 
-  module _ (form : Form) (count : ℕ) (begun_as : IsBegunAs (def_of table s) form count) where
+  module _ (form : Form) (count : ℕ) (begun_as : IsFullAs (def_of table s) form count) where
     takes_is : (i : ℕ) → hole_takes table s form i ≡ fill_at table s i
     takes_is i = go (def_of table s) refl form begun_as
       where
-        go : (def : Def) → def_of table s ≡ def → (form : Form) → IsBegunAs def form count
+        go : (def : Def) → def_of table s ≡ def → (form : Form) → IsFullAs def form count
             → hole_takes table s form i ≡ fill_at table s i
         go def e as_struct b = refl
         go (Def.Array t n) e as_array b = rw e refl
@@ -293,7 +293,7 @@ pub record Made (table : Table) (s : ℕ) (held : ℕ → ℕ) (v : Val) : Type 
   pub tokens : (t : ℕ) → held t ≡ occurs v t
 
 made_of_holes : (hooks : Meanings) (table : Table) (s : ℕ) (v : Val) → IsChecked table → IsServed table → (count : ℕ)
-    → IsBegunAs (def_of table s) as_struct count → count ≡ child_count table s → made_of_fills hooks table s ≡ Some v
+    → IsFullAs (def_of table s) as_struct count → count ≡ child_count table s → made_of_fills hooks table s ≡ Some v
     → Made table s (λ t. 0) v
 made_of_holes hooks table s v checked served count begun_as counts e =
     let those : Product (each_child (fill_at table s) (child_count table s) 0) v
@@ -349,10 +349,10 @@ piece_made hooks table s (Piece.Begun form children) v checked served suits e =
 
 -- how many children a begun struct has
 
-pub few_children : (table : Table) (s n : ℕ) → IsNumbered table → IsBegunAs (def_of table s) as_struct n → n < 2 ^ 32
+pub few_children : (table : Table) (s n : ℕ) → IsNumbered table → IsFullAs (def_of table s) as_struct n → n < 2 ^ 32
 few_children table s n numbered h = go (def_of table s) refl h
   where
-    go : (def : Def) → def_of table s ≡ def → IsBegunAs def as_struct n → n < 2 ^ 32
+    go : (def : Def) → def_of table s ≡ def → IsFullAs def as_struct n → n < 2 ^ 32
     go (Def.Struct struct) e count =
         let few : field_count (def_of table s) < 2 ^ 32 = numbered.fields s in
         let few_here : length struct.fields < 2 ^ 32 = rw e at few in

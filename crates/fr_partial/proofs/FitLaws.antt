@@ -10,7 +10,7 @@ use Rattle.fr_shape.specs.Look.{Table, def_of, settled}
 use Rattle.fr_shape.specs.Val.{Vals, none, product, no_vals, first}
 use Rattle.fr_model.specs.Places.{child_shape}
 use Rattle.fr_model.specs.Tree.{Form, as_struct, as_array}
-use Rattle.fr_model.specs.Well.{IsBegunAs}
+use Rattle.fr_model.specs.Well.{IsFullAs}
 
 pub both_true : (a b : Bool) → (a && b) ≡ true → (a ≡ true) × (b ≡ true)
 both_true true true h = (refl, refl)
@@ -104,11 +104,11 @@ elements_are_fit table s t n is i (first v vs) each =
     rw (here, rest) refl
 
 -- so many fitting children make a fitting product
-pub product_fits : (table : Table) (s : ℕ) (form : Form) (count : ℕ) (vs : Vals) → IsBegunAs (def_of table s) form count
+pub product_fits : (table : Table) (s : ℕ) (form : Form) (count : ℕ) (vs : Vals) → IsFullAs (def_of table s) form count
     → count_vals vs ≡ count → FitEach table s 0 vs → fits table s (product vs) ≡ true
 product_fits table s form count vs begun counts each = go (def_of table s) refl form begun
   where
-    go : (def : Def) → def_of table s ≡ def → (form : Form) → IsBegunAs def form count
+    go : (def : Def) → def_of table s ≡ def → (form : Form) → IsFullAs def form count
         → fits table s (product vs) ≡ true
     go (Def.Struct struct) is as_struct begun =
         rw (settled_struct table s struct is)

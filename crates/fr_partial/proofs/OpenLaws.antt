@@ -14,7 +14,7 @@ use Rattle.fr_shape.specs.View.{view, vals_view}
 use Rattle.fr_model.specs.Places.{child_shape}
 use Rattle.fr_model.specs.Step.{opened, field_refusal, first_refused}
 use Rattle.fr_model.specs.Tree.{Form, as_struct, as_array, hole, whole, begun, branch, wholes, holes}
-use Rattle.fr_model.specs.Well.{IsBegunAs}
+use Rattle.fr_model.specs.Well.{IsFullAs}
 use Rattle.fr_partial.specs.Children.{is_product}
 use Rattle.fr_partial.specs.Stack.{slot, slots, IsChild, AreChildren}
 use Rattle.fr_partial.proofs.FillingLaws.{AreAbsent, is_there, fits_there, fits_child}
@@ -64,11 +64,11 @@ pub record AsStruct (table : Table) (s : ℕ) (form : Form) (count : ℕ) : Type
   pub fields : count ≡ length struct.fields
 
 -- a whole place that is entered is a struct
-pub whole_as_struct : (table : Table) (s i : ℕ) (v : Val) (form : Form) (count : ℕ) → IsBegunAs (def_of table s) form count
+pub whole_as_struct : (table : Table) (s i : ℕ) (v : Val) (form : Form) (count : ℕ) → IsFullAs (def_of table s) form count
     → field_refusal (def_of table s) (whole v) i ≡ None → AsStruct table s form count
 whole_as_struct table s i v form count begun_as admitted = go (def_of table s) refl form begun_as admitted
   where
-    go : (def : Def) → def_of table s ≡ def → (form : Form) → IsBegunAs def form count
+    go : (def : Def) → def_of table s ≡ def → (form : Form) → IsFullAs def form count
         → field_refusal def (whole v) i ≡ None → AsStruct table s form count
     go (Def.Struct struct) e as_struct b none = record { struct = struct; is = e; form_is = refl; fields = b }
     go (Def.Array t n) e as_array b none =
@@ -135,7 +135,7 @@ module _ (table : Table) (s : ℕ) (form : Form) (count : ℕ) (as_it_is : AsStr
       ap (λ (w : Val). opened form count (whole w)) e ∙ ap (begun form) (sym (whole_opened v cs e h).those)
 
 -- a definition tells as what, and with how many children, a place is begun
-pub same_begun : (def : Def) (f g : Form) (n m : ℕ) → IsBegunAs def f n → IsBegunAs def g m → (f ≡ g) × (n ≡ m)
+pub same_begun : (def : Def) (f g : Form) (n m : ℕ) → IsFullAs def f n → IsFullAs def g m → (f ≡ g) × (n ≡ m)
 same_begun (Def.Struct struct) as_struct as_struct n m a b = (refl, a ∙ sym b)
 same_begun (Def.Struct struct) as_struct as_array n m a b = absurd b
 same_begun (Def.Struct struct) as_array g n m a b = absurd a

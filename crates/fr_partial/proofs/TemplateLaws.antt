@@ -1,8 +1,7 @@
 -- What a checked table says of its templates, and a served one of validators.
-use Rattle.std.proofs.Common.{◌≡◌, ℕ, suc, zero, Bool, true, false, List, [], ◌∷◌, Option, Some, None, slice_get, option_map, refl, sym, ◌∙◌, ap, subst}
+use Rattle.std.proofs.Common.{◌≡◌, ℕ, suc, zero, Bool, true, false, List, [], ◌∷◌, Option, Some, None, slice_get, refl, sym, ◌∙◌, ap, subst}
 use Rattle.std.specs.List.{list_all}
 use Rattle.std.specs.Prelude.{option_to_list}
-use Rattle.fr_shape.specs.declared.value.Value.{Value}
 use Rattle.fr_shape.specs.declared.shape.Shape.{Shape}
 use Rattle.fr_shape.specs.declared.shape.Def.{Def}
 use Rattle.fr_shape.specs.declared.shape.Field.{Field}
@@ -16,7 +15,6 @@ use Rattle.fr_shape.specs.Served.{IsServed, serves, serves_def, serves_field, is
 use Rattle.fr_shape.specs.Tokens.{tokens, times, occurs}
 use Rattle.fr_shape.specs.TokenLaws.{occurs_times}
 use Rattle.fr_shape.specs.Val.{Val}
-use Rattle.fr_shape.specs.View.{view}
 use Rattle.fr_model.specs.Complete.{failing_child}
 use Rattle.fr_model.specs.Places.{fill_at, child_shape}
 use Rattle.fr_model.specs.Tree.{Form, as_struct, as_array}
@@ -42,18 +40,17 @@ pub record IsTemplate (table : Table) (s : ℕ) (v : Val) : Type 0 where
 pub light_occurs : (v : Val) (t : ℕ) → tokens v ≡ [] → occurs v t ≡ 0
 light_occurs v t e = occurs_times v t ∙ ap (λ (ts : List ℕ). times ts t) e
 
-template_is : (table : Table) (s : ℕ) (w : Value) → is_template table s w ≡ true → IsTemplate table s (view w)
-template_is table s w h =
-    let both : (fits table s (view w) ≡ true) × (is_nil (tokens (view w)) ≡ true)
-    = both_true (fits table s (view w)) (is_nil (tokens (view w))) h in
-    record { fitting = both.0; light = nil_is (tokens (view w)) both.1 }
+template_is : (table : Table) (s : ℕ) (v : Val) → is_template table s v ≡ true → IsTemplate table s v
+template_is table s v h =
+    let both : (fits table s v ≡ true) × (is_nil (tokens v) ≡ true)
+    = both_true (fits table s v) (is_nil (tokens v)) h in
+    record { fitting = both.0; light = nil_is (tokens v) both.1 }
 
-in_preset : (table : Table) (s : ℕ) (preset : Option Value) (v : Val)
-    → list_all (is_template table s) (option_to_list preset) ≡ true → option_map view preset ≡ Some v
-    → IsTemplate table s v
+in_preset : (table : Table) (s : ℕ) (preset : Option Val) (v : Val)
+    → list_all (is_template table s) (option_to_list preset) ≡ true → preset ≡ Some v → IsTemplate table s v
 in_preset table s None v h e = cc
 in_preset table s (Some w) v h e =
-    let same : view w ≡ v = cc in
+    let same : w ≡ v = cc in
     subst (IsTemplate table s) same (template_is table s w (both_true (is_template table s w) true h).0)
 
 pub preset_template : (table : Table) (s : ℕ) (v : Val) → IsChecked table → preset_of table s ≡ Some v
@@ -83,8 +80,8 @@ field_template table s field v checked own e = go field.default refl
     go None mark = unmarked (takes_shape_default table s false field) mark refl
     go (Some DefaultSource.FromTrait) mark = preset_template table field.shape.0 v checked (rw mark at e)
     go (Some (DefaultSource.Custom w)) mark =
-        let is : Some (view w) ≡ Some v = rw mark at e in
-        let same : view w ≡ v = cc in
+        let is : Some w ≡ Some v = rw mark at e in
+        let same : w ≡ v = cc in
         subst (IsTemplate table field.shape.0) same (template_is table field.shape.0 w (rw mark at own))
 
 -- what a child takes where it is a hole

@@ -1,7 +1,7 @@
 -- What contracts see of a builder, and what its calls owe.
 use Rattle.std.specs.Prelude.{◌≡◌, ◌⊎◌, ℕ, Result, Ok, Err, refl}
 use Rattle.std.specs.Coded.{Coded, code_by, coded×, coded_ℕ}
-use Rattle.fr_shape.specs.Code.{table_code}
+use Rattle.fr_shape.specs.TableCode.{table_code}
 use Rattle.fr_shape.specs.Look.{Table}
 use Rattle.fr_shape.specs.Tokens.{occurs}
 use Rattle.fr_shape.specs.Val.{Val}

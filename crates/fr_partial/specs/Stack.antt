@@ -11,7 +11,7 @@ use Rattle.fr_shape.specs.Tokens.{vals_occur}
 use Rattle.fr_shape.specs.Fits.{fits}
 use Rattle.fr_model.specs.Places.{Place, child_shape}
 use Rattle.fr_model.specs.Tree.{Form as TreeForm, as_struct, as_array, Tree, hole, entered, whole, begun, Trees, no_trees, branch, change_nth}
-use Rattle.fr_model.specs.Well.{IsBegunAs}
+use Rattle.fr_model.specs.Well.{IsFullAs}
 use Rattle.fr_partial.specs.declared.frame.Form.{Form}
 use Rattle.fr_partial.specs.declared.frame.Piece.{Piece}
 use Rattle.fr_partial.specs.declared.frame.Frame.{Frame}
@@ -63,7 +63,7 @@ abbrev pub IsPiece : Table → ℕ → Piece → Type 0
 IsPiece table s Piece.Entered = Unit {0}
 IsPiece table s (Piece.Whole v) = fits table s (view v) ≡ true
 IsPiece table s (Piece.Begun form children) =
-    IsBegunAs (def_of table s) (as_form form) (length children.items) × AreChildren table s 0 children.items
+    IsFullAs (def_of table s) (as_form form) (length children.items) × AreChildren table s 0 children.items
 
 -- a value that isn't there yet
 abbrev pub IsPlaceholder : Option Value → Type 0
@@ -73,7 +73,7 @@ IsPlaceholder None = ⊥
 -- a place above: a begun one whose open child isn't there
 pub record IsParent (table : Table) (s : ℕ) (parent : Parent) : Type 0 where
   pub shape : parent.shape.0 ≡ s
-  pub begun : IsBegunAs (def_of table s) (as_form parent.form) (length parent.children.items)
+  pub begun : IsFullAs (def_of table s) (as_form parent.form) (length parent.children.items)
   pub children : AreChildren table s 0 parent.children.items
   pub absent : IsPlaceholder (slice_get parent.children.items parent.child)
 

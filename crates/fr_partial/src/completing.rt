@@ -16,13 +16,11 @@ ghost use Rattle.fr_partial.specs.Filling.{fills_nothing};
 ghost use Rattle.fr_partial.specs.Stack.{node, IsFrame};
 
 use crate::children::{is_placeholder, placeholders, product_of, put};
-use crate::filling::fill_of;
+use crate::filling::{copy_template, fill_of};
 use crate::frame::{Frame, Piece};
 use crate::lacking::lack_of;
 use crate::releasing::{release_children, release_piece};
-use fr_shape::{
-    Def, Ledger, OutOfMemory, ReflectErrorKind, ShapeId, ShapeTable, Value, clone_template,
-};
+use fr_shape::{Def, Ledger, OutOfMemory, ReflectErrorKind, ShapeId, ShapeTable, Value};
 use std::alloc::Global;
 
 /// A copy of the template that child `i` takes.
@@ -37,7 +35,7 @@ fn copy_fill(
     ensures { IfOk result (λ v. fill_at table.now shape.0 i ≡ Some (view v)) }
 {
     match fill_of(table, shape, i) {
-        Some(template) => clone_template(alloc, template),
+        Some(template) => copy_template(alloc, template),
         None => unreachable!(),
     }
 }
@@ -92,7 +90,7 @@ fn made_of_entered(alloc: Global, table: &ShapeTable, shape: ShapeId) -> Result<
     };
     match (&entry.def, &entry.preset) {
         (Def::Option(_), Some(_)) => Ok(Value::None),
-        (Def::Struct(_), Some(template)) => clone_template(alloc, template),
+        (Def::Struct(_), Some(template)) => copy_template(alloc, template),
         (Def::Struct(described), None) => {
             made_of_fills(alloc, table, shape, described.fields.len())
         }

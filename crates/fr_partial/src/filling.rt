@@ -1,17 +1,29 @@
 //! What a hole takes in strict mode: the template that its field has, or its shape's default.
-ghost use Rattle.std.specs.Prelude.{◌≡◌, ◌||◌, false, option_map};
+ghost use Rattle.std.specs.Prelude.{◌≡◌, ◌||◌, [], false, IfOk};
 ghost use Rattle.std.specs.Option.{option_copied};
 ghost use Rattle.fr_shape.specs.Fills.{preset_of, has_default, strict_fill, takes_shape_default, is_option, is_empty_struct};
 ghost use Rattle.fr_shape.specs.Look.{def_of};
 ghost use Rattle.fr_shape.specs.Served.{is_absent};
+ghost use Rattle.fr_shape.specs.Tokens.{tokens};
 ghost use Rattle.fr_shape.specs.View.{view};
 ghost use Rattle.fr_model.specs.Places.{fill_at, fill_of_field};
 
-use fr_shape::{Def, DefaultSource, Field, ShapeId, ShapeTable, Value};
+use fr_shape::{
+    Def, DefaultSource, Field, OutOfMemory, ShapeId, ShapeTable, Template, Value, clone_template,
+};
+use std::alloc::Global;
+
+/// A copy of what a template shows.
+pub fn copy_template(alloc: Global, template: &Template) -> Result<Value, OutOfMemory>
+    requires no_token { tokens template.now ≡ [] }
+    ensures copy { IfOk result (λ v. view v ≡ template.now) }
+{
+    clone_template(alloc, template.value())
+}
 
 /// The default of a shape.
-pub fn preset_of<'a>(table: &'a ShapeTable, shape: ShapeId) -> Option<&'a Value>
-    ensures { option_map view (option_copied result) ≡ preset_of table.now shape.0 }
+pub fn preset_of<'a>(table: &'a ShapeTable, shape: ShapeId) -> Option<&'a Template>
+    ensures { option_copied result ≡ preset_of table.now shape.0 }
 {
     match table.get(shape) {
         Some(entry) => entry.preset.as_ref(),
@@ -62,8 +74,12 @@ fn takes_shape_default(table: &ShapeTable, container: ShapeId, field: &Field) ->
 
 /// The template that a hole of a struct's field takes, by the first rule that holds: the field's own; its shape's
 /// default, where it is marked so; the same unmarked.
-fn template_of<'a>(table: &'a ShapeTable, container: ShapeId, field: &'a Field) -> Option<&'a Value>
-    ensures { option_map view (option_copied result) ≡ strict_fill table.now container.0 false field.now }
+fn template_of<'a>(
+    table: &'a ShapeTable,
+    container: ShapeId,
+    field: &'a Field,
+) -> Option<&'a Template>
+    ensures { option_copied result ≡ strict_fill table.now container.0 false field.now }
 {
     match &field.default {
         Some(DefaultSource::Custom(template)) => Some(template),
@@ -86,8 +102,8 @@ pub fn takes_nothing(table: &ShapeTable, shape: ShapeId, i: usize) -> bool
 }
 
 /// The template that child `i` of a place takes where it is a hole; an element of an array takes none.
-pub fn fill_of<'a>(table: &'a ShapeTable, shape: ShapeId, i: usize) -> Option<&'a Value>
-    ensures { option_map view (option_copied result) ≡ fill_at table.now shape.0 i }
+pub fn fill_of<'a>(table: &'a ShapeTable, shape: ShapeId, i: usize) -> Option<&'a Template>
+    ensures { option_copied result ≡ fill_at table.now shape.0 i }
 {
     match table.get(shape) {
         Some(entry) => match &entry.def {

@@ -5,8 +5,8 @@ ghost use Rattle.fr_model.specs.Step.{set_default};
 ghost use Rattle.fr_partial.specs.Builder.{here, holds, IsStep, left};
 
 use crate::Partial;
-use crate::filling::preset_of;
-use fr_shape::{Ledger, Operation, ReflectErrorKind, clone_template};
+use crate::filling::{copy_template, preset_of};
+use fr_shape::{Ledger, Operation, ReflectErrorKind};
 
 impl<'t> Partial<'t> {
     /// Puts a copy of the default of the place's shape there, in the stead of all that was put at the place and beneath
@@ -25,7 +25,7 @@ impl<'t> Partial<'t> {
                 operation: Operation::NoDefault,
             });
         };
-        match clone_template(self.alloc, template) {
+        match copy_template(self.alloc, template) {
             Ok(value) => Ok(self.put(value, ledger)),
             Err(_) => {
                 self.abandon(ledger);

@@ -13,12 +13,12 @@ ghost use Rattle.fr_partial.specs.Builder.{holds};
 use crate::Partial;
 use fr_shape::{
     Def, DefaultSource, Field, FieldRef, Items, Ledger, Operation, ReflectErrorKind, ScalarKind,
-    Shape, ShapeId, ShapeTable, Shaped, StructDef, StructKind, Text, Value, fits,
+    Shape, ShapeId, ShapeTable, Shaped, StructDef, StructKind, Template, Text, Value, fits,
 };
 use std::alloc::Global;
 use std::process::Abort;
 
-fn shape(alloc: Global, name: &str, def: Def, preset: Option<Value>) -> Option<Shape>
+fn shape(alloc: Global, name: &str, def: Def, preset: Option<Template>) -> Option<Shape>
     ensures def { IfSome result (λ shape. shape.def ≡ def) }
     ensures served { serves_def def ≡ true → IfSome result (λ shape. serves shape ≡ true) }
 {
@@ -68,7 +68,7 @@ fn members(alloc: Global) -> Option<Def>
         alloc,
         "count",
         0,
-        Some(DefaultSource::Custom(Value::Nat(9))),
+        Some(DefaultSource::Custom(Template::new(Value::Nat(9)))),
     )?;
     let choice = field(alloc, "choice", 2, None)?;
     let pair = field(alloc, "pair", 3, None)?;
@@ -96,7 +96,12 @@ fn table(alloc: Global) -> Option<ShapeTable>
         Some(Value::Nat(5)),
     )?;
     let opaque = shape(alloc, "opaque", Def::Opaque, None)?;
-    let option = shape(alloc, "option", Def::Option(ShapeId(0)), Some(Value::None))?;
+    let option = shape(
+        alloc,
+        "option",
+        Def::Option(ShapeId(0)),
+        Some(Template::new(Value::None)),
+    )?;
     let pair = shape(alloc, "pair", Def::Array(ShapeId(0), 2), None)?;
     let described = members(alloc)?;
     let structure = shape(alloc, "structure", described, None)?;

@@ -117,7 +117,9 @@ module _ (ledger : List ℕ) where
     unfolding Meets MeetsCall
     call_meets brought marks (Call.Set shape v) are =
         set_meets brought shape v (nat_lt shape (length table) && fits table shape v) (marked (tokens v) marks) refl (tokens_meet (tokens v) brought marks are)
+    call_meets brought marks (Call.BeginField name) are = (refl, are)
     call_meets brought marks (Call.BeginNthField i) are = (refl, are)
+    call_meets brought marks Call.SetDefault are = (refl, are)
     call_meets brought marks Call.End are = (refl, are)
 
     abbrev from : List ℕ → ℕ → List Command → Option ℕ

@@ -1,6 +1,7 @@
 pub mod AnswerLaws
 pub mod Arguments
 pub mod BroughtLaws
+pub mod Buildable
 pub mod FloatFree
 pub mod MarkLaws
 pub mod ReleasedLaws
@@ -8,3 +9,4 @@ pub mod RuleLaws
 pub mod SizeLaws
 pub mod TakeLaws
 pub mod Trees
+pub mod ValidScripts

@@ -3,6 +3,7 @@
 use Rattle.std.specs.Prelude.{ℕ, List, Option, Some, None, codes, option_map, if◌then◌else◌}
 use Rattle.std.specs.Str.{bytes_eq}
 use Rattle.serde_json.specs.Data.{Data, string, array, no_items, item}
+use Rattle.serde_json.specs.Find.{as_str}
 use Rattle.fr_doc.specs.Numerals.{whole_number}
 use Rattle.fr_doc.specs.Steps.{◌>>=◌}
 use Rattle.fr_doc.specs.ValueForms.{value_form}
@@ -10,11 +11,14 @@ use Rattle.fr_model.specs.Commands.{Call}
 
 -- a call without arguments
 unfoldable pub call_of_none : List ℕ → Option Call
-call_of_none word = if bytes_eq word (codes "end") then Some Call.End else None
+call_of_none word =
+    if bytes_eq word (codes "set_default") then Some Call.SetDefault else
+    if bytes_eq word (codes "end") then Some Call.End else None
 
 -- a call with one argument
 unfoldable pub call_of_one : List ℕ → Data → Option Call
 call_of_one word a =
+    if bytes_eq word (codes "begin_field") then option_map Call.BeginField (as_str a) else
     if bytes_eq word (codes "begin_nth_field") then option_map Call.BeginNthField (whole_number a) else None
 
 -- a call with two arguments

@@ -9,7 +9,7 @@ use Rattle.serde_json.specs.Read.{read}
 use Rattle.serde_json.specs.Written.{has_float}
 use Rattle.fr_shape.specs.declared.shape.Shape.{Shape}
 use Rattle.fr_shape.specs.Look.{Table}
-use Rattle.fr_shape.specs.Checked.{ids_in_range, name_is_new}
+use Rattle.fr_shape.specs.Faults.{rules_of}
 use Rattle.fr_shape.specs.Fits.{fits}
 use Rattle.fr_shape.specs.Numbered.{field_count}
 use Rattle.fr_shape.specs.Tokens.{tokens}
@@ -94,6 +94,7 @@ count_fields [] = 0
 count_fields (shape ∷ shapes) = field_count shape.def + count_fields shapes
 
 abbrev pub begins : Call → Bool
+begins (Call.BeginField name) = true
 begins (Call.BeginNthField i) = true
 begins _ = false
 
@@ -123,7 +124,7 @@ sizes_pass document = do
   _ ← at_most 1000000 document.tokens DocSize.Tokens
   if too_deep 0 0 document.script then Err (DocFault.TooLarge DocSize.Depth) else Ok tt
 
--- The table's rules: of those that a table of these forms can break, the smallest that is broken, at its first entry.
+-- The table's rules: the smallest of the nine that is broken, at the first entry that breaks it.
 
 abbrev pub first_breaking : (ℕ → Shape → Bool) → ℕ → List Shape → Option ℕ
 first_breaking keeps i [] = None
@@ -133,10 +134,15 @@ abbrev pub breaks : ℕ → Option ℕ → Result (Unit {0}) DocFault
 breaks rule None = Ok tt
 breaks rule (Some i) = Err (DocFault.Unchecked (record { rule = rule; entry = i }))
 
+-- these rules in turn, the first of them being of this number
+abbrev pub each_rule : Table → ℕ → List (ℕ → Shape → Bool) → Result (Unit {0}) DocFault
+each_rule table rule [] = Ok tt
+each_rule table rule (keeps ∷ others) = do
+  _ ← breaks rule (first_breaking keeps 0 table)
+  each_rule table (rule + 1) others
+
 unfoldable pub rules_pass : Table → Result (Unit {0}) DocFault
-rules_pass table = do
-  _ ← breaks 1 (first_breaking (λ i shape. ids_in_range table shape) 0 table)
-  breaks 2 (first_breaking (λ i shape. name_is_new table i shape) 0 table)
+rules_pass table = each_rule table 1 (rules_of table)
 
 -- The script: the first command that isn't valid.
 

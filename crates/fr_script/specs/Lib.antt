@@ -8,6 +8,4 @@ pub mod Outcomes
 pub mod Reading
 pub mod Reports
 pub mod Runs
-pub mod ServedIds
 pub mod Tokens
-pub mod ValidScripts

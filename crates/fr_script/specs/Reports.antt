@@ -4,6 +4,7 @@ use Rattle.serde_json.specs.Data.{Data, string, array, object, Items, no_members
 use Rattle.serde_json.specs.View.{items_of}
 use Rattle.serde_json.specs.Written.{compact_text}
 use Rattle.fr_shape.specs.declared.error.ReflectErrorKind.{ReflectErrorKind}
+use Rattle.fr_shape.specs.Hooks.{no_hooks}
 use Rattle.fr_shape.specs.Tokens.{occurs}
 use Rattle.fr_shape.specs.Val.{Val}
 use Rattle.fr_doc.specs.declared.fault.DocFault.{DocFault}
@@ -40,7 +41,7 @@ outcome_of_run document (Err refusal) = refused refusal (released document none_
 
 -- the machine's run of a document's script
 abbrev pub run_of : Document → Result Val Refusal
-run_of document = full_run document.shapes document.root document.script
+run_of document = full_run no_hooks document.shapes document.root document.script
 
 abbrev pub outcome_of_document : Result Document DocFault → Outcome
 outcome_of_document (Err fault) = faulty fault

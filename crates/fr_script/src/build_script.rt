@@ -1,6 +1,8 @@
 //! A whole script through a builder.
 ghost use Rattle.std.specs.Prelude.{◌≡◌, ◌+◌, ◌<◌, ◌^◌, true, length, IfOk};
+ghost use Rattle.fr_shape.specs.Checked.{IsChecked};
 ghost use Rattle.fr_shape.specs.Fits.{fits};
+ghost use Rattle.fr_shape.specs.Hooks.{no_hooks};
 ghost use Rattle.fr_shape.specs.Look.{IsIn};
 ghost use Rattle.fr_shape.specs.Numbered.{IsNumbered};
 ghost use Rattle.fr_shape.specs.Released.{Room, RoseBy, Conserved};
@@ -38,10 +40,11 @@ pub fn build_script(
 ) -> Result<Built, ScriptError>
     requires root { IsIn table.now root.0 }
     requires numbered { IsNumbered table.now }
+    requires checked { IsChecked table.now }
     requires served { IsServed table.now }
     requires valid { IsValid table.now (calls_of script) ledger.old }
     requires few { length script < 2 ^ 32 }
-    ensures run { IsRun (full_run table.now root.0 (calls_of script)) result }
+    ensures run { IsRun (full_run no_hooks table.now root.0 (calls_of script)) result }
     ensures journal { IsJournals (journal_run table.now root.0 (calls_of script)) result }
     ensures calls { IfOk result (λ built. built.calls ≡ length script) }
     ensures fits { IfOk result (λ built. fits table.now root.0 built.value ≡ true) }
@@ -86,12 +89,14 @@ fn call<'t>(
     requires same { partial.shapes ≡ table.now }
     requires fitting { IsFitting table.now (call_of command) }
     requires room { Room (λ t. holds partial t + brings (call_of command) t) ledger.old }
-    ensures step { IsStep partial.entry (step partial.entry.shapes partial.entry.root partial.entry.state (call_of command)) result }
+    ensures step { IsStep partial.entry (step no_hooks partial.entry.shapes partial.entry.root partial.entry.state (call_of command)) result }
     ensures tokens { Conserved (λ t. holds partial.entry t + brings (call_of command) t) ledger.old (left result) ledger.new }
 {
     match command {
+        Command::BeginField(name) => partial.begin_field(name.as_str(), ledger),
         Command::BeginNthField(i) => partial.begin_nth_field(i as usize, ledger),
         Command::Set(shape, value) => partial.set_shape(Shaped::new(table, shape, value), ledger),
+        Command::SetDefault => partial.set_default(ledger),
         Command::End => partial.end(ledger),
     }
 }
@@ -112,6 +117,7 @@ fn release_command(command: Command, ledger: &mut Ledger)
 {
     match command {
         Command::Set(_, value) => release(value, ledger),
-        Command::BeginNthField(_) | Command::End => {}
+        Command::BeginField(_) | Command::BeginNthField(_) | Command::SetDefault | Command::End =>
+            {}
     }
 }

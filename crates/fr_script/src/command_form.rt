@@ -8,7 +8,7 @@ ghost use Rattle.fr_script.specs.Reading.{GivesFor};
 
 use fr_doc::{DocFault, DocPlace, ReadError, count_of, value_of};
 use fr_model::{Command, Script};
-use fr_shape::{Items, OutOfMemory, ShapeId};
+use fr_shape::{Items, OutOfMemory, ShapeId, Text};
 use serde_json::Value as Json;
 use std::alloc::Global;
 
@@ -56,7 +56,7 @@ pub fn command_of(alloc: Global, json: &Json) -> Result<Option<Command>, OutOfMe
     };
     match arguments {
         [] => Ok(find_bare(word.as_str())),
-        [a] => Ok(find_with_one(word.as_str(), a)),
+        [a] => read_with_one(alloc, word.as_str(), a),
         [a, b] => read_with_two(alloc, word.as_str(), a, b),
         _ => Ok(None),
     }
@@ -68,6 +68,7 @@ fn find_bare(word: &str) -> Option<Command>
     ensures { option_map call_of result ≡ call_of_none word.now }
 {
     match word {
+        "set_default" => Some(Command::SetDefault),
         "end" => Some(Command::End),
         _ => None,
     }
@@ -75,12 +76,19 @@ fn find_bare(word: &str) -> Option<Command>
 
 /// A command with one argument.
 #[tactic(auto, unfolding(crate::specs::CommandForms::call_of_one))]
-fn find_with_one(word: &str, a: &Json) -> Option<Command>
-    ensures { option_map call_of result ≡ call_of_one word.now (data_of a.now) }
+fn read_with_one(alloc: Global, word: &str, a: &Json) -> Result<Option<Command>, OutOfMemory>
+    ensures { IfOk result (λ found. option_map call_of found ≡ call_of_one word.now (data_of a.now)) }
 {
     match word {
-        "begin_nth_field" => Some(Command::BeginNthField(count_of(a)?)),
-        _ => None,
+        "begin_field" => match a.as_str() {
+            Some(name) => Ok(Some(Command::BeginField(Text::new(alloc, name)?))),
+            None => Ok(None),
+        },
+        "begin_nth_field" => match count_of(a) {
+            Some(i) => Ok(Some(Command::BeginNthField(i))),
+            None => Ok(None),
+        },
+        _ => Ok(None),
     }
 }
 

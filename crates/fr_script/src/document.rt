@@ -4,11 +4,10 @@ ghost use Rattle.serde_json.specs.View.{view as data_of};
 ghost use Rattle.std.specs.Option.{ok_or};
 ghost use Rattle.fr_doc.specs.Faults.{Gives};
 ghost use Rattle.fr_doc.specs.declared.fault.DocFault.{DocFault};
-ghost use Rattle.fr_script.specs.Documents.{checked_parts, document_of, script_passes, tree_of};
+ghost use Rattle.fr_script.specs.Documents.{checked_parts, document_of, rules_pass, script_passes, tree_of};
 ghost use Rattle.fr_script.specs.Reading.{GivesFor, document_view, parts_view};
 
 use crate::parts::{Parts, read_parts, test_form};
-use crate::rules::test_rules;
 use crate::sizes::test_sizes;
 use crate::validity::{ScriptFault, is_valid_script};
 use fr_doc::{DOCUMENT_LIMIT, DocFault, ReadError, has_float};
@@ -66,10 +65,10 @@ fn read_checked(alloc: Global, json: &Json) -> Result<Document, ReadError>
     if let Err(fault) = test_sizes(&parts) {
         return Err(ReadError::Fault(fault));
     }
-    if let Err(fault) = test_rules(parts.shapes.as_slice()) {
+    let document = into_document(alloc, parts);
+    if let Err(fault) = test_rules(&document.table) {
         return Err(ReadError::Fault(fault));
     }
-    let document = into_document(alloc, parts);
     test_script(alloc, &document)?;
     Ok(document)
 }
@@ -89,6 +88,17 @@ fn into_document(alloc: Global, parts: Parts) -> Document
         root: ShapeId(root),
         tokens,
         script,
+    }
+}
+
+/// Tests the rules of a checked table one after another.
+fn test_rules(table: &ShapeTable) -> Result<(), DocFault>
+    requires numbered { length table.now < 2 ^ 32 }
+    ensures { result ≡ rules_pass table.now }
+{
+    match table.check() {
+        Ok(()) => Ok(()),
+        Err(fault) => Err(DocFault::Unchecked(fault)),
     }
 }
 

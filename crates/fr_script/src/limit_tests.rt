@@ -6,7 +6,7 @@ use std::process::Abort;
 use std::test::Fail;
 
 /// `front`, then `part` so many times with commas between, then `back`.
-fn joined(
+pub(crate) fn joined(
     alloc: Global,
     front: &str,
     part: &str,

@@ -14,7 +14,8 @@ mod marking;
 mod parts;
 mod released;
 mod report;
-mod rules;
+#[cfg(test)]
+mod row_tests;
 mod running;
 mod serving;
 mod sizes;

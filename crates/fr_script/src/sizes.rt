@@ -77,9 +77,9 @@ fn is_too_deep(script: &[Command]) -> bool
     let mut ended: usize = 0;
     for command in script {
         match command {
-            Command::BeginNthField(_) => begun += 1,
+            Command::BeginField(_) | Command::BeginNthField(_) => begun += 1,
             Command::End => ended += 1,
-            Command::Set(_, _) => {}
+            Command::Set(_, _) | Command::SetDefault => {}
         }
         if begun.saturating_sub(DEPTH_LIMIT) > ended {
             return true;

@@ -103,7 +103,7 @@ const SCRIPTS: [(&str, &str, u8, &str); 13] = [
 ];
 
 /// Documents at fault, with what is reported on each.
-const FAULTS: [(&str, &str, &str); 14] = [
+const FAULTS: [(&str, &str, &str); 16] = [
     ("no bytes", "", r#"{"fault":"NotJson"}"#),
     (
         "a float",
@@ -127,7 +127,7 @@ const FAULTS: [(&str, &str, &str); 14] = [
     ),
     (
         "a shape that isn't built yet",
-        r#"{"shapes":[{"name":"a","def":"u32"},{"name":"b","def":"i8"}],"root":0,"commands":[]}"#,
+        r#"{"shapes":[{"name":"a","def":"u32"},{"name":"b","def":"str"}],"root":0,"commands":[]}"#,
         r#"{"fault":"BadForm","place":"shape 1"}"#,
     ),
     (
@@ -157,13 +157,23 @@ const FAULTS: [(&str, &str, &str); 14] = [
     ),
     (
         "an id past the shapes",
-        r#"{"shapes":[{"name":"a","def":{"struct":[{"name":"x","shape":1}]}}],"root":0,"commands":[]}"#,
+        r#"{"shapes":[{"name":"a","def":{"list":5}}],"root":0,"commands":[]}"#,
         r#"{"entry":0,"fault":"Unchecked","rule":1}"#,
     ),
     (
         "two shapes of one name",
         r#"{"shapes":[{"name":"a","def":"u32"},{"name":"a","def":"u32"}],"root":0,"commands":[]}"#,
         r#"{"entry":1,"fault":"Unchecked","rule":2}"#,
+    ),
+    (
+        "a default that doesn't fit its shape",
+        r#"{"shapes":[{"name":"u","def":"u8","preset":256}],"root":0,"commands":[]}"#,
+        r#"{"entry":0,"fault":"Unchecked","rule":6}"#,
+    ),
+    (
+        "an option whose default is something",
+        r#"{"shapes":[{"name":"u","def":"u8"},{"name":"o","def":{"option":0},"preset":{"s":1}}],"root":0,"commands":[]}"#,
+        r#"{"entry":1,"fault":"Unchecked","rule":9}"#,
     ),
     (
         "an id past the shapes in a set",
@@ -194,7 +204,7 @@ fn run_on(
 }
 
 /// Runs `build` and compares the status and the report, whose line feed is left out of `want`.
-fn check(
+pub(crate) fn check(
     rt: &(impl Abort + AllocGlobal),
     name: &str,
     input: &[u8],

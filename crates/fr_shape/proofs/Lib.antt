@@ -1,4 +1,5 @@
 pub mod Apart
 pub mod Faults
 pub mod InTurn
+mod Once
 pub mod Settled

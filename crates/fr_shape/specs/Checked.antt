@@ -2,7 +2,6 @@
 use Rattle.std.specs.Prelude.{◌≡◌, ℕ, ◌==◌, Bool, true, false, not, ◌&&◌, ◌||◌, List, [], ◌∷◌, ◌++◌, map, length, nat_lt, Option, Some, unwrap_or, option_to_list, take, slice_get}
 use Rattle.std.specs.List.{list_all, list_any, flat_map}
 use Rattle.std.specs.Str.{bytes_eq}
-use Rattle.fr_shape.specs.declared.value.Value.{Value}
 use Rattle.fr_shape.specs.declared.shape.Shape.{Shape}
 use Rattle.fr_shape.specs.declared.shape.ShapeId.{ShapeId}
 use Rattle.fr_shape.specs.declared.shape.HookId.{HookId}
@@ -16,7 +15,6 @@ use Rattle.fr_shape.specs.declared.shape.FormatProxy.{FormatProxy}
 use Rattle.fr_shape.specs.declared.shape.ValidatorDef.{ValidatorDef}
 use Rattle.fr_shape.specs.Look.{Table, def_of}
 use Rattle.fr_shape.specs.Val.{Val, none}
-use Rattle.fr_shape.specs.View.{view}
 use Rattle.fr_shape.specs.Fits.{fits, signed_bits, unsigned_bits}
 use Rattle.fr_shape.specs.Tokens.{tokens}
 use Rattle.fr_shape.specs.Served.{is_absent, is_nil}
@@ -97,8 +95,8 @@ suits def (ValidatorDef.Regex pattern) = is_string def
 suits def (ValidatorDef.Contains needle) = is_string def
 
 -- fits the shape and holds no token
-abbrev pub is_template : Table → ℕ → Value → Bool
-is_template table id v = fits table id (view v) && is_nil (tokens (view v))
+abbrev pub is_template : Table → ℕ → Val → Bool
+is_template table id v = fits table id v && is_nil (tokens v)
 
 abbrev pub default_is_template : Table → ℕ → Option DefaultSource → Bool
 default_is_template table id (Some (DefaultSource.Custom v)) = is_template table id v
@@ -137,8 +135,8 @@ abbrev pub is_none_val : Val → Bool
 is_none_val none = true
 is_none_val _ = false
 
-abbrev pub holds_none : Def → Option Value → Bool
-holds_none (Def.Option t) (Some v) = is_none_val (view v)
+abbrev pub holds_none : Def → Option Val → Bool
+holds_none (Def.Option t) (Some v) = is_none_val v
 holds_none _ preset = true
 
 -- The nine rules, each at the entry of number i.

@@ -7,8 +7,6 @@ use denote.RawPtr.{null_ptr}
 use Rattle.std.specs.declared.alloc.Global.{Global}
 use Rattle.std.specs.declared.boxed.Box.{Box}
 use Rattle.fr_shape.specs.contracts.value.Value as value
-use Rattle.fr_shape.specs.contracts.shape.Shape as shape
-use Rattle.fr_shape.specs.Look.{Table}
 use Rattle.fr_shape.specs.declared.value.Value.{Value, roll-Value, fold-roll-Value}
 use Rattle.fr_shape.specs.declared.value.Value.TheOpen.{Value-F}
 use Rattle.fr_shape.specs.declared.value.Dyn.{Dyn, roll-Dyn, fold-roll-Dyn}
@@ -139,7 +137,3 @@ val_code = code_by Value value.the_row.coded back view comes_back
 -- several of them, stored one by one
 abbrev pub vals_code : Coded Vals
 vals_code = code_by (List Value) (coded_list value.the_row.coded) vals_back vals_view vals_come_back
-
--- a table, stored shape by shape
-abbrev pub table_code : Coded Table
-table_code = coded_list shape.the_row.coded

@@ -1,7 +1,6 @@
 -- What a hole takes when its struct or variant is completed. A rule says where the template comes from, or that there is
 -- none; the fill is the template itself.
-use Rattle.std.specs.Prelude.{ℕ, Bool, false, true, not, ◌&&◌, ◌||◌, List, [], ◌∷◌, slice_get, Option, Some, None, option_map, is_some, if◌then◌else◌}
-use Rattle.fr_shape.specs.declared.value.Value.{Value}
+use Rattle.std.specs.Prelude.{ℕ, Bool, false, true, not, ◌&&◌, ◌||◌, List, [], ◌∷◌, slice_get, Option, Some, None, is_some, if◌then◌else◌}
 use Rattle.fr_shape.specs.declared.shape.Shape.{Shape}
 use Rattle.fr_shape.specs.declared.shape.Def.{Def}
 use Rattle.fr_shape.specs.declared.shape.StructKind.{StructKind}
@@ -10,10 +9,9 @@ use Rattle.fr_shape.specs.declared.shape.FieldRef.{FieldRef}
 use Rattle.fr_shape.specs.declared.shape.DefaultSource.{DefaultSource}
 use Rattle.fr_shape.specs.Look.{Table, def_of}
 use Rattle.fr_shape.specs.Val.{Val}
-use Rattle.fr_shape.specs.View.{view}
 
 abbrev pub preset_in : Option Shape → Option Val
-preset_in (Some shape) = option_map view shape.preset
+preset_in (Some shape) = shape.preset
 preset_in None = None
 
 -- the default of a shape, if it has one: its preset
@@ -75,17 +73,18 @@ pub data StrictRule : Type 0 where
   required : StrictRule
 
 -- A field that isn't marked takes its shape's default, where there is one, in these cases: its shape is an option; the
--- field is skipped; its shape is a struct without fields; its container has a default itself, and isn't an enum.
+-- field is skipped; its shape is a struct without fields; its container has a default itself, and the field is no
+-- variant's.
 abbrev pub takes_shape_default : Table → (container : ℕ) → (of_variant : Bool) → Field → Bool
 takes_shape_default table container of_variant field =
     has_default table field.shape.0
     && (is_option (def_of table field.shape.0) || field.skip || is_empty_struct (def_of table field.shape.0)
     || (has_default table container && not of_variant))
 
-abbrev pub strict_by_mark : Option DefaultSource → (unmarked : Bool) → StrictRule
-strict_by_mark (Some (DefaultSource.Custom v)) unmarked = defaultable (of_field (view v))
-strict_by_mark (Some DefaultSource.FromTrait) unmarked = defaultable of_shape
-strict_by_mark None unmarked = if unmarked then defaultable of_shape else required
+abbrev pub strict_by_mark : Option DefaultSource → (takes_unmarked : Bool) → StrictRule
+strict_by_mark (Some (DefaultSource.Custom v)) takes_unmarked = defaultable (of_field v)
+strict_by_mark (Some DefaultSource.FromTrait) takes_unmarked = defaultable of_shape
+strict_by_mark None takes_unmarked = if takes_unmarked then defaultable of_shape else required
 
 -- The first that holds: the field is marked with a template of its own; it is marked as taking its shape's default; it
 -- takes it unmarked. Otherwise the caller has to fill it.
@@ -116,11 +115,11 @@ takes_deferred_default table container field =
     && (has_default_attr table container || is_option (def_of table field.shape.0)
     || is_unit (def_of table field.shape.0) || is_collection (def_of table field.shape.0))
 
-abbrev pub deferred_by_mark : Option DefaultSource → (there unmarked : Bool) → DeferredRule
-deferred_by_mark (Some (DefaultSource.Custom v)) there unmarked = filled (of_field (view v))
-deferred_by_mark (Some DefaultSource.FromTrait) there unmarked =
-    if there then filled of_shape else marked_without_default
-deferred_by_mark None there unmarked = if unmarked then filled of_shape else missing
+abbrev pub deferred_by_mark : Option DefaultSource → (shape_has_default takes_unmarked : Bool) → DeferredRule
+deferred_by_mark (Some (DefaultSource.Custom v)) shape_has_default takes_unmarked = filled (of_field v)
+deferred_by_mark (Some DefaultSource.FromTrait) shape_has_default takes_unmarked =
+    if shape_has_default then filled of_shape else marked_without_default
+deferred_by_mark None shape_has_default takes_unmarked = if takes_unmarked then filled of_shape else missing
 
 -- The first that gives a value: the field's own template, where it is marked with one; its shape's default, where it is
 -- marked and its shape has one; its shape's default, where it takes it unmarked.

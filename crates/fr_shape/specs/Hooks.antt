@@ -9,13 +9,13 @@ use Rattle.fr_shape.specs.Checked.{IsChecked}
 use Rattle.fr_shape.specs.Fits.{fits}
 use Rattle.fr_shape.specs.Tokens.{tokens, occurs}
 
--- what a conversion or a parse comes to: a value, a refusal with its text, or that there is no such hook
+-- what a conversion or a parse comes to: a value, a refusal with its text, or that the hook doesn't do this
 pub data Meaning : Type 0 where
   gives : Val → Meaning
   refuses : List ℕ → Meaning
   unsupported : Meaning
 
--- what each hook means, by its number; the shape that a value is made for is its target
+-- What each hook means, by its number. The target is the number of the shape that a value is made for.
 pub record Meanings : Type 0 where
   pub check : (hook : ℕ) → Val → Bool
   pub convert : Table → (hook target : ℕ) → (source : Val) → Meaning
@@ -33,29 +33,33 @@ Answers meaning (Err HookFault.OutOfMemory) = ⊤
 abbrev pub IsDistinct : Val → Type 0
 IsDistinct v = (t : ℕ) → occurs v t ≤ 1
 
--- in a checked table, for each target in its range: a value that is given fits the target
-abbrev pub GivesFitting : (Table → (target : ℕ) → Meaning) → Type 0
-GivesFitting meaning =
-    (table : Table) (target : ℕ) (v : Val) → IsChecked table → IsIn table target → meaning table target ≡ gives v
-    → fits table target v ≡ true
+-- so it is of a value that is given
+abbrev pub IfGives : Meaning → (Val → Type 0) → Type 0
+IfGives (gives v) So = So v
+IfGives (refuses message) So = ⊤
+IfGives unsupported So = ⊤
 
--- a value that is given holds no token
-abbrev pub GivesNoToken : (Table → (target : ℕ) → Meaning) → Type 0
-GivesNoToken meaning = (table : Table) (target : ℕ) (v : Val) → meaning table target ≡ gives v → tokens v ≡ []
+-- Each of these is asked wherever the table is checked and the target in its range.
 
--- a value that is given holds each token at most as often as the source does
-abbrev pub GivesTokensOf : (source : Val) → (Table → (target : ℕ) → Meaning) → Type 0
-GivesTokensOf source meaning =
-    (table : Table) (target : ℕ) (v : Val) → meaning table target ≡ gives v → (t : ℕ) → occurs v t ≤ occurs source t
+-- fits the target
+abbrev pub FitsTarget : Table → (target : ℕ) → Val → Type 0
+FitsTarget table target v = IsChecked table → IsIn table target → fits table target v ≡ true
 
--- what hooks may mean: what they give fits, conversions make up no token, and parses give none
+-- holds each token at most as often as the source does
+abbrev pub HoldsTokensOf : (source : Val) → Table → (target : ℕ) → Val → Type 0
+HoldsTokensOf source table target v = IsChecked table → IsIn table target → (t : ℕ) → occurs v t ≤ occurs source t
+
+abbrev pub HoldsNoToken : Table → (target : ℕ) → Val → Type 0
+HoldsNoToken table target v = IsChecked table → IsIn table target → tokens v ≡ []
+
+-- What is given fits its target. Conversions make up no token, and parses give none.
 pub record IsLawful (hooks : Meanings) : Type 0 where
-  pub converted_fits : (hook : ℕ) (source : Val) → GivesFitting (λ table target. hooks.convert table hook target source)
-  pub converted_tokens : (hook : ℕ) (source : Val) → GivesTokensOf source (λ table target. hooks.convert table hook target source)
-  pub parsed_fits : (hook : ℕ) (text : List ℕ) → GivesFitting (λ table target. hooks.parse table hook target text)
-  pub parsed_tokens : (hook : ℕ) (text : List ℕ) → GivesNoToken (λ table target. hooks.parse table hook target text)
-  pub parsed_bytes_fits : (hook : ℕ) (bytes : List ℕ) → GivesFitting (λ table target. hooks.parse_bytes table hook target bytes)
-  pub parsed_bytes_tokens : (hook : ℕ) (bytes : List ℕ) → GivesNoToken (λ table target. hooks.parse_bytes table hook target bytes)
+  pub converted_fits : (table : Table) (hook target : ℕ) (source : Val) → IfGives (hooks.convert table hook target source) (FitsTarget table target)
+  pub converted_tokens : (table : Table) (hook target : ℕ) (source : Val) → IfGives (hooks.convert table hook target source) (HoldsTokensOf source table target)
+  pub parsed_fits : (table : Table) (hook target : ℕ) (text : List ℕ) → IfGives (hooks.parse table hook target text) (FitsTarget table target)
+  pub parsed_tokens : (table : Table) (hook target : ℕ) (text : List ℕ) → IfGives (hooks.parse table hook target text) (HoldsNoToken table target)
+  pub parsed_bytes_fits : (table : Table) (hook target : ℕ) (bytes : List ℕ) → IfGives (hooks.parse_bytes table hook target bytes) (FitsTarget table target)
+  pub parsed_bytes_tokens : (table : Table) (hook target : ℕ) (bytes : List ℕ) → IfGives (hooks.parse_bytes table hook target bytes) (HoldsNoToken table target)
 
 -- no hooks: every check passes, and nothing is converted or parsed
 abbrev pub no_hooks : Meanings

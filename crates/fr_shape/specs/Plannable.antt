@@ -1,5 +1,5 @@
 -- Which shapes a root reaches, whether all of them can be planned, and which refusal comes first where not.
-use Rattle.std.specs.Prelude.{◌≡◌, ◌≢◌, ℕ, zero, suc, Bool, true, false, not, ◌&&◌, ◌||◌, List, [], ◌∷◌, ◌++◌, map, length, nat_eq, slice_get, Option, Some, None, option_to_list, if◌then◌else◌}
+use Rattle.std.specs.Prelude.{◌≡◌, ℕ, zero, suc, Bool, true, false, not, ◌&&◌, ◌||◌, List, [], ◌∷◌, ◌++◌, map, length, nat_eq, slice_get, Option, Some, None, option_to_list, if◌then◌else◌}
 use Rattle.std.specs.List.{Contains, list_all, list_any, flat_map}
 use Rattle.fr_shape.specs.declared.shape.Shape.{Shape}
 use Rattle.fr_shape.specs.declared.shape.ShapeId.{ShapeId}
@@ -8,11 +8,11 @@ use Rattle.fr_shape.specs.declared.shape.Field.{Field}
 use Rattle.fr_shape.specs.declared.shape.ProxyDef.{ProxyDef}
 use Rattle.fr_shape.specs.declared.error.AllocError.{AllocError}
 use Rattle.fr_shape.specs.declared.error.PlanFault.{PlanFault}
-use Rattle.fr_shape.specs.Look.{Table, IsIn, def_of}
+use Rattle.fr_shape.specs.Look.{Table, def_of}
 use Rattle.fr_shape.specs.Checked.{IsChecked, fields_of, proxies_of, contents_of, pointees_of, is_sized, is_present}
 use Rattle.fr_shape.specs.Served.{is_absent, is_nil}
 
--- what a wrapper goes on to, where it converts from it
+-- what an opaque or undefined shape is converted from: its builder, where it has a conversion too
 abbrev pub built_from : Shape → List ShapeId
 built_from shape = if is_present shape.convert then option_to_list shape.builder else []
 
@@ -124,7 +124,6 @@ visit table (suc depth) begun id =
 abbrev pub first_refusal : Table → ℕ → Option AllocError
 first_refusal table root = (visit table (suc (length table)) [] root).refused
 
--- the shape has no proxy, conversion or invariant, isn't dynamic, and none of its fields has a proxy or a validator
 abbrev pub is_dynamic : Def → Bool
 is_dynamic Def.Dynamic = true
 is_dynamic _ = false
@@ -132,6 +131,7 @@ is_dynamic _ = false
 abbrev pub is_plain_field : Field → Bool
 is_plain_field field = is_nil (proxies_of field.proxy field.format_proxies) && is_nil field.validators
 
+-- the shape has no proxy, conversion or invariant, isn't dynamic, and none of its fields has a proxy or a validator
 abbrev pub is_plain_shape : Shape → Bool
 is_plain_shape shape =
     is_nil (proxies_of shape.proxy shape.format_proxies) && is_absent shape.convert && is_absent shape.invariant
@@ -143,4 +143,4 @@ pub record IsPlain (table : Table) (root : ℕ) : Type 0 where
   pub sized : is_sized (def_of table root) ≡ true
   pub plannable : IsPlannable table root
   pub plain :
-    (id : ℕ) (shape : Shape) → Reached table root id → slice_get table id ≡ Some shape → is_plain_shape shape ≡ true
+      (id : ℕ) (shape : Shape) → Reached table root id → slice_get table id ≡ Some shape → is_plain_shape shape ≡ true

@@ -6,7 +6,7 @@ use Rattle.fr_shape.specs.declared.shape.ScalarKind.{ScalarKind}
 use Rattle.fr_shape.specs.declared.shape.ValidatorDef.{ValidatorDef}
 use Rattle.fr_shape.specs.Val.{Val, int, nat, text}
 
--- the integer kinds whose bounds are compared: those of 8 to 64 bits that don't depend on the machine
+-- the integer kinds whose bounds are compared: those named by 8 to 64 bits (neither the two sizes nor those of 128)
 abbrev pub is_compared : ScalarKind → Bool
 is_compared ScalarKind.I8 = true
 is_compared ScalarKind.I16 = true
@@ -62,7 +62,7 @@ passes checks kind ValidatorDef.Url v = is_url (bytes_in v)
 passes checks kind (ValidatorDef.Regex pattern) v = is_within pattern (bytes_in v)
 passes checks kind (ValidatorDef.Contains needle) v = is_within needle (bytes_in v)
 
--- the kind of a scalar; what no rule asks about is read as a text
+-- the kind of a scalar; any other definition is read as String, since no validator but a hook may stand there
 abbrev pub kind_of : Def → ScalarKind
 kind_of (Def.Scalar kind) = kind
 kind_of _ = ScalarKind.String
@@ -75,7 +75,7 @@ abbrev pub number_text : Option ℤ → List ℕ
 number_text (Some z) = signed_decimal z
 number_text None = []
 
--- `a 'text' b`
+-- the bytes between single quotes
 abbrev pub quoted : List ℕ → List ℕ
 quoted bytes = codes "'" ++ bytes ++ codes "'"
 

@@ -1,5 +1,5 @@
 //! Hooks: what a user brings for checks, conversions and parsing.
-ghost use Rattle.std.specs.Prelude.{◌≡◌, IfOk, OnErr};
+ghost use Rattle.std.specs.Prelude.{◌≡◌, true, Err, IfOk, OnErr};
 ghost use Rattle.fr_shape.specs.View.{view};
 ghost use Rattle.fr_shape.specs.Look.{IsIn};
 ghost use Rattle.fr_shape.specs.Checked.{IsChecked};
@@ -8,7 +8,7 @@ ghost use Rattle.fr_shape.specs.Released.{Room, RoseBy, Conserved};
 ghost use Rattle.fr_shape.specs.Hooks.{Meanings, Answers, IsDistinct, IsLawful, no_hooks};
 ghost use Rattle.fr_shape.specs.HookLaws.{no_hooks_are_lawful};
 
-use crate::{HookId, Ledger, ShapeId, ShapeTable, Text, Value, release};
+use crate::{HookId, Ledger, OutOfMemory, ShapeId, ShapeTable, Text, Value, release};
 use std::alloc::Global;
 
 /// Why a hook gives no value.
@@ -17,6 +17,16 @@ pub enum HookFault {
     Refused(Text),
     Unsupported,
     OutOfMemory,
+}
+
+impl From<OutOfMemory> for HookFault {
+    ghost use Rattle.fr_shape.specs.declared.hooks.HookFault.{HookFault};
+
+    ghost from_gives = { λ _ fault. fault ≡ HookFault.OutOfMemory };
+
+    fn from(_none: OutOfMemory) -> HookFault {
+        HookFault::OutOfMemory
+    }
 }
 
 /// The hooks that a table names by number. Each call answers what `means` says of its arguments.
@@ -85,7 +95,9 @@ impl Hooks for NoHooks {
 
     ghost lawful = { λ hooks. no_hooks_are_lawful };
 
-    fn check(&self, _h: HookId, _value: &Value) -> bool {
+    fn check(&self, _h: HookId, _value: &Value) -> bool
+        ensures { result ≡ true }
+    {
         true
     }
 
@@ -97,7 +109,11 @@ impl Hooks for NoHooks {
         _target: ShapeId,
         value: Value,
         ledger: &mut Ledger,
-    ) -> Result<Value, HookFault> {
+    ) -> Result<Value, HookFault>
+        requires room { Room (occurs (view value)) ledger.old }
+        ensures unsupported { result ≡ Err HookFault.Unsupported }
+        ensures released { RoseBy (occurs (view value)) ledger.old ledger.new }
+    {
         release(value, ledger);
         Err(HookFault::Unsupported)
     }
@@ -109,7 +125,9 @@ impl Hooks for NoHooks {
         _h: HookId,
         _target: ShapeId,
         _text: &str,
-    ) -> Result<Value, HookFault> {
+    ) -> Result<Value, HookFault>
+        ensures { result ≡ Err HookFault.Unsupported }
+    {
         Err(HookFault::Unsupported)
     }
 
@@ -120,7 +138,9 @@ impl Hooks for NoHooks {
         _h: HookId,
         _target: ShapeId,
         _bytes: &[u8],
-    ) -> Result<Value, HookFault> {
+    ) -> Result<Value, HookFault>
+        ensures { result ≡ Err HookFault.Unsupported }
+    {
         Err(HookFault::Unsupported)
     }
 }

@@ -9,6 +9,7 @@ mod error;
 mod fitting;
 mod hooks;
 mod items;
+mod laws;
 mod ledger;
 mod parts;
 mod releasing;
@@ -18,6 +19,7 @@ mod settling;
 mod shape;
 mod shaped;
 mod table;
+mod template;
 #[cfg(test)]
 mod tests;
 mod text;
@@ -34,6 +36,7 @@ pub use error::{
 pub use fitting::fits;
 pub use hooks::{HookFault, Hooks, NoHooks};
 pub use items::{Items, NotPushed, OutOfMemory};
+pub use laws::{law_conserved, law_hooks, law_no_hooks};
 pub use ledger::Ledger;
 pub use releasing::release;
 pub use shape::{
@@ -43,5 +46,6 @@ pub use shape::{
 };
 pub use shaped::Shaped;
 pub use table::ShapeTable;
+pub use template::Template;
 pub use text::Text;
 pub use value::{Dyn, Value};

@@ -11,7 +11,7 @@ ghost use Rattle.fr_shape.specs.Tests.{part_passes, hook_passes, proxy_passes, f
 
 use crate::{
     Def, DefaultSource, Field, FormatProxy, HookId, Items, ProxyDef, ScalarKind, ShapeId,
-    ShapeTable, ValidatorDef, Value, fits,
+    ShapeTable, Template, ValidatorDef, Value, fits,
 };
 
 #[derive(Clone, Copy)]
@@ -225,9 +225,10 @@ fn entries_hold_no_token(entries: &Items<(Value, Value)>) -> bool
 }
 
 /// Whether the value fits the shape and holds no token.
-pub(crate) fn is_template(table: &ShapeTable, id: ShapeId, v: &Value) -> bool
-    ensures { result ≡ is_template table.now id.0 v.now }
+pub(crate) fn is_template(table: &ShapeTable, id: ShapeId, template: &Template) -> bool
+    ensures { result ≡ is_template table.now id.0 template.now }
 {
+    let v = template.value();
     fits(table, id, v) && holds_no_token(v)
 }
 
@@ -235,7 +236,7 @@ fn default_is_template(table: &ShapeTable, id: ShapeId, default: &Option<Default
     ensures { result ≡ default_is_template table.now id.0 default.now }
 {
     match default {
-        Some(DefaultSource::Custom(v)) => is_template(table, id, v),
+        Some(DefaultSource::Custom(template)) => is_template(table, id, template),
         _ => true,
     }
 }

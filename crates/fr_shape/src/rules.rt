@@ -160,7 +160,7 @@ pub(crate) fn option_preset_is_none(shape: &Shape) -> bool
     ensures { result ≡ option_preset_is_none shape.now }
 {
     match (&shape.def, &shape.preset) {
-        (Def::Option(_), Some(preset)) => matches!(preset, Value::None),
+        (Def::Option(_), Some(preset)) => matches!(preset.value(), Value::None),
         _ => true,
     }
 }

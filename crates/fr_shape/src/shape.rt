@@ -1,5 +1,5 @@
 //! The description of one type: its definition and what its author said of it.
-use crate::{Items, Text, Value};
+use crate::{Items, Template, Text};
 
 /// The number of a shape in its table.
 #[derive(Clone, Copy, PartialEq, Eq)]
@@ -22,7 +22,7 @@ pub struct FieldRef {
 pub struct Shape {
     pub name: Text,
     pub def: Def,
-    pub preset: Option<Value>,
+    pub preset: Option<Template>,
     pub default_attr: bool,
     pub inner: Option<ShapeId>,
     pub builder: Option<ShapeId>,
@@ -145,7 +145,7 @@ pub struct Field {
 /// Where a marked field's default comes from: a template of its own, or its shape's preset.
 #[derive(Drop)]
 pub enum DefaultSource {
-    Custom(Value),
+    Custom(Template),
     FromTrait,
 }
 

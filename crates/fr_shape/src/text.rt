@@ -6,20 +6,23 @@ ghost use Rattle.std.specs.Cmp.Lexicographic.{nat_list_eq_equiv};
 
 use crate::OutOfMemory;
 use std::alloc::Global;
+use std::default::Default;
 use std::marker::Model;
 
 /// A text in UTF-8. Contracts see the list of its bytes.
 #[derive(Drop)]
 pub struct Text {
-    text: String,
+    // None for the empty text of `default`, which has no allocator.
+    text: Option<String>,
 }
 
 impl Model for Text {
-    ghost use Rattle.std.specs.Prelude.{List, ℕ, string_bytes};
+    ghost use Rattle.std.specs.Prelude.{List, ℕ, [], string_bytes};
+    ghost use Rattle.std.specs.Option.{option_map_or};
 
     ghost Value = { List ℕ };
 
-    ghost view = { λ t. string_bytes t.text };
+    ghost view = { λ t. option_map_or string_bytes t.text [] };
 }
 
 impl Text {
@@ -28,27 +31,39 @@ impl Text {
         ensures copy { IfOk result (λ t. t ≡ s.now) }
     {
         Ok(Text {
-            text: String::from_str(alloc, s)?,
+            text: Some(String::from_str(alloc, s)?),
         })
     }
 
     pub fn as_str(&self) -> &str
         ensures { result.now ≡ self.now }
     {
-        self.text.as_str()
+        match &self.text {
+            Some(text) => text.as_str(),
+            None => "",
+        }
     }
 
     /// The length in bytes.
     pub fn len(&self) -> usize
         ensures { result ≡ length self.now }
     {
-        self.text.len()
+        self.as_str().len()
     }
 
     pub fn is_empty(&self) -> bool
         ensures { IsTrue result ↔ (self.now ≡ []) }
     {
-        self.text.is_empty()
+        self.as_str().is_empty()
+    }
+}
+
+/// The empty text, made without an allocator.
+impl Default for Text {
+    ghost is_default = { λ t. t ≡ [] };
+
+    fn default() -> Text {
+        Text { text: None }
     }
 }
 
@@ -59,7 +74,7 @@ impl PartialEq for Text {
     ghost laws = { partial_equiv_from_equiv nat_list_eq_equiv };
 
     fn eq(&self, other: &Text) -> bool {
-        self.text == other.text
+        self.as_str() == other.as_str()
     }
 }
 

@@ -1,7 +1,6 @@
-use Rattle.std.proofs.Common.{ℕ, Result, Ok, Err, IfOk, option_map, sym, ◌∙◌, ap}
+use Rattle.std.proofs.Common.{ℕ, Result, Ok, Err, IfOk, sym, ◌∙◌, ap}
 use Rattle.fr_shape.specs.Fills.{preset_in}
 use Rattle.fr_shape.specs.Hooks.{no_hooks}
-use Rattle.fr_shape.specs.View.{view}
 use Rattle.fr_model.specs.Complete.{missing_field}
 use Rattle.fr_model.specs.Places.{fill_at, each_child, product_of}
 use Rattle.fr_partial.specs.Children.{first_unfilled}
@@ -9,11 +8,11 @@ use Rattle.fr_partial.proofs.CompleteLaws.{StructOfHoles, struct_of_holes, none_
 use Rattle.fr_partial.proofs.TemplateLaws.{preset_template}
 use Rattle.fr_partial.proofs.completing.made_of_entered.Goals as goal
 
-pub clone_template-requires : goal.clone_template-requires
-clone_template-requires c = record {
+pub copy_template-requires : goal.copy_template-requires
+copy_template-requires c = record {
   no_token =
-      (preset_template c.args.table.now c.args.shape.0 (view c.in-Struct-Some.template) c.requires.checked
-      (ap preset_in (sym c.in-Some.ensures.value) ∙ ap (option_map view) c.in-Struct-Some.is-1)).light;
+      (preset_template c.args.table.now c.args.shape.0 c.in-Struct-Some.template c.requires.checked
+      (ap preset_in (sym c.in-Some.ensures.value) ∙ c.in-Struct-Some.is-1)).light;
 }
 
 pub made_of_fills-requires-clause-nothing_lacks : goal.made_of_fills-requires-clause-nothing_lacks

@@ -4,7 +4,7 @@ use Rattle.fr_shape.specs.Look.{def_of}
 use Rattle.fr_model.specs.Complete.{lack, missing_child}
 use Rattle.fr_model.specs.Places.{fill_at}
 use Rattle.fr_model.specs.Tree.{Form}
-use Rattle.fr_model.specs.Well.{IsBegunAs}
+use Rattle.fr_model.specs.Well.{IsFullAs}
 use Rattle.fr_partial.specs.declared.frame.Piece.{Piece}
 use Rattle.fr_partial.specs.Children.{first_lacking}
 use Rattle.fr_partial.specs.Stack.{as_form, node, IsPiece}
@@ -18,7 +18,7 @@ missing_child-requires c h =
     = rw c.in-Begun.is at c.requires.place.piece in
     let few : length c.in-Begun.children.items < 2 ^ 32
     = few_children c.args.table.now c.args.frame.now.shape.0 (length c.in-Begun.children.items) c.requires.numbered
-    (subst (λ (form : Form). IsBegunAs (def_of c.args.table.now c.args.frame.now.shape.0) form (length c.in-Begun.children.items)) h
+    (subst (λ (form : Form). IsFullAs (def_of c.args.table.now c.args.frame.now.shape.0) form (length c.in-Begun.children.items)) h
     suits.0) in
     let first : first_lacking (fill_at c.args.table.now c.args.frame.now.shape.0) 0 c.in-Begun.children.items ≡ Some c.in-Some.i
     = ap (first_lacking (fill_at c.args.table.now c.args.frame.now.shape.0) 0) (sym c.deref.ensures.value)

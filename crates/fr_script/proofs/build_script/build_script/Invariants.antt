@@ -1,5 +1,6 @@
 use Rattle.std.proofs.Common.{◌≡◌, ◌+◌, length}
 use Rattle.std.specs.VecDeque.{deque_len}
+use Rattle.fr_shape.specs.Hooks.{no_hooks}
 use Rattle.fr_shape.specs.Released.{Room, Conserved}
 use Rattle.fr_model.specs.Commands.{calls_of}
 use Rattle.fr_model.specs.Run.{run_from, full_run}
@@ -20,8 +21,8 @@ invariant-loop-command l =
       root : l.partial.root ≡ l.fn.root.0;
       made : l.partial.state.calls ≡ l.number;
       run :
-          run_from l.table l.fn.root.0 l.number l.partial.state (calls_of l.commands.items)
-          ≡ full_run l.table l.fn.root.0 (calls_of l.fn.script);
+          run_from no_hooks l.table l.fn.root.0 l.number l.partial.state (calls_of l.commands.items)
+          ≡ full_run no_hooks l.table l.fn.root.0 (calls_of l.fn.script);
       fitting : AllFitting l.table (calls_of l.commands.items);
       conserved :
           Conserved (brought (calls_of l.fn.script)) l.initial.ledger

@@ -2,22 +2,17 @@ use Rattle.std.proofs.Common.{◌≡◌, length, sym, ap, arith}
 use Rattle.std.proofs.lemmas.List.{length-map}
 use Rattle.serde_json.specs.View.{view as data_of}
 use Rattle.fr_model.specs.Commands.{call_of, calls_of}
-use Rattle.fr_script.specs.DocumentFacts.{parts_known, sizes_known}
+use Rattle.fr_script.proofs.Buildable.{sizes_known}
 use Rattle.fr_script.specs.Documents.{Document}
 use Rattle.fr_script.specs.Reading.{parts_view}
 use Rattle.fr_script.proofs.document.read_checked.Goals as goal
 
-pub test_rules-requires-clause-served : goal.test_rules-requires-clause-served
-test_rules-requires-clause-served c =
-    let parts = parts_view c.in_ok-parts.parts in
-    rw c.as_slice.ensures (parts_known (data_of c.args.json.now) parts c.in_ok-parts.ensures).0
-
-pub test_rules-requires-clause-numbered : goal.test_rules-requires-clause-numbered
-test_rules-requires-clause-numbered c =
+pub test_rules-requires : goal.test_rules-requires
+test_rules-requires c =
     let few = sizes_known (parts_view c.in_ok-parts.parts) c.in_default-test_sizes.field-0 (sym c.in_default-test_sizes.ensures) in
-    let shapes = c.as_slice.ensures in
     let few_shapes = few.few_shapes in
-    rw c.as_slice.ensures (omega arith)
+    let same_length = ap (λ (d : Document). length d.shapes) c.into_document-document.ensures in
+    omega arith
 
 pub test_script-requires : goal.test_script-requires
 test_script-requires c =

@@ -1,4 +1,4 @@
-use Rattle.fr_script.specs.DocumentFacts.{document_buildable}
+use Rattle.fr_script.proofs.Buildable.{document_buildable}
 use Rattle.fr_script.proofs.document_laws.law_documents_buildable.Goals as goal
 
 pub returns : goal.returns

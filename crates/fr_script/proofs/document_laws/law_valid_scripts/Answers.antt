@@ -1,4 +1,4 @@
-use Rattle.fr_script.specs.ValidScripts.{valid_where_none_invalid}
+use Rattle.fr_script.proofs.ValidScripts.{valid_where_none_invalid}
 use Rattle.fr_script.proofs.document_laws.law_valid_scripts.Goals as goal
 
 pub returns : goal.returns

@@ -12,16 +12,16 @@ use Rattle.fr_partial.proofs.partial.Partial.set_default.Goals as goal
 use Rattle.fr_partial.proofs.partial.Partial.set_default.Goals.{In-Some, In-Ok}
 
 template : (c : In-Some)
-    → IsTemplate c.self.inside.table.now c.self.inside.frame.shape.0 (view c.in-Some.template.now)
+    → IsTemplate c.self.inside.table.now c.self.inside.frame.shape.0 c.in-Some.template.now
 template c =
-    preset_template c.self.inside.table.now c.self.inside.frame.shape.0 (view c.in-Some.template.now)
+    preset_template c.self.inside.table.now c.self.inside.frame.shape.0 c.in-Some.template.now
     c.self.invariant.checked (sym c.in-Some.ensures)
 
 nothing_more : (c : In-Ok) (t : ℕ) → occurs (view c.in-Ok.value) t ≡ 0
 nothing_more c t =
     ap (λ (v : Val). occurs v t) c.in-Ok.ensures.copy
-    ∙ light_occurs (view c.in-Some.template.now) t
-    (preset_template c.self.inside.table.now c.self.inside.frame.shape.0 (view c.in-Some.template.now)
+    ∙ light_occurs c.in-Some.template.now t
+    (preset_template c.self.inside.table.now c.self.inside.frame.shape.0 c.in-Some.template.now
     c.self.invariant.checked (sym c.in-Some.ensures)).light
 
 pub returns-in_default-clause-step : goal.returns-in_default-clause-step
@@ -31,8 +31,8 @@ returns-in_default-clause-step c =
     c.self.inside.calls c.self.invariant.chain c.args.self c.self.view_is
     (sym c.in_default.ensures))
 
-pub clone_template-requires : goal.clone_template-requires
-clone_template-requires c = record { no_token = (template (goal.at.clone_template-requires c).In-Some).light }
+pub copy_template-requires : goal.copy_template-requires
+copy_template-requires c = record { no_token = (template (goal.at.copy_template-requires c).In-Some).light }
 
 pub put-requires-clause-fits : goal.put-requires-clause-fits
 put-requires-clause-fits c =
@@ -49,7 +49,7 @@ put-requires-clause-room c =
 pub returns-in-Ok-clause-step : goal.returns-in-Ok-clause-step
 returns-in-Ok-clause-step c = (
   default_there c.self.inside.table.now c.self.inside.root.0 c.self.inside.parents.items c.self.inside.frame
-      c.self.inside.calls c.self.invariant.chain c.args.self c.self.view_is (view c.in-Some.template.now)
+      c.self.inside.calls c.self.invariant.chain c.args.self c.self.view_is c.in-Some.template.now
       (sym c.in-Some.ensures)
       ∙ ap (λ (v : Val). Ok (puts c.args.self.state v)) (sym c.in-Ok.ensures.copy)
       ∙ ap (λ (s : State). Ok s) (sym c.put.ensures.state),
@@ -66,9 +66,9 @@ returns-in-Ok-clause-tokens c =
 pub returns-in-Err-clause-refused : goal.returns-in-Err-clause-refused
 returns-in-Err-clause-refused c refused e =
     let there : set_default c.args.self.shapes (here c.args.self) c.args.self.state
-    ≡ Ok (puts c.args.self.state (view c.in-Some.template.now))
+    ≡ Ok (puts c.args.self.state c.in-Some.template.now)
     = default_there c.self.inside.table.now c.self.inside.root.0 c.self.inside.parents.items c.self.inside.frame
-    c.self.inside.calls c.self.invariant.chain c.args.self c.self.view_is (view c.in-Some.template.now)
+    c.self.inside.calls c.self.invariant.chain c.args.self c.self.view_is c.in-Some.template.now
     (sym c.in-Some.ensures) in
     let no : false ≡ true = rw there at refused in
     cc

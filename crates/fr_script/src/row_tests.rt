@@ -1,0 +1,199 @@
+//! Worked examples of fills, presets, arrays and named fields, each as a whole run.
+use crate::limit_tests::joined;
+use crate::tests::check;
+use std::process::Abort;
+use std::test::Fail;
+
+/// The shapes u32, Nums (a list with a default), Empty (a struct without fields, with a default), HasList and HasEmpty,
+/// before the root.
+const DEFAULTS: &str =
+    r#"{"shapes":[{"name":"u32","def":"u32"},{"name":"Nums","def":{"list":0},"preset":{"l":[]}},{"name":"Empty","def":{"unit":[]},"preset":[]},{"name":"HasList","def":{"struct":[{"name":"l","shape":1}]}},{"name":"HasEmpty","def":{"struct":[{"name":"e","shape":2},{"name":"k","shape":0}]}}],"#;
+
+const DEFAULTS_TAKEN: [(&str, &str, u8, &str); 3] = [
+    (
+        "a list isn't filled though its shape has a default",
+        r#""root":3,"commands":[]}"#,
+        1,
+        r#"{"error":{"command":0,"kind":"UninitializedField"},"released":[]}"#,
+    ),
+    (
+        "a struct without fields that has a default is filled",
+        r#""root":4,"commands":[["begin_nth_field",1],["set",0,1],["end"]]}"#,
+        0,
+        r#"{"ok":[[],1],"released":[]}"#,
+    ),
+    (
+        "a list that is set to its default is there",
+        r#""root":3,"commands":[["begin_field","l"],["set_default"],["end"]]}"#,
+        0,
+        r#"{"ok":[{"l":[]}],"released":[]}"#,
+    ),
+];
+
+/// The shapes u32, A64, A3 and A5000 (arrays of so many), before the root.
+const ARRAYS: &str =
+    r#"{"shapes":[{"name":"u32","def":"u32"},{"name":"A64","def":{"array":[0,64]}},{"name":"A3","def":{"array":[0,3]}},{"name":"A5000","def":{"array":[0,5000]}}],"#;
+
+const ARRAYS_BUILT: [(&str, &str, u8, &str); 8] = [
+    (
+        "an element past the end of an array",
+        r#""root":1,"commands":[["begin_nth_field",64]]}"#,
+        1,
+        r#"{"error":{"command":0,"kind":"OperationFailed"},"released":[]}"#,
+    ),
+    (
+        "an array that is left open",
+        r#""root":1,"commands":[["begin_nth_field",0]]}"#,
+        1,
+        r#"{"error":{"command":1,"kind":"InvariantViolation"},"released":[]}"#,
+    ),
+    (
+        "an element past the end of a large array",
+        r#""root":3,"commands":[["begin_nth_field",5000]]}"#,
+        1,
+        r#"{"error":{"command":0,"kind":"OperationFailed"},"released":[]}"#,
+    ),
+    (
+        "an array that is too large to be entered",
+        r#""root":3,"commands":[["begin_nth_field",0]]}"#,
+        1,
+        r#"{"error":{"command":0,"kind":"OperationFailed"},"released":[]}"#,
+    ),
+    (
+        "an array of which only the last element is there",
+        r#""root":1,"commands":[["begin_nth_field",63],["set",0,7],["end"]]}"#,
+        1,
+        r#"{"error":{"command":3,"kind":"UninitializedValue"},"released":[]}"#,
+    ),
+    (
+        "an element of an array has no name",
+        r#""root":2,"commands":[["begin_field","x"]]}"#,
+        1,
+        r#"{"error":{"command":0,"kind":"OperationFailed"},"released":[]}"#,
+    ),
+    (
+        "an array that is set whole",
+        r#""root":2,"commands":[["set",2,[1,2,3]]]}"#,
+        0,
+        r#"{"ok":[1,2,3],"released":[]}"#,
+    ),
+    (
+        "a shape without a default",
+        r#""root":2,"commands":[["set_default"]]}"#,
+        1,
+        r#"{"error":{"command":0,"kind":"OperationFailed"},"released":[]}"#,
+    ),
+];
+
+/// The shapes u32 (with the default 0), Dd (a field that is marked with 5) and Ss (two fields, with a default), before the
+/// root.
+const MARKED: &str =
+    r#"{"shapes":[{"name":"u32","def":"u32","preset":0},{"name":"Dd","def":{"struct":[{"name":"a","shape":0,"default":{"custom":5}}]}},{"name":"Ss","def":{"struct":[{"name":"x","shape":0},{"name":"y","shape":0}]},"preset":[1,2]}],"#;
+
+const MARKS_TAKEN: [(&str, &str, u8, &str); 7] = [
+    (
+        "a field that was only entered takes no default",
+        r#""root":1,"commands":[["begin_nth_field",0],["end"]]}"#,
+        1,
+        r#"{"error":{"command":1,"kind":"UninitializedValue"},"released":[]}"#,
+    ),
+    (
+        "a field takes the value that it is marked with",
+        r#""root":1,"commands":[]}"#,
+        0,
+        r#"{"ok":[5],"released":[]}"#,
+    ),
+    (
+        "a struct that has a default is that",
+        r#""root":2,"commands":[]}"#,
+        0,
+        r#"{"ok":[1,2],"released":[]}"#,
+    ),
+    (
+        "a struct of which a field is set takes its other fields' defaults",
+        r#""root":2,"commands":[["begin_nth_field",0],["set",0,9],["end"]]}"#,
+        0,
+        r#"{"ok":[9,0],"released":[]}"#,
+    ),
+    (
+        "fields are found by their names",
+        r#""root":2,"commands":[["begin_field","y"],["set",0,7],["end"]]}"#,
+        0,
+        r#"{"ok":[0,7],"released":[]}"#,
+    ),
+    (
+        "no field has the name",
+        r#""root":2,"commands":[["begin_field","z"]]}"#,
+        1,
+        r#"{"error":{"command":0,"kind":"FieldError"},"released":[]}"#,
+    ),
+    (
+        "a default takes the place of what was set",
+        r#""root":2,"commands":[["set",2,[3,4]],["set_default"]]}"#,
+        0,
+        r#"{"ok":[1,2],"released":[]}"#,
+    ),
+];
+
+/// Runs each script over a table and compares what is reported.
+fn check_each(
+    rt: &(impl Abort + AllocGlobal),
+    shapes: &str,
+    cases: &[(&str, &str, u8, &str)],
+) -> Result<(), Fail> {
+    for (name, script, status, want) in cases {
+        let mut document = String::from_str(rt.alloc(), shapes)?;
+        document.push_str(script)?;
+        check(rt, name, document.as_bytes(), *status, want)?;
+    }
+    Ok(())
+}
+
+#[test]
+fn what_is_missing_is_filled_by_the_rules(rt: HostRuntime) -> Result<(), Fail> {
+    check_each(&rt, DEFAULTS, &DEFAULTS_TAKEN)?;
+    check_each(&rt, MARKED, &MARKS_TAKEN)
+}
+
+#[test]
+fn arrays_are_built_element_by_element(rt: HostRuntime) -> Result<(), Fail> {
+    check_each(&rt, ARRAYS, &ARRAYS_BUILT)
+}
+
+#[test]
+fn elements_may_come_in_any_order(rt: HostRuntime) -> Result<(), Fail> {
+    let alloc = rt.alloc();
+    let mut document = String::from_str(alloc, ARRAYS)?;
+    let mut want = String::from_str(alloc, r#"{"ok":[0"#)?;
+    document.push_str(r#""root":1,"commands":["#)?;
+    for i in (1..64).rev() {
+        let element = format!(in alloc; "[\"begin_nth_field\",{i}],[\"set\",0,{i}],[\"end\"],")?;
+        document.push_str(element.as_str())?;
+    }
+    document.push_str(r#"["begin_nth_field",0],["set",0,0],["end"]]}"#)?;
+    for i in 1..64 {
+        let element = format!(in alloc; ",{i}")?;
+        want.push_str(element.as_str())?;
+    }
+    want.push_str(r#"],"released":[]}"#)?;
+    check(&rt, "descending", document.as_bytes(), 0, want.as_str())
+}
+
+#[test]
+fn a_script_may_begin_a_thousand_places(rt: HostRuntime) -> Result<(), Fail> {
+    let alloc = rt.alloc();
+    let front =
+        r#"{"shapes":[{"name":"u32","def":"u32"},{"name":"String","def":"String"},{"name":"Inner","def":{"struct":[{"name":"x","shape":0},{"name":"b","shape":0}]}},{"name":"Outer","def":{"struct":[{"name":"name","shape":1},{"name":"inner","shape":2}]}}],"root":3,"commands":["#;
+    let begin = r#"["begin_nth_field",1]"#;
+    let most = joined(alloc, front, begin, 1_000, "]}")?;
+    let refused = r#"{"error":{"command":2,"kind":"OperationFailed"},"released":[]}"#;
+    check(&rt, "at the limit", most.as_bytes(), 1, refused)?;
+    let past = joined(alloc, front, begin, 1_001, "]}")?;
+    check(
+        &rt,
+        "past it",
+        past.as_bytes(),
+        2,
+        r#"{"fault":"TooLarge","what":"depth"}"#,
+    )
+}
