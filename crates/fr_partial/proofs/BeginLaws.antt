@@ -1,5 +1,5 @@
 -- Going down to a child: the state that entering it leaves, and what it is refused for.
-use Rattle.std.proofs.Common.{◌≡◌, ℕ, zero, suc, ◌+◌, ◌<◌, Bool, true, false, List, [], ◌∷◌, ◌++◌, length, Some, None, Ok, Err, nat_lt, set, length-set, slice_get, refl, sym, ◌∙◌, ap, subst, arith}
+use Rattle.std.proofs.Common.{◌≡◌, ℕ, suc, ◌+◌, ◌<◌, Bool, true, false, List, [], ◌∷◌, ◌++◌, length, Some, None, Ok, Err, nat_lt, set, length-set, slice_get, refl, sym, ◌∙◌, ap, subst, arith}
 use Rattle.std.specs.Str.{bytes_eq}
 use Rattle.std.proofs.lemmas.Bool.{ltb-true, lt-ltb}
 use Rattle.fr_shape.specs.declared.value.Value.{Value}

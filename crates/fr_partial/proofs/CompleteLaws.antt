@@ -1,5 +1,5 @@
 -- What the place at which the builder works completes to, and what it lacks, by its children and their fills.
-use Rattle.std.proofs.Common.{◌≡◌, ℕ, zero, suc, ◌+◌, ◌<◌, ◌^◌, Bool, true, false, List, [], ◌∷◌, length, Option, Some, None, IsSome, option_map, slice_get, inl, inr, refl, sym, ◌∙◌, ap, subst, arith}
+use Rattle.std.proofs.Common.{◌≡◌, ℕ, zero, suc, ◌<◌, ◌^◌, Bool, true, false, List, [], ◌∷◌, length, Option, Some, None, IsSome, option_map, slice_get, inl, inr, refl, sym, ◌∙◌, ap, subst, arith}
 use Rattle.fr_shape.specs.declared.value.Value.{Value}
 use Rattle.fr_shape.specs.declared.error.ReflectErrorKind.{ReflectErrorKind}
 use Rattle.fr_shape.specs.declared.shape.Def.{Def}
@@ -11,21 +11,21 @@ use Rattle.fr_shape.specs.Fits.{fits, count_vals}
 use Rattle.fr_shape.specs.Hooks.{Meanings, no_hooks}
 use Rattle.fr_shape.specs.Look.{Table, def_of, def_or_other}
 use Rattle.fr_shape.specs.Numbered.{IsNumbered, field_count}
-use Rattle.fr_shape.specs.Served.{IsServed, is_absent}
-use Rattle.fr_shape.specs.Tokens.{occurs, vals_occur}
+use Rattle.fr_shape.specs.Served.{IsServed}
+use Rattle.fr_shape.specs.Tokens.{occurs}
 use Rattle.fr_shape.specs.Val.{Val, Vals, unit, none, product}
-use Rattle.fr_shape.specs.View.{view, vals_view}
+use Rattle.fr_shape.specs.View.{view}
 use Rattle.fr_model.specs.Complete.{complete, complete_all, lack, lack_among, lack_of_hole, lack_of_holes, lack_of_entered, made_of_entered, made_of_fills, valid_child, unless_failing, unless_there, first_of, hole_takes, missing_field, missing_value, missing_child, lack_by, made_by}
 use Rattle.fr_model.specs.Places.{child_count, child_shape, fill_at, each_child, product_of}
-use Rattle.fr_model.specs.Tree.{Form, as_struct, as_array, Tree, hole, whole, begun, tree_occurs}
+use Rattle.fr_model.specs.Tree.{Form, as_struct, as_array, begun, tree_occurs}
 use Rattle.fr_model.specs.Well.{IsFullAs}
 use Rattle.fr_partial.specs.declared.frame.Piece.{Piece}
-use Rattle.fr_partial.specs.Children.{is_placeholder, first_lacking, first_unfilled, there_or, filled, all_there}
-use Rattle.fr_partial.specs.Completing.{WantsMemory, IsLacking, WhyNot}
+use Rattle.fr_partial.specs.Children.{is_placeholder, first_lacking, first_unfilled, filled, all_there}
+use Rattle.fr_partial.specs.Completing.{WantsMemory, WhyNot}
 use Rattle.fr_partial.specs.Filling.{has_no_hole}
-use Rattle.fr_partial.specs.Stack.{as_form, slot, slots, node, AreChildren, IsPiece}
+use Rattle.fr_partial.specs.Stack.{as_form, slots, node, IsPiece}
 use Rattle.fr_partial.proofs.FitLaws.{FitEach, product_fits, none_fits}
-use Rattle.fr_partial.proofs.FillingLaws.{is_absent_value, is_there, there_is, filled_there, filled_lacks, lacking_below, each_there, each_lacks, unfilled_below, filled_fit, each_fit, filled_occurs, each_occurs}
+use Rattle.fr_partial.proofs.FillingLaws.{is_absent_value, is_there, there_is, filled_there, filled_lacks, each_there, each_lacks, filled_fit, each_fit, filled_occurs, each_occurs}
 use Rattle.fr_partial.proofs.StackLaws.{slots_occur}
 use Rattle.fr_partial.proofs.TemplateLaws.{IsTemplate, preset_template, fill_template, light_occurs, none_failing}
 

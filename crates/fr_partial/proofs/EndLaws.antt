@@ -12,7 +12,7 @@ use Rattle.fr_shape.specs.Tokens.{occurs, vals_occur}
 use Rattle.fr_shape.specs.View.{view, vals_view}
 use Rattle.fr_model.specs.Places.{Place, is_root, up, child_shape}
 use Rattle.fr_model.specs.Tree.{Tree, whole, begun, tree_at, tree_occurs, trees_occur, one_more_call}
-use Rattle.fr_model.specs.Complete.{complete, lack}
+use Rattle.fr_model.specs.Complete.{complete}
 use Rattle.fr_model.specs.Well.{IsFullAs}
 use Rattle.fr_model.specs.Step.{end, build, cause, or_missing}
 use Rattle.fr_partial.specs.declared.frame.Piece.{Piece}

@@ -1,13 +1,13 @@
 -- When a product fits a struct or an array: by its children.
-use Rattle.std.proofs.Common.{◌≡◌, ℕ, suc, ◌+◌, Bool, true, false, ◌&&◌, List, [], ◌∷◌, length, Some, slice_get, nat_eq, eq-eqb, refl, sym, ◌∙◌, ap, arith}
+use Rattle.std.proofs.Common.{◌≡◌, ℕ, suc, ◌+◌, Bool, true, false, ◌&&◌, List, [], ◌∷◌, length, Some, slice_get, nat_eq, eq-eqb, refl, ◌∙◌, ap, arith}
 use Rattle.fr_shape.specs.declared.shape.Def.{Def}
 use Rattle.fr_shape.specs.declared.shape.Field.{Field}
 use Rattle.fr_shape.specs.declared.shape.ShapeId.{ShapeId}
 use Rattle.fr_shape.specs.declared.shape.StructDef.{StructDef}
 use Rattle.fr_shape.specs.Fills.{is_empty_struct, has_no_field}
 use Rattle.fr_shape.specs.Fits.{fits, all_fit, fields_fit, count_vals}
-use Rattle.fr_shape.specs.Look.{Table, def_of, settled, settled_in}
-use Rattle.fr_shape.specs.Val.{Val, Vals, none, product, no_vals, first}
+use Rattle.fr_shape.specs.Look.{Table, def_of, settled}
+use Rattle.fr_shape.specs.Val.{Vals, none, product, no_vals, first}
 use Rattle.fr_model.specs.Places.{child_shape}
 use Rattle.fr_model.specs.Tree.{Form, as_struct, as_array}
 use Rattle.fr_model.specs.Well.{IsFullAs}

@@ -9,3 +9,4 @@ pub mod OpenLaws
 pub mod PutLaws
 pub mod StackLaws
 pub mod TemplateLaws
+pub mod TestLaws

@@ -1,6 +1,5 @@
 -- Opening a place: its children as the place holds them.
 use Rattle.std.proofs.Common.{◌≡◌, ℕ, suc, true, List, [], ◌∷◌, length, Option, Some, None, nat_lt, nat_le, Result, Ok, Err, IfOk, if◌then◌else◌, refl, sym, ◌∙◌, ap, subst, arith}
-use Rattle.std.specs.List.{All}
 use Rattle.std.proofs.lemmas.List.Elements.{All-head, All-tail}
 use Rattle.fr_shape.specs.declared.value.Value.{Value}
 use Rattle.fr_shape.specs.declared.error.Operation.{Operation}

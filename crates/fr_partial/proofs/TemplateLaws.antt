@@ -1,13 +1,12 @@
 -- What a checked table says of its templates, and a served one of validators.
-use Rattle.std.proofs.Common.{◌≡◌, ℕ, suc, zero, Bool, true, false, List, [], ◌∷◌, Option, Some, None, slice_get, option_map, refl, sym, ◌∙◌, ap, subst}
+use Rattle.std.proofs.Common.{◌≡◌, ℕ, suc, zero, Bool, true, false, List, [], ◌∷◌, Option, Some, None, slice_get, refl, sym, ◌∙◌, ap, subst}
 use Rattle.std.specs.List.{list_all}
 use Rattle.std.specs.Prelude.{option_to_list}
-use Rattle.fr_shape.specs.declared.value.Value.{Value}
 use Rattle.fr_shape.specs.declared.shape.Shape.{Shape}
 use Rattle.fr_shape.specs.declared.shape.Def.{Def}
 use Rattle.fr_shape.specs.declared.shape.Field.{Field}
 use Rattle.fr_shape.specs.declared.shape.DefaultSource.{DefaultSource}
-use Rattle.fr_shape.specs.Checked.{IsChecked, is_template, default_is_template, templates_fit, fields_of}
+use Rattle.fr_shape.specs.Checked.{IsChecked, is_template, default_is_template, fields_of}
 use Rattle.fr_shape.specs.Fills.{preset_of, strict_fill, takes_shape_default}
 use Rattle.fr_shape.specs.Fits.{fits}
 use Rattle.fr_shape.specs.Hooks.{Meanings}
@@ -15,12 +14,10 @@ use Rattle.fr_shape.specs.Look.{Table, def_of, field_in}
 use Rattle.fr_shape.specs.Served.{IsServed, serves, serves_def, serves_field, is_nil}
 use Rattle.fr_shape.specs.Tokens.{tokens, times, occurs}
 use Rattle.fr_shape.specs.TokenLaws.{occurs_times}
-use Rattle.fr_shape.specs.Val.{Val, unit}
-use Rattle.fr_shape.specs.View.{view}
-use Rattle.fr_model.specs.Complete.{failing_child, first_failing}
+use Rattle.fr_shape.specs.Val.{Val}
+use Rattle.fr_model.specs.Complete.{failing_child}
 use Rattle.fr_model.specs.Places.{fill_at, child_shape}
 use Rattle.fr_model.specs.Tree.{Form, as_struct, as_array}
-use Rattle.fr_partial.specs.Children.{is_placeholder}
 use Rattle.fr_partial.proofs.FitLaws.{both_true, field_shape}
 
 all_at : {X : Type 0} (p : X → Bool) (xs : List X) (i : ℕ) (x : X) → list_all p xs ≡ true → slice_get xs i ≡ Some x

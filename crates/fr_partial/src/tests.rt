@@ -1,6 +1,7 @@
 //! Each call with ample memory, a whole build, and where the token is after each refusal. The helpers want answers
 //! that are Ok and end the test otherwise.
 ghost use Rattle.std.specs.Prelude.{◌≡◌, ℕ, length, true, IfSome};
+ghost use Rattle.fr_shape.specs.Checked.{IsChecked};
 ghost use Rattle.fr_shape.specs.Fits.{fits};
 ghost use Rattle.fr_shape.specs.Look.{IsIn};
 ghost use Rattle.fr_shape.specs.Numbered.{IsNumbered, field_count};
@@ -11,20 +12,20 @@ ghost use Rattle.fr_partial.specs.Builder.{holds};
 
 use crate::Partial;
 use fr_shape::{
-    Def, Field, FieldRef, Invariant, Items, Ledger, Operation, ReflectErrorKind, ScalarKind, Shape,
-    ShapeId, ShapeTable, Shaped, StructDef, StructKind, Text, Value, fits,
+    Def, DefaultSource, Field, FieldRef, Items, Ledger, Operation, ReflectErrorKind, ScalarKind,
+    Shape, ShapeId, ShapeTable, Shaped, StructDef, StructKind, Template, Text, Value, fits,
 };
 use std::alloc::Global;
 use std::process::Abort;
 
-fn shape(alloc: Global, def: Def) -> Option<Shape>
+fn shape(alloc: Global, name: &str, def: Def, preset: Option<Template>) -> Option<Shape>
     ensures def { IfSome result (λ shape. shape.def ≡ def) }
     ensures served { serves_def def ≡ true → IfSome result (λ shape. serves shape ≡ true) }
 {
     Some(Shape {
-        name: Text::new(alloc, "shape").ok()?,
+        name: Text::new(alloc, name).ok()?,
         def,
-        preset: None,
+        preset,
         default_attr: false,
         inner: None,
         builder: None,
@@ -41,15 +42,15 @@ fn shape(alloc: Global, def: Def) -> Option<Shape>
     })
 }
 
-fn field(alloc: Global, shape: u32) -> Option<Field>
+fn field(alloc: Global, name: &str, shape: u32, default: Option<DefaultSource>) -> Option<Field>
     ensures { IfSome result (λ field. serves_field field ≡ true) }
 {
     Some(Field {
-        name: Text::new(alloc, "field").ok()?,
+        name: Text::new(alloc, name).ok()?,
         rename: None,
         alias: None,
         shape: ShapeId(shape),
-        default: None,
+        default,
         skip: false,
         flatten: false,
         proxy: None,
@@ -58,15 +59,21 @@ fn field(alloc: Global, shape: u32) -> Option<Field>
     })
 }
 
-/// A struct of two fields of shape 0 and one of shape 1.
-fn triple(alloc: Global) -> Option<Def>
+/// A struct of a number with a default of its own, an option, a pair of numbers and a token.
+fn members(alloc: Global) -> Option<Def>
     ensures served { IfSome result (λ def. serves_def def ≡ true) }
-    ensures count { IfSome result (λ def. field_count def ≡ 3) }
+    ensures count { IfSome result (λ def. field_count def ≡ 4) }
 {
-    let first = field(alloc, 0)?;
-    let second = field(alloc, 0)?;
-    let third = field(alloc, 1)?;
-    let Ok(fields) = vec![in alloc; first, second, third] else {
+    let count = field(
+        alloc,
+        "count",
+        0,
+        Some(DefaultSource::Custom(Template::new(Value::Nat(9)))),
+    )?;
+    let choice = field(alloc, "choice", 2, None)?;
+    let pair = field(alloc, "pair", 3, None)?;
+    let token = field(alloc, "token", 1, None)?;
+    let Ok(fields) = vec![in alloc; count, choice, pair, token] else {
         return None;
     };
     Some(Def::Struct(StructDef {
@@ -75,25 +82,52 @@ fn triple(alloc: Global) -> Option<Def>
     }))
 }
 
-/// Shape 0 is u32, shape 1 is opaque, and shape 2 is the struct.
+/// Shape 0 is u32 with the default 5, shape 1 is opaque, shape 2 an option with a default, shape 3 an array of two
+/// numbers, and shape 4 the struct.
 fn table(alloc: Global) -> Option<ShapeTable>
-    ensures count { IfSome result (λ table. length table ≡ 3) }
+    ensures count { IfSome result (λ table. length table ≡ 5) }
     ensures served { IfSome result (λ table. IsServed table) }
     ensures numbered { IfSome result (λ table. IsNumbered table) }
 {
-    let number = shape(alloc, Def::Scalar(ScalarKind::U32))?;
-    let opaque = shape(alloc, Def::Opaque)?;
-    let members = triple(alloc)?;
-    let structure = shape(alloc, members)?;
-    let Ok(shapes) = vec![in alloc; number, opaque, structure] else {
+    let number = shape(
+        alloc,
+        "number",
+        Def::Scalar(ScalarKind::U32),
+        Some(Value::Nat(5)),
+    )?;
+    let opaque = shape(alloc, "opaque", Def::Opaque, None)?;
+    let option = shape(
+        alloc,
+        "option",
+        Def::Option(ShapeId(0)),
+        Some(Template::new(Value::None)),
+    )?;
+    let pair = shape(alloc, "pair", Def::Array(ShapeId(0), 2), None)?;
+    let described = members(alloc)?;
+    let structure = shape(alloc, "structure", described, None)?;
+    let Ok(shapes) = vec![in alloc; number, opaque, option, pair, structure] else {
         return None;
     };
     Some(ShapeTable::new(alloc, Items::from_vec(shapes)))
 }
 
+fn checked(rt: &impl Abort, alloc: Global) -> ShapeTable
+    ensures count { length result ≡ 5 }
+    ensures served { IsServed result }
+    ensures numbered { IsNumbered result }
+    ensures checked { IsChecked result }
+{
+    let table = table(alloc).expect(rt, "no memory");
+    match table.check() {
+        Ok(()) => table,
+        Err(_) => panic!(rt; "not checked"),
+    }
+}
+
 fn start<'t>(rt: &impl Abort, alloc: Global, table: &'t ShapeTable, root: u32) -> Partial<'t>
     requires shape { IsIn table.now root }
     requires numbered { IsNumbered table.now }
+    requires checked { IsChecked table.now }
     requires served { IsServed table.now }
     ensures { (t : ℕ) → holds result t ≡ 0 }
 {
@@ -105,10 +139,20 @@ fn start<'t>(rt: &impl Abort, alloc: Global, table: &'t ShapeTable, root: u32) -
 
 fn enter<'t>(rt: &impl Abort, partial: Partial<'t>, i: usize, ledger: &mut Ledger) -> Partial<'t>
     requires { Room (holds partial) ledger.old }
+    ensures { Room (holds result) ledger.new }
+{
+    match partial.begin_nth_field(i, ledger) {
+        Ok(partial) => partial,
+        Err(_) => panic!(rt; "not entered"),
+    }
+}
+
+fn named<'t>(rt: &impl Abort, partial: Partial<'t>, name: &str, ledger: &mut Ledger) -> Partial<'t>
+    requires { Room (holds partial) ledger.old }
     ensures room { Room (holds result) ledger.new }
     ensures nothing { ((t : ℕ) → holds partial.entry t ≡ 0) → (t : ℕ) → holds result t ≡ 0 }
 {
-    match partial.begin_nth_field(i, ledger) {
+    match partial.begin_field(name, ledger) {
         Ok(partial) => partial,
         Err(_) => panic!(rt; "not entered"),
     }
@@ -139,6 +183,16 @@ fn put_number<'t>(
     }
 }
 
+fn put_default<'t>(rt: &impl Abort, partial: Partial<'t>, ledger: &mut Ledger) -> Partial<'t>
+    requires { Room (holds partial) ledger.old }
+    ensures { Room (holds result) ledger.new }
+{
+    match partial.set_default(ledger) {
+        Ok(partial) => partial,
+        Err(_) => panic!(rt; "not put"),
+    }
+}
+
 /// Puts the ledger's only token, which nothing held or released so far.
 fn put_token<'t>(rt: &impl Abort, partial: Partial<'t>, ledger: &mut Ledger) -> Partial<'t>
     requires { (t : ℕ) → holds partial t ≡ 0 }
@@ -163,21 +217,6 @@ fn leave<'t>(rt: &impl Abort, partial: Partial<'t>, ledger: &mut Ledger) -> Part
     }
 }
 
-/// A builder of the opaque shape that holds the token.
-fn opaque<'t>(
-    rt: &impl Abort,
-    alloc: Global,
-    table: &'t ShapeTable,
-    ledger: &mut Ledger,
-) -> Partial<'t>
-    requires count { length table.now ≡ 3 }
-    requires numbered { IsNumbered table.now }
-    requires served { IsServed table.now }
-    ensures { Room (holds result) ledger.new }
-{
-    put_token(rt, start(rt, alloc, table, 1), ledger)
-}
-
 /// A builder of the struct that holds the token in its last field, and works there.
 fn begun<'t>(
     rt: &impl Abort,
@@ -185,12 +224,13 @@ fn begun<'t>(
     table: &'t ShapeTable,
     ledger: &mut Ledger,
 ) -> Partial<'t>
-    requires count { length table.now ≡ 3 }
+    requires count { length table.now ≡ 5 }
     requires numbered { IsNumbered table.now }
+    requires checked { IsChecked table.now }
     requires served { IsServed table.now }
     ensures { Room (holds result) ledger.new }
 {
-    let entered = enter(rt, start(rt, alloc, table, 2), 2, ledger);
+    let entered = named(rt, start(rt, alloc, table, 4), "token", ledger);
     put_token(rt, entered, ledger)
 }
 
@@ -218,33 +258,43 @@ fn ledger(rt: &impl Abort, alloc: Global) -> Ledger {
 
 #[test]
 fn builds_a_struct(rt: HostRuntime) {
-    let table = table(rt.alloc()).expect(&rt, "no memory");
+    let table = checked(&rt, rt.alloc());
     let mut ledger = ledger(&rt, rt.alloc());
     let mut partial = begun(&rt, rt.alloc(), &table, &mut ledger);
     partial = leave(&rt, partial, &mut ledger);
+    partial = named(&rt, partial, "pair", &mut ledger);
     partial = enter(&rt, partial, 0, &mut ledger);
     partial = put_number(&rt, partial, 7, &mut ledger);
     partial = leave(&rt, partial, &mut ledger);
     partial = enter(&rt, partial, 1, &mut ledger);
-    partial = put_number(&rt, partial, 8, &mut ledger);
+    partial = put_default(&rt, partial, &mut ledger);
+    partial = leave(&rt, partial, &mut ledger);
+    partial = leave(&rt, partial, &mut ledger);
+    partial = named(&rt, partial, "choice", &mut ledger);
     partial = leave(&rt, partial, &mut ledger);
     let Ok(built) = partial.build(&mut ledger) else {
         panic!(rt; "not built");
     };
     check_count(&rt, &ledger, 0);
-    assert_eq!(rt; built.calls(), 9);
+    assert_eq!(rt; built.calls(), 13);
     let Value::Product(children) = built.into_value() else {
         panic!(rt; "no struct");
     };
-    assert_eq!(rt; children.len(), 3);
-    assert!(rt; matches!(children.get(0), Some(Value::Nat(7))));
-    assert!(rt; matches!(children.get(1), Some(Value::Nat(8))));
-    assert!(rt; matches!(children.get(2), Some(Value::Token(0))));
+    assert_eq!(rt; children.len(), 4);
+    assert!(rt; matches!(children.get(0), Some(Value::Nat(9))));
+    assert!(rt; matches!(children.get(1), Some(Value::None)));
+    let Some(Value::Product(pair)) = children.get(2) else {
+        panic!(rt; "no array");
+    };
+    assert_eq!(rt; pair.len(), 2);
+    assert!(rt; matches!(pair.get(0), Some(Value::Nat(7))));
+    assert!(rt; matches!(pair.get(1), Some(Value::Nat(5))));
+    assert!(rt; matches!(children.get(3), Some(Value::Token(0))));
 }
 
 #[test]
 fn refuses_another_shape(rt: HostRuntime) {
-    let table = table(rt.alloc()).expect(&rt, "no memory");
+    let table = checked(&rt, rt.alloc());
     let mut ledger = ledger(&rt, rt.alloc());
     let partial = begun(&rt, rt.alloc(), &table, &mut ledger);
     let number = shaped(&rt, &partial, 0, Value::Nat(7));
@@ -261,78 +311,35 @@ fn refuses_another_shape(rt: HostRuntime) {
 }
 
 #[test]
-fn refuses_to_end_the_root(rt: HostRuntime) {
-    let table = table(rt.alloc()).expect(&rt, "no memory");
-    let mut ledger = ledger(&rt, rt.alloc());
-    let partial = opaque(&rt, rt.alloc(), &table, &mut ledger);
-    let kind = refusal(&rt, partial.end(&mut ledger), &ledger);
-    assert!(rt;
-        matches!(
-            kind,
-            ReflectErrorKind::InvariantViolation {
-                invariant: Invariant::EndAtRoot
-            }
-        )
-    );
-}
-
-#[test]
-fn refuses_fields_that_are_not_there(rt: HostRuntime) {
-    let table = table(rt.alloc()).expect(&rt, "no memory");
+fn refuses_a_default_that_is_not_there(rt: HostRuntime) {
+    let table = checked(&rt, rt.alloc());
     let mut ledger = ledger(&rt, rt.alloc());
     let partial = begun(&rt, rt.alloc(), &table, &mut ledger);
-    let partial = leave(&rt, partial, &mut ledger);
-    let kind = refusal(&rt, partial.begin_nth_field(3, &mut ledger), &ledger);
-    assert!(rt;
-        matches!(
-            kind,
-            ReflectErrorKind::OperationFailed {
-                shape: ShapeId(2),
-                operation: Operation::FieldIndexOutOfBounds,
-            }
-        )
-    );
-}
-
-#[test]
-fn refuses_fields_of_an_opaque_shape(rt: HostRuntime) {
-    let table = table(rt.alloc()).expect(&rt, "no memory");
-    let mut ledger = ledger(&rt, rt.alloc());
-    let partial = opaque(&rt, rt.alloc(), &table, &mut ledger);
-    let kind = refusal(&rt, partial.begin_nth_field(0, &mut ledger), &ledger);
+    let kind = refusal(&rt, partial.set_default(&mut ledger), &ledger);
     assert!(rt;
         matches!(
             kind,
             ReflectErrorKind::OperationFailed {
                 shape: ShapeId(1),
-                operation: Operation::FieldOfOpaque,
+                operation: Operation::NoDefault,
             }
         )
     );
 }
 
 #[test]
-fn refuses_to_build_open_places(rt: HostRuntime) {
-    let table = table(rt.alloc()).expect(&rt, "no memory");
+fn refuses_a_name_that_is_not_there(rt: HostRuntime) {
+    let table = checked(&rt, rt.alloc());
     let mut ledger = ledger(&rt, rt.alloc());
     let partial = begun(&rt, rt.alloc(), &table, &mut ledger);
-    let Err(kind) = partial.build(&mut ledger) else {
-        panic!(rt; "not refused");
-    };
-    check_count(&rt, &ledger, 1);
-    assert!(rt;
-        matches!(
-            kind,
-            ReflectErrorKind::InvariantViolation {
-                invariant: Invariant::BuildOpenFrames
-            }
-        )
-    );
+    let partial = leave(&rt, partial, &mut ledger);
+    let kind = refusal(&rt, partial.begin_field("pai", &mut ledger), &ledger);
+    assert!(rt; matches!(kind, ReflectErrorKind::FieldError { shape: ShapeId(4) }));
 }
 
 #[test]
 fn refuses_to_build_without_a_field(rt: HostRuntime) {
-    let table = table(rt.alloc()).expect(&rt, "no memory");
+    let table = checked(&rt, rt.alloc());
     let mut ledger = ledger(&rt, rt.alloc());
     let partial = begun(&rt, rt.alloc(), &table, &mut ledger);
     let partial = leave(&rt, partial, &mut ledger);
@@ -345,9 +352,9 @@ fn refuses_to_build_without_a_field(rt: HostRuntime) {
             kind,
             ReflectErrorKind::UninitializedField {
                 field: FieldRef {
-                    shape: ShapeId(2),
+                    shape: ShapeId(4),
                     variant: None,
-                    index: 0
+                    index: 2
                 },
             }
         )

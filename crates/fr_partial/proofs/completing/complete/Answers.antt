@@ -1,11 +1,10 @@
-use Rattle.std.proofs.Common.{◌≡◌, ℕ, Bool, true, false, List, length, Option, Some, None, refl, inl, inr, sym, ◌∙◌, ap}
-use Rattle.fr_shape.specs.declared.error.ReflectErrorKind.{ReflectErrorKind}
+use Rattle.std.proofs.Common.{◌≡◌, Bool, true, false, length, Some, refl, inl, inr, sym, ◌∙◌, ap}
 use Rattle.fr_shape.specs.Hooks.{no_hooks}
 use Rattle.fr_shape.specs.TokenLaws.{Room_same, RoseBy_same}
 use Rattle.fr_shape.specs.Tokens.{vals_occur}
-use Rattle.fr_shape.specs.View.{view, vals_view}
+use Rattle.fr_shape.specs.View.{vals_view}
 use Rattle.fr_model.specs.Complete.{complete, lack}
-use Rattle.fr_model.specs.Places.{fill_at, product_of}
+use Rattle.fr_model.specs.Places.{product_of}
 use Rattle.fr_model.specs.Tree.{tree_occurs}
 use Rattle.fr_partial.specs.declared.frame.Piece.{Piece}
 use Rattle.fr_partial.specs.Filling.{fills_nothing}

@@ -1,5 +1,4 @@
 use Rattle.std.proofs.Common.{sym}
-use Rattle.fr_shape.specs.View.{view}
 use Rattle.fr_partial.proofs.TemplateLaws.{fill_template}
 use Rattle.fr_partial.proofs.completing.copy_fill.Goals as goal
 

@@ -1,8 +1,7 @@
-use Rattle.std.proofs.Common.{◌≡◌, ◌<◌, ◌+◌, List, Vec, Global, set, length, Some, get_or, refl, sym, ap, ◌∙◌, subst, true, false, arith}
+use Rattle.std.proofs.Common.{◌+◌, List, Vec, Global, sym, ap, ◌∙◌, subst, arith}
 use Rattle.fr_shape.specs.declared.value.Value.{Value}
 use Rattle.fr_shape.specs.View.{view}
 use Rattle.fr_model.specs.Places.{fill_at, child_shape}
-use Rattle.fr_partial.specs.Children.{is_placeholder}
 use Rattle.fr_partial.proofs.FillingLaws.{Progress, progress_begins, progress_there, progress_fill, progress_set, progress_full, progress_ends, fits_there}
 use Rattle.fr_partial.proofs.TemplateLaws.{fill_template, light_occurs, IsTemplate}
 use Rattle.fr_partial.proofs.completing.fill_holes.Goals as goal

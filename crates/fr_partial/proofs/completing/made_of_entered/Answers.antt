@@ -1,8 +1,6 @@
-use Rattle.std.proofs.Common.{◌≡◌, ℕ, Option, Some, None, Result, Ok, Err, IfOk, option_map, sym, ◌∙◌, ap, subst}
+use Rattle.std.proofs.Common.{ℕ, Result, Ok, Err, IfOk, sym, ◌∙◌, ap}
 use Rattle.fr_shape.specs.Fills.{preset_in}
 use Rattle.fr_shape.specs.Hooks.{no_hooks}
-use Rattle.fr_shape.specs.Val.{Val}
-use Rattle.fr_shape.specs.View.{view}
 use Rattle.fr_model.specs.Complete.{missing_field}
 use Rattle.fr_model.specs.Places.{fill_at, each_child, product_of}
 use Rattle.fr_partial.specs.Children.{first_unfilled}

@@ -1,4 +1,4 @@
-use Rattle.std.proofs.Common.{◌≡◌, ℕ, Some, ap, sym, ◌∙◌}
+use Rattle.std.proofs.Common.{ℕ, Some, ap, sym, ◌∙◌}
 use Rattle.fr_model.specs.Places.{fill_at, each_child, product_of}
 use Rattle.fr_partial.specs.Children.{first_unfilled}
 use Rattle.fr_partial.proofs.FillingLaws.{absent_lacking, absent_filled}

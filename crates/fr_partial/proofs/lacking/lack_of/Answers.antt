@@ -1,9 +1,9 @@
-use Rattle.std.proofs.Common.{◌≡◌, ℕ, ◌+◌, ◌<◌, ◌^◌, length, Some, None, option_map, subst, refl, sym, ◌∙◌, ap, arith}
+use Rattle.std.proofs.Common.{◌≡◌, ◌+◌, ◌<◌, ◌^◌, length, Some, option_map, subst, sym, ◌∙◌, ap, arith}
 use Rattle.fr_shape.specs.Hooks.{no_hooks}
 use Rattle.fr_shape.specs.Look.{def_of}
 use Rattle.fr_model.specs.Complete.{lack, missing_child}
 use Rattle.fr_model.specs.Places.{fill_at}
-use Rattle.fr_model.specs.Tree.{Form, as_struct}
+use Rattle.fr_model.specs.Tree.{Form}
 use Rattle.fr_model.specs.Well.{IsFullAs}
 use Rattle.fr_partial.specs.declared.frame.Piece.{Piece}
 use Rattle.fr_partial.specs.Children.{first_lacking}

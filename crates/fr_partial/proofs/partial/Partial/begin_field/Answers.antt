@@ -1,4 +1,4 @@
-use Rattle.std.proofs.Common.{◌≡◌, Result, inr, sym, subst}
+use Rattle.std.proofs.Common.{Result, inr, sym, subst}
 use Rattle.fr_shape.specs.declared.error.ReflectErrorKind.{ReflectErrorKind}
 use Rattle.fr_shape.specs.Look.{def_of}
 use Rattle.fr_model.specs.Tree.{State}

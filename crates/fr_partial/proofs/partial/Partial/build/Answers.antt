@@ -1,4 +1,4 @@
-use Rattle.std.proofs.Common.{◌≡◌, ℕ, List, [], ◌∷◌, refl, vec_len, Some, length, slice_index, sym, ap, ◌∙◌, subst, true, false, arith}
+use Rattle.std.proofs.Common.{◌≡◌, ℕ, List, [], ◌∷◌, refl, vec_len, length, slice_index, sym, ap, ◌∙◌, subst, true, false, arith}
 use Rattle.std.proofs.lemmas.Bool.{eqb-true}
 use Rattle.fr_shape.specs.declared.error.ReflectErrorKind.{ReflectErrorKind}
 use Rattle.fr_shape.specs.Tokens.{occurs}

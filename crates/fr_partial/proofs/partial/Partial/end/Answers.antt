@@ -1,4 +1,4 @@
-use Rattle.std.proofs.Common.{◌≡◌, ℕ, ◌+◌, Some, length, slice_index, true, false, refl, sym, ap, ◌∙◌, inl, inr, arith}
+use Rattle.std.proofs.Common.{◌≡◌, ℕ, ◌+◌, length, slice_index, true, false, refl, sym, ap, ◌∙◌, inl, inr, arith}
 use Rattle.fr_shape.specs.declared.error.ReflectErrorKind.{ReflectErrorKind}
 use Rattle.fr_shape.specs.TokenLaws.{both, Room_same, Room_fewer, Room_risen}
 use Rattle.fr_shape.specs.Tokens.{vals_occur}

@@ -1,9 +1,8 @@
-use Rattle.std.proofs.Common.{◌≡◌, ℕ, ◌+◌, List, [], ◌∷◌, ◌++◌, None, Ok, refl, sym, ap, ◌∙◌, subst, arith}
+use Rattle.std.proofs.Common.{◌≡◌, ℕ, ◌+◌, List, [], ◌∷◌, ◌++◌, Ok, refl, sym, ap, ◌∙◌, subst, arith}
 use Rattle.fr_shape.specs.TokenLaws.{both, Room_fewer, Room_risen}
 use Rattle.fr_shape.specs.Tokens.{vals_occur}
 use Rattle.fr_shape.specs.View.{vals_view}
 use Rattle.fr_model.specs.Places.{child_shape}
-use Rattle.fr_model.specs.Step.{field_refusal}
 use Rattle.fr_shape.specs.Look.{def_of}
 use Rattle.fr_model.specs.Tree.{State, tree_occurs}
 use Rattle.fr_partial.specs.declared.frame.Parent.{Parent}

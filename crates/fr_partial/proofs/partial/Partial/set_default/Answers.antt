@@ -1,6 +1,4 @@
-use Rattle.std.proofs.Common.{◌≡◌, ℕ, ◌+◌, true, false, Ok, Some, Result, is_err, refl, inr, sym, ap, ◌∙◌, subst, arith}
-use Rattle.fr_shape.specs.declared.error.ReflectErrorKind.{ReflectErrorKind}
-use Rattle.fr_shape.specs.Released.{Conserved}
+use Rattle.std.proofs.Common.{◌≡◌, ℕ, ◌+◌, true, false, Ok, refl, inr, sym, ap, ◌∙◌, arith}
 use Rattle.fr_shape.specs.TokenLaws.{Room_same, Conserved_same}
 use Rattle.fr_shape.specs.Tokens.{occurs}
 use Rattle.fr_shape.specs.Val.{Val}
