@@ -1,5 +1,5 @@
 -- From a run of a document's script to its outcome.
-use Rattle.std.proofs.Common.{◌≡◌, ◌⊎◌, ℕ, List, Ok, Err, Some, None, Option, Result, replicate, refl, sym, ap, ◌∙◌, subst, inl, inr, true, false}
+use Rattle.std.proofs.Common.{◌≡◌, ℕ, List, Ok, Err, Some, None, replicate, sym, ap, ◌∙◌, subst, true, false}
 use Rattle.fr_shape.specs.Fits.{fits}
 use Rattle.fr_shape.specs.Tokens.{occurs}
 use Rattle.fr_shape.specs.Val.{Val}
@@ -11,7 +11,7 @@ use Rattle.fr_script.specs.DocumentFacts.{IsBuildable}
 use Rattle.fr_script.specs.Documents.{Document}
 use Rattle.fr_script.specs.Headline.{IsBuiltRightly, IsRefusedRightly, completed}
 use Rattle.fr_script.specs.Outcomes.{is_want_of_memory}
-use Rattle.fr_script.specs.Reports.{Outcome, built, refused, outcome_of_run, run_of, none_answered}
+use Rattle.fr_script.specs.Reports.{built, refused, outcome_of_run, run_of, none_answered}
 use Rattle.fr_script.specs.Tokens.{counted_once, StandOnce}
 use Rattle.fr_script.proofs.ReleasedLaws.{released_tokens, stand_once}
 

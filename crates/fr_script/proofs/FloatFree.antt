@@ -1,10 +1,9 @@
 -- No report holds a float, so its text is its compact text.
-use Rattle.std.proofs.Common.{◌≡◌, ℕ, false, List, [], ◌∷◌, map, refl, ap, ◌∙◌}
-use Rattle.serde_json.specs.View.{items_of}
+use Rattle.std.proofs.Common.{◌≡◌, ℕ, false, List, [], ◌∷◌, refl}
 use Rattle.serde_json.specs.Written.{has_float, items_have_float}
 use Rattle.fr_shape.specs.Val.{Val}
 use Rattle.fr_doc.specs.declared.fault.DocFault.{DocFault}
-use Rattle.fr_doc.specs.Printed.{natural, value_data}
+use Rattle.fr_doc.specs.Printed.{value_data}
 use Rattle.fr_script.specs.Reports.{Outcome, faulty, built, refused, naturals, outcome_data, fault_data}
 
 naturals_free : (ns : List ℕ) → items_have_float (naturals ns) ≡ false

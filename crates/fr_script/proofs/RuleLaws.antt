@@ -3,7 +3,7 @@ use Rattle.std.proofs.Common.{◌≡◌, ℕ, zero, suc, ◌+◌, ◌-◌, ◌<�
 use Rattle.std.specs.Prelude.{Result, slice_get, slice_index_or}
 use Rattle.fr_shape.specs.declared.shape.Shape.{Shape}
 use Rattle.fr_shape.specs.Checked.{EachKeeps, IsChecked}
-use Rattle.fr_shape.specs.Faults.{rules_of, keeps, EarlierRulesHold, EarlierEntriesKeep, IsBrokenAt}
+use Rattle.fr_shape.specs.Faults.{rules_of, EarlierRulesHold, EarlierEntriesKeep, IsBrokenAt}
 use Rattle.fr_shape.specs.Look.{Table}
 use Rattle.fr_doc.specs.declared.fault.DocFault.{DocFault}
 use Rattle.fr_doc.specs.FaultSteps.{◌>>=◌}

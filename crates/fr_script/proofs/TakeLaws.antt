@@ -1,5 +1,5 @@
 -- A document that is read only to its limit is the same document.
-use Rattle.std.proofs.Common.{◌≡◌, ℕ, suc, ◌+◌, ◌<◌, ◌≤◌, Bool, true, false, List, [], ◌++◌, Option, Some, None, IfSome, length, take, drop, refl, sym, ap, ◌∙◌, arith}
+use Rattle.std.proofs.Common.{◌≡◌, ℕ, ◌<◌, ◌≤◌, Bool, true, false, List, [], Option, Some, None, IfSome, length, take, drop, refl, sym, ap, ◌∙◌, arith}
 use Rattle.std.specs.Prelude.{nat_lt}
 use Rattle.std.proofs.lemmas.List.{take-append-drop}
 use Rattle.std.proofs.lemmas.List.{take_all}
@@ -8,9 +8,7 @@ use Rattle.std.proofs.lemmas.Bool.{ltb-true, ltb-false, le-ltb}
 use Rattle.std.specs.Option.{option_map}
 use Rattle.std.specs.Io.KnownBytes.{prepend_known}
 use Rattle.fr_doc.specs.Causes.{LosesAtMost}
-use Rattle.fr_doc.specs.declared.fault.DocFault.{DocFault}
-use Rattle.fr_doc.specs.FaultSteps.{◌>>=◌}
-use Rattle.fr_script.specs.Documents.{document_of, asks}
+use Rattle.fr_script.specs.Documents.{document_of}
 use Rattle.fr_script.specs.Reports.{outcome_of, outcome_of_document}
 
 -- n stands for the limit, which is too large to compute with

@@ -1,5 +1,4 @@
 -- An answer of the program as an outcome.
-use Rattle.std.specs.Prelude.{◌≡◌, ℕ}
 use Rattle.fr_script.specs.declared.answering.Answer.{Answer}
 use Rattle.fr_script.specs.Reports.{Outcome, faulty, built, refused}
 

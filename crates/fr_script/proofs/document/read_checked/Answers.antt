@@ -1,6 +1,5 @@
 use Rattle.std.proofs.Common.{◌≡◌, length, sym, ap, arith}
 use Rattle.std.proofs.lemmas.List.{length-map}
-use Rattle.serde_json.specs.View.{view as data_of}
 use Rattle.fr_model.specs.Commands.{call_of, calls_of}
 use Rattle.fr_script.proofs.Buildable.{sizes_known}
 use Rattle.fr_script.specs.Documents.{Document}

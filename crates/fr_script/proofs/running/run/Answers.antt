@@ -1,12 +1,11 @@
-use Rattle.std.proofs.Common.{◌≡◌, ℕ, List, Result, take, refl, sym, ap, ◌∙◌, subst}
+use Rattle.std.proofs.Common.{◌≡◌, ℕ, List, Result, take, refl, ap, ◌∙◌, subst}
 use Rattle.std.specs.Io.KnownBytes.{append_known}
 use Rattle.fr_doc.specs.declared.looping.TheConstants.{INPUT_LIMIT}
 use Rattle.fr_doc.specs.Causes.{TakesBeginning}
-use Rattle.fr_script.specs.Reports.{Outcome, outcome_of, outcome_of_document, status_of, report}
+use Rattle.fr_script.specs.Reports.{outcome_of, outcome_of_document, status_of, report}
 use Rattle.fr_doc.specs.declared.fault.DocFault.{DocFault}
 use Rattle.fr_script.specs.Documents.{Document, document_of}
 use Rattle.fr_script.specs.Headline.{KeepsPromise}
-use Rattle.fr_script.specs.Runs.{Tells}
 use Rattle.fr_script.proofs.TakeLaws.{at_limit, outcome_at_limit, loses, over_told}
 use Rattle.fr_script.proofs.running.run.Goals as goal
 

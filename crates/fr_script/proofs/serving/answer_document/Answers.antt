@@ -1,8 +1,5 @@
-use Rattle.std.proofs.Common.{◌≡◌, ◌⊎◌, Err, None, ap, sym, ◌∙◌, ⊎_elim}
-use Rattle.fr_model.specs.Run.{full_run}
-use Rattle.fr_script.specs.Headline.{completed}
+use Rattle.std.proofs.Common.{sym, ◌∙◌, ⊎_elim}
 use Rattle.fr_script.specs.Reading.{document_view}
-use Rattle.fr_script.specs.Reports.{run_of}
 use Rattle.fr_script.proofs.AnswerLaws.{not_memory, built_outcome, built_promise, refused_outcome, refused_promise}
 use Rattle.fr_script.proofs.serving.answer_document.Goals as goal
 

@@ -1,2 +1,0 @@
-use Rattle.fr_script.proofs.ReleasedLaws.{released_tokens}
-use Rattle.fr_script.proofs.released.released_tokens.Goals as goal
