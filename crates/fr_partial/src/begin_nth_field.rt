@@ -1,5 +1,5 @@
 //! `begin_nth_field`: on to a field or element of the place at which the builder works.
-ghost use Rattle.std.specs.Prelude.{◌≡◌};
+ghost use Rattle.std.specs.Prelude.{◌≡◌, IsErr};
 ghost use Rattle.fr_shape.specs.Released.{Room, Conserved};
 ghost use Rattle.fr_model.specs.Step.{begin_nth_field};
 ghost use Rattle.fr_partial.specs.Builder.{here, holds, IsStep, left};
@@ -18,6 +18,7 @@ impl<'t> Partial<'t> {
         requires { Room (holds self) ledger.old }
         ensures step { IsStep self.entry (begin_nth_field self.entry.shapes (here self.entry) self.entry.state idx) result }
         ensures tokens { Conserved (holds self.entry) ledger.old (left result) ledger.new }
+        ensures refused { IsErr (begin_nth_field self.entry.shapes (here self.entry) self.entry.state idx) → result ≡ Err ReflectErrorKind.OutOfMemory → ⊥ }
     {
         let shape = self.frame.shape;
         match field_refusal(self.table, &self.frame, idx) {

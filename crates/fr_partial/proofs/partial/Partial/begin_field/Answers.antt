@@ -1,4 +1,4 @@
-use Rattle.std.proofs.Common.{Result, inr, sym, subst}
+use Rattle.std.proofs.Common.{false, true, ◌≡◌, Result, inr, sym, subst}
 use Rattle.fr_shape.specs.declared.error.ReflectErrorKind.{ReflectErrorKind}
 use Rattle.fr_shape.specs.Look.{def_of}
 use Rattle.fr_model.specs.Tree.{State}
@@ -36,3 +36,12 @@ returns-in-None-clause-step c =
     (named_unknown c.self.inside.table.now c.self.inside.root.0 c.self.inside.parents.items c.self.inside.frame
     c.self.inside.calls c.self.invariant.chain c.args.self c.self.view_is c.args.field_name.now
     (sym c.in_default.ensures) (sym c.in-None.ensures))
+
+pub returns-in-Some-field_named-clause-refused : goal.returns-in-Some-field_named-clause-refused
+returns-in-Some-field_named-clause-refused c refused e =
+    let no : false ≡ true =
+    rw (named_admitted c.self.inside.table.now c.self.inside.root.0 c.self.inside.parents.items c.self.inside.frame
+    c.self.inside.calls c.self.invariant.chain c.args.self c.self.view_is c.args.field_name.now
+    c.in-Some-field_named.i (sym c.in_default.ensures) (sym c.in-Some-field_named.ensures))
+    at refused in
+    cc

@@ -1,4 +1,4 @@
-use Rattle.std.proofs.Common.{Result, inr, sym, subst}
+use Rattle.std.proofs.Common.{◌≡◌, true, false, Result, inr, sym, subst}
 use Rattle.fr_shape.specs.declared.error.ReflectErrorKind.{ReflectErrorKind}
 use Rattle.fr_model.specs.Tree.{State}
 use Rattle.fr_partial.specs.Builder.{IsStep}
@@ -24,3 +24,11 @@ returns-in-None-clause-step c =
     (begin_admitted c.self.inside.table.now c.self.inside.root.0 c.self.inside.parents.items c.self.inside.frame
     c.self.inside.calls c.self.invariant.chain c.args.self c.self.view_is c.args.idx (sym c.in-None.ensures)))
     c.enter.ensures.step
+
+pub returns-in-None-clause-refused : goal.returns-in-None-clause-refused
+returns-in-None-clause-refused c refused e =
+    let no : false ≡ true =
+    rw (begin_admitted c.self.inside.table.now c.self.inside.root.0 c.self.inside.parents.items c.self.inside.frame
+    c.self.inside.calls c.self.invariant.chain c.args.self c.self.view_is c.args.idx (sym c.in-None.ensures))
+    at refused in
+    cc
