@@ -42,6 +42,13 @@ fn shape(alloc: Global, name: &str, def: Def, preset: Option<Template>) -> Optio
     })
 }
 
+fn defaulted(alloc: Global, name: &str, def: Def, default: Value) -> Option<Shape>
+    ensures def { IfSome result (λ shape. shape.def ≡ def) }
+    ensures served { serves_def def ≡ true → IfSome result (λ shape. serves shape ≡ true) }
+{
+    shape(alloc, name, def, Some(Template::new(default)))
+}
+
 fn field(alloc: Global, name: &str, shape: u32, default: Option<DefaultSource>) -> Option<Field>
     ensures { IfSome result (λ field. serves_field field ≡ true) }
 {
@@ -82,6 +89,45 @@ fn members(alloc: Global) -> Option<Def>
     }))
 }
 
+/// The shapes without parts of their own, but for the option.
+#[derive(Drop)]
+struct Leaves {
+    number: Shape,
+    opaque: Shape,
+    option: Shape,
+}
+
+fn describe_leaves(alloc: Global) -> Option<Leaves>
+    ensures served { IfSome result (λ l. (serves l.number ≡ true) × (serves l.opaque ≡ true) × (serves l.option ≡ true)) }
+    ensures counts { IfSome result (λ l. (field_count l.number.def ≡ 0) × (field_count l.opaque.def ≡ 0) × (field_count l.option.def ≡ 0)) }
+{
+    let number = defaulted(alloc, "number", Def::Scalar(ScalarKind::U32), Value::Nat(5))?;
+    let opaque = shape(alloc, "opaque", Def::Opaque, None)?;
+    let option = defaulted(alloc, "option", Def::Option(ShapeId(0)), Value::None)?;
+    Some(Leaves {
+        number,
+        opaque,
+        option,
+    })
+}
+
+/// The shapes that are entered.
+#[derive(Drop)]
+struct Branches {
+    pair: Shape,
+    structure: Shape,
+}
+
+fn describe_branches(alloc: Global) -> Option<Branches>
+    ensures served { IfSome result (λ b. (serves b.pair ≡ true) × (serves b.structure ≡ true)) }
+    ensures counts { IfSome result (λ b. (field_count b.pair.def ≡ 0) × (field_count b.structure.def ≡ 4)) }
+{
+    let pair = shape(alloc, "pair", Def::Array(ShapeId(0), 2), None)?;
+    let described = members(alloc)?;
+    let structure = shape(alloc, "structure", described, None)?;
+    Some(Branches { pair, structure })
+}
+
 /// Shape 0 is u32 with the default 5, shape 1 is opaque, shape 2 an option with a default, shape 3 an array of two
 /// numbers, and shape 4 the struct.
 fn table(alloc: Global) -> Option<ShapeTable>
@@ -89,22 +135,14 @@ fn table(alloc: Global) -> Option<ShapeTable>
     ensures served { IfSome result (λ table. IsServed table) }
     ensures numbered { IfSome result (λ table. IsNumbered table) }
 {
-    let number = shape(
-        alloc,
-        "number",
-        Def::Scalar(ScalarKind::U32),
-        Some(Value::Nat(5)),
-    )?;
-    let opaque = shape(alloc, "opaque", Def::Opaque, None)?;
-    let option = shape(
-        alloc,
-        "option",
-        Def::Option(ShapeId(0)),
-        Some(Template::new(Value::None)),
-    )?;
-    let pair = shape(alloc, "pair", Def::Array(ShapeId(0), 2), None)?;
-    let described = members(alloc)?;
-    let structure = shape(alloc, "structure", described, None)?;
+    let leaves = describe_leaves(alloc)?;
+    let branches = describe_branches(alloc)?;
+    let Leaves {
+        number,
+        opaque,
+        option,
+    } = leaves;
+    let Branches { pair, structure } = branches;
     let Ok(shapes) = vec![in alloc; number, opaque, option, pair, structure] else {
         return None;
     };

@@ -1,24 +1,25 @@
-use Rattle.std.proofs.Common.{◌≡◌, refl, ap, ◌∙◌, arith}
-use Rattle.fr_shape.specs.Numbered.{field_count}
+use Rattle.std.proofs.Common.{arith}
 use Rattle.fr_partial.proofs.TestLaws.{five_served, five_numbered}
 use Rattle.fr_partial.proofs.tests.table.Goals as goal
 
 pub returns-clause-served : goal.returns-clause-served
 returns-clause-served c =
+    let leaves = c.in_ok-leaves.ensures.served in
+    let branches = c.in_ok-branches.ensures.served in
     rw (c.new.ensures, c.from_vec.ensures, c.in-Ok.ensures.items)
-    (five_served c.in_ok-number.number c.in_ok-opaque.opaque c.in_ok-option.option c.in_ok-pair.pair
-    c.in_ok-structure.structure (c.in_ok-number.ensures.served refl) (c.in_ok-opaque.ensures.served refl)
-    (c.in_ok-option.ensures.served refl) (c.in_ok-pair.ensures.served refl)
-    (c.in_ok-structure.ensures.served c.in_ok-described.ensures.served))
+    (five_served c.in_ok-leaves.leaves.number c.in_ok-leaves.leaves.opaque c.in_ok-leaves.leaves.option
+    c.in_ok-branches.branches.pair c.in_ok-branches.branches.structure leaves.0 leaves.1 leaves.2 branches.0 branches.1)
 
 pub returns-clause-numbered : goal.returns-clause-numbered
 returns-clause-numbered c =
-    let first : field_count c.in_ok-number.number.def ≡ 0 = ap field_count c.in_ok-number.ensures.def in
-    let second : field_count c.in_ok-opaque.opaque.def ≡ 0 = ap field_count c.in_ok-opaque.ensures.def in
-    let third : field_count c.in_ok-option.option.def ≡ 0 = ap field_count c.in_ok-option.ensures.def in
-    let fourth : field_count c.in_ok-pair.pair.def ≡ 0 = ap field_count c.in_ok-pair.ensures.def in
-    let fifth : field_count c.in_ok-structure.structure.def ≡ 4
-    = ap field_count c.in_ok-structure.ensures.def ∙ c.in_ok-described.ensures.count in
+    let leaves = c.in_ok-leaves.ensures.counts in
+    let branches = c.in_ok-branches.ensures.counts in
+    let first = leaves.0 in
+    let second = leaves.1 in
+    let third = leaves.2 in
+    let fourth = branches.0 in
+    let fifth = branches.1 in
     rw (c.new.ensures, c.from_vec.ensures, c.in-Ok.ensures.items)
-    (five_numbered c.in_ok-number.number c.in_ok-opaque.opaque c.in_ok-option.option c.in_ok-pair.pair
-    c.in_ok-structure.structure (omega arith) (omega arith) (omega arith) (omega arith) (omega arith))
+    (five_numbered c.in_ok-leaves.leaves.number c.in_ok-leaves.leaves.opaque c.in_ok-leaves.leaves.option
+    c.in_ok-branches.branches.pair c.in_ok-branches.branches.structure (omega arith) (omega arith) (omega arith)
+    (omega arith) (omega arith))
