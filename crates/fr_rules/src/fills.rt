@@ -1,10 +1,11 @@
 //! What the holes of a struct or variant are filled with when it is completed.
 ghost use Rattle.std.specs.Prelude.{◌≡◌, IsSome, IfSome};
+ghost use Rattle.std.specs.Option.{option_copied};
 ghost use Rattle.fr_shape.specs.Look.{field_at};
-ghost use Rattle.fr_shape.specs.Fills.{has_default, has_default_attr, is_option, is_empty_struct, is_unit, is_collection, takes_shape_default, takes_deferred_default, is_of_variant, strict_rule_of, deferred_rule_of};
-ghost use Rattle.fr_rules.specs.FillRules.{told_strict, told_deferred};
+ghost use Rattle.fr_shape.specs.Fills.{has_default, has_default_attr, is_option, is_unit, is_collection, takes_shape_default, takes_deferred_default, is_of_variant, strict_rule_of, deferred_rule_of};
+ghost use Rattle.fr_rules.specs.FillRules.{told_strict, told_deferred, template_meant};
 
-use fr_shape::{Def, DefaultSource, Field, FieldRef, ShapeId, ShapeTable, StructKind};
+use fr_shape::{Def, DefaultSource, Field, FieldRef, ShapeId, ShapeTable, StructKind, Template};
 
 #[cfg(test)]
 mod tests;
@@ -21,6 +22,21 @@ pub enum FillRule {
 pub enum FieldDefault {
     Custom(FieldRef),
     FromTrait(ShapeId),
+}
+
+impl FieldDefault {
+    /// The template that is meant. There is none where the field has none of its own, or the shape no default.
+    pub fn template<'a>(self, table: &'a ShapeTable) -> Option<&'a Template>
+        ensures meant { option_copied result ≡ template_meant table.now self }
+    {
+        match self {
+            FieldDefault::Custom(field) => match &table.field(field)?.default {
+                Some(DefaultSource::Custom(template)) => Some(template),
+                _ => None,
+            },
+            FieldDefault::FromTrait(shape) => table.preset(shape),
+        }
+    }
 }
 
 /// What the end of deferred mode does with a hole: it takes a default, or finds none.
@@ -79,7 +95,7 @@ fn takes_shape_default(table: &ShapeTable, field: FieldRef, found: &Field) -> bo
     shape.preset.is_some()
         && (is_option(&shape.def)
             || found.skip
-            || is_empty_struct(&shape.def)
+            || shape.def.is_empty_struct()
             || (has_default(table, field.shape) && field.variant.is_none()))
 }
 
@@ -100,10 +116,7 @@ fn takes_deferred_default(table: &ShapeTable, container: ShapeId, found: &Field)
 fn has_default(table: &ShapeTable, id: ShapeId) -> bool
     ensures { result ≡ has_default table.now id.0 }
 {
-    match table.get(id) {
-        Some(shape) => shape.preset.is_some(),
-        None => false,
-    }
+    table.preset(id).is_some()
 }
 
 fn has_default_attr(table: &ShapeTable, id: ShapeId) -> bool
@@ -119,15 +132,6 @@ fn is_option(def: &Def) -> bool
     ensures { result ≡ is_option def.now }
 {
     matches!(def, Def::Option(_))
-}
-
-fn is_empty_struct(def: &Def) -> bool
-    ensures { result ≡ is_empty_struct def.now }
-{
-    match def {
-        Def::Struct(described) => described.fields.is_empty(),
-        _ => false,
-    }
 }
 
 fn is_unit(def: &Def) -> bool

@@ -1,4 +1,7 @@
 //! The description of one type: its definition and what its author said of it.
+ghost use Rattle.std.specs.Prelude.{◌≡◌};
+ghost use Rattle.fr_shape.specs.Fills.{is_empty_struct};
+
 use crate::{Items, Template, Text};
 
 /// The number of a shape in its table.
@@ -57,6 +60,18 @@ pub enum Def {
     Dynamic,
     Undefined,
     Other,
+}
+
+impl Def {
+    /// Whether it is a struct without fields, of whatever kind.
+    pub fn is_empty_struct(&self) -> bool
+        ensures { result ≡ is_empty_struct self.now }
+    {
+        match self {
+            Def::Struct(described) => described.fields.is_empty(),
+            _ => false,
+        }
+    }
 }
 
 /// The scalars. `ISize` and `USize` have 64 bits.

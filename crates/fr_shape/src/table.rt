@@ -1,9 +1,10 @@
 //! The table of all shapes, which ids are numbers in.
 ghost use Rattle.std.specs.Prelude.{◌≡◌, ◌↔◌, ◌≤◌, length, slice_get, IsNone, OnSome};
 ghost use Rattle.std.specs.Option.{option_copied};
+ghost use Rattle.fr_shape.specs.Fills.{preset_of};
 ghost use Rattle.fr_shape.specs.Look.{field_at};
 
-use crate::{Def, Field, FieldRef, Items, Shape, ShapeId};
+use crate::{Def, Field, FieldRef, Items, Shape, ShapeId, Template};
 use std::alloc::Global;
 use std::marker::Model;
 
@@ -53,6 +54,13 @@ impl ShapeTable {
         ensures { result.now ≡ self.now }
     {
         self.shapes.as_slice()
+    }
+
+    /// The template of a shape's default.
+    pub fn preset(&self, id: ShapeId) -> Option<&Template>
+        ensures { option_copied result ≡ preset_of self.now id.0 }
+    {
+        self.get(id)?.preset.as_ref()
     }
 
     /// The field meant, of a struct or of a variant.
