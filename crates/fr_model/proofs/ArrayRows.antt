@@ -8,11 +8,9 @@ use Rattle.fr_shape.specs.Look.{Table}
 use Rattle.fr_shape.specs.Served.{IsServed}
 use Rattle.fr_shape.specs.Val.{Val, nat, product, no_vals, first}
 use Rattle.fr_model.specs.Commands.{Call}
-use Rattle.fr_model.specs.Complete.{missing_value}
-use Rattle.fr_model.specs.Step.{operation_failed}
 use Rattle.fr_model.specs.Journal.{journal_run}
 use Rattle.fr_model.specs.Run.{full_run}
-use Rattle.fr_model.proofs.Rows.{number, shape, set, begin, end, refused}
+use Rattle.fr_model.proofs.Rows.{number, shape, set, begin, end, refused, lacks_value, failed}
 
 abbrev arrays : Table
 arrays =
@@ -41,14 +39,14 @@ journal_descends = refl
 abbrev one_missing : List Call
 one_missing = begin 2 ∷ set 0 (nat 3) ∷ end ∷ begin 0 ∷ set 0 (nat 1) ∷ end ∷ []
 
-machine_misses_one : full_run no_hooks arrays 1 one_missing ≡ refused 6 (missing_value 1)
+machine_misses_one : full_run no_hooks arrays 1 one_missing ≡ refused 6 (lacks_value 1)
 machine_misses_one = refl
 
 journal_misses_one : journal_run arrays 1 one_missing ≡ None
 journal_misses_one = refl
 
 -- an array of no elements isn't whole before it is set
-none_is_missing : full_run no_hooks arrays 3 [] ≡ refused 0 (missing_value 3)
+none_is_missing : full_run no_hooks arrays 3 [] ≡ refused 0 (lacks_value 3)
 none_is_missing = refl
 
 machine_sets_none : full_run no_hooks arrays 3 (set 3 (product no_vals) ∷ []) ≡ Ok (product no_vals)
@@ -56,18 +54,18 @@ machine_sets_none = refl
 
 -- which elements may be entered: of several refusals the first
 
-no_fourth_element : full_run no_hooks arrays 1 (begin 3 ∷ []) ≡ refused 0 (operation_failed 1 Operation.ArrayIndexOutOfBounds)
+no_fourth_element : full_run no_hooks arrays 1 (begin 3 ∷ []) ≡ refused 0 (failed 1 Operation.ArrayIndexOutOfBounds)
 no_fourth_element = refl
 
-none_of_a_long_array : full_run no_hooks arrays 2 (begin 0 ∷ []) ≡ refused 0 (operation_failed 2 Operation.ArrayTooLarge)
+none_of_a_long_array : full_run no_hooks arrays 2 (begin 0 ∷ []) ≡ refused 0 (failed 2 Operation.ArrayTooLarge)
 none_of_a_long_array = refl
 
 none_of_a_whole_array : full_run no_hooks arrays 1 (set 1 three ∷ begin 0 ∷ [])
-    ≡ refused 1 (operation_failed 1 Operation.ElementOfWholeArray)
+    ≡ refused 1 (failed 1 Operation.ElementOfWholeArray)
 none_of_a_whole_array = refl
 
 past_a_whole_array : full_run no_hooks arrays 1 (set 1 three ∷ begin 3 ∷ [])
-    ≡ refused 1 (operation_failed 1 Operation.ArrayIndexOutOfBounds)
+    ≡ refused 1 (failed 1 Operation.ArrayIndexOutOfBounds)
 past_a_whole_array = refl
 
 journal_enters_no_whole_array : journal_run arrays 1 (set 1 three ∷ begin 0 ∷ end ∷ []) ≡ None

@@ -15,8 +15,6 @@ use Rattle.fr_shape.specs.Served.{IsServed}
 use Rattle.fr_shape.specs.Fits.{fits}
 use Rattle.fr_shape.specs.Val.{Val, nat, text, token, product, no_vals, first}
 use Rattle.fr_model.specs.Commands.{Call}
-use Rattle.fr_model.specs.Complete.{missing_field, missing_value}
-use Rattle.fr_model.specs.Step.{operation_failed, violates}
 use Rattle.fr_model.specs.Journal.{journal_run}
 use Rattle.fr_model.specs.Run.{Refusal, full_run}
 use Rattle.fr_model.specs.Tree.{whole}
@@ -79,6 +77,20 @@ end = Call.End
 abbrev pub refused : ℕ → ReflectErrorKind → Result Val Refusal
 refused n kind = Err (record { number = n; kind = kind })
 
+-- the kinds of refusals, written out here, so that the definitions of the calls are tried against them
+
+abbrev pub lacks_field : ℕ → ℕ → ReflectErrorKind
+lacks_field s i = ReflectErrorKind.UninitializedField (record { shape = number s; variant = None; index = i })
+
+abbrev pub lacks_value : ℕ → ReflectErrorKind
+lacks_value s = ReflectErrorKind.UninitializedValue (number s)
+
+abbrev pub failed : ℕ → Operation → ReflectErrorKind
+failed s operation = ReflectErrorKind.OperationFailed (number s) operation
+
+abbrev pub violated : Invariant → ReflectErrorKind
+violated invariant = ReflectErrorKind.InvariantViolation invariant
+
 -- a struct in a struct
 
 abbrev nested : Table
@@ -108,31 +120,31 @@ journal_builds = refl
 
 -- what is refused, at which command and why
 
-nothing_put_in : full_run no_hooks nested 3 [] ≡ refused 0 (missing_field 3 0)
+nothing_put_in : full_run no_hooks nested 3 [] ≡ refused 0 (lacks_field 3 0)
 nothing_put_in = refl
 
-no_value : full_run no_hooks nested 0 [] ≡ refused 0 (missing_value 0)
+no_value : full_run no_hooks nested 0 [] ≡ refused 0 (lacks_value 0)
 no_value = refl
 
-first_field_missing : full_run no_hooks nested 3 (begin 1 ∷ end ∷ []) ≡ refused 1 (missing_field 2 0)
+first_field_missing : full_run no_hooks nested 3 (begin 1 ∷ end ∷ []) ≡ refused 1 (lacks_field 2 0)
 first_field_missing = refl
 
 -- the first hole, not the field that was entered last
 second_field_missing : full_run no_hooks nested 3 (begin 1 ∷ begin 0 ∷ set 0 (nat 42) ∷ end ∷ end ∷ [])
-    ≡ refused 4 (missing_field 2 1)
+    ≡ refused 4 (lacks_field 2 1)
 second_field_missing = refl
 
-end_at_the_root : full_run no_hooks nested 3 (end ∷ []) ≡ refused 0 (violates Invariant.EndAtRoot)
+end_at_the_root : full_run no_hooks nested 3 (end ∷ []) ≡ refused 0 (violated Invariant.EndAtRoot)
 end_at_the_root = refl
 
 wrong_shape : full_run no_hooks nested 3 (begin 0 ∷ set 0 (nat 42) ∷ [])
     ≡ refused 1 (ReflectErrorKind.WrongShape (number 1) (number 0))
 wrong_shape = refl
 
-no_fields : full_run no_hooks nested 3 (begin 1 ∷ begin 1 ∷ begin 1 ∷ []) ≡ refused 2 (operation_failed 0 Operation.FieldOfOther)
+no_fields : full_run no_hooks nested 3 (begin 1 ∷ begin 1 ∷ begin 1 ∷ []) ≡ refused 2 (failed 0 Operation.FieldOfOther)
 no_fields = refl
 
-no_third_field : full_run no_hooks nested 3 (begin 2 ∷ []) ≡ refused 0 (operation_failed 3 Operation.FieldIndexOutOfBounds)
+no_third_field : full_run no_hooks nested 3 (begin 2 ∷ []) ≡ refused 0 (failed 3 Operation.FieldIndexOutOfBounds)
 no_third_field = refl
 
 none_by_journal : journal_run nested 3 [] ≡ None
@@ -161,7 +173,7 @@ opaque_is_served = refl
 abbrev left_open : List Call
 left_open = begin 0 ∷ begin 0 ∷ set 0 (token 0) ∷ end ∷ begin 1 ∷ set 1 (nat 5) ∷ end ∷ []
 
-machine_refuses_open : full_run no_hooks opaque 3 left_open ≡ refused 7 (violates Invariant.BuildOpenFrames)
+machine_refuses_open : full_run no_hooks opaque 3 left_open ≡ refused 7 (violated Invariant.BuildOpenFrames)
 machine_refuses_open = refl
 
 journal_refuses_open : journal_run opaque 3 left_open ≡ None

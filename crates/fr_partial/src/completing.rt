@@ -30,6 +30,7 @@ fn copy_fill(
     shape: ShapeId,
     i: usize,
 ) -> Result<Value, OutOfMemory>
+    requires numbered { IsNumbered table.now }
     requires checked { IsChecked table.now }
     requires filled { is_absent (fill_at table.now shape.0 i) ≡ false }
     ensures { IfOk result (λ v. fill_at table.now shape.0 i ≡ Some (view v)) }
@@ -47,6 +48,7 @@ fn fill_holes(
     shape: ShapeId,
     children: &mut Vec<Value>,
 ) -> Result<(), OutOfMemory>
+    requires numbered { IsNumbered table.now }
     requires checked { IsChecked table.now }
     requires nothing_lacks { first_lacking (fill_at table.now shape.0) 0 children.old.items ≡ None }
     ensures filled { OnOk result (filled (fill_at table.now shape.0) 0 children.old.items ≡ Some (vals_view children.new.items)) }
@@ -69,6 +71,7 @@ fn made_of_fills(
     shape: ShapeId,
     count: usize,
 ) -> Result<Value, OutOfMemory>
+    requires numbered { IsNumbered table.now }
     requires checked { IsChecked table.now }
     requires nothing_lacks { first_unfilled (fill_at table.now shape.0) count 0 ≡ None }
     ensures { IfOk result (λ v. product_of (each_child (fill_at table.now shape.0) count 0) ≡ Some (view v)) }
@@ -80,6 +83,7 @@ fn made_of_fills(
 
 /// The value of a place that was only entered.
 fn made_of_entered(alloc: Global, table: &ShapeTable, shape: ShapeId) -> Result<Value, OutOfMemory>
+    requires numbered { IsNumbered table.now }
     requires checked { IsChecked table.now }
     requires served { IsServed table.now }
     requires nothing_lacks { lack_of_entered no_hooks table.now shape.0 ≡ None }

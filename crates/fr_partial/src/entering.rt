@@ -1,5 +1,6 @@
 //! Entering a child of the place at which the builder works.
 ghost use Rattle.std.specs.Prelude.{◌≡◌, ℕ, ◌+◌, None, length, IfOk, OnErr};
+ghost use Rattle.fr_shape.specs.Fills.{is_empty_struct};
 ghost use Rattle.fr_shape.specs.Look.{def_of};
 ghost use Rattle.fr_shape.specs.Tokens.{vals_occur};
 ghost use Rattle.fr_shape.specs.View.{view, vals_view};
@@ -10,10 +11,19 @@ ghost use Rattle.fr_partial.specs.Entering.{Describes};
 ghost use Rattle.fr_partial.specs.Stack.{as_form, slot, slots, node, around, IsChild, AreChildren, IsPiece, IsParent, IsFrame};
 
 use crate::children::{children_of, is_placeholder, placeholders, product_of, take};
-use crate::filling::is_empty_struct;
 use crate::frame::{Child, Frame, Parent, Piece};
 use fr_shape::{OutOfMemory, ShapeId, ShapeTable, Value};
 use std::alloc::Global;
+
+/// Whether a shape is a struct without fields.
+fn is_empty_struct(table: &ShapeTable, shape: ShapeId) -> bool
+    ensures { result ≡ is_empty_struct (def_of table.now shape.0) }
+{
+    match table.get(shape) {
+        Some(entry) => entry.def.is_empty_struct(),
+        None => false,
+    }
+}
 
 /// A child that is entered for the first time.
 pub fn fresh(alloc: Global, table: &ShapeTable, shape: ShapeId) -> Piece

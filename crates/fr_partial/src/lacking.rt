@@ -33,6 +33,7 @@ fn missing_child(shape: ShapeId, form: Form, i: usize) -> ReflectErrorKind
 
 /// The number of the first child that isn't there and takes nothing.
 fn first_lacking(table: &ShapeTable, shape: ShapeId, children: &[Value]) -> Option<usize>
+    requires numbered { IsNumbered table.now }
     ensures { result ≡ first_lacking (fill_at table.now shape.0) 0 children.now }
 {
     for i in 0..children.len() {
@@ -45,6 +46,7 @@ fn first_lacking(table: &ShapeTable, shape: ShapeId, children: &[Value]) -> Opti
 
 /// The number of the first of a struct's fields that takes nothing as a hole.
 fn first_unfilled(table: &ShapeTable, shape: ShapeId, count: usize) -> Option<usize>
+    requires numbered { IsNumbered table.now }
     ensures { result ≡ first_unfilled (fill_at table.now shape.0) count 0 }
 {
     for i in 0..count {

@@ -5,7 +5,7 @@ ghost use Rattle.fr_model.specs.Step.{set_default};
 ghost use Rattle.fr_partial.specs.Builder.{here, holds, IsStep, left};
 
 use crate::Partial;
-use crate::filling::{copy_template, preset_of};
+use crate::filling::copy_template;
 use fr_shape::{Ledger, Operation, ReflectErrorKind};
 
 impl<'t> Partial<'t> {
@@ -18,7 +18,7 @@ impl<'t> Partial<'t> {
         ensures refused { IsErr (set_default self.entry.shapes (here self.entry) self.entry.state) → result ≡ Err ReflectErrorKind.OutOfMemory → ⊥ }
     {
         let shape = self.frame.shape;
-        let Some(template) = preset_of(self.table, shape) else {
+        let Some(template) = self.table.preset(shape) else {
             self.abandon(ledger);
             return Err(ReflectErrorKind::OperationFailed {
                 shape,
