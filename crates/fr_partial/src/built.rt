@@ -24,6 +24,7 @@ impl Model for Built {
 }
 
 impl Built {
+    /// The value, which stays here.
     pub fn value(&self) -> &Value
         ensures { view result.now ≡ self.now.value }
     {

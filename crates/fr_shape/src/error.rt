@@ -8,6 +8,7 @@ pub struct AllocError {
     pub operation: PlanFault,
 }
 
+/// What keeps a shape from being planned; `text` says it in words.
 #[derive(Clone, Copy, PartialEq, Eq)]
 pub enum PlanFault {
     Unsupported,
@@ -114,6 +115,7 @@ pub enum Expected {
     Result,
 }
 
+/// The calls that begin a list, a map or a set; `text` says what such a call found in its way.
 #[derive(Clone, Copy, PartialEq, Eq)]
 pub enum InitCall {
     List,
@@ -121,6 +123,7 @@ pub enum InitCall {
     Set,
 }
 
+/// Why a value of another shape was not converted: the conversion takes no such source, or it failed with this message.
 #[derive(Drop)]
 pub enum TryFromFault {
     UnsupportedSourceType,
@@ -139,6 +142,7 @@ pub enum Invariant {
     TypeInvariant,
 }
 
+/// Why a place can't say whether a field of it is set: it has no field of that number, or no fields at all.
 #[derive(Clone, Copy, PartialEq, Eq)]
 pub enum Reason {
     NoSuchField,

@@ -95,12 +95,14 @@ pub enum ScalarKind {
     CowStr,
 }
 
+/// A struct. Fields are told by their numbers in this order, counted from 0.
 #[derive(Drop)]
 pub struct StructDef {
     pub kind: StructKind,
     pub fields: Items<Field>,
 }
 
+/// How a struct or a variant is written: with named fields, as a bare tuple, as a named tuple, or without fields.
 #[derive(Clone, Copy, PartialEq, Eq)]
 pub enum StructKind {
     Struct,
@@ -109,12 +111,15 @@ pub enum StructKind {
     Unit,
 }
 
+/// An enum. Variants are told by their numbers in this order, counted from 0.
 #[derive(Drop)]
 pub struct EnumDef {
     pub repr: EnumRepr,
     pub variants: Items<VariantDef>,
 }
 
+/// The type in which an enum keeps its discriminant. The first two are Rust's own choice, `RustNPO` with a null pointer
+/// as the discriminant.
 #[derive(Clone, Copy, PartialEq, Eq)]
 pub enum EnumRepr {
     Rust,
@@ -171,6 +176,7 @@ pub struct ProxyDef {
     pub convert: HookId,
 }
 
+/// A stand-in for one format alone, by the name of the format.
 #[derive(Drop)]
 pub struct FormatProxy {
     pub format: Text,
@@ -190,6 +196,7 @@ pub enum ValidatorDef {
     Contains(Text),
 }
 
+/// A pointer. A builder makes only `constructible` ones whose pointee is known.
 #[derive(Drop)]
 pub struct PointerDef {
     pub known: Option<KnownPointer>,
@@ -197,6 +204,7 @@ pub struct PointerDef {
     pub constructible: bool,
 }
 
+/// The pointer types that are known by name.
 #[derive(Clone, Copy, PartialEq, Eq)]
 pub enum KnownPointer {
     Box,

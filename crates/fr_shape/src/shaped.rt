@@ -41,6 +41,7 @@ impl Shaped {
         self.shape
     }
 
+    /// The value, which fits the shape.
     pub fn value(&self) -> &Value
         ensures { view result.now ≡ self.now.value }
     {

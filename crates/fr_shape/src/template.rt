@@ -32,6 +32,7 @@ impl Template {
         Template { value }
     }
 
+    /// The value that it shows, to be copied or compared.
     pub fn value(&self) -> &Value
         ensures { view result.now ≡ self.now }
     {

@@ -35,6 +35,7 @@ impl Text {
         })
     }
 
+    /// The text as Rust's own; an empty one needs no memory.
     pub fn as_str(&self) -> &str
         ensures { result.now ≡ self.now }
     {
@@ -51,6 +52,7 @@ impl Text {
         self.as_str().len()
     }
 
+    /// Whether there is no character in it.
     pub fn is_empty(&self) -> bool
         ensures { IsTrue result ↔ (self.now ≡ []) }
     {

@@ -24,6 +24,7 @@ pub fn shape(alloc: Global, name: &str, def: Def) -> Result<Shape, OutOfMemory> 
     })
 }
 
+/// A field of this shape, with nothing else said of it.
 pub fn field(alloc: Global, shape: u32) -> Result<Field, OutOfMemory> {
     Ok(Field {
         name: Text::new(alloc, "field")?,
@@ -39,6 +40,7 @@ pub fn field(alloc: Global, shape: u32) -> Result<Field, OutOfMemory> {
     })
 }
 
+/// Fields of these shapes.
 pub fn fields(alloc: Global, shapes: &[u32]) -> Result<Items<Field>, OutOfMemory> {
     let mut fields = Items::new(alloc);
     for id in shapes {
@@ -47,6 +49,7 @@ pub fn fields(alloc: Global, shapes: &[u32]) -> Result<Items<Field>, OutOfMemory
     Ok(fields)
 }
 
+/// A tuple variant with fields of these shapes.
 pub fn variant(alloc: Global, name: &str, shapes: &[u32]) -> Result<VariantDef, OutOfMemory> {
     Ok(VariantDef {
         name: Text::new(alloc, name)?,
@@ -66,6 +69,7 @@ pub fn choice(alloc: Global, a: VariantDef, b: VariantDef) -> Result<Def, OutOfM
     }))
 }
 
+/// A constructible pointer of no known name.
 pub fn pointer(pointee: Option<ShapeId>) -> Def {
     Def::Pointer(PointerDef {
         known: None,
@@ -88,6 +92,7 @@ pub fn two<T: Drop>(alloc: Global, a: T, b: T) -> Result<Items<T>, OutOfMemory> 
     Ok(items)
 }
 
+/// These numbers as values.
 pub fn numbers(alloc: Global, numbers: &[u128]) -> Result<Items<Value>, OutOfMemory> {
     let mut values = Items::new(alloc);
     for n in numbers {
@@ -114,10 +119,12 @@ pub fn object(alloc: Global, keys: &[&str]) -> Result<Value, OutOfMemory> {
     Ok(Value::Dyn(Dyn::Object(members)))
 }
 
+/// Some text.
 pub fn text(alloc: Global) -> Result<Value, OutOfMemory> {
     Ok(Value::Text(Text::new(alloc, "word")?))
 }
 
+/// The value behind a box.
 pub fn boxed(alloc: Global, v: Value) -> Result<Box<Value>, OutOfMemory> {
     Ok(Box::new(alloc, v)?)
 }
