@@ -15,7 +15,7 @@ impl<'t> Partial<'t> {
         field_name: &str,
         ledger: &mut Ledger,
     ) -> Result<Partial<'t>, ReflectErrorKind>
-        requires { Room (holds self) ledger.old }
+        requires room { Room (holds self) ledger.old }
         ensures step { IsStep self.entry (begin_field self.entry.shapes (here self.entry) self.entry.state field_name.now) result }
         ensures tokens { Conserved (holds self.entry) ledger.old (left result) ledger.new }
         ensures refused { IsErr (begin_field self.entry.shapes (here self.entry) self.entry.state field_name.now) → result ≡ Err ReflectErrorKind.OutOfMemory → ⊥ }

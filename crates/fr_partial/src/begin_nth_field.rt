@@ -15,7 +15,7 @@ impl<'t> Partial<'t> {
         idx: usize,
         ledger: &mut Ledger,
     ) -> Result<Partial<'t>, ReflectErrorKind>
-        requires { Room (holds self) ledger.old }
+        requires room { Room (holds self) ledger.old }
         ensures step { IsStep self.entry (begin_nth_field self.entry.shapes (here self.entry) self.entry.state idx) result }
         ensures tokens { Conserved (holds self.entry) ledger.old (left result) ledger.new }
         ensures refused { IsErr (begin_nth_field self.entry.shapes (here self.entry) self.entry.state idx) → result ≡ Err ReflectErrorKind.OutOfMemory → ⊥ }

@@ -17,7 +17,7 @@ impl<'t> Partial<'t> {
     /// Completes the root and hands its value over. Only copies of templates want memory, and what is lacking is found
     /// before any is made.
     pub fn build(self, ledger: &mut Ledger) -> Result<Built, ReflectErrorKind>
-        requires { Room (holds self) ledger.old }
+        requires room { Room (holds self) ledger.old }
         ensures built { IsBuilt self.entry (build no_hooks self.entry.shapes self.entry.root self.entry.state) result }
         ensures fits { IfOk result (λ built. fits self.entry.shapes self.entry.root built.value ≡ true) }
         ensures tokens { Conserved (holds self.entry) ledger.old (left_built result) ledger.new }
@@ -47,8 +47,8 @@ impl<'t> Partial<'t> {
 
     /// Gives the builder up, and with it all that was put into it.
     pub fn abandon(self, ledger: &mut Ledger)
-        requires { Room (holds self) ledger.old }
-        ensures { RoseBy (holds self.entry) ledger.old ledger.new }
+        requires room { Room (holds self) ledger.old }
+        ensures released { RoseBy (holds self.entry) ledger.old ledger.new }
     {
         let Partial {
             alloc: _,

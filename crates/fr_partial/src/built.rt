@@ -26,14 +26,14 @@ impl Model for Built {
 impl Built {
     /// The value, which stays here.
     pub fn value(&self) -> &Value
-        ensures { view result.now ≡ self.now.value }
+        ensures value { view result.now ≡ self.now.value }
     {
         &self.value
     }
 
     /// The value alone.
     pub fn into_value(self) -> Value
-        ensures { view result ≡ self.value }
+        ensures value { view result ≡ self.value }
     {
         let Built { value, .. } = self;
         value
@@ -41,7 +41,7 @@ impl Built {
 
     /// How many calls of the builder succeeded before `build`, up to 4294967295, where the number stays.
     pub fn calls(&self) -> u32
-        ensures { result ≡ self.now.calls }
+        ensures calls { result ≡ self.now.calls }
     {
         self.calls
     }

@@ -18,7 +18,7 @@ impl<'t> Partial<'t> {
     /// Completes the place, writes its value into the place above, and goes there. Only copies of templates want
     /// memory, and what is lacking is found before any is made.
     pub fn end(self, ledger: &mut Ledger) -> Result<Partial<'t>, ReflectErrorKind>
-        requires { Room (holds self) ledger.old }
+        requires room { Room (holds self) ledger.old }
         ensures step { IsStep self.entry (end no_hooks self.entry.shapes (here self.entry) self.entry.state) result }
         ensures tokens { Conserved (holds self.entry) ledger.old (left result) ledger.new }
         ensures memory { fills_nothing (tree_at self.entry.state.cursor self.entry.state.tree) ≡ true → result ≡ Err ReflectErrorKind.OutOfMemory → ⊥ }

@@ -7,14 +7,16 @@ use Rattle.fr_partial.proofs.partial.Partial.abandon.Goals as goal
 pub release_all-requires : goal.release_all-requires
 release_all-requires c =
     room_of c.self.inside.table.now c.self.inside.root.0 c.self.inside.parents.items c.self.inside.frame
-    c.self.inside.calls c.self.invariant.chain c.args.self c.self.view_is c.args.ledger.now c.requires
+    c.self.inside.calls c.self.invariant.chain c.args.self c.self.view_is c.args.ledger.now c.requires.room
 
 pub returns : goal.returns
-returns c =
-    RoseBy_same (places_hold c.self.inside.parents.items c.self.inside.frame.piece) (holds c.args.self)
-    c.args.ledger.now c.release_all.new.ledger
-    (λ t.
-    sym
-    (holds_of c.self.inside.table.now c.self.inside.root.0 c.self.inside.parents.items c.self.inside.frame
-    c.self.inside.calls c.self.invariant.chain c.args.self c.self.view_is t))
-    c.release_all.ensures
+returns c = record {
+  released =
+      RoseBy_same (places_hold c.self.inside.parents.items c.self.inside.frame.piece) (holds c.args.self)
+      c.args.ledger.now c.release_all.new.ledger
+      (λ t.
+      sym
+      (holds_of c.self.inside.table.now c.self.inside.root.0 c.self.inside.parents.items c.self.inside.frame
+      c.self.inside.calls c.self.invariant.chain c.args.self c.self.view_is t))
+      c.release_all.ensures;
+}

@@ -29,12 +29,12 @@ held c t =
 pub complete-requires-clause-room : goal.complete-requires-clause-room
 complete-requires-clause-room c =
     room_here c.self.inside.table.now c.self.inside.root.0 c.self.inside.parents.items c.self.inside.frame
-    c.self.inside.calls c.self.invariant.chain c.args.self c.self.view_is c.args.ledger.now c.requires
+    c.self.inside.calls c.self.invariant.chain c.args.self c.self.view_is c.args.ledger.now c.requires.room
 
 pub release_all-requires : goal.release_all-requires
 release_all-requires c =
     room_of c.self.inside.table.now c.self.inside.root.0 c.self.inside.parents.items c.self.inside.frame
-    c.self.inside.calls c.self.invariant.chain c.args.self c.self.view_is c.args.ledger.now c.requires
+    c.self.inside.calls c.self.invariant.chain c.args.self c.self.view_is c.args.ledger.now c.requires.room
 
 made : (c : In-Ok)
     → Made c.self.inside.table.now c.self.inside.frame.shape.0 (tree_occurs (node c.self.inside.frame.piece)) (view c.in-Ok.value)

@@ -33,7 +33,7 @@ above c =
 pub release_piece-requires : goal.release_piece-requires
 release_piece-requires c =
     room_here c.self.inside.table.now c.self.inside.root.0 c.self.inside.parents.items c.self.inside.frame
-    c.self.inside.calls c.self.invariant.chain c.args.self c.self.view_is c.args.ledger.now c.requires
+    c.self.inside.calls c.self.invariant.chain c.args.self c.self.view_is c.args.ledger.now c.requires.room
 
 pub complete-requires-clause-place : goal.complete-requires-clause-place
 complete-requires-clause-place c =
@@ -43,7 +43,7 @@ complete-requires-clause-place c =
 pub complete-requires-clause-room : goal.complete-requires-clause-room
 complete-requires-clause-room c =
     room_here c.self.inside.table.now c.self.inside.root.0 c.self.inside.parents.items c.self.inside.frame
-    c.self.inside.calls c.self.invariant.chain c.args.self c.self.view_is c.args.ledger.now c.requires
+    c.self.inside.calls c.self.invariant.chain c.args.self c.self.view_is c.args.ledger.now c.requires.room
 
 pub put-requires : goal.put-requires
 put-requires c =
@@ -74,7 +74,7 @@ release_children-requires c =
     (Room_fewer
     (both (tree_occurs (node c.self.inside.frame.piece)) (vals_occur (vals_view c.in-Some.parent.children.items)))
     (holds c.args.self) c.args.ledger.now
-    (λ t. omega (arith, split (goal.at.release_children-requires c).In-Some t)) c.requires)
+    (λ t. omega (arith, split (goal.at.release_children-requires c).In-Some t)) c.requires.room)
     c.in-Err.ensures.released
 
 pub release_parents-requires : goal.release_parents-requires
@@ -87,7 +87,7 @@ release_parents-requires c =
     (Room_same (holds c.args.self)
     (both (tree_occurs (node c.self.inside.frame.piece))
     (both (vals_occur (vals_view c.in-Some.parent.children.items)) (parents_hold c.pop.new.self.items)))
-    c.args.ledger.now (λ t. omega (arith, split (goal.at.release_parents-requires c).In-Some t)) c.requires)
+    c.args.ledger.now (λ t. omega (arith, split (goal.at.release_parents-requires c).In-Some t)) c.requires.room)
     c.in-Err.ensures.released)
     c.release_children.ensures
 

@@ -44,7 +44,7 @@ put-requires-clause-fits c =
 pub put-requires-clause-room : goal.put-requires-clause-room
 put-requires-clause-room c =
     Room_same (holds c.args.self) (λ t. holds c.args.self t + occurs (view c.in-Ok.value) t) c.args.ledger.now
-    (λ t. omega (arith, nothing_more (goal.at.put-requires-clause-room c).In-Ok t)) c.requires
+    (λ t. omega (arith, nothing_more (goal.at.put-requires-clause-room c).In-Ok t)) c.requires.room
 
 pub returns-in-Ok-clause-step : goal.returns-in-Ok-clause-step
 returns-in-Ok-clause-step c = (
