@@ -35,7 +35,7 @@ impl<T> Arena<T> {
 
     /// An arena of no values, which takes no memory.
     pub fn new(alloc: Global) -> Self
-        ensures { result ≡ [] }
+        ensures empty { result ≡ [] }
     {
         Arena {
             values: Vec::new(alloc),
@@ -44,7 +44,7 @@ impl<T> Arena<T> {
 
     /// An arena of no values, with memory for `capacity` of them.
     pub fn with_capacity(alloc: Global, capacity: usize) -> Result<Self, OutOfMemory>
-        ensures { IfOk result (λ arena. arena ≡ []) }
+        ensures empty { IfOk result (λ arena. arena ≡ []) }
     {
         Ok(Arena {
             values: Vec::with_capacity(alloc, capacity)?,
@@ -53,7 +53,7 @@ impl<T> Arena<T> {
 
     /// Puts `value` behind the others.
     pub fn alloc(&mut self, value: T) -> Result<Idx<T>, NotPushed<T>>
-        requires { length self.old < 4294967295 }
+        requires room { length self.old < 4294967295 }
         ensures index { IfOk result (λ idx. idx ≡ length self.old) }
         ensures appended { OnOk result (self.new ≡ self.old ++ value ∷ []) }
         ensures refused { OnErr result (self.new ≡ self.old) }
@@ -86,15 +86,15 @@ impl<T> Arena<T> {
 
     /// The value at `idx`.
     pub fn get(&self, idx: Idx<T>) -> &T
-        requires { idx < length self.now }
-        ensures { result.now ≡ slice_index_or self.now idx result.now }
+        requires inside { idx < length self.now }
+        ensures value { result.now ≡ slice_index_or self.now idx result.now }
     {
         &self.values[idx.raw() as usize]
     }
 
     /// The value at `idx`, for writing.
     pub fn get_mut(&mut self, idx: Idx<T>) -> &mut T
-        requires { idx < length self.old }
+        requires inside { idx < length self.old }
         ensures* writes_back { sem 𝓛 (Lends (the_row T.row) T.row self.entry result (slice_set self.entry.now idx)) }
         ensures value { result.now ≡ slice_index_or self.old idx result.now }
     {
@@ -103,8 +103,8 @@ impl<T> Arena<T> {
 
     /// The values of `range`.
     pub fn get_slice(&self, range: SliceRange<T>) -> &[T]
-        requires { range.start + range.len ≤ length self.now }
-        ensures { result.now ≡ slice_range self.now range.start (range.start + range.len) }
+        requires inside { range.start + range.len ≤ length self.now }
+        ensures values { result.now ≡ slice_range self.now range.start (range.start + range.len) }
     {
         let (start, end) = range.bounds();
         &self.values[start..end]
@@ -120,14 +120,14 @@ impl<T> Arena<T> {
 
     /// Whether there is no value.
     pub fn is_empty(&self) -> bool
-        ensures { result ≡ (length self.now == 0) }
+        ensures empty { result ≡ (length self.now == 0) }
     {
         self.values.is_empty()
     }
 
     /// The values, in the order in which they were put.
     pub fn iter(&self) -> ArenaIter<'_, T>
-        ensures { result ≡ self.now }
+        ensures values { result ≡ self.now }
     {
         ArenaIter {
             values: self.values.as_slice(),

@@ -104,7 +104,7 @@ impl ISet {
 
     /// Puts `index` into the set.
     pub fn set(&mut self, index: usize)
-        requires { index < self.old.capacity }
+        requires inside { index < self.old.capacity }
         ensures value { self.new ≡ record self.old { members = set.insert self.old.members index } }
         ensures by_index { (other : ℕ) → set.contains self.new.members other ≡ (other == index || set.contains self.old.members other) }
     {
@@ -114,7 +114,7 @@ impl ISet {
 
     /// Takes `index` out of the set.
     pub fn unset(&mut self, index: usize)
-        requires { index < self.old.capacity }
+        requires inside { index < self.old.capacity }
         ensures value { self.new ≡ record self.old { members = set.remove self.old.members index } }
         ensures by_index { (other : ℕ) → set.contains self.new.members other ≡ (not (other == index) && set.contains self.old.members other) }
     {
@@ -124,16 +124,16 @@ impl ISet {
 
     /// Whether `index` is in the set.
     pub fn get(&self, index: usize) -> bool
-        requires { index < self.now.capacity }
-        ensures { result ≡ set.contains self.now.members index }
+        requires inside { index < self.now.capacity }
+        ensures member { result ≡ set.contains self.now.members index }
     {
         (self.words.get(index / 64) >> (index % 64)) & 1 == 1
     }
 
     /// Whether each number below `count` is in the set.
     pub fn all_set(&self, count: usize) -> bool
-        requires { count ≤ self.now.capacity }
-        ensures { IsTrue result ↔ HasAllBelow count self.now }
+        requires inside { count ≤ self.now.capacity }
+        ensures all { IsTrue result ↔ HasAllBelow count self.now }
     {
         for at in 0..count.div_ceil(64) {
             let wanted = word_of_all_below(count, at);
@@ -146,7 +146,7 @@ impl ISet {
 
     /// Puts each number below `count` into the set.
     pub fn set_all(&mut self, count: usize)
-        requires { count ≤ self.old.capacity }
+        requires inside { count ≤ self.old.capacity }
         ensures value { self.new ≡ record self.old { members = set.union self.old.members (all_below count) } }
         ensures by_index { (other : ℕ) → set.contains self.new.members other ≡ (nat_lt other count || set.contains self.old.members other) }
     {

@@ -52,7 +52,7 @@ impl<T> Hash for Idx<T> {
 impl<T> Idx<T> {
     /// The index with this number, also one that no arena holds yet.
     pub fn new(raw: u32) -> Self
-        ensures { result ≡ raw }
+        ensures number { result ≡ raw }
     {
         Idx {
             raw,
@@ -62,21 +62,21 @@ impl<T> Idx<T> {
 
     /// The number.
     pub fn raw(self) -> u32
-        ensures { result ≡ self }
+        ensures number { result ≡ self }
     {
         self.raw
     }
 
     /// The index that stands for none.
     pub fn invalid() -> Self
-        ensures { result ≡ 4294967295 }
+        ensures number { result ≡ 4294967295 }
     {
         Idx::new(u32::MAX)
     }
 
     /// Whether this is any index but `invalid`.
     pub fn is_valid(self) -> bool
-        ensures { IsTrue result ↔ ¬ (self ≡ 4294967295) }
+        ensures valid { IsTrue result ↔ ¬ (self ≡ 4294967295) }
     {
         self.raw != u32::MAX
     }
@@ -119,8 +119,8 @@ impl<T> Eq for SliceRange<T> {
 impl<T> SliceRange<T> {
     /// The `len` indices from `start` on.
     pub fn new(start: u32, len: u32) -> Self
-        requires { start + len ≤ 4294967295 }
-        ensures { result ≡ indices_from start len }
+        requires countable { start + len ≤ 4294967295 }
+        ensures indices { result ≡ indices_from start len }
     {
         SliceRange {
             start,
@@ -131,14 +131,14 @@ impl<T> SliceRange<T> {
 
     /// The range of no index, at 0.
     pub fn empty() -> Self
-        ensures { result ≡ indices_from 0 0 }
+        ensures indices { result ≡ indices_from 0 0 }
     {
         SliceRange::new(0, 0)
     }
 
     /// The first index, or where it would be.
     pub fn start(self) -> u32
-        ensures { result ≡ self.start }
+        ensures start { result ≡ self.start }
     {
         self.start
     }
@@ -153,14 +153,14 @@ impl<T> SliceRange<T> {
 
     /// Whether there is no index.
     pub fn is_empty(self) -> bool
-        ensures { result ≡ (self.len == 0) }
+        ensures empty { result ≡ (self.len == 0) }
     {
         self.len == 0
     }
 
     /// The index at place `n` of the range, if it has one.
     pub fn get(self, n: usize) -> Option<Idx<T>>
-        ensures { SomeIff result (n < self.len) (self.start + n) }
+        ensures index { SomeIff result (n < self.len) (self.start + n) }
     {
         if n < self.len as usize {
             Some(Idx::new(self.start + n as u32))

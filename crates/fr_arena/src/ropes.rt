@@ -48,15 +48,15 @@ impl<T> Model for ListRope<T> {
 impl<T> ListRope<T> {
     /// A rope of no items, whose chunks take 16 items each. It takes no memory.
     pub fn new(alloc: Global) -> Self
-        ensures { result ≡ empty_rope 16 }
+        ensures empty { result ≡ empty_rope 16 }
     {
         ListRope::with_chunk_capacity(alloc, 16)
     }
 
     /// A rope of no items, whose chunks take `n` items each. It takes no memory.
     pub fn with_chunk_capacity(alloc: Global, n: usize) -> Self
-        requires { 0 < n }
-        ensures { result ≡ empty_rope n }
+        requires positive { 0 < n }
+        ensures empty { result ≡ empty_rope n }
     {
         ListRope {
             chunks: Vec::new(alloc),
@@ -89,22 +89,22 @@ impl<T> ListRope<T> {
 
     /// Marks one more item: the first that isn't marked yet, so the last one where each is marked as it comes.
     pub fn mark_last_initialized(&mut self)
-        requires { self.old.marked < length self.old.items }
-        ensures { self.new ≡ record self.old { marked = self.old.marked + 1 } }
+        requires unmarked { self.old.marked < length self.old.items }
+        ensures marked { self.new ≡ record self.old { marked = self.old.marked + 1 } }
     {
         self.initialized += 1;
     }
 
     /// How many items there are.
     pub fn len(&self) -> usize
-        ensures { result ≡ length self.now.items }
+        ensures count { result ≡ length self.now.items }
     {
         self.len
     }
 
     /// Whether there is no item.
     pub fn is_empty(&self) -> bool
-        ensures { result ≡ (length self.now.items == 0) }
+        ensures empty { result ≡ (length self.now.items == 0) }
     {
         self.len == 0
     }
@@ -119,14 +119,14 @@ impl<T> ListRope<T> {
 
     /// How many chunks hold the items.
     pub fn chunk_count(&self) -> usize
-        ensures { result ≡ div_ceil (length self.now.items) self.now.chunk_size }
+        ensures chunks { result ≡ div_ceil (length self.now.items) self.now.chunk_size }
     {
         self.chunks.len()
     }
 
     /// The marked items, in order.
     pub fn iter_initialized(&self) -> RopeIter<'_, T>
-        ensures { result ≡ take self.now.marked self.now.items }
+        ensures items { result ≡ take self.now.marked self.now.items }
     {
         RopeIter {
             chunk: &[],

@@ -19,7 +19,7 @@ pub struct TableFault {
 impl ShapeTable {
     /// Tests the nine rules of a checked table. The fault is the smallest rule that is broken, at its first entry.
     pub fn check(&self) -> Result<(), TableFault>
-        requires { length self.now < 2 ^ 32 }
+        requires numbered { length self.now < 2 ^ 32 }
         ensures ok { OnOk result (IsChecked self.now) }
         ensures rule_is_known { IfErr result (λ f. (1 ≤ f.rule) × (f.rule ≤ 9)) }
         ensures rule_broken { IfErr result (λ f. IsBrokenAt self.now f.rule f.entry) }

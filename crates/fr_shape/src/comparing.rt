@@ -8,7 +8,7 @@ use crate::{Dyn, Items, Text, Value};
 /// Whether two values are equal. Any two tokens are; sets and maps are compared in their order.
 #[cycle(comparing)]
 pub fn same(a: &Value, b: &Value) -> bool
-    ensures { result ≡ same (view a.now) (view b.now) }
+    ensures same { result ≡ same (view a.now) (view b.now) }
 {
     match (a, b) {
         (Value::Unit, Value::Unit) => true,

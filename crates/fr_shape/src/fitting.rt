@@ -12,7 +12,7 @@ use crate::{Def, Field, Items, ScalarKind, ShapeId, ShapeTable, Value};
 #[cycle(fitting)]
 #[tactic(auto, using(crate::proofs::Settled::other_fits))]
 pub fn fits(table: &ShapeTable, id: ShapeId, v: &Value) -> bool
-    ensures { result ≡ fits table.now id.0 (view v.now) }
+    ensures fits { result ≡ fits table.now id.0 (view v.now) }
 {
     let Some(def) = settle(table, id) else {
         return false;

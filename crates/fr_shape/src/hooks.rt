@@ -96,7 +96,7 @@ impl Hooks for NoHooks {
     ghost lawful = { λ hooks. no_hooks_are_lawful };
 
     fn check(&self, _h: HookId, _value: &Value) -> bool
-        ensures { result ≡ true }
+        ensures passes { result ≡ true }
     {
         true
     }
@@ -126,7 +126,7 @@ impl Hooks for NoHooks {
         _target: ShapeId,
         _text: &str,
     ) -> Result<Value, HookFault>
-        ensures { result ≡ Err HookFault.Unsupported }
+        ensures unsupported { result ≡ Err HookFault.Unsupported }
     {
         Err(HookFault::Unsupported)
     }
@@ -139,7 +139,7 @@ impl Hooks for NoHooks {
         _target: ShapeId,
         _bytes: &[u8],
     ) -> Result<Value, HookFault>
-        ensures { result ≡ Err HookFault.Unsupported }
+        ensures unsupported { result ≡ Err HookFault.Unsupported }
     {
         Err(HookFault::Unsupported)
     }

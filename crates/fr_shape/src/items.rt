@@ -51,7 +51,7 @@ impl<T> Model for Items<T> {
 impl<T> Items<T> {
     /// The empty list. Takes no memory.
     pub fn new(alloc: Global) -> Items<T>
-        ensures { result ≡ [] }
+        ensures empty { result ≡ [] }
     {
         Items {
             items: Vec::new(alloc),
@@ -72,14 +72,14 @@ impl<T> Items<T> {
 
     /// How many items there are.
     pub fn len(&self) -> usize
-        ensures { result ≡ length self.now }
+        ensures count { result ≡ length self.now }
     {
         self.items.len()
     }
 
     /// Whether there is none.
     pub fn is_empty(&self) -> bool
-        ensures { IsTrue result ↔ (self.now ≡ []) }
+        ensures empty { IsTrue result ↔ (self.now ≡ []) }
     {
         self.items.is_empty()
     }
@@ -94,14 +94,14 @@ impl<T> Items<T> {
 
     /// The same list; takes no memory.
     pub fn from_vec(v: Vec<T>) -> Items<T>
-        ensures { result ≡ v.items }
+        ensures items { result ≡ v.items }
     {
         Items { items: v }
     }
 
     /// The same list; takes no memory.
     pub fn into_vec(self) -> Vec<T>
-        ensures { result.items ≡ self }
+        ensures items { result.items ≡ self }
     {
         let Items { items } = self;
         items
@@ -109,7 +109,7 @@ impl<T> Items<T> {
 
     /// The same list; takes no memory.
     pub fn as_slice(&self) -> &[T]
-        ensures { result.now ≡ self.now }
+        ensures items { result.now ≡ self.now }
     {
         self.items.as_slice()
     }

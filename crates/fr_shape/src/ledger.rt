@@ -24,7 +24,7 @@ impl Model for Ledger {
 impl Ledger {
     /// `n` tokens, none of them released yet.
     pub fn new(alloc: Global, n: u32) -> Result<Ledger, OutOfMemory>
-        ensures { IfOk result (λ l. l ≡ replicate n 0) }
+        ensures zeros { IfOk result (λ l. l ≡ replicate n 0) }
     {
         Ok(Ledger {
             counts: vec![in alloc; 0u32; n as usize]?,
@@ -33,15 +33,15 @@ impl Ledger {
 
     /// How many tokens there are.
     pub fn len(&self) -> u32
-        ensures { result ≡ length self.now }
+        ensures count { result ≡ length self.now }
     {
         self.counts.len() as u32
     }
 
     /// How often token `t` was released.
     pub fn count(&self, t: u32) -> u32
-        requires { t < length self.now }
-        ensures { result ≡ slice_index self.now t }
+        requires known { t < length self.now }
+        ensures count { result ≡ slice_index self.now t }
     {
         let index = t as usize;
         self.counts[index]
@@ -51,7 +51,7 @@ impl Ledger {
     pub fn release(&mut self, t: u32)
         requires known { t < length self.old }
         requires room { slice_index self.old t < 4294967295 }
-        ensures { self.new ≡ slice_set self.old t (slice_index self.old t + 1) }
+        ensures one_more { self.new ≡ slice_set self.old t (slice_index self.old t + 1) }
     {
         self.counts[t as usize] += 1;
     }

@@ -10,8 +10,8 @@ use crate::{Items, Ledger, Value};
 /// Records one release of each token of `v`, and drops the value.
 #[tactic(auto, using(crate::proofs::InTurn::value_can))]
 pub fn release(v: Value, ledger: &mut Ledger)
-    requires { Room (occurs (view v)) ledger.old }
-    ensures { RoseBy (occurs (view v)) ledger.old ledger.new }
+    requires room { Room (occurs (view v)) ledger.old }
+    ensures released { RoseBy (occurs (view v)) ledger.old ledger.new }
 {
     release_value(&v, ledger);
 }

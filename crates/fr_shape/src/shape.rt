@@ -65,7 +65,7 @@ pub enum Def {
 impl Def {
     /// Whether it is a struct without fields, of whatever kind.
     pub fn is_empty_struct(&self) -> bool
-        ensures { result ≡ is_empty_struct self.now }
+        ensures empty { result ≡ is_empty_struct self.now }
     {
         match self {
             Def::Struct(described) => described.fields.is_empty(),

@@ -36,21 +36,21 @@ impl Shaped {
 
     /// The number of the shape.
     pub fn shape(&self) -> ShapeId
-        ensures { result.0 ≡ self.now.shape }
+        ensures shape { result.0 ≡ self.now.shape }
     {
         self.shape
     }
 
     /// The value, which fits the shape.
     pub fn value(&self) -> &Value
-        ensures { view result.now ≡ self.now.value }
+        ensures value { view result.now ≡ self.now.value }
     {
         &self.value
     }
 
     /// The value alone.
     pub fn into_value(self) -> Value
-        ensures { view result ≡ self.value }
+        ensures value { view result ≡ self.value }
     {
         let Shaped { value, .. } = self;
         value

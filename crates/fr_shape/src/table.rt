@@ -30,14 +30,14 @@ impl Model for ShapeTable {
 impl ShapeTable {
     /// The table of these shapes. Takes no memory; `alloc` is what later calls would allocate from.
     pub fn new(_alloc: Global, shapes: Items<Shape>) -> ShapeTable
-        ensures { result ≡ shapes }
+        ensures shapes { result ≡ shapes }
     {
         ShapeTable { shapes }
     }
 
     /// How many shapes there are.
     pub fn len(&self) -> usize
-        ensures { result ≡ length self.now }
+        ensures count { result ≡ length self.now }
     {
         self.shapes.len()
     }
@@ -58,14 +58,14 @@ impl ShapeTable {
 
     /// The template of a shape's default.
     pub fn preset(&self, id: ShapeId) -> Option<&Template>
-        ensures { option_copied result ≡ preset_of self.now id.0 }
+        ensures template { option_copied result ≡ preset_of self.now id.0 }
     {
         self.get(id)?.preset.as_ref()
     }
 
     /// The field meant, of a struct or of a variant.
     pub fn field(&self, f: FieldRef) -> Option<&Field>
-        ensures { option_copied result ≡ field_at self.now f }
+        ensures field { option_copied result ≡ field_at self.now f }
     {
         let shape = self.get(f.shape)?;
         match (&shape.def, f.variant) {

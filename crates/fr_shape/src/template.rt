@@ -27,14 +27,14 @@ impl Model for Template {
 impl Template {
     /// The template that shows this value. Takes no memory.
     pub fn new(value: Value) -> Template
-        ensures { result ≡ view value }
+        ensures value { result ≡ view value }
     {
         Template { value }
     }
 
     /// The value that it shows, to be copied or compared.
     pub fn value(&self) -> &Value
-        ensures { view result.now ≡ self.now }
+        ensures value { view result.now ≡ self.now }
     {
         &self.value
     }

@@ -37,7 +37,7 @@ impl Text {
 
     /// The text as Rust's own; an empty one needs no memory.
     pub fn as_str(&self) -> &str
-        ensures { result.now ≡ self.now }
+        ensures bytes { result.now ≡ self.now }
     {
         match &self.text {
             Some(text) => text.as_str(),
@@ -47,14 +47,14 @@ impl Text {
 
     /// The length in bytes.
     pub fn len(&self) -> usize
-        ensures { result ≡ length self.now }
+        ensures count { result ≡ length self.now }
     {
         self.as_str().len()
     }
 
     /// Whether there is no character in it.
     pub fn is_empty(&self) -> bool
-        ensures { IsTrue result ↔ (self.now ≡ []) }
+        ensures empty { IsTrue result ↔ (self.now ≡ []) }
     {
         self.as_str().is_empty()
     }
