@@ -26,7 +26,7 @@ impl<R> Model for ReaderSource<R> {
 impl<R: Read> ReaderSource<R> {
     /// A source that gives what the reader gives.
     pub fn new(reader: R) -> ReaderSource<R>
-        ensures { result ≡ record { inner = reader; faults = 0 } }
+        ensures unread { result ≡ record { inner = reader; faults = 0 } }
     {
         ReaderSource { reader, faults: 0 }
     }
@@ -75,7 +75,7 @@ impl<W> Model for WriterSink<W> {
 impl<W: Write> WriterSink<W> {
     /// A sink that hands the writer what it takes.
     pub fn new(writer: W) -> WriterSink<W>
-        ensures { result ≡ record { inner = writer; faults = 0 } }
+        ensures unwritten { result ≡ record { inner = writer; faults = 0 } }
     {
         WriterSink { writer, faults: 0 }
     }

@@ -25,7 +25,7 @@ impl Model for CleanSource {
 impl CleanSource {
     /// A source that gives these bytes.
     pub fn new(bytes: Items<u8>) -> CleanSource
-        ensures { result ≡ bytes }
+        ensures left { result ≡ bytes }
     {
         CleanSource { bytes, position: 0 }
     }
@@ -56,7 +56,7 @@ pub struct CleanSink;
 impl CleanSink {
     /// A sink that took nothing yet.
     pub fn new() -> CleanSink
-        ensures { ⟦<CleanSink as Sink>⟧.faults result ≡ 0 }
+        ensures no_faults { ⟦<CleanSink as Sink>⟧.faults result ≡ 0 }
     {
         CleanSink
     }

@@ -10,10 +10,10 @@ ghost use Rattle.fr_doc.specs.ShapeForms.{shapes_form};
 
 /// A printed value has no float, so its text is the compact text of its JSON.
 pub fn law_printed_float_free()
-    ensures { (v : Val) → has_float (value_data v) ≡ false }
+    ensures float_free { (v : Val) → has_float (value_data v) ≡ false }
 {}
 
 /// The builder serves every table that is read.
 pub fn law_read_tables_served()
-    ensures { (d : Data) (shapes : List Shape) → shapes_form d ≡ Ok shapes → IsServed shapes }
+    ensures served { (d : Data) (shapes : List Shape) → shapes_form d ≡ Ok shapes → IsServed shapes }
 {}

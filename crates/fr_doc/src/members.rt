@@ -8,7 +8,7 @@ use serde_json::{Map, Value as Json};
 
 /// Whether an object has no other keys than these. It may lack some of them.
 pub fn has_only(members: &Map<String, Json>, keys: &[&str]) -> bool
-    ensures { result
+    ensures only { result
         ≡ has_no_other (members_view members.now.entries) (map (λ key. key.now) keys.now) }
 {
     for (key, _) in members.iter() {
@@ -33,7 +33,7 @@ fn is_one_of(key: &str, keys: &[&str]) -> bool
 /// Whether a number in it is neither an `i64` nor a `u64`.
 #[cycle(float)]
 pub fn has_float(json: &Json) -> bool
-    ensures { result ≡ data_has_float (data_of json.now) }
+    ensures has_float { result ≡ data_has_float (data_of json.now) }
 {
     match json {
         Json::Number(number) => number.is_f64(),

@@ -40,8 +40,8 @@ impl MemSource {
     /// A source that gives at most `piece` bytes a call, and fails at the calls whose numbers are in
     /// `fails`. The first call is number 1.
     pub fn new(bytes: Items<u8>, piece: usize, fails: Items<u64>) -> MemSource
-        requires { 0 < piece }
-        ensures { result ≡ record {
+        requires piece { 0 < piece }
+        ensures unread { result ≡ record {
           left = bytes;
           piece = piece;
           fails = fails;
@@ -122,8 +122,8 @@ impl MemSink {
     /// A sink that takes at most `piece` bytes a call, and fails at the calls whose numbers are in
     /// `fails`. The first call is number 1.
     pub fn new(alloc: Global, piece: usize, fails: Items<u64>) -> MemSink
-        requires { 0 < piece }
-        ensures { result ≡ record {
+        requires piece { 0 < piece }
+        ensures unwritten { result ≡ record {
           taken = [];
           piece = piece;
           fails = fails;
@@ -140,7 +140,7 @@ impl MemSink {
 
     /// The bytes that were taken.
     pub fn taken(&self) -> &[u8]
-        ensures { result.now ≡ self.now.taken }
+        ensures taken { result.now ≡ self.now.taken }
     {
         self.taken.as_slice()
     }

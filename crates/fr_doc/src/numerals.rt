@@ -96,7 +96,7 @@ pub fn small_int_of(json: &Json) -> Option<i64>
 
 /// A whole number from 0 to 4294967295.
 pub fn count_of(json: &Json) -> Option<u32>
-    ensures { result ≡ whole_number (data_of json.now) }
+    ensures form { result ≡ whole_number (data_of json.now) }
 {
     u32::try_from(json.as_u64()?).ok()
 }

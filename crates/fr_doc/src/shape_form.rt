@@ -18,7 +18,7 @@ use std::alloc::Global;
 /// The shapes of a table, or the fault of the first place whose form is broken.
 #[tactic(auto, unfolding(crate::specs::ShapeForms::shapes_form))]
 pub fn shapes_of(alloc: Global, json: &Json) -> Result<Items<Shape>, ReadError>
-    ensures { Gives (shapes_form (data_of json.now)) result }
+    ensures form { Gives (shapes_form (data_of json.now)) result }
 {
     let Json::Array(items) = json else {
         return Err(ReadError::Fault(DocFault::BadForm(DocPlace::Shapes)));

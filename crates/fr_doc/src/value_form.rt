@@ -15,7 +15,7 @@ use std::alloc::Global;
 
 /// The value that JSON stands for, or None where its form is broken.
 pub fn value_of(alloc: Global, json: &Json) -> Result<Option<Value>, OutOfMemory>
-    ensures { IfOk result (λ found. option_map view found ≡ value_form (data_of json.now)) }
+    ensures form { IfOk result (λ found. option_map view found ≡ value_form (data_of json.now)) }
 {
     match read_value(alloc, json) {
         Ok(value) => Ok(Some(value)),

@@ -13,7 +13,7 @@ use std::alloc::{AllocError, Global};
 
 /// The JSON of a value. It holds no float.
 pub fn json_of(alloc: Global, value: &Value) -> Result<Json, OutOfMemory>
-    ensures { IfOk result (λ json. data_of json ≡ value_data (view value.now)) }
+    ensures form { IfOk result (λ json. data_of json ≡ value_data (view value.now)) }
 {
     print_value(alloc, value).map_err(|_| OutOfMemory)
 }

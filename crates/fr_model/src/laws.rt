@@ -6,7 +6,7 @@ ghost use Rattle.fr_model.specs.Laws.{CompletesOrLacks, CompletingFits, Completi
 /// For every script of fitting values over a checked and served table, whatever the hooks mean, the run of the commands
 /// answers `Ok` exactly where the journal completes, and with the journal's value.
 pub fn law_agree()
-    ensures { MachineAgrees }
+    ensures agree { MachineAgrees }
 {}
 
 /// What a journal holds of a place is what the rules on covering notes say.
@@ -26,7 +26,7 @@ pub fn law_completes()
 /// Over a checked table, an admitted command in a well state drops the tokens that it brings and those that were there,
 /// but for those that are there now.
 pub fn law_removed()
-    ensures { StepKeepsTokens }
+    ensures tokens { StepKeepsTokens }
 {}
 
 /// A builder begins in a well state, whatever its table and its root; over a checked table each admitted command that

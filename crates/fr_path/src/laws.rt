@@ -7,7 +7,7 @@ ghost use Rattle.fr_path.specs.Order.{walk_order};
 
 /// A step that is taken back after a push is the step pushed, and the path is as before the push.
 pub fn law_pop_undoes_push()
-    ensures { (before after : List PathStep) (step last : PathStep)
+    ensures undone { (before after : List PathStep) (step last : PathStep)
         → before ++ step ∷ [] ≡ after ++ last ∷ [] → (after ≡ before) × (last ≡ step) }
 {}
 
@@ -21,5 +21,5 @@ pub fn law_walk_order()
 
 /// A longer path is walked before a shorter one.
 pub fn law_longer_path_first()
-    ensures { (p q : List PathStep) → length q < length p → walk_order p q ≡ Less }
+    ensures longer_first { (p q : List PathStep) → length q < length p → walk_order p q ≡ Less }
 {}

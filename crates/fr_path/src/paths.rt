@@ -34,7 +34,7 @@ impl Model for Path {
 impl Path {
     /// The path of no steps, which is the root's. Takes no memory.
     pub fn new(alloc: Global) -> Path
-        ensures { result ≡ [] }
+        ensures empty { result ≡ [] }
     {
         Path {
             steps: Vec::new(alloc),
@@ -43,21 +43,21 @@ impl Path {
 
     /// How many steps there are.
     pub fn len(&self) -> usize
-        ensures { result ≡ length self.now }
+        ensures count { result ≡ length self.now }
     {
         self.steps.len()
     }
 
     /// Whether this is the root's path.
     pub fn is_empty(&self) -> bool
-        ensures { IsTrue result ↔ (self.now ≡ []) }
+        ensures empty { IsTrue result ↔ (self.now ≡ []) }
     {
         self.steps.is_empty()
     }
 
     /// The steps, the first step first.
     pub fn steps(&self) -> &[PathStep]
-        ensures { result.now ≡ self.now }
+        ensures steps { result.now ≡ self.now }
     {
         self.steps.as_slice()
     }
@@ -82,7 +82,7 @@ impl Path {
 
     /// Which of two paths is walked first; `Less` says that this one is.
     pub fn cmp_walk(&self, other: &Path) -> Ordering
-        ensures { result ≡ walk_order self.now other.now }
+        ensures order { result ≡ walk_order self.now other.now }
     {
         let (left, right) = (self.steps(), other.steps());
         if left.len() != right.len() {
@@ -104,7 +104,7 @@ impl Path {
         table: &ShapeTable,
         root: ShapeId,
     ) -> Result<Text, OutOfMemory>
-        ensures { IfOk result (λ text. text ≡ path_text table.now root self.now) }
+        ensures text { IfOk result (λ text. text ≡ path_text table.now root self.now) }
     {
         let text = write_path(alloc, self.steps(), table, root)?;
         Text::new(alloc, text.as_str())

@@ -75,8 +75,8 @@ impl FieldLookup {
     ///
     /// The pool is that in which the lookup was built, also after it grew.
     pub fn find(&self, name: &str, pool: &LookupPool) -> Option<usize>
-        requires { IsOfPool pool.now self.now }
-        ensures { (entries : List FieldLookupEntry) → IsLookupOf pool.now self.now entries
+        requires of_pool { IsOfPool pool.now self.now }
+        ensures first_named { (entries : List FieldLookupEntry) → IsLookupOf pool.now self.now entries
             → result ≡ first_named name.now entries }
     {
         match self {
@@ -96,8 +96,8 @@ impl FieldLookup {
 
     /// The same of a lookup that holds its entries itself.
     pub fn find_small(&self, name: &str) -> Option<usize>
-        requires { IsSmall self.now }
-        ensures { result ≡ first_named name.now (own_entries self.now) }
+        requires small { IsSmall self.now }
+        ensures first_named { result ≡ first_named name.now (own_entries self.now) }
     {
         match self {
             FieldLookup::Small(entries) => first_named(name, entries.as_slice()),
@@ -107,7 +107,7 @@ impl FieldLookup {
 
     /// Whether there is no entry.
     pub fn is_empty(&self) -> bool
-        ensures { (pool : Pool) (entries : List FieldLookupEntry) → IsLookupOf pool self.now entries
+        ensures empty { (pool : Pool) (entries : List FieldLookupEntry) → IsLookupOf pool self.now entries
             → result ≡ (length entries == 0) }
     {
         match self {
@@ -140,5 +140,5 @@ fn run_with<'a>(
 
 /// A lookup stands for the same entries after its pool grew.
 pub fn law_lookups_stay()
-    ensures { LookupsStay }
+    ensures stay { LookupsStay }
 {}

@@ -50,7 +50,7 @@ pub enum DeferredFill {
 /// The rule of a field's hole in strict mode. A field that is marked as taking its shape's default is never required,
 /// though its shape may have none.
 pub fn determine_fill_rule(table: &ShapeTable, field: FieldRef) -> FillRule
-    requires { IsSome (field_at table.now field) }
+    requires there { IsSome (field_at table.now field) }
     ensures rule { IfSome (field_at table.now field) (λ found. result ≡ told_strict field found (strict_rule_of table.now field found)) }
 {
     let found = table.field(field).unwrap();
@@ -68,7 +68,7 @@ pub fn determine_fill_rule(table: &ShapeTable, field: FieldRef) -> FillRule
 
 /// The rule of a field's hole at the end of deferred mode.
 pub fn deferred_fill(table: &ShapeTable, field: FieldRef) -> DeferredFill
-    requires { IsSome (field_at table.now field) }
+    requires there { IsSome (field_at table.now field) }
     ensures rule { IfSome (field_at table.now field) (λ found. result ≡ told_deferred field found (deferred_rule_of table.now field found)) }
 {
     let found = table.field(field).unwrap();

@@ -31,7 +31,7 @@ impl Model for LookupPool {
 impl LookupPool {
     /// An empty pool. Takes no memory.
     pub fn new(alloc: Global) -> LookupPool
-        ensures { result ≡ record { entries = []; buckets = [] } }
+        ensures empty { result ≡ record { entries = []; buckets = [] } }
     {
         LookupPool {
             entries: Arena::new(alloc),

@@ -18,8 +18,8 @@ pub enum VariantLookup {
 
 /// The lookup of an enum's variants by their effective names, without those marked `other`.
 pub fn build_variant_lookup(alloc: Global, e: &EnumDef) -> Result<VariantLookup, OutOfMemory>
-    requires { HaveDistinctNames e.now.variants }
-    ensures { IfOk result (λ lookup. IsVariantLookupOf lookup e.now.variants) }
+    requires distinct { HaveDistinctNames e.now.variants }
+    ensures lookup { IfOk result (λ lookup. IsVariantLookupOf lookup e.now.variants) }
 {
     let entries = variant_entries(alloc, e.variants.as_slice())?;
     if entries.len() <= 8 {
@@ -74,7 +74,7 @@ fn first_numbered(name: &str, entries: &[(Text, u32)]) -> Option<usize>
 impl VariantLookup {
     /// The number of the variant of this whole name, which isn't marked `other`.
     pub fn find(&self, name: &str) -> Option<usize>
-        ensures { (variants : List Variant) → IsVariantLookupOf self.now variants
+        ensures named { (variants : List Variant) → IsVariantLookupOf self.now variants
             → result ≡ variant_named name.now variants }
     {
         match self {

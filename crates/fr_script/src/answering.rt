@@ -19,7 +19,7 @@ impl Answer {
 
     /// 0 for a value, 1 for a refusal, 2 for a fault.
     pub fn status(&self) -> u8
-        ensures { result ≡ status_of (outcome_view self.now) }
+        ensures status { result ≡ status_of (outcome_view self.now) }
     {
         match self {
             Answer::Built(..) => 0,

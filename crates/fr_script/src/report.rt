@@ -141,7 +141,7 @@ fn json_of_answer(alloc: Global, answer: &Answer) -> Result<Json, AllocError>
 /// The whole report: one JSON object and a line feed.
 #[tactic(auto, using(crate::proofs::FloatFree::outcome_float_free))]
 pub fn report_of(alloc: Global, answer: &Answer) -> Result<String, AllocError>
-    ensures { IfOk result (λ text. string_bytes text ≡ report (outcome_view answer.now)) }
+    ensures report { IfOk result (λ text. string_bytes text ≡ report (outcome_view answer.now)) }
 {
     law_printed_float_free();
     let json = json_of_answer(alloc, answer)?;

@@ -5,8 +5,8 @@ use Rattle.fr_doc.proofs.dyn_json.+print_dyn.Goals as goal
 
 pub print_dyns-returns : goal.print_dyns-returns
 print_dyns-returns t c =
-    all_printed printed_dyn c.loop-value.items c.args.values.now _ c.loop-value.value-index c.loop-value-test.false c.loop-value.invariant c.as_slice-value-items.ensures ∙ ap array (dyns_printed c.args.values.now)
+    all_printed printed_dyn c.loop-value.items c.args.values.now _ c.loop-value.value-index c.loop-value-test.false c.loop-value.invariant c.as_slice-value-items.ensures.items ∙ ap array (dyns_printed c.args.values.now)
 
 pub print_members-returns : goal.print_members-returns
 print_members-returns t c =
-    all_printed printed_member c.loop-key.items c.args.members.now _ c.loop-key.key-index c.loop-key-test.false c.loop-key.invariant c.as_slice-key-items.ensures ∙ ap array (members_printed c.args.members.now)
+    all_printed printed_member c.loop-key.items c.args.members.now _ c.loop-key.key-index c.loop-key-test.false c.loop-key.invariant c.as_slice-key-items.ensures.items ∙ ap array (members_printed c.args.members.now)

@@ -17,7 +17,7 @@ copy_template-requires c = record {
 
 pub made_of_fills-requires-clause-nothing_lacks : goal.made_of_fills-requires-clause-nothing_lacks
 made_of_fills-requires-clause-nothing_lacks c =
-    ap (λ (n : ℕ). first_unfilled (fill_at c.args.table.now c.args.shape.0) n 0) c.len.ensures
+    ap (λ (n : ℕ). first_unfilled (fill_at c.args.table.now c.args.shape.0) n 0) c.len.ensures.count
     ∙ none_mapped (missing_field c.args.shape.0) _
     (sym
     (struct_of_holes no_hooks c.args.table.now c.args.shape.0 c.requires.served c.in-Some.entry.now
@@ -36,6 +36,6 @@ returns-in-Struct-None c =
     over c.made_of_fills.result _ _
     (λ v made.
     holes.made
-    ∙ ap (λ (n : ℕ). product_of (each_child (fill_at c.args.table.now c.args.shape.0) n 0)) (sym c.len.ensures)
+    ∙ ap (λ (n : ℕ). product_of (each_child (fill_at c.args.table.now c.args.shape.0) n 0)) (sym c.len.ensures.count)
     ∙ made)
     c.made_of_fills.ensures

@@ -18,14 +18,14 @@ missing_child-requires c _ =
     let below : c.in-Some-first_unfilled.i < 0 + c.len.result
     = unfilled_below (fill_at c.args.table.now c.args.shape.0) c.len.result 0 c.in-Some-first_unfilled.i
     (sym c.in-Some-first_unfilled.ensures) in
-    omega (arith, c.len.ensures)
+    omega (arith, c.len.ensures.count)
 
 pub returns-in-Some-first_unfilled : goal.returns-in-Some-first_unfilled
 returns-in-Some-first_unfilled c =
     ap Some c.missing_child.ensures
     ∙ ap (option_map (missing_field c.args.shape.0))
     (c.in-Some-first_unfilled.ensures
-    ∙ ap (λ (n : ℕ). first_unfilled (fill_at c.args.table.now c.args.shape.0) n 0) c.len.ensures)
+    ∙ ap (λ (n : ℕ). first_unfilled (fill_at c.args.table.now c.args.shape.0) n 0) c.len.ensures.count)
     ∙ sym
     (struct_of_holes no_hooks c.args.table.now c.args.shape.0 c.requires.served c.in-Some.entry.now
     c.in-Struct-None.described c.in-Some.ensures.value c.in-Struct-None.is-0 c.in-Struct-None.is-1).lacks
@@ -34,7 +34,7 @@ pub returns-in-None : goal.returns-in-None
 returns-in-None c =
     ap (option_map (missing_field c.args.shape.0))
     (c.in-None.ensures
-    ∙ ap (λ (n : ℕ). first_unfilled (fill_at c.args.table.now c.args.shape.0) n 0) c.len.ensures)
+    ∙ ap (λ (n : ℕ). first_unfilled (fill_at c.args.table.now c.args.shape.0) n 0) c.len.ensures.count)
     ∙ sym
     (struct_of_holes no_hooks c.args.table.now c.args.shape.0 c.requires.served c.in-Some.entry.now
     c.in-Struct-None.described c.in-Some.ensures.value c.in-Struct-None.is-0 c.in-Struct-None.is-1).lacks

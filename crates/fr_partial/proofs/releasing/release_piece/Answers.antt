@@ -8,7 +8,7 @@ use Rattle.fr_partial.proofs.StackLaws.{slots_occur}
 use Rattle.fr_partial.proofs.releasing.release_piece.Goals as goal
 
 pub release-requires : goal.release-requires
-release-requires c = rw c.in-Whole.is at c.requires
+release-requires c = record { room = rw c.in-Whole.is at c.requires }
 
 pub release_children-requires : goal.release_children-requires
 release_children-requires c =

@@ -14,7 +14,7 @@ run_is c =
     let same = has_prefix c.args.prefix_len c.prefix_of-prefix.result in
     run_ahead (prefix_in c.args.prefix_len) c.args.sorted.now c.args.start c.index-sorted-start.result
     c.requires.sorted c.requires.there c.index-sorted-start.is c.prefix_of-prefix.result c.partition_point-len.result
-    (c.prefix_of-prefix.ensures ∙ ap (prefix_of c.args.prefix_len) (c.as_str.ensures ∙ ap (λ (entry : FieldLookupEntry). entry.name) (sym c.index-sorted-start.is)))
+    (c.prefix_of-prefix.ensures ∙ ap (prefix_of c.args.prefix_len) (c.as_str.ensures.bytes ∙ ap (λ (entry : FieldLookupEntry). entry.name) (sym c.index-sorted-start.is)))
     (subst (λ (rest : List FieldLookupEntry). IsPartitionedBy same rest → IsPartitionPoint (λ x. same x ≡ true) (λ x. same x ≡ false) rest c.partition_point-len.result)
     (take_rest c.args.sorted.now c.args.start)
     (c.partition_point-len.ensures.partitioned same (always_returns_same _ _ _ (λ a r f k. search rules))))

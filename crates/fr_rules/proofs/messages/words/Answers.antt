@@ -27,11 +27,11 @@ returns-in-Url c =
 pub returns-in-Regex : goal.returns-in-Regex
 returns-in-Regex c =
     said_as _ _ _ c.format-in-Regex.ensures.ok
-    (simp (c.in-Regex.is, c.as_str-pattern.ensures, c.text_in-text.ensures)
+    (simp (c.in-Regex.is, c.as_str-pattern.ensures.bytes, c.text_in-text.ensures)
     (two_quoted _ (codes " does not match pattern ") _))
 
 pub returns-in-Contains : goal.returns-in-Contains
 returns-in-Contains c =
     said_as _ _ _ c.format-in-Contains.ensures.ok
-    (simp (c.in-Contains.is, c.as_str-needle.ensures, c.text_in-text.ensures)
+    (simp (c.in-Contains.is, c.as_str-needle.ensures.bytes, c.text_in-text.ensures)
     (two_quoted _ (codes " does not contain ") _))

@@ -15,21 +15,21 @@ template : (c : In-Some)
     → IsTemplate c.self.inside.table.now c.self.inside.frame.shape.0 c.in-Some.template.now
 template c =
     preset_template c.self.inside.table.now c.self.inside.frame.shape.0 c.in-Some.template.now
-    c.self.invariant.checked (sym c.in-Some.ensures)
+    c.self.invariant.checked (sym c.in-Some.ensures.template)
 
 nothing_more : (c : In-Ok) (t : ℕ) → occurs (view c.in-Ok.value) t ≡ 0
 nothing_more c t =
     ap (λ (v : Val). occurs v t) c.in-Ok.ensures.copy
     ∙ light_occurs c.in-Some.template.now t
     (preset_template c.self.inside.table.now c.self.inside.frame.shape.0 c.in-Some.template.now
-    c.self.invariant.checked (sym c.in-Some.ensures)).light
+    c.self.invariant.checked (sym c.in-Some.ensures.template)).light
 
 pub returns-in_default-clause-step : goal.returns-in_default-clause-step
 returns-in_default-clause-step c =
     inr
     (default_missing c.self.inside.table.now c.self.inside.root.0 c.self.inside.parents.items c.self.inside.frame
     c.self.inside.calls c.self.invariant.chain c.args.self c.self.view_is
-    (sym c.in_default.ensures))
+    (sym c.in_default.ensures.template))
 
 pub copy_template-requires : goal.copy_template-requires
 copy_template-requires c = record { no_token = (template (goal.at.copy_template-requires c).In-Some).light }
@@ -50,7 +50,7 @@ pub returns-in-Ok-clause-step : goal.returns-in-Ok-clause-step
 returns-in-Ok-clause-step c = (
   default_there c.self.inside.table.now c.self.inside.root.0 c.self.inside.parents.items c.self.inside.frame
       c.self.inside.calls c.self.invariant.chain c.args.self c.self.view_is c.in-Some.template.now
-      (sym c.in-Some.ensures)
+      (sym c.in-Some.ensures.template)
       ∙ ap (λ (v : Val). Ok (puts c.args.self.state v)) (sym c.in-Ok.ensures.copy)
       ∙ ap (λ (s : State). Ok s) (sym c.put.ensures.state),
   c.put.ensures.shapes,
@@ -69,6 +69,6 @@ returns-in-Err-clause-refused c refused e =
     ≡ Ok (puts c.args.self.state c.in-Some.template.now)
     = default_there c.self.inside.table.now c.self.inside.root.0 c.self.inside.parents.items c.self.inside.frame
     c.self.inside.calls c.self.invariant.chain c.args.self c.self.view_is c.in-Some.template.now
-    (sym c.in-Some.ensures) in
+    (sym c.in-Some.ensures.template) in
     let no : false ≡ true = rw there at refused in
     cc

@@ -12,16 +12,16 @@ pub put-requires-clause-fits : goal.put-requires-clause-fits
 put-requires-clause-fits c =
     fits_here c.self.inside.table.now c.self.inside.root.0 c.self.inside.parents.items c.self.inside.frame
     c.self.inside.calls c.self.invariant.chain c.args.self c.self.view_is c.args.value.shape (view c.into_value.result)
-    (sym c.shape-actual.ensures ∙ c.if-actual-expected.true)
+    (sym c.shape-actual.ensures.shape ∙ c.if-actual-expected.true)
     (subst (λ (b : Builder). fits b.shapes c.args.value.shape (view c.into_value.result) ≡ true) (sym c.self.view_is)
-    (subst (λ (v : Val). fits c.args.self.shapes c.args.value.shape v ≡ true) (sym c.into_value.ensures) c.requires.fits))
+    (subst (λ (v : Val). fits c.args.self.shapes c.args.value.shape v ≡ true) (sym c.into_value.ensures.value) c.requires.fits))
 
 pub returns-then-actual-expected-clause-step : goal.returns-then-actual-expected-clause-step
 returns-then-actual-expected-clause-step c = (
   set_admitted c.self.inside.table.now c.self.inside.root.0 c.self.inside.parents.items c.self.inside.frame
       c.self.inside.calls c.self.invariant.chain c.args.self c.self.view_is c.args.value.shape c.args.value.value
-      (sym c.shape-actual.ensures ∙ c.if-actual-expected.true)
-      ∙ ap (λ (v : Val). Ok (puts c.args.self.state v)) (sym c.into_value.ensures)
+      (sym c.shape-actual.ensures.shape ∙ c.if-actual-expected.true)
+      ∙ ap (λ (v : Val). Ok (puts c.args.self.state v)) (sym c.into_value.ensures.value)
       ∙ ap (λ (s : State). Ok s) (sym c.put.ensures.state),
   c.put.ensures.shapes,
   c.put.ensures.root,
@@ -30,7 +30,7 @@ returns-then-actual-expected-clause-step c = (
 pub returns-else-actual-expected-clause-step : goal.returns-else-actual-expected-clause-step
 returns-else-actual-expected-clause-step c =
     inr
-    (ap (λ (given : ℕ). set (here c.args.self) c.args.self.state given c.args.value.value) (sym c.shape-actual.ensures)
+    (ap (λ (given : ℕ). set (here c.args.self) c.args.self.state given c.args.value.value) (sym c.shape-actual.ensures.shape)
     ∙ set_refused c.self.inside.table.now c.self.inside.root.0 c.self.inside.parents.items c.self.inside.frame
     c.self.inside.calls c.self.invariant.chain c.args.self c.self.view_is c.shape-actual.result c.args.value.value
     c.if-actual-expected.false)

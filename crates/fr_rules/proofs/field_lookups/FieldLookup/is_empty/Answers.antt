@@ -4,6 +4,9 @@ use Rattle.fr_rules.proofs.Growth.{stored_all}
 use Rattle.fr_rules.proofs.field_lookups.FieldLookup.is_empty.Goals as goal
 
 pub returns-in-PrefixBuckets : goal.returns-in-PrefixBuckets
-returns-in-PrefixBuckets c pool entries stands =
-    let long = subst (λ lookup. IsLookupOf pool lookup entries) c.in-PrefixBuckets.is stands in
-    c.is_empty-in-PrefixBuckets.ensures ∙ ap (λ n. eqb n 0) (stored_all _ _ _ _ _ long)
+returns-in-PrefixBuckets c = record {
+  empty =
+      λ pool entries stands.
+      let long = subst (λ lookup. IsLookupOf pool lookup entries) c.in-PrefixBuckets.is stands in
+      c.is_empty-in-PrefixBuckets.ensures.empty ∙ ap (λ n. eqb n 0) (stored_all _ _ _ _ _ long);
+}
