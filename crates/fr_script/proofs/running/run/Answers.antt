@@ -29,7 +29,7 @@ returns-in-Ok-write_report-clause-reported g c asks low =
     over_told (g.S.Source.left c.args.source.now) (λ bytes. c.in-Ok-read_input.bytes ≡ take INPUT_LIMIT bytes) _
     (λ bytes cut.
     let same : outcome_of c.as_slice.result.now ≡ outcome_of bytes
-    = same_outcome c.in-Ok-read_input.bytes bytes c.as_slice.result.now c.as_slice.ensures cut in
+    = same_outcome c.in-Ok-read_input.bytes bytes c.as_slice.result.now c.as_slice.ensures.items cut in
     record {
       status = c.in-Ok-respond.ensures.status ∙ ap status_of same;
       written =
@@ -44,7 +44,7 @@ returns-clause-beginning g c five asks =
     over_told (g.S.Source.left c.args.source.now) (λ bytes. c.in-Ok-read_input.bytes ≡ take INPUT_LIMIT bytes) _
     (λ bytes cut.
     let same : outcome_of c.as_slice.result.now ≡ outcome_of bytes
-    = same_outcome c.in-Ok-read_input.bytes bytes c.as_slice.result.now c.as_slice.ensures cut in
+    = same_outcome c.in-Ok-read_input.bytes bytes c.as_slice.result.now c.as_slice.ensures.items cut in
     subst (λ (text : List ℕ). TakesBeginning (g.K.Sink.taken c.args.sink.now) (g.K.Sink.taken c.write_report-2.new.sink) text)
     (c.as_bytes-2.ensures.value ∙ c.in-Ok-respond.ensures.text ∙ ap report same)
     c.in-Err-write_report.ensures.err)
@@ -55,5 +55,5 @@ returns-in-Ok-write_report-clause-promised g c asks low =
     over_told (g.S.Source.left c.args.source.now) (λ bytes. c.in-Ok-read_input.bytes ≡ take INPUT_LIMIT bytes) _
     (λ bytes cut.
     subst (λ (document : Result Document DocFault). KeepsPromise document (outcome_of_document document))
-    (ap document_of (c.as_slice.ensures ∙ cut) ∙ at_limit INPUT_LIMIT bytes refl) c.in-Ok-respond.ensures.promise)
+    (ap document_of (c.as_slice.ensures.items ∙ cut) ∙ at_limit INPUT_LIMIT bytes refl) c.in-Ok-respond.ensures.promise)
     c.in-Ok-read_input.ensures.bytes

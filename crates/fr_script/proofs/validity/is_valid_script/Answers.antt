@@ -10,7 +10,7 @@ pub loop-i-init : goal.loop-i-init
 loop-i-init c = (
   [],
   rw c.as_mut_slice-marks.ensures.value c.in-Ok.ensures,
-  ap (λ script. first_invalid c.args.table.now c.args.ledger.now [] 0 (calls_of script)) (sym c.as_slice-command-items.ensures),
+  ap (λ script. first_invalid c.args.table.now c.args.ledger.now [] 0 (calls_of script)) (sym c.as_slice-command-items.ensures.items),
 )
 
 pub returns-then-not-mark_command : goal.returns-then-not-mark_command
