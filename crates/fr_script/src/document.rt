@@ -28,7 +28,7 @@ pub struct Document {
 /// The document that bytes are, or their first fault.
 #[tactic(auto, unfolding(crate::specs::Documents::document_of))]
 pub fn read_document(alloc: Global, bytes: &[u8]) -> Result<Document, ReadError>
-    ensures { GivesFor document_view (document_of bytes.now) result }
+    ensures document { GivesFor document_view (document_of bytes.now) result }
 {
     if bytes.len() > DOCUMENT_LIMIT {
         return Err(ReadError::Fault(DocFault::TooLong));

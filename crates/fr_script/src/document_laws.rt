@@ -8,12 +8,12 @@ ghost use Rattle.fr_script.specs.Documents.{Document, document_of, first_invalid
 
 /// A script in which no command is invalid may be handed to the builder.
 pub fn law_valid_scripts()
-    ensures { (table : Table) (ledger : List ℕ) (script : List Call)
+    ensures valid { (table : Table) (ledger : List ℕ) (script : List Call)
         → first_invalid table ledger [] 0 script ≡ None → IsValid table script ledger }
 {}
 
 /// What a document asks for may be built.
 pub fn law_documents_buildable()
-    ensures { (bytes : List ℕ) (document : Document)
+    ensures buildable { (bytes : List ℕ) (document : Document)
         → document_of bytes ≡ Ok document → IsBuildable document }
 {}

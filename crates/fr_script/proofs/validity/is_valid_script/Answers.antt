@@ -14,8 +14,10 @@ loop-i-init c = (
 )
 
 pub returns-then-not-mark_command : goal.returns-then-not-mark_command
-returns-then-not-mark_command c =
-    c.loop-i.invariant.2 ∙ not_valid c.args.ledger.now c.args.table.now c.loop-i.invariant.0 c.loop-i.marks c.loop-i.invariant.1 c.as_slice-command-items.result.now c.loop-i.i c.command-item.result c.loop-i-test.true c.command-item.is c.if-not-mark_command.ensures
+returns-then-not-mark_command c = record {
+  verdict =
+      c.loop-i.invariant.2 ∙ not_valid c.args.ledger.now c.args.table.now c.loop-i.invariant.0 c.loop-i.marks c.loop-i.invariant.1 c.as_slice-command-items.result.now c.loop-i.i c.command-item.result c.loop-i-test.true c.command-item.is c.if-not-mark_command.ensures;
+}
 
 pub loop-i-preserved : goal.loop-i-preserved
 loop-i-preserved c = (
@@ -25,5 +27,7 @@ loop-i-preserved c = (
 )
 
 pub returns : goal.returns
-returns c =
-    c.loop-i.invariant.2 ∙ ap (λ script. first_invalid c.args.table.now c.args.ledger.now c.loop-i.invariant.0 c.loop-i.i (calls_of script)) (drop_all c.loop-i.i c.as_slice-command-items.result.now c.loop-i-test.false)
+returns c = record {
+  verdict =
+      c.loop-i.invariant.2 ∙ ap (λ script. first_invalid c.args.table.now c.args.ledger.now c.loop-i.invariant.0 c.loop-i.i (calls_of script)) (drop_all c.loop-i.i c.as_slice-command-items.result.now c.loop-i-test.false);
+}
