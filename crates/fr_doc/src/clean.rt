@@ -37,7 +37,7 @@ impl Source for CleanSource {
     ghost faults = { λ _. 0 };
 
     fn read(&mut self, into: &mut [u8]) -> Result<usize, Failed>
-        requires { 0 < length into.old }
+        requires room { 0 < length into.old }
         ensures count { result ≡ Ok (min (length into.old) (length self.old)) }
         ensures bytes { ReadMoves (Some self.old) (Some self.new) result into.new }
         ensures rest { self.new ≡ drop (length into.old) self.old }

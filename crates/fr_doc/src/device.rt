@@ -27,7 +27,7 @@ pub trait Source {
 
     /// Reads the next bytes to the front of a piece, and answers how many. 0 is the end.
     fn read(&mut self, into: &mut [u8]) -> Result<usize, Failed>
-        requires { 0 < length into.old }
+        requires room { 0 < length into.old }
         ensures at_most { MovesAtMost (length into.new) result }
         ensures bytes { ReadMoves (left self.old) (left self.new) result into.new }
         ensures end { EndsOnlyAtEnd (left self.old) result }

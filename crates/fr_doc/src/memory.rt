@@ -65,7 +65,7 @@ impl Source for MemSource {
 
     fn read(&mut self, into: &mut [u8]) -> Result<usize, Failed>
         // As at each source.
-        requires { 0 < length into.old }
+        requires room { 0 < length into.old }
         ensures at_most { MovesAtMost (length into.new) result }
         ensures bytes { ReadMoves (Some self.old.left) (Some self.new.left) result into.new }
         ensures end { EndsOnlyAtEnd (Some self.old.left) result }

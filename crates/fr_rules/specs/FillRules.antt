@@ -1,4 +1,5 @@
--- How the rules of a hole are told to one who knows the field by its reference, and which template is meant by what is told.
+-- How the rules of a hole are told to one who knows the field by its reference, and which template is meant by what is
+-- told.
 use Rattle.std.specs.Prelude.{Option, Some, None}
 use Rattle.fr_shape.specs.declared.shape.Field.{Field}
 use Rattle.fr_shape.specs.declared.shape.FieldRef.{FieldRef}
@@ -24,6 +25,7 @@ told_deferred meant field (filled template) = DeferredFill.Template (told_templa
 told_deferred meant field marked_without_default = DeferredFill.MarkedWithoutDefault
 told_deferred meant field missing = DeferredFill.Missing
 
+-- a mark brings a template of its own, or says that the shape's default is taken
 abbrev pub own_of_mark : Option DefaultSource → Option Val
 own_of_mark (Some (DefaultSource.Custom v)) = Some v
 own_of_mark _ = None
