@@ -53,7 +53,7 @@ impl<T> Arena<T> {
 
     /// Puts `value` behind the others.
     pub fn alloc(&mut self, value: T) -> Result<Idx<T>, NotPushed<T>>
-        requires room { length self.old < 4294967295 }
+        requires fits { length self.old < 4294967295 }
         ensures index { IfOk result (λ idx. idx ≡ length self.old) }
         ensures appended { OnOk result (self.new ≡ self.old ++ value ∷ []) }
         ensures refused { OnErr result (self.new ≡ self.old) }
@@ -112,7 +112,7 @@ impl<T> Arena<T> {
 
     /// How many values there are.
     pub fn len(&self) -> usize
-        ensures value { result ≡ length self.now }
+        ensures count { result ≡ length self.now }
         ensures bound { result ≤ 4294967295 }
     {
         self.values.len()

@@ -119,7 +119,7 @@ impl<T> Eq for SliceRange<T> {
 impl<T> SliceRange<T> {
     /// The `len` indices from `start` on.
     pub fn new(start: u32, len: u32) -> Self
-        requires countable { start + len ≤ 4294967295 }
+        requires within { start + len ≤ 4294967295 }
         ensures indices { result ≡ indices_from start len }
     {
         SliceRange {

@@ -4,7 +4,7 @@ use Rattle.std.specs.Io.KnownBytes.{prepend_known, append_known, IsAtEnd}
 
 -- Counts of faults. A count is a u64 that stands still at its last value.
 
--- a count rose in a call: it is larger after the call than before, or it stands at its last value
+-- a call counted a fault: the count is higher afterwards, or it can go no higher
 abbrev pub Rose : (before after : ℕ) → Type 0
 Rose before after = (before < after) ⊎ (after ≡ 18446744073709551615)
 

@@ -25,7 +25,7 @@ impl Model for CleanSource {
 impl CleanSource {
     /// A source that gives these bytes.
     pub fn new(bytes: Items<u8>) -> CleanSource
-        ensures left { result ≡ bytes }
+        ensures unread { result ≡ bytes }
     {
         CleanSource { bytes, position: 0 }
     }

@@ -40,7 +40,7 @@ impl MemSource {
     /// A source that gives at most `piece` bytes a call, and fails at the calls whose numbers are in
     /// `fails`. The first call is number 1.
     pub fn new(bytes: Items<u8>, piece: usize, fails: Items<u64>) -> MemSource
-        requires piece { 0 < piece }
+        requires positive { 0 < piece }
         ensures unread { result ≡ record {
           left = bytes;
           piece = piece;
@@ -122,7 +122,7 @@ impl MemSink {
     /// A sink that takes at most `piece` bytes a call, and fails at the calls whose numbers are in
     /// `fails`. The first call is number 1.
     pub fn new(alloc: Global, piece: usize, fails: Items<u64>) -> MemSink
-        requires piece { 0 < piece }
+        requires positive { 0 < piece }
         ensures unwritten { result ≡ record {
           taken = [];
           piece = piece;

@@ -161,8 +161,8 @@ ends run None = None
 -- The rules: `begin_nth_field` at a struct with a field of that number, or at an array with such an element that may be
 -- entered, notes that the child was entered, and goes there; `begin_field` at a struct that declares the name does so with
 -- the first such field; `set` of the place's own shape notes the value; `set_default` at a shape with a preset notes the
--- preset; `end` below the root notes the place's value, where it makes one, and goes up. A command to which no rule applies
--- ends the run with none.
+-- preset; `end` below the root notes the place's value, where it makes one, and goes up. Where no rule fits the command, the
+-- run is over and makes nothing.
 abbrev pub rule_at : Table → ℕ → Progress → Call → Option Progress
 rule_at table s run (Call.BeginField name) = begins table s run (field_named name (def_of table s))
 rule_at table s run (Call.BeginNthField i) = begins table s run (Some i)

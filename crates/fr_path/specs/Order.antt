@@ -33,7 +33,8 @@ abbrev pub key : PathStep → List ℕ
 key (PathStep.Entry text) = text
 key _ = []
 
--- steps by the order of variants, then by number, then by the key's bytes
+-- two steps: of different variants as these are declared, of one variant by their numbers, and at last by the bytes of
+-- their keys
 abbrev pub step_order : PathStep → PathStep → Ordering
 step_order = then_cmp (on rank nat_cmp) (then_cmp (on number nat_cmp) (on key (slice_cmp nat_cmp)))
 

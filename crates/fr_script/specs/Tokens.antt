@@ -8,8 +8,8 @@ counted_once t [] = []
 counted_once t (count ∷ counts) =
     if count == 1 then t ∷ counted_once (t + 1) counts else counted_once (t + 1) counts
 
--- Each token of the script stands once in the answered value or once among the released, never both; no other token
--- does either.
+-- Of each token that the script brings there is one, in the answered value or among the released; of any other there is
+-- none in either.
 pub record StandOnce (brought answered : ℕ → ℕ) (released : List ℕ) : Type 0 where
   pub each : (t : ℕ) → 0 < brought t → answered t + times released t ≡ 1
   pub others : (t : ℕ) → brought t ≡ 0 → answered t + times released t ≡ 0

@@ -93,7 +93,7 @@ fn into_document(alloc: Global, parts: Parts) -> Document
 
 /// Tests the rules of a checked table one after another.
 fn test_rules(table: &ShapeTable) -> Result<(), DocFault>
-    requires numbered { length table.now < 2 ^ 32 }
+    requires few { length table.now < 2 ^ 32 }
     ensures { result ≡ rules_pass table.now }
 {
     match table.check() {
@@ -105,7 +105,7 @@ fn test_rules(table: &ShapeTable) -> Result<(), DocFault>
 /// Tests that the script is valid over a ledger of the document's tokens.
 #[tactic(auto, unfolding(crate::specs::Documents::script_passes))]
 fn test_script(alloc: Global, document: &Document) -> Result<(), ReadError>
-    requires numbered { length document.now.script < 2 ^ 32 }
+    requires few { length document.now.script < 2 ^ 32 }
     ensures { Gives (script_passes (document_view document.now)) result }
 {
     let Ok(ledger) = Ledger::new(alloc, document.tokens) else {

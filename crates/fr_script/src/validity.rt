@@ -28,7 +28,7 @@ pub fn is_valid_script(
     script: &Script,
     ledger: &Ledger,
 ) -> Result<(), ScriptFault>
-    requires numbered { length script.now < 2 ^ 32 }
+    requires few { length script.now < 2 ^ 32 }
     ensures verdict { Judges (first_invalid table.now ledger.now [] 0 (calls_of script.now)) result }
 {
     let mut marks = match marks_of(alloc, ledger) {

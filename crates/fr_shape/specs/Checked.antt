@@ -163,7 +163,7 @@ abbrev pub validators_suit : Table → Shape → Bool
 validators_suit table shape =
     list_all (λ (field : Field). list_all (suits (def_of table field.shape.0)) field.validators) (fields_of shape.def)
 
--- 6: presets and custom defaults fit their shape and hold no token
+-- 6: each default, of a shape or of a field alone, is a value of that shape without tokens
 abbrev pub templates_fit : Table → ℕ → Shape → Bool
 templates_fit table i shape =
     list_all (is_template table i) (option_to_list shape.preset)

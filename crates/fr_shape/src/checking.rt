@@ -19,7 +19,7 @@ pub struct TableFault {
 impl ShapeTable {
     /// Tests the nine rules of a checked table. The fault is the smallest rule that is broken, at its first entry.
     pub fn check(&self) -> Result<(), TableFault>
-        requires numbered { length self.now < 2 ^ 32 }
+        requires few { length self.now < 2 ^ 32 }
         ensures ok { OnOk result (IsChecked self.now) }
         ensures rule_is_known { IfErr result (λ f. (1 ≤ f.rule) × (f.rule ≤ 9)) }
         ensures rule_broken { IfErr result (λ f. IsBrokenAt self.now f.rule f.entry) }
@@ -38,7 +38,7 @@ impl ShapeTable {
 
 /// The number of the first entry that breaks the rule.
 fn first_broken(table: &ShapeTable, rule: u8) -> Option<u32>
-    requires small { length table.now < 2 ^ 32 }
+    requires few { length table.now < 2 ^ 32 }
     requires known { (1 ≤ rule) × (rule ≤ 9) }
     ensures broken { MatchOption result (EachKeeps table.now (keeps table.now rule)) (λ entry. IsBrokenAt table.now rule entry) }
     ensures first { IfSome result (λ entry. EarlierEntriesKeep table.now rule entry) }
@@ -54,7 +54,7 @@ fn first_broken(table: &ShapeTable, rule: u8) -> Option<u32>
 
 /// Whether the entry of number `i` keeps the rule.
 fn keeps(table: &ShapeTable, rule: u8, i: usize, shape: &Shape) -> bool
-    requires small { length table.now < 2 ^ 32 }
+    requires few { length table.now < 2 ^ 32 }
     requires within { i < length table.now }
     requires known { (1 ≤ rule) × (rule ≤ 9) }
     ensures { result ≡ keeps table.now rule i shape.now }

@@ -48,8 +48,8 @@ pub enum TrackerKind {
     Inner,
 }
 
-/// What a call of the builder is refused for. After a refusal the builder is gone, and every token that it held
-/// or that the call brought has been released. `OutOfMemory` alone comes without a cause in the arguments.
+/// What a call of the builder is refused for. A refusal spends the builder, and with it each token that it held or that
+/// the call brought, which has then been released. `OutOfMemory` alone comes without a cause in the arguments.
 #[derive(Drop)]
 pub enum ReflectErrorKind {
     Alloc(AllocError),

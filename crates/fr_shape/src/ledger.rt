@@ -41,7 +41,7 @@ impl Ledger {
     /// How often token `t` was released.
     pub fn count(&self, t: u32) -> u32
         requires known { t < length self.now }
-        ensures count { result ≡ slice_index self.now t }
+        ensures releases { result ≡ slice_index self.now t }
     {
         let index = t as usize;
         self.counts[index]

@@ -118,8 +118,8 @@ pub struct EnumDef {
     pub variants: Items<VariantDef>,
 }
 
-/// The type in which an enum keeps its discriminant. The first two are Rust's own choice, `RustNPO` with a null pointer
-/// as the discriminant.
+/// The type in which an enum keeps its discriminant. The first two are Rust's own choice, `RustNPO` with the null pointer
+/// standing for the empty variant.
 #[derive(Clone, Copy, PartialEq, Eq)]
 pub enum EnumRepr {
     Rust,
@@ -196,7 +196,7 @@ pub enum ValidatorDef {
     Contains(Text),
 }
 
-/// A pointer. A builder makes only `constructible` ones whose pointee is known.
+/// A pointer. Only a `constructible` one with a pointee can be built from what it points to.
 #[derive(Drop)]
 pub struct PointerDef {
     pub known: Option<KnownPointer>,

@@ -56,7 +56,7 @@ impl ShapeTable {
         self.shapes.as_slice()
     }
 
-    /// The template of a shape's default.
+    /// The template of a shape's default, if it has one.
     pub fn preset(&self, id: ShapeId) -> Option<&Template>
         ensures template { option_copied result ≡ preset_of self.now id.0 }
     {
