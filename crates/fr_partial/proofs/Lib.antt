@@ -7,7 +7,6 @@ pub mod FillingLaws
 pub mod FitLaws
 pub mod OpenLaws
 pub mod PutLaws
-pub mod RuleLaws
 pub mod StackLaws
 pub mod TemplateLaws
 pub mod TestLaws

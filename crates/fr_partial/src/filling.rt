@@ -22,7 +22,7 @@ pub fn copy_template(alloc: Global, template: &Template) -> Result<Value, OutOfM
 }
 
 /// The template that a field takes where it is a hole.
-fn template_of<'a>(table: &'a ShapeTable, field: FieldRef) -> Option<&'a Template>
+fn strict_fill<'a>(table: &'a ShapeTable, field: FieldRef) -> Option<&'a Template>
     requires there { IsSome (field_at table.now field) }
     ensures fill { IfSome (field_at table.now field) (λ found. option_copied result ≡ strict_fill table.now field.shape.0 (is_of_variant field) found) }
 {
@@ -44,7 +44,7 @@ pub fn fill_of<'a>(table: &'a ShapeTable, shape: ShapeId, i: usize) -> Option<&'
                 variant: None,
                 index: i as u32,
             };
-            template_of(table, field)
+            strict_fill(table, field)
         }
         _ => None,
     }

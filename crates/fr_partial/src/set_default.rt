@@ -10,7 +10,7 @@ use fr_shape::{Ledger, Operation, ReflectErrorKind};
 
 impl<'t> Partial<'t> {
     /// Puts a copy of the default of the place's shape there, in the stead of all that was put at the place and beneath
-    /// it. What a default is missing for is refused as that, and never for want of memory.
+    /// it. Where there is no default, that is the refusal, and never want of memory.
     pub fn set_default(self, ledger: &mut Ledger) -> Result<Partial<'t>, ReflectErrorKind>
         requires room { Room (holds self) ledger.old }
         ensures step { IsStep self.entry (set_default self.entry.shapes (here self.entry) self.entry.state) result }

@@ -25,7 +25,7 @@ told_deferred meant field (filled template) = DeferredFill.Template (told_templa
 told_deferred meant field marked_without_default = DeferredFill.MarkedWithoutDefault
 told_deferred meant field missing = DeferredFill.Missing
 
--- a mark brings a template of its own, or says that the shape's default is taken
+-- the template that a mark brings, where it is the field's own
 abbrev pub own_of_mark : Option DefaultSource → Option Val
 own_of_mark (Some (DefaultSource.Custom v)) = Some v
 own_of_mark _ = None
@@ -39,3 +39,8 @@ own_template None = None
 abbrev pub template_meant : Table → FieldDefault → Option Val
 template_meant table (FieldDefault.Custom meant) = own_template (field_at table meant)
 template_meant table (FieldDefault.FromTrait shape) = preset_of table shape.0
+
+-- what a hole takes by a rule that was told
+abbrev pub fill_told : Table → FillRule → Option Val
+fill_told table (FillRule.Defaultable default) = template_meant table default
+fill_told table FillRule.Required = None

@@ -1,6 +1,7 @@
 pub mod Buckets
 pub mod Entries
 pub mod FieldLookups
+pub mod FillLaws
 pub mod FillRules
 pub mod Pools
 pub mod Prefixes

@@ -25,7 +25,8 @@ pub enum FieldDefault {
 }
 
 impl FieldDefault {
-    /// The template that is meant. There is none where the field has none of its own, or the shape no default.
+    /// The template that is meant. There is none where the field is marked with none of its own or the shape has no
+    /// default, or where there is no such field or shape.
     pub fn template<'a>(self, table: &'a ShapeTable) -> Option<&'a Template>
         ensures meant { option_copied result ≡ template_meant table.now self }
     {

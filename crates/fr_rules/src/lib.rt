@@ -1,4 +1,4 @@
-//! What a plan takes from the descriptions of shapes: lookups of fields and variants by their names, what fills the
+//! What plans and the builder take from the descriptions of shapes: lookups of fields and variants by their names, what fills the
 //! holes of structs, and the tests of fields' values.
 #![tactic(auto)]
 

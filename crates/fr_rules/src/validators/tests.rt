@@ -1,22 +1,88 @@
 //! Values that pass and values that fail, with what is said of them. What finds no memory ends the test.
-use crate::messages::message;
+ghost use Rattle.std.specs.Prelude.{false};
+ghost use Rattle.fr_shape.specs.Hooks.{no_hooks};
+
 use crate::*;
 use fr_shape::{
-    FieldRef, HookId, NoHooks, OutOfMemory, ReflectErrorKind, ScalarKind, ShapeId, Text, Value,
+    FieldRef, HookFault, HookId, Hooks, Ledger, NoHooks, OutOfMemory, ReflectErrorKind, ScalarKind,
+    ShapeId, ShapeTable, Text, Value, release,
 };
 use std::alloc::Global;
 use std::process::Abort;
 use std::test::Fail;
 
+/// Hooks whose checks all refuse. They convert and parse nothing.
+#[derive(Drop)]
+struct Refusing;
+
+impl Hooks for Refusing {
+    ghost means = { λ hooks. record no_hooks { check = λ hook v. false } };
+
+    ghost lawful = { λ hooks. record {
+      converted_fits = λ table hook target source. tt;
+      converted_tokens = λ table hook target source. tt;
+      parsed_fits = λ table hook target text. tt;
+      parsed_tokens = λ table hook target text. tt;
+      parsed_bytes_fits = λ table hook target bytes. tt;
+      parsed_bytes_tokens = λ table hook target bytes. tt;
+    } };
+
+    fn check(&self, _h: HookId, _value: &Value) -> bool {
+        false
+    }
+
+    fn convert(
+        &self,
+        _alloc: Global,
+        _table: &ShapeTable,
+        _h: HookId,
+        _target: ShapeId,
+        value: Value,
+        ledger: &mut Ledger,
+    ) -> Result<Value, HookFault> {
+        release(value, ledger);
+        Err(HookFault::Unsupported)
+    }
+
+    fn parse(
+        &self,
+        _alloc: Global,
+        _table: &ShapeTable,
+        _h: HookId,
+        _target: ShapeId,
+        _text: &str,
+    ) -> Result<Value, HookFault> {
+        Err(HookFault::Unsupported)
+    }
+
+    fn parse_bytes(
+        &self,
+        _alloc: Global,
+        _table: &ShapeTable,
+        _h: HookId,
+        _target: ShapeId,
+        _bytes: &[u8],
+    ) -> Result<Value, HookFault> {
+        Err(HookFault::Unsupported)
+    }
+}
+
 /// Runs the validator: the value passes where nothing is said.
-fn check(rt: &impl Abort, alloc: Global, kind: ValidatorKind, value: Value, said: Option<&str>) {
+fn check_by<H: Hooks>(
+    rt: &impl Abort,
+    alloc: Global,
+    hooks: &H,
+    kind: ValidatorKind,
+    value: Value,
+    said: Option<&str>,
+) {
     let validator = PrecomputedValidator { kind };
     let field = FieldRef {
         shape: ShapeId(3),
         variant: Some(1),
         index: 2,
     };
-    match validator.run(alloc, &NoHooks, &value, field) {
+    match validator.run(alloc, hooks, &value, field) {
         Ok(()) => assert!(rt; said.is_none()),
         Err(
             ReflectErrorKind::ValidationFailed {
@@ -31,65 +97,221 @@ fn check(rt: &impl Abort, alloc: Global, kind: ValidatorKind, value: Value, said
     }
 }
 
+/// The same of a validator that asks no hook.
+fn check(rt: &impl Abort, alloc: Global, kind: ValidatorKind, value: Value, said: Option<&str>) {
+    check_by(rt, alloc, &NoHooks, kind, value, said)
+}
+
 #[test]
-fn signed_numbers_keep_to_bounds(rt: HostRuntime) {
-    let rows = [
-        (ValidatorKind::Min(-128, ScalarKind::I8), -128, None),
+fn signed_numbers_keep_to_the_least(rt: HostRuntime) {
+    for (kind, low, z, said) in [
+        (ScalarKind::I8, -128, -128, None),
         (
-            ValidatorKind::Min(-127, ScalarKind::I8),
+            ScalarKind::I8,
+            -127,
             -128,
             Some("must be >= -127, got -128"),
         ),
-        (ValidatorKind::Max(127, ScalarKind::I8), 127, None),
+        (ScalarKind::I16, -32768, -32768, None),
         (
-            ValidatorKind::Max(126, ScalarKind::I8),
-            127,
-            Some("must be <= 126, got 127"),
+            ScalarKind::I16,
+            -32767,
+            -32768,
+            Some("must be >= -32767, got -32768"),
+        ),
+        (ScalarKind::I32, -2147483648, -2147483648, None),
+        (
+            ScalarKind::I32,
+            -2147483647,
+            -2147483648,
+            Some("must be >= -2147483647, got -2147483648"),
         ),
         (
-            ValidatorKind::Max(-9223372036854775808, ScalarKind::I64),
+            ScalarKind::I64,
+            -9223372036854775808,
+            -9223372036854775808,
+            None,
+        ),
+        (
+            ScalarKind::I64,
             -9223372036854775807,
-            Some("must be <= -9223372036854775808, got -9223372036854775807"),
+            -9223372036854775808,
+            Some("must be >= -9223372036854775807, got -9223372036854775808"),
         ),
-        (ValidatorKind::Min(5, ScalarKind::ISize), 4, None),
-        (ValidatorKind::Max(5, ScalarKind::I128), 6, None),
-    ];
-    for (kind, z, said) in rows {
-        check(&rt, rt.alloc(), kind, Value::Int(z), said);
+    ] {
+        check(
+            &rt,
+            rt.alloc(),
+            ValidatorKind::Min(low, kind),
+            Value::Int(z),
+            said,
+        );
     }
 }
 
 #[test]
-fn unsigned_numbers_keep_to_bounds(rt: HostRuntime) {
-    let large = 9223372036854775808;
-    let rows = [
-        (ValidatorKind::Min(5, ScalarKind::U64), large, None),
+fn signed_numbers_keep_to_the_most(rt: HostRuntime) {
+    for (kind, high, z, said) in [
+        (ScalarKind::I8, 127, 127, None),
+        (ScalarKind::I8, 126, 127, Some("must be <= 126, got 127")),
+        (ScalarKind::I16, 32767, 32767, None),
         (
-            ValidatorKind::Max(9223372036854775807, ScalarKind::U64),
-            large,
+            ScalarKind::I16,
+            32766,
+            32767,
+            Some("must be <= 32766, got 32767"),
+        ),
+        (ScalarKind::I32, 2147483647, 2147483647, None),
+        (
+            ScalarKind::I32,
+            2147483646,
+            2147483647,
+            Some("must be <= 2147483646, got 2147483647"),
+        ),
+        (
+            ScalarKind::I64,
+            9223372036854775807,
+            9223372036854775807,
+            None,
+        ),
+        (
+            ScalarKind::I64,
+            9223372036854775806,
+            9223372036854775807,
+            Some("must be <= 9223372036854775806, got 9223372036854775807"),
+        ),
+    ] {
+        check(
+            &rt,
+            rt.alloc(),
+            ValidatorKind::Max(high, kind),
+            Value::Int(z),
+            said,
+        );
+    }
+}
+
+/// A u64 above the greatest i64 passes every least bound.
+#[test]
+fn unsigned_numbers_keep_to_the_least(rt: HostRuntime) {
+    for (kind, low, n, said) in [
+        (ScalarKind::U8, 0, 0, None),
+        (ScalarKind::U8, 1, 0, Some("must be >= 1, got 0")),
+        (ScalarKind::U8, -1, 0, None),
+        (ScalarKind::U8, 256, 255, Some("must be >= 256, got 255")),
+        (ScalarKind::U16, 0, 0, None),
+        (ScalarKind::U16, 1, 0, Some("must be >= 1, got 0")),
+        (ScalarKind::U32, 0, 0, None),
+        (ScalarKind::U32, 1, 0, Some("must be >= 1, got 0")),
+        (ScalarKind::U64, 0, 0, None),
+        (ScalarKind::U64, 1, 0, Some("must be >= 1, got 0")),
+        (
+            ScalarKind::U64,
+            9223372036854775807,
+            9223372036854775808,
+            None,
+        ),
+        (
+            ScalarKind::U64,
+            9223372036854775807,
+            18446744073709551615,
+            None,
+        ),
+    ] {
+        check(
+            &rt,
+            rt.alloc(),
+            ValidatorKind::Min(low, kind),
+            Value::Nat(n),
+            said,
+        );
+    }
+}
+
+/// A u64 above the greatest i64 fails every greatest bound.
+#[test]
+fn unsigned_numbers_keep_to_the_most(rt: HostRuntime) {
+    for (kind, high, n, said) in [
+        (ScalarKind::U8, 255, 255, None),
+        (ScalarKind::U8, 254, 255, Some("must be <= 254, got 255")),
+        (ScalarKind::U8, -1, 0, Some("must be <= -1, got 0")),
+        (ScalarKind::U16, 65535, 65535, None),
+        (
+            ScalarKind::U16,
+            65534,
+            65535,
+            Some("must be <= 65534, got 65535"),
+        ),
+        (ScalarKind::U32, 4294967295, 4294967295, None),
+        (
+            ScalarKind::U32,
+            4294967294,
+            4294967295,
+            Some("must be <= 4294967294, got 4294967295"),
+        ),
+        (
+            ScalarKind::U64,
+            9223372036854775807,
+            9223372036854775807,
+            None,
+        ),
+        (
+            ScalarKind::U64,
+            9223372036854775807,
+            9223372036854775808,
             Some("must be <= 9223372036854775807, got 9223372036854775808"),
         ),
         (
-            ValidatorKind::Max(9223372036854775807, ScalarKind::U64),
-            large - 1,
+            ScalarKind::U64,
+            9223372036854775807,
+            18446744073709551615,
+            Some("must be <= 9223372036854775807, got 18446744073709551615"),
+        ),
+    ] {
+        check(
+            &rt,
+            rt.alloc(),
+            ValidatorKind::Max(high, kind),
+            Value::Nat(n),
+            said,
+        );
+    }
+}
+
+/// Numbers of the machine's width and of 128 bits pass every bound.
+#[test]
+fn other_numbers_have_no_bounds(rt: HostRuntime) {
+    for kind in [ScalarKind::ISize, ScalarKind::I128] {
+        check(
+            &rt,
+            rt.alloc(),
+            ValidatorKind::Min(5, kind),
+            Value::Int(4),
             None,
-        ),
-        (ValidatorKind::Min(-1, ScalarKind::U8), 0, None),
-        (
-            ValidatorKind::Max(-1, ScalarKind::U8),
-            0,
-            Some("must be <= -1, got 0"),
-        ),
-        (
-            ValidatorKind::Min(256, ScalarKind::U8),
-            255,
-            Some("must be >= 256, got 255"),
-        ),
-        (ValidatorKind::Max(5, ScalarKind::USize), 6, None),
-        (ValidatorKind::Min(5, ScalarKind::U128), 4, None),
-    ];
-    for (kind, n, said) in rows {
-        check(&rt, rt.alloc(), kind, Value::Nat(n), said);
+        );
+        check(
+            &rt,
+            rt.alloc(),
+            ValidatorKind::Max(5, kind),
+            Value::Int(6),
+            None,
+        );
+    }
+    for kind in [ScalarKind::USize, ScalarKind::U128] {
+        check(
+            &rt,
+            rt.alloc(),
+            ValidatorKind::Min(5, kind),
+            Value::Nat(4),
+            None,
+        );
+        check(
+            &rt,
+            rt.alloc(),
+            ValidatorKind::Max(5, kind),
+            Value::Nat(6),
+            None,
+        );
     }
 }
 
@@ -123,7 +345,6 @@ fn texts_keep_to_lengths_and_schemes(rt: HostRuntime) -> Result<(), Fail> {
             "ftp://a.b",
             Some("'ftp://a.b' is not a valid URL"),
         ),
-        (ValidatorKind::Custom(HookId(3)), "any", None),
     ];
     for (kind, text, said) in rows {
         let text = Text::new(rt.alloc(), text).ok().ok_or("no memory")?;
@@ -178,11 +399,20 @@ fn texts_have_their_parts(rt: HostRuntime) -> Result<(), Fail> {
 }
 
 #[test]
-fn a_hook_that_refuses_has_a_message(rt: HostRuntime) -> Result<(), Fail> {
-    let kind = ValidatorKind::Custom(HookId(0));
-    let said = message(rt.alloc(), &kind, &Value::Bool(true))
-        .ok()
-        .ok_or("no memory")?;
-    assert_eq!(rt; said.as_str(), "custom validation failed");
-    Ok(())
+fn a_hook_decides_of_a_value(rt: HostRuntime) {
+    check(
+        &rt,
+        rt.alloc(),
+        ValidatorKind::Custom(HookId(3)),
+        Value::Bool(true),
+        None,
+    );
+    check_by(
+        &rt,
+        rt.alloc(),
+        &Refusing,
+        ValidatorKind::Custom(HookId(3)),
+        Value::Bool(true),
+        Some("custom validation failed"),
+    );
 }

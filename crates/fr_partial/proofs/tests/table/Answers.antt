@@ -6,7 +6,7 @@ pub returns-clause-served : goal.returns-clause-served
 returns-clause-served c =
     let leaves = c.in_ok-leaves.ensures.served in
     let branches = c.in_ok-branches.ensures.served in
-    rw (c.new.ensures, c.from_vec.ensures, c.in-Ok.ensures.items)
+    rw (c.new.ensures.shapes, c.from_vec.ensures.items, c.in-Ok.ensures.items)
     (five_served c.in_ok-leaves.leaves.number c.in_ok-leaves.leaves.opaque c.in_ok-leaves.leaves.option
     c.in_ok-branches.branches.pair c.in_ok-branches.branches.structure leaves.0 leaves.1 leaves.2 branches.0 branches.1)
 
@@ -19,7 +19,7 @@ returns-clause-numbered c =
     let third = leaves.2 in
     let fourth = branches.0 in
     let fifth = branches.1 in
-    rw (c.new.ensures, c.from_vec.ensures, c.in-Ok.ensures.items)
+    rw (c.new.ensures.shapes, c.from_vec.ensures.items, c.in-Ok.ensures.items)
     (five_numbered c.in_ok-leaves.leaves.number c.in_ok-leaves.leaves.opaque c.in_ok-leaves.leaves.option
     c.in_ok-branches.branches.pair c.in_ok-branches.branches.structure (omega arith) (omega arith) (omega arith)
     (omega arith) (omega arith))
