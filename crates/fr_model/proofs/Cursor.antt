@@ -6,10 +6,10 @@ use Rattle.fr_shape.specs.Look.{Table, def_of}
 use Rattle.fr_shape.specs.Val.{Val}
 use Rattle.fr_shape.specs.Fits.{fits}
 use Rattle.fr_model.specs.Places.{Place, up, child_shape, shape_at}
-use Rattle.fr_model.specs.Tree.{as_struct, as_array, Tree, whole, begun, Trees, no_trees, branch, tree_nth, change_nth, tree_at, change_at, shape_in, child_as, tree_occurs}
+use Rattle.fr_model.specs.Tree.{as_struct, as_array, Tree, whole, begun, Trees, no_trees, branch, tree_nth, change_nth, tree_at, change_at, shape_in, child_as, tree_occurs, State, cursor_shape, cursor_tree}
 use Rattle.fr_model.specs.Complete.{complete}
-use Rattle.fr_model.specs.Step.{enter_child}
-use Rattle.fr_model.specs.Well.{IsBegunAs, Suits, AllDone, AtCursor, DoneBut, Leads}
+use Rattle.fr_model.specs.Step.{enter_child, enters, puts, puts_and_leaves}
+use Rattle.fr_model.specs.Well.{IsBegunAs, Suits, AllDone, AtCursor, DoneBut, Leads, IsInOrder}
 use Rattle.fr_model.proofs.Agreement.{leads_child}
 use Rattle.fr_model.proofs.Completing.{Made, completing_makes}
 use Rattle.fr_model.proofs.Structs.{count_change, suit_change, suit_nth}
@@ -89,53 +89,51 @@ leads_up (i ∷ j ∷ here) (begun form ts) v leads =
     leads
 leads_up (i ∷ j ∷ here) _ v leads = absurd leads
 
--- a tree that suits its shape, and a cursor that leads to a place in it
-pub record IsSound (table : Table) (root : ℕ) (here : Place) (t : Tree) : Type 0 where
-  pub suits : Suits table root t
-  pub leads : Leads here t
+-- states in order
 
-pub entry_at : (table : Table) (root : ℕ) (here : Place) (t : Tree) (i : ℕ)
-    → Enterable table (shape_in table root here t) i (tree_at here t) → IsSound table root here t
-    → Entry table (shape_in table root here t) i (tree_at here t)
-    (enter_child table (shape_in table root here t) i (tree_at here t))
-entry_at table root here t i enterable sound =
-    entry table (shape_in table root here t) i (tree_at here t) enterable (at_cursor here t sound.leads)
-    (suits_at table root here t sound.leads sound.suits)
+pub entry_at : (table : Table) (root : ℕ) (state : State) (i : ℕ)
+    → Enterable table (cursor_shape table root state) i (cursor_tree state) → IsInOrder table root state
+    → Entry table (cursor_shape table root state) i (cursor_tree state)
+    (enter_child table (cursor_shape table root state) i (cursor_tree state))
+entry_at table root state i enterable order =
+    entry table (cursor_shape table root state) i (cursor_tree state) enterable
+    (at_cursor state.cursor state.tree order.leads)
+    (suits_at table root state.cursor state.tree order.leads order.suits)
 
-pub sound_begun : (table : Table) (root : ℕ) (here : Place) (t : Tree) (i : ℕ)
-    → Enterable table (shape_in table root here t) i (tree_at here t) → IsSound table root here t
-    → IsSound table root (here ++ i ∷ []) (change_at here (enter_child table (shape_in table root here t) i) t)
-sound_begun table root here t i enterable sound =
-    let child = entry_at table root here t i enterable sound in
+pub begun_in_order : (table : Table) (root : ℕ) (state : State) (i : ℕ)
+    → Enterable table (cursor_shape table root state) i (cursor_tree state) → IsInOrder table root state
+    → IsInOrder table root (enters table (cursor_shape table root state) state i)
+begun_in_order table root state i enterable order =
+    let child = entry_at table root state i enterable order in
+    let change : Tree → Tree = enter_child table (cursor_shape table root state) i in
     record {
-      suits = suits_changed table root here t (enter_child table (shape_in table root here t) i) sound.leads sound.suits
-          child.suits;
-      leads = leads_on here (i ∷ []) t (enter_child table (shape_in table root here t) i) sound.leads child.leads;
+      suits = suits_changed table root state.cursor state.tree change order.leads order.suits child.suits;
+      leads = leads_on state.cursor (i ∷ []) state.tree change order.leads child.leads;
     }
 
-pub sound_set : (table : Table) (root : ℕ) (here : Place) (t : Tree) (v : Val)
-    → fits table (shape_in table root here t) v ≡ true → IsSound table root here t
-    → IsSound table root here (change_at here (λ old. whole v) t)
-sound_set table root here t v fit sound = record {
-  suits = suits_changed table root here t (λ old. whole v) sound.leads sound.suits fit;
-  leads = subst (λ (place : Place). Leads place (change_at here (λ old. whole v) t)) (append-nil here)
-      (leads_on here [] t (λ old. whole v) sound.leads tt);
+pub put_in_order : (table : Table) (root : ℕ) (state : State) (v : Val)
+    → fits table (cursor_shape table root state) v ≡ true → IsInOrder table root state
+    → IsInOrder table root (puts state v)
+put_in_order table root state v fit order = record {
+  suits = suits_changed table root state.cursor state.tree (λ old. whole v) order.leads order.suits fit;
+  leads = subst (λ (place : Place). Leads place (change_at state.cursor (λ old. whole v) state.tree))
+      (append-nil state.cursor) (leads_on state.cursor [] state.tree (λ old. whole v) order.leads tt);
 }
 
 -- what the place at the cursor makes
-pub made_at : (hooks : Meanings) (table : Table) (root : ℕ) (here : Place) (t : Tree) (v : Val) → IsChecked table
-    → complete hooks table (shape_in table root here t) (tree_at here t) ≡ Some v → IsSound table root here t
-    → Made table (shape_in table root here t) (λ k. tree_occurs (tree_at here t) k) v
-made_at hooks table root here t v checked e sound =
-    completing_makes hooks table (tree_at here t) (shape_in table root here t) v checked
-    (suits_at table root here t sound.leads sound.suits) e
+pub made_at : (hooks : Meanings) (table : Table) (root : ℕ) (state : State) (v : Val) → IsChecked table
+    → complete hooks table (cursor_shape table root state) (cursor_tree state) ≡ Some v → IsInOrder table root state
+    → Made table (cursor_shape table root state) (λ k. tree_occurs (cursor_tree state) k) v
+made_at hooks table root state v checked e order =
+    completing_makes hooks table (cursor_tree state) (cursor_shape table root state) v checked
+    (suits_at table root state.cursor state.tree order.leads order.suits) e
 
-pub sound_ended : (hooks : Meanings) (table : Table) (root : ℕ) (here : Place) (t : Tree) (v : Val) → IsChecked table
-    → complete hooks table (shape_in table root here t) (tree_at here t) ≡ Some v → IsSound table root here t
-    → IsSound table root (up here) (change_at here (λ old. whole v) t)
-sound_ended hooks table root here t v checked e sound =
-    let made = made_at hooks table root here t v checked e sound in
+pub ended_in_order : (hooks : Meanings) (table : Table) (root : ℕ) (state : State) (v : Val) → IsChecked table
+    → complete hooks table (cursor_shape table root state) (cursor_tree state) ≡ Some v → IsInOrder table root state
+    → IsInOrder table root (puts_and_leaves state v)
+ended_in_order hooks table root state v checked e order =
+    let made = made_at hooks table root state v checked e order in
     record {
-      suits = suits_changed table root here t (λ old. whole v) sound.leads sound.suits made.fit;
-      leads = leads_up here t v sound.leads;
+      suits = suits_changed table root state.cursor state.tree (λ old. whole v) order.leads order.suits made.fit;
+      leads = leads_up state.cursor state.tree v order.leads;
     }

@@ -14,21 +14,22 @@ use Rattle.fr_shape.specs.Val.{Val}
 use Rattle.fr_model.specs.Commands.{Call}
 use Rattle.fr_model.specs.Places.{Place, is_root, field_named, shape_at}
 use Rattle.fr_model.specs.Journal.{entered_at, wrote_at, Journal, Held, held, longest, completes, Progress, initial_progress, may_enter, enters_child, begins, writes, ends, rule, then_rules, rules, outcome}
-use Rattle.fr_model.specs.Tree.{Tree, whole, tree_at, shape_in, State, fresh, initial}
+use Rattle.fr_model.specs.Tree.{Tree, whole, State, cursor_shape, cursor_tree, initial}
 use Rattle.fr_model.specs.Complete.{complete}
 use Rattle.fr_model.specs.Step.{unless_refused, field_refusal, named_refusal, at_shape, enter_child, enters, begins_named, puts, set_refusal, puts_default, violates, ended, step, built}
 use Rattle.fr_model.specs.Run.{Refusal, numbered, and_then, run_from}
 use Rattle.fr_model.specs.Scripts.{IsFitting, AllFitting}
+use Rattle.fr_model.specs.Well.{IsInOrder}
 use Rattle.fr_model.proofs.Beneath.{along, held_along}
 use Rattle.fr_model.proofs.Agreement.{by_value, Agrees, agree_along, completes_tree, completes_at, under_entered, under_wrote, follow}
 use Rattle.fr_model.proofs.Children.{SeesWhole, sees_whole, may_enter_by, ChildOf, enterable, ChildCase, a_child, no_child, child_case, NamedCase, a_named, no_such_name, no_names, named_case}
-use Rattle.fr_model.proofs.Cursor.{IsSound, at_cursor, suits_at, same_shape, entry_at, sound_begun, sound_set, sound_ended}
+use Rattle.fr_model.proofs.Cursor.{at_cursor, suits_at, same_shape, entry_at, begun_in_order, put_in_order, ended_in_order}
 use Rattle.fr_model.proofs.Opening.{fresh_suits, fresh_at_cursor, fresh_agrees}
 use Rattle.fr_model.proofs.Templates.{preset_template}
 
 -- a builder's state and a run of the rules that have come equally far
 pub record Alike (table : Table) (root : ℕ) (state : State) (run : Progress) : Type 0 where
-  pub sound : IsSound table root state.cursor state.tree
+  pub in_order : IsInOrder table root state
   pub agrees : Agrees table root run.notes state.tree
   pub same_cursor : run.cursor ≡ state.cursor
 
@@ -67,60 +68,57 @@ named_none table root s t state (Some kind) found run is = rw is tt
 named_none table root s t state None found run is = rw is tt
 
 -- each command, at a tree and a journal that agree
-module _ (hooks : Meanings) (table : Table) (checked : IsChecked table) (served : IsServed table) (root : ℕ) (here : Place)
-    (t : Tree) (calls : ℕ) (notes : Journal) (sound : IsSound table root here t) (agrees : Agrees table root notes t) where
-  abbrev state : State
-  state = record { tree = t; cursor = here; calls = calls }
-
+module _ (hooks : Meanings) (table : Table) (checked : IsChecked table) (served : IsServed table) (root : ℕ)
+    (state : State) (notes : Journal) (order : IsInOrder table root state) (agrees : Agrees table root notes state.tree) where
   abbrev run : Progress
-  run = record { notes = notes; cursor = here }
+  run = record { notes = notes; cursor = state.cursor }
 
   -- the shape of the place at the cursor
   abbrev at_here : ℕ
-  at_here = shape_in table root here t
+  at_here = cursor_shape table root state
 
-  same : shape_at table root here ≡ at_here
-  same = same_shape table root here t sound.leads
+  same : shape_at table root state.cursor ≡ at_here
+  same = same_shape table root state.cursor state.tree order.leads
 
   -- what the journal knows of the place at the cursor
-  sees : SeesWhole (def_of table at_here) (tree_at here t) (held notes here)
+  sees : SeesWhole (def_of table at_here) (cursor_tree state) (held notes state.cursor)
   sees =
-      subst (λ (h : Held). SeesWhole (def_of table at_here) (tree_at here t) h) (sym (held_along notes here))
-      (sees_whole table at_here (tree_at here t) (along here notes) (at_cursor here t sound.leads)
-      (agree_along table root here t notes sound.leads agrees))
+      subst (λ (h : Held). SeesWhole (def_of table at_here) (cursor_tree state) h) (sym (held_along notes state.cursor))
+      (sees_whole table at_here (cursor_tree state) (along state.cursor notes) (at_cursor state.cursor state.tree order.leads)
+      (agree_along table root state.cursor state.tree notes order.leads agrees))
 
   -- a child is entered
-  entered_alike : (i : ℕ) → ChildOf (def_of table at_here) i (tree_at here t)
+  entered_alike : (i : ℕ) → ChildOf (def_of table at_here) i (cursor_tree state)
       → Alike table root (enters table at_here state i) (entered_run run i)
   entered_alike i child = record {
-    sound = sound_begun table root here t i (enterable table at_here i (tree_at here t) child) sound;
-    agrees = rw (← under_entered here (i ∷ []))
-        (follow table root here t notes (entered_at (i ∷ [])) (enter_child table at_here i) sound.leads agrees
-        ((entry_at table root here t i (enterable table at_here i (tree_at here t) child) sound).agrees (along here notes)));
+    in_order = begun_in_order table root state i (enterable table at_here i (cursor_tree state) child) order;
+    agrees = rw (← under_entered state.cursor (i ∷ []))
+        (follow table root state.cursor state.tree notes (entered_at (i ∷ [])) (enter_child table at_here i) order.leads agrees
+        ((entry_at table root state i (enterable table at_here i (cursor_tree state) child) order).agrees (along state.cursor notes)));
     same_cursor = refl;
   }
 
-  may_is : (i : ℕ) (b : Bool) → may_enter_by (def_of table at_here) i (held notes here) ≡ b
-      → may_enter table (shape_at table root here) i (held notes here) ≡ b
-  may_is i b e = ap (λ (s : ℕ). may_enter table s i (held notes here)) same ∙ e
+  may_is : (i : ℕ) (b : Bool) → may_enter_by (def_of table at_here) i (held notes state.cursor) ≡ b
+      → may_enter table (shape_at table root state.cursor) i (held notes state.cursor) ≡ b
+  may_is i b e = ap (λ (s : ℕ). may_enter table s i (held notes state.cursor)) same ∙ e
 
   begins_alike : (i : ℕ)
       → BothStep table root (step hooks table root state (Call.BeginNthField i)) (rule table root run (Call.BeginNthField i))
-  begins_alike i = go (child_case (def_of table at_here) i (tree_at here t))
+  begins_alike i = go (child_case (def_of table at_here) i (cursor_tree state))
     where
-      go : ChildCase (def_of table at_here) i (tree_at here t)
+      go : ChildCase (def_of table at_here) i (cursor_tree state)
           → BothStep table root
-          (unless_refused (at_shape at_here (field_refusal (def_of table at_here) (tree_at here t) i))
+          (unless_refused (at_shape at_here (field_refusal (def_of table at_here) (cursor_tree state) i))
           (enters table at_here state i))
-          (enters_child (may_enter table (shape_at table root here) i (held notes here)) run i)
+          (enters_child (may_enter table (shape_at table root state.cursor) i (held notes state.cursor)) run i)
       go (a_child child admitted may) =
-          begun_both table root at_here i (field_refusal (def_of table at_here) (tree_at here t) i)
-          (may_enter table (shape_at table root here) i (held notes here)) (enters table at_here state i) run admitted
-          (may_is i true (may (held notes here) sees)) (entered_alike i child)
+          begun_both table root at_here i (field_refusal (def_of table at_here) (cursor_tree state) i)
+          (may_enter table (shape_at table root state.cursor) i (held notes state.cursor)) (enters table at_here state i) run admitted
+          (may_is i true (may (held notes state.cursor) sees)) (entered_alike i child)
       go (no_child operation refused may) =
-          begun_neither table root at_here i (field_refusal (def_of table at_here) (tree_at here t) i)
-          (may_enter table (shape_at table root here) i (held notes here)) operation (enters table at_here state i) run
-          refused (may_is i false (may (held notes here) sees))
+          begun_neither table root at_here i (field_refusal (def_of table at_here) (cursor_tree state) i)
+          (may_enter table (shape_at table root state.cursor) i (held notes state.cursor)) operation (enters table at_here state i) run
+          refused (may_is i false (may (held notes state.cursor) sees))
 
   named_alike : (name : List ℕ)
       → BothStep table root (step hooks table root state (Call.BeginField name)) (rule table root run (Call.BeginField name))
@@ -130,16 +128,16 @@ module _ (hooks : Meanings) (table : Table) (checked : IsChecked table) (served 
       (begins_named table at_here state (at_shape at_here (named_refusal (def_of table at_here)))
       (field_named name (def_of table at_here)))
       (begins table s run (field_named name (def_of table s))))
-      (sym same) (go (named_case name (def_of table at_here) (tree_at here t)))
+      (sym same) (go (named_case name (def_of table at_here) (cursor_tree state)))
     where
-      go : NamedCase name (def_of table at_here) (tree_at here t)
+      go : NamedCase name (def_of table at_here) (cursor_tree state)
           → BothStep table root
           (begins_named table at_here state (at_shape at_here (named_refusal (def_of table at_here)))
           (field_named name (def_of table at_here)))
           (begins table at_here run (field_named name (def_of table at_here)))
       go (a_named i child admitted is may) =
           named_both table root at_here i state (named_refusal (def_of table at_here))
-          (field_named name (def_of table at_here)) run at_here admitted is (may (held notes here)) (entered_alike i child)
+          (field_named name (def_of table at_here)) run at_here admitted is (may (held notes state.cursor)) (entered_alike i child)
       go (no_such_name admitted is) =
           named_none table root at_here at_here state (at_shape at_here (named_refusal (def_of table at_here)))
           (field_named name (def_of table at_here)) run is
@@ -149,11 +147,11 @@ module _ (hooks : Meanings) (table : Table) (checked : IsChecked table) (served 
 
   -- a value is put
   put_alike : (v : Val) → fits table at_here v ≡ true
-      → Alike table root (puts state v) (record { notes = wrote_at here v ∷ notes; cursor = here })
+      → Alike table root (puts state v) (record { notes = wrote_at state.cursor v ∷ notes; cursor = state.cursor })
   put_alike v fit = record {
-    sound = sound_set table root here t v fit sound;
-    agrees = rw (← under_wrote here v)
-        (follow table root here t notes (wrote_at [] v) (λ old. whole v) sound.leads agrees (λ old. by_value refl));
+    in_order = put_in_order table root state v fit order;
+    agrees = rw (← under_wrote state.cursor v)
+        (follow table root state.cursor state.tree notes (wrote_at [] v) (λ old. whole v) order.leads agrees (λ old. by_value refl));
     same_cursor = refl;
   }
 
@@ -178,21 +176,21 @@ module _ (hooks : Meanings) (table : Table) (checked : IsChecked table) (served 
       go None is = tt
 
   -- end
-  ends_alike : (value : Option Val) (by_notes : Option Val) → complete hooks table at_here (tree_at here t) ≡ value
+  ends_alike : (value : Option Val) (by_notes : Option Val) → complete hooks table at_here (cursor_tree state) ≡ value
       → by_notes ≡ value → BothStep table root (ended hooks table at_here state value) (ends run by_notes)
   ends_alike (Some v) by_notes is same_value = rw same_value (record {
-    sound = sound_ended hooks table root here t v checked is sound;
-    agrees = rw (← under_wrote here v)
-        (follow table root here t notes (wrote_at [] v) (λ old. whole v) sound.leads agrees (λ old. by_value refl));
+    in_order = ended_in_order hooks table root state v checked is order;
+    agrees = rw (← under_wrote state.cursor v)
+        (follow table root state.cursor state.tree notes (wrote_at [] v) (λ old. whole v) order.leads agrees (λ old. by_value refl));
     same_cursor = refl;
   })
   ends_alike None by_notes is same_value = rw same_value tt
 
-  completes_here : completes table notes (shape_at table root here) here ≡ complete hooks table at_here (tree_at here t)
+  completes_here : completes table notes (shape_at table root state.cursor) state.cursor ≡ complete hooks table at_here (cursor_tree state)
   completes_here =
-      ap (λ (s : ℕ). completes table notes s here) same
-      ∙ completes_at hooks table root here t notes checked served sound.leads
-      (suits_at table root here t sound.leads sound.suits) agrees
+      ap (λ (s : ℕ). completes table notes s state.cursor) same
+      ∙ completes_at hooks table root state.cursor state.tree notes checked served order.leads
+      (suits_at table root state.cursor state.tree order.leads order.suits) agrees
 
   steps_alike : (command : Call) → IsFitting table command
       → BothStep table root (step hooks table root state command) (rule table root run command)
@@ -200,17 +198,17 @@ module _ (hooks : Meanings) (table : Table) (checked : IsChecked table) (served 
   steps_alike (Call.BeginNthField i) fit = begins_alike i
   steps_alike (Call.Set given v) fit = sets_alike given v fit.1
   steps_alike Call.SetDefault fit = defaults_alike
-  steps_alike Call.End fit = go (is_root here)
+  steps_alike Call.End fit = go (is_root state.cursor)
     where
       go : (b : Bool)
           → BothStep table root
           (if b then Err (violates Invariant.EndAtRoot)
-          else ended hooks table at_here state (complete hooks table at_here (tree_at here t)))
-          (if b then None else ends run (completes table notes (shape_at table root here) here))
+          else ended hooks table at_here state (complete hooks table at_here (cursor_tree state)))
+          (if b then None else ends run (completes table notes (shape_at table root state.cursor) state.cursor))
       go true = tt
       go false =
-          ends_alike (complete hooks table at_here (tree_at here t))
-          (completes table notes (shape_at table root here) here) refl completes_here
+          ends_alike (complete hooks table at_here (cursor_tree state))
+          (completes table notes (shape_at table root state.cursor) state.cursor) refl completes_here
 
 -- a whole script
 
@@ -237,7 +235,7 @@ module _ (hooks : Meanings) (table : Table) (checked : IsChecked table) (served 
     where
       same : completes table run.notes root [] ≡ complete hooks table root state.tree
       same =
-          completes_tree hooks table state.tree (longest run.notes) root run.notes checked served alike.sound.suits
+          completes_tree hooks table state.tree (longest run.notes) root run.notes checked served alike.in_order.suits
           alike.agrees (omega arith)
 
       go : (b : Bool)
@@ -257,8 +255,7 @@ module _ (hooks : Meanings) (table : Table) (checked : IsChecked table) (served 
       subst
       (λ (here : Place). BothStep table root (step hooks table root state command)
       (rule table root (record { notes = run.notes; cursor = here }) command)) (sym alike.same_cursor)
-      (steps_alike hooks table checked served root state.cursor state.tree state.calls run.notes alike.sound alike.agrees
-      command fit)
+      (steps_alike hooks table checked served root state run.notes alike.in_order alike.agrees command fit)
 
   pub run_same : (script : List Call) (number : ℕ) (state : State) (run : Progress) → Alike table root state run
       → AllFitting table script
@@ -272,12 +269,12 @@ module _ (hooks : Meanings) (table : Table) (checked : IsChecked table) (served 
 
 -- at the start
 
-pub start_sound : (table : Table) (root : ℕ) → IsSound table root [] (fresh (def_of table root))
-start_sound table root = record { suits = fresh_suits table root; leads = fresh_at_cursor (def_of table root) }
+pub start_in_order : (table : Table) (root : ℕ) → IsInOrder table root (initial table root)
+start_in_order table root = record { suits = fresh_suits table root; leads = fresh_at_cursor (def_of table root) }
 
 pub start_alike : (table : Table) (root : ℕ) → Alike table root (initial table root) initial_progress
 start_alike table root = record {
-  sound = start_sound table root;
+  in_order = start_in_order table root;
   agrees = fresh_agrees table root (entered_at [] ∷ []) refl;
   same_cursor = refl;
 }

@@ -1,5 +1,6 @@
 -- Laws of the tree and of the steps.
-use Rattle.std.specs.Prelude.{◌≡◌, ℕ, ◌+◌, ◌<◌, ◌≤◌, true, is_none, is_some, Some, Ok}
+use Rattle.std.specs.Prelude.{◌≡◌, ℕ, ◌+◌, ◌<◌, ◌≤◌, true, is_none, is_some, Some, Result, Ok, Err}
+use Rattle.fr_shape.specs.declared.error.ReflectErrorKind.{ReflectErrorKind}
 use Rattle.fr_shape.specs.Checked.{IsChecked}
 use Rattle.fr_shape.specs.Hooks.{Meanings}
 use Rattle.fr_shape.specs.Look.{Table}
@@ -9,10 +10,10 @@ use Rattle.fr_shape.specs.Tokens.{occurs}
 use Rattle.fr_model.specs.Commands.{Call}
 use Rattle.fr_model.specs.Tree.{Tree, tree_occurs, State, initial}
 use Rattle.fr_model.specs.Complete.{complete, lack}
-use Rattle.fr_model.specs.Step.{step}
+use Rattle.fr_model.specs.Step.{step, build}
 use Rattle.fr_model.specs.Scripts.{IsFitting, brings}
-use Rattle.fr_model.specs.Removed.{removed}
-use Rattle.fr_model.specs.Well.{Suits, IsWell}
+use Rattle.fr_model.specs.Removed.{removed, removed_at_build}
+use Rattle.fr_model.specs.Well.{Suits, IsInOrder, AreDistinct, IsWell}
 
 -- a place makes no value exactly where it lacks something
 abbrev pub CompletesOrLacks : Type 0
@@ -33,26 +34,55 @@ CompletingFits =
     (hooks : Meanings) (table : Table) (s : ℕ) (tree : Tree) (v : Val) → IsChecked table → Suits table s tree
     → complete hooks table s tree ≡ Some v → fits table s v ≡ true
 
--- What the tree holds after an admitted command, and what the command dropped, is what the tree held and what the
--- command brought.
+-- Tokens: nothing is lost and nothing doubled
+
+-- how often a token is held after a command: in the tree; after a refusal nothing is held
+abbrev pub held_after : Result State ReflectErrorKind → ℕ → ℕ
+held_after (Ok next) t = tree_occurs next.tree t
+held_after (Err kind) t = 0
+
+-- What the tree held and the command brought is what is held after the command, and what it dropped.
 abbrev pub StepKeepsTokens : Type 0
 StepKeepsTokens =
+    (hooks : Meanings) (table : Table) (root : ℕ) (state : State) (command : Call) → IsChecked table
+    → IsInOrder table root state → (t : ℕ)
+    → tree_occurs state.tree t + brings command t
+    ≡ held_after (step hooks table root state command) t + removed hooks table root state command t
+
+-- how often a token stands in what is built, if anything is
+abbrev pub built_occurs : Result Val ReflectErrorKind → ℕ → ℕ
+built_occurs (Ok v) t = occurs v t
+built_occurs (Err kind) t = 0
+
+-- What the tree held is what the built value holds, and what `build` dropped.
+abbrev pub BuildKeepsTokens : Type 0
+BuildKeepsTokens =
+    (hooks : Meanings) (table : Table) (root : ℕ) (state : State) → IsChecked table → Suits table root state.tree
+    → (t : ℕ)
+    → tree_occurs state.tree t
+    ≡ built_occurs (build hooks table root state) t + removed_at_build hooks table root state t
+
+-- States stay well
+
+-- a builder of which nothing was asked yet is in a well state
+abbrev pub StartIsWell : Type 0
+StartIsWell = (table : Table) (root : ℕ) → IsWell table root (initial table root)
+
+-- an admitted command, if it is fitting, leads from a state in order to a state in order
+abbrev pub StepKeepsOrder : Type 0
+StepKeepsOrder =
     (hooks : Meanings) (table : Table) (root : ℕ) (state next : State) (command : Call) → IsChecked table
-    → IsWell table root state → step hooks table root state command ≡ Ok next → (t : ℕ)
-    → tree_occurs next.tree t + removed hooks table root state command t ≡ tree_occurs state.tree t + brings command t
+    → IsInOrder table root state → IsFitting table command → step hooks table root state command ≡ Ok next
+    → IsInOrder table root next
 
 -- a command brings each token at most once, and none that the tree holds
 pub record IsFresh (state : State) (command : Call) : Type 0 where
   pub distinct : (t : ℕ) → brings command t ≤ 1
   pub new : (t : ℕ) → 0 < brings command t → tree_occurs state.tree t ≡ 0
 
--- an admitted command, fitting and fresh, leads from a well state to a well state
-abbrev pub StepKeepsWell : Type 0
-StepKeepsWell =
+-- an admitted command, if it is fresh, leaves no token twice in the tree of a well state
+abbrev pub StepKeepsDistinct : Type 0
+StepKeepsDistinct =
     (hooks : Meanings) (table : Table) (root : ℕ) (state next : State) (command : Call) → IsChecked table
-    → IsWell table root state → IsFitting table command → IsFresh state command
-    → step hooks table root state command ≡ Ok next → IsWell table root next
-
--- a builder of which nothing was asked yet is in a well state
-abbrev pub StartIsWell : Type 0
-StartIsWell = (table : Table) (root : ℕ) → IsWell table root (initial table root)
+    → IsWell table root state → IsFresh state command → step hooks table root state command ≡ Ok next
+    → AreDistinct next.tree

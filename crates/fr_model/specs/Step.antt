@@ -11,7 +11,7 @@ use Rattle.fr_shape.specs.Look.{Table, def_of}
 use Rattle.fr_shape.specs.Val.{Val, product}
 use Rattle.fr_model.specs.Commands.{Call}
 use Rattle.fr_model.specs.Places.{is_root, up, child_count, child_shape, field_named}
-use Rattle.fr_model.specs.Tree.{Form, form_of, Tree, hole, entered, whole, begun, wholes, holes, fresh, change_child, change_at, tree_at, shape_in, State, one_more_call}
+use Rattle.fr_model.specs.Tree.{Form, form_of, Tree, hole, entered, whole, begun, wholes, holes, fresh, change_child, change_at, State, cursor_shape, cursor_tree, one_more_call}
 use Rattle.fr_model.specs.Complete.{complete, lack, missing_value}
 
 -- the new state, unless there is something to refuse
@@ -87,7 +87,7 @@ enter_child table s i t =
 
 -- child i of the cursor's place is entered, and the cursor goes there
 abbrev pub enters : Table → ℕ → State → ℕ → State
-enters table s state i = record {
+enters table s state i = record state {
   tree = change_at state.cursor (enter_child table s i) state.tree;
   cursor = state.cursor ++ i ∷ [];
   calls = one_more_call state.calls;
@@ -95,7 +95,7 @@ enters table s state i = record {
 
 abbrev pub begin_nth_field : Table → ℕ → State → ℕ → Result State ReflectErrorKind
 begin_nth_field table s state i =
-    unless_refused (at_shape s (field_refusal (def_of table s) (tree_at state.cursor state.tree) i)) (enters table s state i)
+    unless_refused (at_shape s (field_refusal (def_of table s) (cursor_tree state) i)) (enters table s state i)
 
 abbrev pub enters_named : Table → ℕ → State → Option ℕ → Result State ReflectErrorKind
 enters_named table s state (Some i) = Ok (enters table s state i)
@@ -114,9 +114,8 @@ begin_field table s state name =
 
 -- the value takes the place of all that stood at the cursor
 abbrev pub puts : State → Val → State
-puts state v = record {
+puts state v = record state {
   tree = change_at state.cursor (λ old. whole v) state.tree;
-  cursor = state.cursor;
   calls = one_more_call state.calls;
 }
 
@@ -146,20 +145,19 @@ or_missing s None = missing_value s
 abbrev pub cause : Meanings → Table → ℕ → Tree → ReflectErrorKind
 cause hooks table s t = or_missing s (lack hooks table s t)
 
+-- the value takes the place of all that stood at the cursor, and the cursor goes up
+abbrev pub puts_and_leaves : State → Val → State
+puts_and_leaves state v = record (puts state v) { cursor = up state.cursor }
+
 abbrev pub ended : Meanings → Table → ℕ → State → Option Val → Result State ReflectErrorKind
-ended hooks table s state (Some v) =
-    Ok (record {
-      tree = change_at state.cursor (λ old. whole v) state.tree;
-      cursor = up state.cursor;
-      calls = one_more_call state.calls;
-    })
-ended hooks table s state None = Err (cause hooks table s (tree_at state.cursor state.tree))
+ended hooks table s state (Some v) = Ok (puts_and_leaves state v)
+ended hooks table s state None = Err (cause hooks table s (cursor_tree state))
 
 -- end: not at the root; the place is completed and becomes whole, and the cursor goes up
 abbrev pub end : Meanings → Table → ℕ → State → Result State ReflectErrorKind
 end hooks table s state =
     if is_root state.cursor then Err (violates Invariant.EndAtRoot)
-    else ended hooks table s state (complete hooks table s (tree_at state.cursor state.tree))
+    else ended hooks table s state (complete hooks table s (cursor_tree state))
 
 -- a command at a place of shape s
 abbrev pub step_at : Meanings → Table → ℕ → State → Call → Result State ReflectErrorKind
@@ -171,7 +169,7 @@ step_at hooks table s state Call.End = end hooks table s state
 
 -- a command at the cursor, the root having shape `root`
 abbrev pub step : Meanings → Table → ℕ → State → Call → Result State ReflectErrorKind
-step hooks table root state command = step_at hooks table (shape_in table root state.cursor state.tree) state command
+step hooks table root state command = step_at hooks table (cursor_shape table root state) state command
 
 abbrev pub built : Meanings → Table → ℕ → Tree → Option Val → Result Val ReflectErrorKind
 built hooks table root t (Some v) = Ok v

@@ -106,6 +106,14 @@ pub record State : Type 0 where
   pub cursor : Place
   pub calls : ℕ
 
+-- the shape of the place at the cursor, the root having shape `root`
+abbrev pub cursor_shape : Table → (root : ℕ) → State → ℕ
+cursor_shape table root state = shape_in table root state.cursor state.tree
+
+-- what stands at the cursor
+abbrev pub cursor_tree : State → Tree
+cursor_tree state = tree_at state.cursor state.tree
+
 abbrev pub one_more_call : ℕ → ℕ
 one_more_call calls = min (calls + 1) 4294967295
 

@@ -60,8 +60,17 @@ Leads [] t = AtCursor t
 Leads (i ∷ place) (begun form ts) = DoneBut i (λ child. Leads place child) ts
 Leads (i ∷ place) _ = ⊥
 
--- a well state over a root of shape `root`
-pub record IsWell (table : Table) (root : ℕ) (state : State) : Type 0 where
+-- What a state is, whatever tokens it holds: each node suits its shape, of a root of shape `root`, and the cursor leads
+-- to a place.
+pub record IsInOrder (table : Table) (root : ℕ) (state : State) : Type 0 where
   pub suits : Suits table root state.tree
   pub leads : Leads state.cursor state.tree
-  pub distinct : (t : ℕ) → tree_occurs state.tree t ≤ 1
+
+-- no token stands twice in a tree
+abbrev pub AreDistinct : Tree → Type 0
+AreDistinct tree = (t : ℕ) → tree_occurs tree t ≤ 1
+
+-- a well state is in order, and holds no token twice
+pub record IsWell (table : Table) (root : ℕ) (state : State) : Type 0 where
+  pub in_order : IsInOrder table root state
+  pub distinct : AreDistinct state.tree

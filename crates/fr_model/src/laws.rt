@@ -1,7 +1,7 @@
 //! Laws of the definitions: each is the contract of a function that does nothing.
 ghost use Rattle.fr_model.specs.Agree.{MachineAgrees};
 ghost use Rattle.fr_model.specs.Covering.{ScanAgrees, WaysAgree};
-ghost use Rattle.fr_model.specs.Laws.{CompletesOrLacks, CompletingFits, CompletingKeepsTokens, StartIsWell, StepKeepsTokens, StepKeepsWell};
+ghost use Rattle.fr_model.specs.Laws.{BuildKeepsTokens, CompletesOrLacks, CompletingFits, CompletingKeepsTokens, StartIsWell, StepKeepsDistinct, StepKeepsOrder, StepKeepsTokens};
 
 /// For every script of fitting values over a checked and served table, whatever the hooks mean, the run of the commands
 /// answers `Ok` exactly where the journal completes, and with the journal's value.
@@ -23,15 +23,17 @@ pub fn law_completes()
     ensures tokens { CompletingKeepsTokens }
 {}
 
-/// Over a checked table, an admitted command in a well state drops the tokens that it brings and those that were there,
-/// but for those that are there now.
+/// Over a checked table, in a state that is in order: the tokens that the builder held and a command brought are those
+/// that it then holds (none after a refusal) and those that the command dropped; and so it is of `build`.
 pub fn law_removed()
-    ensures tokens { StepKeepsTokens }
+    ensures step { StepKeepsTokens }
+    ensures build { BuildKeepsTokens }
 {}
 
-/// A builder begins in a well state, whatever its table and its root; over a checked table each admitted command that
-/// fits and is fresh keeps its state well.
+/// A builder begins in a well state, whatever its table and its root. Over a checked table an admitted command keeps its
+/// state in order, if the command is fitting, and well, if it is fresh besides.
 pub fn law_well()
     ensures start { StartIsWell }
-    ensures step { StepKeepsWell }
+    ensures in_order { StepKeepsOrder }
+    ensures distinct { StepKeepsDistinct }
 {}
