@@ -24,7 +24,7 @@ pub enum DocSize {
 }
 
 /// Why a document is refused. `Invalid` tells the first command that isn't valid, counted from 0.
-#[derive(Clone, Copy, PartialEq, Eq)]
+#[derive(Drop)]
 pub enum DocFault {
     TooLong,
     NotJson,
@@ -36,7 +36,7 @@ pub enum DocFault {
 }
 
 /// Why a reading gave nothing: no memory was left, or what was read is at fault.
-#[derive(Clone, Copy, PartialEq, Eq)]
+#[derive(Drop)]
 pub enum ReadError {
     Memory,
     Fault(DocFault),

@@ -4,9 +4,10 @@ use Rattle.std.proofs.lemmas.Bool.{eq-eqb}
 use Rattle.fr_shape.specs.declared.shape.Def.{Def}
 use Rattle.fr_shape.specs.declared.shape.Field.{Field}
 use Rattle.fr_shape.specs.Checked.{IsChecked}
-use Rattle.fr_shape.specs.Fills.{preset_of, has_no_field, is_empty_struct}
+use Rattle.fr_shape.specs.Fills.{preset_of, is_empty_struct}
 use Rattle.fr_shape.specs.Hooks.{Meanings}
 use Rattle.fr_shape.specs.Look.{Table, def_of}
+use Rattle.fr_shape.specs.Lists.{is_nil}
 use Rattle.fr_shape.specs.Served.{IsServed}
 use Rattle.fr_shape.specs.Val.{Val, product, no_vals}
 use Rattle.fr_model.specs.Places.{Place, count_children, child_count, one_more, product_of, each_child, child_shape, fill_by, fill_at}
@@ -86,7 +87,7 @@ entered_same hooks table s checked served fields =
     (each_same (λ k. fill_at table s k) (λ k. valid_child hooks table s as_struct k (fill_at table s k))
     (child_count table s) 0 (λ k. sym (valid_same hooks table s as_struct k (fill_at table s k) served)))) fields
   where
-    with_fields : (all : List Field) (preset fills valid : Option Val) → fills ≡ valid → has_no_field all ≡ false
+    with_fields : (all : List Field) (preset fills valid : Option Val) → fills ≡ valid → is_nil all ≡ false
         → entered_struct (length all) preset fills ≡ or_else preset valid
     with_fields [] preset fills valid e some = cc
     with_fields (field ∷ rest) (Some v) fills valid e some = refl
@@ -107,7 +108,7 @@ entered_empty table s none =
     go (def_of table s) (preset_of table s)
     (product_of (each_child (λ k. fill_at table s k) (child_count table s) 0)) none
   where
-    without_fields : (all : List Field) (preset fills : Option Val) → has_no_field all ≡ true
+    without_fields : (all : List Field) (preset fills : Option Val) → is_nil all ≡ true
         → entered_struct (length all) preset fills ≡ Some (product no_vals)
     without_fields [] preset fills none = refl
     without_fields (field ∷ rest) preset fills none = cc

@@ -8,7 +8,8 @@ use Rattle.fr_shape.specs.declared.shape.Field.{Field}
 use Rattle.fr_shape.specs.declared.error.Operation.{Operation}
 use Rattle.fr_shape.specs.Look.{Table, def_of}
 use Rattle.fr_shape.specs.Val.{Val}
-use Rattle.fr_model.specs.Places.{count_children, first_declared, field_named}
+use Rattle.fr_shape.specs.Named.{first_declared, field_named}
+use Rattle.fr_model.specs.Places.{count_children}
 use Rattle.fr_model.specs.Journal.{Journal, Held, held, is_written, may_enter_children}
 use Rattle.fr_model.specs.Tree.{Tree, hole, entered, whole, begun}
 use Rattle.fr_model.specs.Step.{field_refusal, named_refusal}

@@ -4,7 +4,8 @@ use Rattle.fr_shape.specs.declared.shape.Def.{Def}
 use Rattle.fr_shape.specs.declared.shape.ShapeId.{ShapeId}
 use Rattle.fr_shape.specs.declared.shape.StructDef.{StructDef}
 use Rattle.fr_shape.specs.declared.shape.Field.{Field}
-use Rattle.fr_shape.specs.Fills.{has_no_field, is_empty_struct}
+use Rattle.fr_shape.specs.Fills.{is_empty_struct}
+use Rattle.fr_shape.specs.Lists.{is_nil}
 use Rattle.fr_shape.specs.Look.{Table, def_of}
 use Rattle.fr_shape.specs.Val.{Val, Vals, unit, product, no_vals, first}
 use Rattle.fr_shape.specs.Fits.{fits, fields_fit}
@@ -153,11 +154,11 @@ opening table s i (begun form ts) enterable at suits =
 pub fresh_suits : (table : Table) (s : ℕ) → Suits table s (fresh (def_of table s))
 fresh_suits table s = go (is_empty_struct (def_of table s)) refl
   where
-    empty_fits : (struct : StructDef) → def_of table s ≡ Def.Struct struct → has_no_field struct.fields ≡ true
+    empty_fits : (struct : StructDef) → def_of table s ≡ Def.Struct struct → is_nil struct.fields ≡ true
         → fits table s (product no_vals) ≡ true
     empty_fits struct is none = rw (settled_struct table s struct is) (of_fields struct.fields none)
       where
-        of_fields : (fields : List Field) → has_no_field fields ≡ true → fields_fit table fields no_vals ≡ true
+        of_fields : (fields : List Field) → is_nil fields ≡ true → fields_fit table fields no_vals ≡ true
         of_fields [] none = refl
         of_fields (field ∷ fields) none = cc
 

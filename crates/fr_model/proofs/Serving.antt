@@ -7,7 +7,8 @@ use Rattle.fr_shape.specs.declared.shape.Field.{Field}
 use Rattle.fr_shape.specs.declared.error.ReflectErrorKind.{ReflectErrorKind}
 use Rattle.fr_shape.specs.Hooks.{Meanings}
 use Rattle.fr_shape.specs.Look.{Table, def_of, field_in}
-use Rattle.fr_shape.specs.Served.{is_nil, serves_field, serves_def, serves, IsServed}
+use Rattle.fr_shape.specs.Lists.{is_nil}
+use Rattle.fr_shape.specs.Served.{serves_field, serves_def, serves, IsServed}
 use Rattle.fr_shape.specs.Val.{Val}
 use Rattle.fr_model.specs.Complete.{first_failing, failing_field, unless_failing, valid_child}
 use Rattle.fr_model.specs.Tree.{Form, as_struct, as_array}

@@ -12,7 +12,8 @@ use Rattle.fr_shape.specs.Look.{Table, def_of}
 use Rattle.fr_shape.specs.Served.{IsServed}
 use Rattle.fr_shape.specs.Val.{Val}
 use Rattle.fr_model.specs.Commands.{Call}
-use Rattle.fr_model.specs.Places.{Place, is_root, field_named, shape_at}
+use Rattle.fr_shape.specs.Named.{field_named}
+use Rattle.fr_model.specs.Places.{Place, is_root, shape_at}
 use Rattle.fr_model.specs.Journal.{entered_at, wrote_at, Journal, Held, held, longest, completes, Progress, initial_progress, may_enter, enters_child, begins, writes, ends, rule, then_rules, rules, outcome}
 use Rattle.fr_model.specs.Tree.{Tree, whole, State, cursor_shape, cursor_tree, initial}
 use Rattle.fr_model.specs.Complete.{complete}

@@ -9,7 +9,7 @@ use Rattle.fr_shape.specs.declared.shape.DefaultSource.{DefaultSource}
 use Rattle.fr_shape.specs.Checked.{IsChecked, fields_of, is_template, default_is_template, is_none_val}
 use Rattle.fr_shape.specs.Fills.{preset_in, preset_of, strict_by_mark, takes_shape_default, by_strict_rule, strict_fill}
 use Rattle.fr_shape.specs.Look.{Table, def_or_other, def_of}
-use Rattle.fr_shape.specs.Served.{is_nil}
+use Rattle.fr_shape.specs.Lists.{is_nil}
 use Rattle.fr_shape.specs.Val.{Val, none}
 use Rattle.fr_shape.specs.Fits.{fits}
 use Rattle.fr_shape.specs.Tokens.{tokens, times, occurs}

@@ -6,7 +6,8 @@ use Rattle.fr_shape.specs.Fills.{preset_of}
 use Rattle.fr_shape.specs.Look.{Table, def_of}
 use Rattle.fr_shape.specs.Val.{Val, product, no_vals}
 use Rattle.fr_model.specs.Commands.{Call}
-use Rattle.fr_model.specs.Places.{Place, is_root, up, child_count, child_shape, shape_at, part_at, product_of, each_child, fill_at, field_named}
+use Rattle.fr_shape.specs.Named.{field_named}
+use Rattle.fr_model.specs.Places.{Place, is_root, up, child_count, child_shape, shape_at, part_at, product_of, each_child, fill_at}
 
 -- a place was entered, or a value was written to it
 pub data Note : Type 0 where

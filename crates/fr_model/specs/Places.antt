@@ -1,6 +1,5 @@
 -- Places: lists of child numbers from the root, and what a table says of the shapes along them.
-use Rattle.std.specs.Prelude.{ℕ, zero, suc, Bool, true, false, List, [], ◌∷◌, length, slice_get, Option, Some, None, if◌then◌else◌}
-use Rattle.std.specs.Str.{bytes_eq}
+use Rattle.std.specs.Prelude.{ℕ, zero, suc, Bool, true, false, List, [], ◌∷◌, length, slice_get, Option, Some, None}
 use Rattle.fr_shape.specs.declared.shape.Def.{Def}
 use Rattle.fr_shape.specs.declared.shape.Field.{Field}
 use Rattle.fr_shape.specs.Fills.{strict_fill}
@@ -55,17 +54,6 @@ fill_by table s _ i = None
 -- of an array never takes anything
 abbrev pub fill_at : Table → ℕ → ℕ → Option Val
 fill_at table s i = fill_by table s (def_of table s) i
-
--- the first of these fields that is declared under this name, counted from i
-abbrev pub first_declared : (name : List ℕ) → ℕ → List Field → Option ℕ
-first_declared name i [] = None
-first_declared name i (field ∷ fields) =
-    if bytes_eq field.name name then Some i else first_declared name (suc i) fields
-
--- the field of a struct that is declared under this name
-abbrev pub field_named : (name : List ℕ) → Def → Option ℕ
-field_named name (Def.Struct struct) = first_declared name 0 struct.fields
-field_named name _ = None
 
 -- the shape of the place that this way leads to, from a place of shape s
 abbrev pub shape_at : Table → ℕ → Place → ℕ

@@ -10,7 +10,8 @@ use Rattle.fr_shape.specs.Hooks.{Meanings}
 use Rattle.fr_shape.specs.Look.{Table, def_of}
 use Rattle.fr_shape.specs.Val.{Val, product}
 use Rattle.fr_model.specs.Commands.{Call}
-use Rattle.fr_model.specs.Places.{is_root, up, child_count, child_shape, field_named}
+use Rattle.fr_shape.specs.Named.{field_named}
+use Rattle.fr_model.specs.Places.{is_root, up, child_count, child_shape}
 use Rattle.fr_model.specs.Tree.{Form, form_of, Tree, hole, entered, whole, begun, wholes, holes, fresh, change_child, change_at, State, cursor_shape, cursor_tree, one_more_call}
 use Rattle.fr_model.specs.Complete.{complete, lack, missing_value}
 

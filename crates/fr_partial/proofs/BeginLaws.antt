@@ -13,7 +13,8 @@ use Rattle.fr_shape.specs.Look.{Table, def_of}
 use Rattle.fr_shape.specs.Tokens.{occurs}
 use Rattle.fr_shape.specs.Val.{Val, unit}
 use Rattle.fr_shape.specs.View.{view}
-use Rattle.fr_model.specs.Places.{child_shape, count_children, field_named, first_declared}
+use Rattle.fr_shape.specs.Named.{field_named, first_declared}
+use Rattle.fr_model.specs.Places.{child_shape, count_children}
 use Rattle.fr_model.specs.Tree.{Form, Tree, begun, fresh, change_nth, change_child, change_at, tree_at, tree_occurs, State, one_more_call}
 use Rattle.fr_model.specs.Well.{IsFullAs}
 use Rattle.fr_model.specs.Step.{begin_nth_field, begin_field, enters, field_refusal, named_refusal, enter, enter_child}

@@ -1,12 +1,11 @@
 -- Children of which some are filled: what is lacking, and what comes of filling one after the other.
-use Rattle.std.proofs.Common.{◌≡◌, ℕ, zero, suc, ◌+◌, ◌<◌, ◌≤◌, Bool, true, false, List, [], ◌∷◌, length, Option, Some, None, IsSome, slice_get, get_or, set, length-set, take, add-one, refl, sym, ◌∙◌, ap, subst, arith}
+use Rattle.std.proofs.Common.{◌≡◌, ℕ, zero, suc, ◌+◌, ◌<◌, ◌≤◌, Bool, true, false, List, [], ◌∷◌, length, Option, Some, None, IsSome, slice_get, get_or, set, length-set, take, add-one, refl, sym, ◌∙◌, ap, subst, arith, is_none}
 use Rattle.std.specs.List.{All}
 use Rattle.std.proofs.lemmas.List.{take_all}
 use Rattle.std.proofs.lemmas.List.Elements.{All-head, All-tail}
 use Rattle.fr_shape.specs.declared.value.Value.{Value}
 use Rattle.fr_shape.specs.Fits.{fits, count_vals}
 use Rattle.fr_shape.specs.Look.{Table}
-use Rattle.fr_shape.specs.Served.{is_absent}
 use Rattle.fr_shape.specs.Tokens.{occurs, vals_occur}
 use Rattle.fr_shape.specs.Val.{Val, Vals, unit, no_vals, first}
 use Rattle.fr_shape.specs.View.{view, vals_view}
@@ -72,15 +71,15 @@ one_more_without (Some v) (Some vs) e = cc
 one_more_without (Some v) None e = refl
 one_more_without None b e = refl
 
-one_more_absent : (a : Option Val) (b : Option Vals) → is_absent a ≡ true → one_more a b ≡ None
+one_more_absent : (a : Option Val) (b : Option Vals) → is_none a ≡ true → one_more a b ≡ None
 one_more_absent (Some v) b e = cc
 one_more_absent None b e = refl
 
-pub present : (a : Option Val) → is_absent a ≡ false → IsSome a
+pub present : (a : Option Val) → is_none a ≡ false → IsSome a
 present (Some v) e = refl
 present None e = cc
 
-pub present_not : (a : Option Val) → a ≡ None → is_absent a ≡ true
+pub present_not : (a : Option Val) → a ≡ None → is_none a ≡ true
 present_not (Some v) e = cc
 present_not None e = refl
 
@@ -89,9 +88,9 @@ module _ (fill : ℕ → Option Val) where
 
   pub filled_there : (i : ℕ) (cs : List Value) → first_lacking fill i cs ≡ None → IsSome (filled fill i cs)
   filled_there i [] h = refl
-  filled_there i (c ∷ cs) h = go (is_placeholder (view c)) refl (is_absent (fill i)) refl (λ k. filled_there (suc i) cs k)
+  filled_there i (c ∷ cs) h = go (is_placeholder (view c)) refl (is_none (fill i)) refl (λ k. filled_there (suc i) cs k)
     where
-      go : (b : Bool) → is_placeholder (view c) ≡ b → (a : Bool) → is_absent (fill i) ≡ a
+      go : (b : Bool) → is_placeholder (view c) ≡ b → (a : Bool) → is_none (fill i) ≡ a
           → (first_lacking fill (suc i) cs ≡ None → IsSome (filled fill (suc i) cs)) → IsSome (filled fill i (c ∷ cs))
       go true e true f rest = let none : Some i ≡ None = rw (e, f) at h in cc
       go true e false f rest =
@@ -103,9 +102,9 @@ module _ (fill : ℕ → Option Val) where
 
   pub filled_lacks : (i : ℕ) (cs : List Value) (k : ℕ) → first_lacking fill i cs ≡ Some k → filled fill i cs ≡ None
   filled_lacks i [] k h = cc
-  filled_lacks i (c ∷ cs) k h = go (is_placeholder (view c)) refl (is_absent (fill i)) refl (λ l. filled_lacks (suc i) cs k l)
+  filled_lacks i (c ∷ cs) k h = go (is_placeholder (view c)) refl (is_none (fill i)) refl (λ l. filled_lacks (suc i) cs k l)
     where
-      go : (b : Bool) → is_placeholder (view c) ≡ b → (a : Bool) → is_absent (fill i) ≡ a
+      go : (b : Bool) → is_placeholder (view c) ≡ b → (a : Bool) → is_none (fill i) ≡ a
           → (first_lacking fill (suc i) cs ≡ Some k → filled fill (suc i) cs ≡ None) → filled fill i (c ∷ cs) ≡ None
       go true e true f rest =
           let gone : view c ≡ unit = is_absent_value (view c) e in
@@ -117,9 +116,9 @@ module _ (fill : ℕ → Option Val) where
 
   pub lacking_below : (i : ℕ) (cs : List Value) (k : ℕ) → first_lacking fill i cs ≡ Some k → k < i + length cs
   lacking_below i [] k h = cc
-  lacking_below i (c ∷ cs) k h = go (is_placeholder (view c)) refl (is_absent (fill i)) refl (λ l. lacking_below (suc i) cs k l)
+  lacking_below i (c ∷ cs) k h = go (is_placeholder (view c)) refl (is_none (fill i)) refl (λ l. lacking_below (suc i) cs k l)
     where
-      go : (b : Bool) → is_placeholder (view c) ≡ b → (a : Bool) → is_absent (fill i) ≡ a
+      go : (b : Bool) → is_placeholder (view c) ≡ b → (a : Bool) → is_none (fill i) ≡ a
           → (first_lacking fill (suc i) cs ≡ Some k → k < suc i + length cs) → k < i + length (c ∷ cs)
       go true e true f rest =
           let here : Some i ≡ Some k = rw (e, f) at h in
@@ -132,9 +131,9 @@ module _ (fill : ℕ → Option Val) where
 
   pub each_there : (count i : ℕ) → first_unfilled fill count i ≡ None → IsSome (each_child fill count i)
   each_there zero i h = refl
-  each_there (suc count) i h = go (is_absent (fill i)) refl (λ k. each_there count (suc i) k)
+  each_there (suc count) i h = go (is_none (fill i)) refl (λ k. each_there count (suc i) k)
     where
-      go : (a : Bool) → is_absent (fill i) ≡ a
+      go : (a : Bool) → is_none (fill i) ≡ a
           → (first_unfilled fill count (suc i) ≡ None → IsSome (each_child fill count (suc i)))
           → IsSome (each_child fill (suc count) i)
       go true f rest = let none : Some i ≡ None = rw f at h in cc
@@ -143,9 +142,9 @@ module _ (fill : ℕ → Option Val) where
 
   pub each_lacks : (count i k : ℕ) → first_unfilled fill count i ≡ Some k → each_child fill count i ≡ None
   each_lacks zero i k h = cc
-  each_lacks (suc count) i k h = go (is_absent (fill i)) refl (λ l. each_lacks count (suc i) k l)
+  each_lacks (suc count) i k h = go (is_none (fill i)) refl (λ l. each_lacks count (suc i) k l)
     where
-      go : (a : Bool) → is_absent (fill i) ≡ a
+      go : (a : Bool) → is_none (fill i) ≡ a
           → (first_unfilled fill count (suc i) ≡ Some k → each_child fill count (suc i) ≡ None)
           → each_child fill (suc count) i ≡ None
       go true f rest = one_more_absent (fill i) (each_child fill count (suc i)) f
@@ -153,9 +152,9 @@ module _ (fill : ℕ → Option Val) where
 
   pub unfilled_below : (count i k : ℕ) → first_unfilled fill count i ≡ Some k → k < i + count
   unfilled_below zero i k h = cc
-  unfilled_below (suc count) i k h = go (is_absent (fill i)) refl (λ l. unfilled_below count (suc i) k l)
+  unfilled_below (suc count) i k h = go (is_none (fill i)) refl (λ l. unfilled_below count (suc i) k l)
     where
-      go : (a : Bool) → is_absent (fill i) ≡ a → (first_unfilled fill count (suc i) ≡ Some k → k < suc i + count)
+      go : (a : Bool) → is_none (fill i) ≡ a → (first_unfilled fill count (suc i) ≡ Some k → k < suc i + count)
           → k < i + suc count
       go true f rest =
           let here : Some i ≡ Some k = rw f at h in
@@ -200,16 +199,16 @@ module _ (fill : ℕ → Option Val) where
     where
       rest_lacks : (i : ℕ) (c : Value) (cs : List Value) → first_lacking fill i (c ∷ cs) ≡ None
           → first_lacking fill (suc i) cs ≡ None
-      rest_lacks i c cs none = go (is_placeholder (view c)) refl (is_absent (fill i)) refl
+      rest_lacks i c cs none = go (is_placeholder (view c)) refl (is_none (fill i)) refl
         where
-          go : (b : Bool) → is_placeholder (view c) ≡ b → (a : Bool) → is_absent (fill i) ≡ a
+          go : (b : Bool) → is_placeholder (view c) ≡ b → (a : Bool) → is_none (fill i) ≡ a
               → first_lacking fill (suc i) cs ≡ None
           go true e true f = let no : Some i ≡ None = rw (e, f) at none in cc
           go true e false f = rw (e, f) at none
           go false e a f = rw e at none
-  lacking_set i (c ∷ cs) (suc k) v none there = go (is_placeholder (view c)) refl (is_absent (fill i)) refl (λ l. lacking_set (suc i) cs k v l there)
+  lacking_set i (c ∷ cs) (suc k) v none there = go (is_placeholder (view c)) refl (is_none (fill i)) refl (λ l. lacking_set (suc i) cs k v l there)
     where
-      go : (b : Bool) → is_placeholder (view c) ≡ b → (a : Bool) → is_absent (fill i) ≡ a
+      go : (b : Bool) → is_placeholder (view c) ≡ b → (a : Bool) → is_none (fill i) ≡ a
           → (first_lacking fill (suc i) cs ≡ None → first_lacking fill (suc i) (set cs k v) ≡ None)
           → first_lacking fill i (c ∷ set cs k v) ≡ None
       go true e true f rest = let no : Some i ≡ None = rw (e, f) at none in cc
@@ -217,24 +216,24 @@ module _ (fill : ℕ → Option Val) where
       go false e a f rest = rw e (rest (rw e at none))
 
   pub fill_there : (i : ℕ) (cs : List Value) (k : ℕ) (w : Value) → first_lacking fill i cs ≡ None
-      → slice_get cs k ≡ Some w → view w ≡ unit → is_absent (fill (i + k)) ≡ false
+      → slice_get cs k ≡ Some w → view w ≡ unit → is_none (fill (i + k)) ≡ false
   fill_there i [] k w none is gone = cc
-  fill_there i (c ∷ cs) zero w none is gone = go (is_absent (fill i)) refl
+  fill_there i (c ∷ cs) zero w none is gone = go (is_none (fill i)) refl
     where
       same : c ≡ w
       same = cc
 
-      go : (a : Bool) → is_absent (fill i) ≡ a → is_absent (fill (i + 0)) ≡ false
+      go : (a : Bool) → is_none (fill i) ≡ a → is_none (fill (i + 0)) ≡ false
       go true f =
           let absent : view c ≡ unit = ap view same ∙ gone in
           let no : Some i ≡ None = rw (absent, f) at none in
           cc
-      go false f = ap (λ (n : ℕ). is_absent (fill n)) (omega arith) ∙ f
+      go false f = ap (λ (n : ℕ). is_none (fill n)) (omega arith) ∙ f
   fill_there i (c ∷ cs) (suc k) w none is gone =
       let e : i + suc k ≡ suc i + k = omega arith in
-      ap (λ (n : ℕ). is_absent (fill n)) e ∙ fill_there (suc i) cs k w (rest_lacks (is_placeholder (view c)) refl (is_absent (fill i)) refl) is gone
+      ap (λ (n : ℕ). is_none (fill n)) e ∙ fill_there (suc i) cs k w (rest_lacks (is_placeholder (view c)) refl (is_none (fill i)) refl) is gone
     where
-      rest_lacks : (b : Bool) → is_placeholder (view c) ≡ b → (a : Bool) → is_absent (fill i) ≡ a
+      rest_lacks : (b : Bool) → is_placeholder (view c) ≡ b → (a : Bool) → is_none (fill i) ≡ a
           → first_lacking fill (suc i) cs ≡ None
       rest_lacks true e true f = let no : Some i ≡ None = rw (e, f) at none in cc
       rest_lacks true e false f = rw (e, f) at none
@@ -434,9 +433,9 @@ module _ (fill : ℕ → Option Val) (initial now : List Value) (i : ℕ) (progr
       memory = progress.memory;
     }
 
-    pub progress_fill : is_placeholder (view w) ≡ true → is_absent (fill i) ≡ false
+    pub progress_fill : is_placeholder (view w) ≡ true → is_none (fill i) ≡ false
     progress_fill gone =
-        ap (λ (n : ℕ). is_absent (fill n)) (omega arith)
+        ap (λ (n : ℕ). is_none (fill n)) (omega arith)
         ∙ fill_there fill 0 now i w progress.nothing_lacks is (is_absent_value (view w) gone)
 
     pub progress_set : (v : Value) → is_placeholder (view w) ≡ true → fill i ≡ Some (view v)

@@ -4,8 +4,9 @@ use Rattle.fr_shape.specs.declared.shape.Def.{Def}
 use Rattle.fr_shape.specs.declared.shape.Field.{Field}
 use Rattle.fr_shape.specs.declared.shape.ShapeId.{ShapeId}
 use Rattle.fr_shape.specs.declared.shape.StructDef.{StructDef}
-use Rattle.fr_shape.specs.Fills.{is_empty_struct, has_no_field}
+use Rattle.fr_shape.specs.Fills.{is_empty_struct}
 use Rattle.fr_shape.specs.Fits.{fits, all_fit, fields_fit, count_vals}
+use Rattle.fr_shape.specs.Lists.{is_nil}
 use Rattle.fr_shape.specs.Look.{Table, def_of, settled}
 use Rattle.fr_shape.specs.Val.{Vals, none, product, no_vals, first}
 use Rattle.fr_model.specs.Places.{child_shape}
@@ -40,7 +41,7 @@ pub empty_fits : (table : Table) (s : ℕ) (struct : StructDef) → def_of table
     → struct.fields ≡ [] → fits table s (product no_vals) ≡ true
 empty_fits table s struct e empty = rw (settled_struct table s struct e, empty) refl
 
-no_field : (fields : List Field) → has_no_field fields ≡ true → fields ≡ []
+no_field : (fields : List Field) → is_nil fields ≡ true → fields ≡ []
 no_field [] h = refl
 no_field (field ∷ fields) h = cc
 

@@ -1,7 +1,6 @@
 -- Which children of a begun place are there, and which of the others a fill makes up for.
-use Rattle.std.specs.Prelude.{ℕ, zero, suc, Bool, true, false, ◌&&◌, List, [], ◌∷◌, Option, Some, None, if◌then◌else◌}
+use Rattle.std.specs.Prelude.{ℕ, zero, suc, Bool, true, false, ◌&&◌, List, [], ◌∷◌, Option, Some, None, if◌then◌else◌, is_none}
 use Rattle.fr_shape.specs.declared.value.Value.{Value}
-use Rattle.fr_shape.specs.Served.{is_absent}
 use Rattle.fr_shape.specs.View.{view}
 use Rattle.fr_shape.specs.Val.{Val, Vals, unit, product, no_vals}
 use Rattle.fr_model.specs.Places.{one_more}
@@ -15,12 +14,12 @@ is_placeholder _ = false
 abbrev pub first_lacking : (fill : ℕ → Option Val) → ℕ → List Value → Option ℕ
 first_lacking fill i [] = None
 first_lacking fill i (child ∷ children) =
-    if is_placeholder (view child) && is_absent (fill i) then Some i else first_lacking fill (suc i) children
+    if is_placeholder (view child) && is_none (fill i) then Some i else first_lacking fill (suc i) children
 
 -- the first of so many children, counted from i, that has no fill
 abbrev pub first_unfilled : (fill : ℕ → Option Val) → (count i : ℕ) → Option ℕ
 first_unfilled fill zero i = None
-first_unfilled fill (suc count) i = if is_absent (fill i) then Some i else first_unfilled fill count (suc i)
+first_unfilled fill (suc count) i = if is_none (fill i) then Some i else first_unfilled fill count (suc i)
 
 -- a child, or its fill where it isn't there
 abbrev pub there_or : Val → Option Val → Option Val

@@ -1,7 +1,8 @@
 //! Which children of a place may be entered, and why others may not.
 ghost use Rattle.std.specs.Prelude.{◌≡◌, ◌<◌};
 ghost use Rattle.fr_shape.specs.Look.{def_of};
-ghost use Rattle.fr_model.specs.Places.{child_count, field_named, first_declared};
+ghost use Rattle.fr_shape.specs.Named.{field_named, first_declared};
+ghost use Rattle.fr_model.specs.Places.{child_count};
 ghost use Rattle.fr_model.specs.Step.{field_refusal, named_refusal};
 ghost use Rattle.fr_partial.specs.Entering.{Describes};
 ghost use Rattle.fr_partial.specs.Stack.{node};

@@ -1,10 +1,10 @@
 //! Completing the place at which the builder works: the holes take copies of their templates.
-ghost use Rattle.std.specs.Prelude.{◌≡◌, ℕ, true, false, None, Some, IfOk, IfErr, OnOk, OnErr, IsOk, length};
+ghost use Rattle.std.specs.Prelude.{◌≡◌, ℕ, true, false, None, Some, IfOk, IfErr, OnOk, OnErr, IsOk, length, is_none};
 ghost use Rattle.fr_shape.specs.Checked.{IsChecked};
 ghost use Rattle.fr_shape.specs.Hooks.{no_hooks};
 ghost use Rattle.fr_shape.specs.Numbered.{IsNumbered};
 ghost use Rattle.fr_shape.specs.Released.{Room, RoseBy};
-ghost use Rattle.fr_shape.specs.Served.{IsServed, is_absent};
+ghost use Rattle.fr_shape.specs.Served.{IsServed};
 ghost use Rattle.fr_shape.specs.Tokens.{vals_occur};
 ghost use Rattle.fr_shape.specs.View.{view, vals_view};
 ghost use Rattle.fr_model.specs.Complete.{complete, lack, lack_of_entered, made_of_entered};
@@ -32,7 +32,7 @@ fn copy_fill(
 ) -> Result<Value, OutOfMemory>
     requires numbered { IsNumbered table.now }
     requires checked { IsChecked table.now }
-    requires filled { is_absent (fill_at table.now shape.0 i) ≡ false }
+    requires filled { is_none (fill_at table.now shape.0 i) ≡ false }
     ensures { IfOk result (λ v. fill_at table.now shape.0 i ≡ Some (view v)) }
 {
     match fill_of(table, shape, i) {

@@ -1,10 +1,9 @@
 //! What a hole takes in strict mode: the template that the rule of its field names.
-ghost use Rattle.std.specs.Prelude.{◌≡◌, [], IfOk, IsSome, IfSome};
+ghost use Rattle.std.specs.Prelude.{◌≡◌, [], IfOk, IsSome, IfSome, is_none};
 ghost use Rattle.std.specs.Option.{option_copied};
 ghost use Rattle.fr_shape.specs.Fills.{strict_fill, is_of_variant};
 ghost use Rattle.fr_shape.specs.Look.{field_at};
 ghost use Rattle.fr_shape.specs.Numbered.{IsNumbered};
-ghost use Rattle.fr_shape.specs.Served.{is_absent};
 ghost use Rattle.fr_shape.specs.Tokens.{tokens};
 ghost use Rattle.fr_shape.specs.View.{view};
 ghost use Rattle.fr_model.specs.Places.{fill_at};
@@ -53,7 +52,7 @@ pub fn fill_of<'a>(table: &'a ShapeTable, shape: ShapeId, i: usize) -> Option<&'
 /// Whether child `i` of a place takes nothing where it is a hole.
 pub fn takes_nothing(table: &ShapeTable, shape: ShapeId, i: usize) -> bool
     requires numbered { IsNumbered table.now }
-    ensures { result ≡ is_absent (fill_at table.now shape.0 i) }
+    ensures { result ≡ is_none (fill_at table.now shape.0 i) }
 {
     fill_of(table, shape, i).is_none()
 }

@@ -3,7 +3,7 @@ use Rattle.std.specs.Prelude.{ℕ, ◌+◌, Bool, true, false, List, [], ◌∷�
 use Rattle.std.specs.Option.{option_map, option_to_list}
 use Rattle.std.specs.Str.{bytes_eq}
 use Rattle.fr_shape.specs.declared.shape.Field.{Field}
-use Rattle.fr_shape.specs.Checked.{effective_name}
+use Rattle.fr_shape.specs.Named.{effective_name}
 use Rattle.fr_rules.specs.declared.entries.FieldLookupEntry.{FieldLookupEntry}
 
 -- the field of number i under its effective name, and then under its alias where it has one

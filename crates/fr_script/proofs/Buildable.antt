@@ -9,6 +9,7 @@ use Rattle.serde_json.specs.Written.{has_float}
 use Rattle.fr_shape.specs.Look.{Table, IsIn, def_of}
 use Rattle.fr_shape.specs.Numbered.{field_count, IsNumbered}
 use Rattle.fr_shape.specs.Served.{IsServed}
+use Rattle.fr_shape.specs.ServedLaws.{served_numbered}
 use Rattle.fr_doc.specs.declared.fault.DocFault.{DocFault}
 use Rattle.fr_doc.specs.declared.fault.DocPlace.{DocPlace}
 use Rattle.fr_doc.specs.declared.fault.DocSize.{DocSize}
@@ -68,11 +69,9 @@ fields_counted [] id = omega arith
 fields_counted (shape ∷ shapes) zero = omega arith
 fields_counted (shape ∷ shapes) (suc id) = let rest = fields_counted shapes id in omega arith
 
-few_numbered : (table : Table) → length table ≤ 4096 → count_fields table ≤ 65536 → IsNumbered table
-few_numbered table shapes fields = record {
-  shapes = omega arith;
-  fields = λ id. let counted = fields_counted table id in omega arith;
-}
+few_numbered : (table : Table) → IsServed table → length table ≤ 4096 → count_fields table ≤ 65536 → IsNumbered table
+few_numbered table served shapes fields =
+    served_numbered table served (omega arith) (λ id. let counted = fields_counted table id in omega arith)
 
 -- Parts.
 
@@ -137,7 +136,7 @@ checked_known d document is =
       checked = passes_checked parts.0.shapes rules.0 rules.1;
       served = known.0;
       rooted = known.1;
-      numbered = few_numbered parts.0.shapes few.few_shapes few.few_fields;
+      numbered = few_numbered parts.0.shapes known.0 few.few_shapes few.few_fields;
       few_commands = few.few_calls;
       few_tokens = few.few_tokens;
       valid = script_known parts.0 script.0 script.1;

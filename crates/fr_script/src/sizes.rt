@@ -65,7 +65,21 @@ fn count_of_fields(def: &Def) -> usize
 {
     match def {
         Def::Struct(described) => described.fields.len(),
-        _ => 0,
+        Def::Scalar(_)
+        | Def::Str
+        | Def::Opaque
+        | Def::Enum(_)
+        | Def::Option(_)
+        | Def::Result(_, _)
+        | Def::List(_)
+        | Def::Map(_, _)
+        | Def::Set(_)
+        | Def::Array(_, _)
+        | Def::Pointer(_)
+        | Def::Slice(_)
+        | Def::Dynamic
+        | Def::Undefined
+        | Def::Other => 0,
     }
 }
 

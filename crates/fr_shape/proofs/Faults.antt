@@ -11,7 +11,7 @@ use Rattle.fr_shape.specs.declared.parts.PartTest.{PartTest}
 use Rattle.fr_shape.specs.declared.parts.ProxyTest.{ProxyTest}
 use Rattle.fr_shape.specs.declared.parts.FieldTest.{FieldTest}
 use Rattle.fr_shape.specs.Look.{Table}
-use Rattle.fr_shape.specs.Served.{is_nil}
+use Rattle.fr_shape.specs.Lists.{is_nil}
 use Rattle.fr_shape.specs.Checked.{fields_of, contents_of, pointees_of, proxies_of, all_proxies_of, parts_of, custom_hooks, ids_in_range, hooks_in_range}
 use Rattle.fr_shape.specs.Tests.{part_passes, hook_passes, proxy_passes, field_passes}
 

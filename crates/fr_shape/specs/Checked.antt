@@ -1,5 +1,5 @@
 -- What it takes for a table to be checked: nine rules, each asked of every entry, of which some look at other entries.
-use Rattle.std.specs.Prelude.{◌≡◌, ℕ, ◌==◌, Bool, true, false, not, ◌&&◌, ◌||◌, List, [], ◌∷◌, ◌++◌, map, length, nat_lt, Option, Some, unwrap_or, option_to_list, take, slice_get}
+use Rattle.std.specs.Prelude.{◌≡◌, ℕ, ◌==◌, Bool, true, false, not, ◌&&◌, ◌||◌, List, [], ◌∷◌, ◌++◌, map, length, nat_lt, Option, Some, is_none, is_some, option_to_list, take, slice_get}
 use Rattle.std.specs.List.{list_all, list_any, flat_map}
 use Rattle.std.specs.Str.{bytes_eq}
 use Rattle.fr_shape.specs.declared.shape.Shape.{Shape}
@@ -17,7 +17,8 @@ use Rattle.fr_shape.specs.Look.{Table, def_of}
 use Rattle.fr_shape.specs.Val.{Val, none}
 use Rattle.fr_shape.specs.Fits.{fits, signed_bits, unsigned_bits}
 use Rattle.fr_shape.specs.Tokens.{tokens}
-use Rattle.fr_shape.specs.Served.{is_absent, is_nil}
+use Rattle.fr_shape.specs.Lists.{is_nil}
+use Rattle.fr_shape.specs.Named.{name_of}
 
 -- the fields of a struct, or of all variants of an enum in order
 abbrev pub fields_of : Def → List Field
@@ -61,21 +62,17 @@ is_sized Def.Str = false
 is_sized (Def.Slice t) = false
 is_sized _ = true
 
--- the name that a rename gives, else the declared one
-abbrev pub effective_name : Option (List ℕ) → List ℕ → List ℕ
-effective_name rename name = unwrap_or rename name
-
 abbrev pub names_apart : List (List ℕ) → Bool
 names_apart [] = true
 names_apart (name ∷ names) = not (list_any (bytes_eq name) names) && names_apart names
 
 abbrev pub variant_names : Def → List (List ℕ)
 variant_names (Def.Enum enumeration) =
-    map (λ (variant : VariantDef). effective_name variant.rename variant.name) enumeration.variants
+    map name_of enumeration.variants
 variant_names _ = []
 
 abbrev pub is_integer : Def → Bool
-is_integer (Def.Scalar kind) = not (is_absent (signed_bits kind) && is_absent (unsigned_bits kind))
+is_integer (Def.Scalar kind) = not (is_none (signed_bits kind) && is_none (unsigned_bits kind))
 is_integer _ = false
 
 abbrev pub is_string : Def → Bool
@@ -102,17 +99,14 @@ abbrev pub default_is_template : Table → ℕ → Option DefaultSource → Bool
 default_is_template table id (Some (DefaultSource.Custom v)) = is_template table id v
 default_is_template table id _ = true
 
-abbrev pub is_present : {X : Type 0} → Option X → Bool
-is_present found = not (is_absent found)
-
 -- a shape of this definition may be converted to: a scalar or an `Other` that wraps something, an option that
 -- wraps its content, or an opaque or undefined shape with a builder
 abbrev pub converts : Def → (inner builder : Option ShapeId) → Bool
-converts (Def.Scalar kind) inner builder = is_present inner
+converts (Def.Scalar kind) inner builder = is_some inner
 converts (Def.Option t) (Some wrapped) builder = wrapped.0 == t.0
-converts Def.Opaque inner builder = is_present builder
-converts Def.Undefined inner builder = is_present builder
-converts Def.Other inner builder = is_present inner
+converts Def.Opaque inner builder = is_some builder
+converts Def.Undefined inner builder = is_some builder
+converts Def.Other inner builder = is_some inner
 converts _ inner builder = false
 
 abbrev pub may_have_builder : Def → Bool
@@ -172,8 +166,8 @@ templates_fit table i shape =
 -- 7: a conversion stands only where there is something to convert from, a builder only on what is opaque or undefined
 abbrev pub conversion_suits : Shape → Bool
 conversion_suits shape =
-    (is_absent shape.convert || converts shape.def shape.inner shape.builder)
-    && (is_absent shape.builder || may_have_builder shape.def)
+    (is_none shape.convert || converts shape.def shape.inner shape.builder)
+    && (is_none shape.builder || may_have_builder shape.def)
 
 -- 8: every hook's number is below 65,536
 abbrev pub hooks_in_range : Shape → Bool

@@ -7,6 +7,7 @@ use Rattle.fr_shape.specs.declared.shape.StructKind.{StructKind}
 use Rattle.fr_shape.specs.declared.shape.Field.{Field}
 use Rattle.fr_shape.specs.declared.shape.FieldRef.{FieldRef}
 use Rattle.fr_shape.specs.declared.shape.DefaultSource.{DefaultSource}
+use Rattle.fr_shape.specs.Lists.{is_nil}
 use Rattle.fr_shape.specs.Look.{Table, def_of}
 use Rattle.fr_shape.specs.Val.{Val}
 
@@ -33,13 +34,9 @@ abbrev pub is_option : Def → Bool
 is_option (Def.Option t) = true
 is_option _ = false
 
-abbrev pub has_no_field : List Field → Bool
-has_no_field [] = true
-has_no_field (field ∷ fields) = false
-
 -- a struct without fields, of whatever kind
 abbrev pub is_empty_struct : Def → Bool
-is_empty_struct (Def.Struct struct) = has_no_field struct.fields
+is_empty_struct (Def.Struct struct) = is_nil struct.fields
 is_empty_struct _ = false
 
 abbrev pub is_tuple : StructKind → Bool
@@ -48,7 +45,7 @@ is_tuple _ = false
 
 -- the unit shape: a tuple without fields
 abbrev pub is_unit : Def → Bool
-is_unit (Def.Struct struct) = is_tuple struct.kind && has_no_field struct.fields
+is_unit (Def.Struct struct) = is_tuple struct.kind && is_nil struct.fields
 is_unit _ = false
 
 abbrev pub is_collection : Def → Bool

@@ -1,6 +1,6 @@
 -- Which values fit which shape. A value fits by the definition that its shape settles to; the clauses below go
 -- by the value's form, and each `takes_` word says which definitions take that form.
-use Rattle.std.specs.Prelude.{ℕ, zero, suc, ◌^◌, ◌-◌, ℤ, pos, negsuc, Bool, true, false, not, ◌&&◌, List, [], ◌∷◌, nat_eq, nat_lt, Option, Some, None, slice_get}
+use Rattle.std.specs.Prelude.{ℕ, zero, suc, ◌^◌, ◌-◌, ℤ, pos, negsuc, Bool, true, false, not, ◌&&◌, List, [], ◌∷◌, nat_eq, nat_lt, Option, Some, None, is_none, slice_get}
 use Rattle.std.specs.Str.{bytes_eq}
 use Rattle.fr_shape.specs.declared.shape.ShapeId.{ShapeId}
 use Rattle.fr_shape.specs.declared.shape.Def.{Def}
@@ -65,10 +65,6 @@ takes_text (Def.Scalar ScalarKind.String) = true
 takes_text (Def.Scalar ScalarKind.CowStr) = true
 takes_text Def.Str = true
 takes_text _ = false
-
-abbrev pub is_none : Option ShapeId → Bool
-is_none None = true
-is_none (Some t) = false
 
 -- one token: opaque and undefined shapes, and a pointer without a known pointee
 abbrev pub takes_token : Def → Bool

@@ -1,5 +1,5 @@
 -- Which shapes a root reaches, whether all of them can be planned, and which refusal comes first where not.
-use Rattle.std.specs.Prelude.{◌≡◌, ℕ, zero, suc, Bool, true, false, not, ◌&&◌, ◌||◌, List, [], ◌∷◌, ◌++◌, map, length, nat_eq, slice_get, Option, Some, None, option_to_list, if◌then◌else◌}
+use Rattle.std.specs.Prelude.{◌≡◌, ℕ, zero, suc, Bool, true, false, not, ◌&&◌, ◌||◌, List, [], ◌∷◌, ◌++◌, map, length, nat_eq, slice_get, Option, Some, None, is_none, is_some, option_to_list, if◌then◌else◌}
 use Rattle.std.specs.List.{Contains, list_all, list_any, flat_map}
 use Rattle.fr_shape.specs.declared.shape.Shape.{Shape}
 use Rattle.fr_shape.specs.declared.shape.ShapeId.{ShapeId}
@@ -9,12 +9,12 @@ use Rattle.fr_shape.specs.declared.shape.ProxyDef.{ProxyDef}
 use Rattle.fr_shape.specs.declared.error.AllocError.{AllocError}
 use Rattle.fr_shape.specs.declared.error.PlanFault.{PlanFault}
 use Rattle.fr_shape.specs.Look.{Table, def_of}
-use Rattle.fr_shape.specs.Checked.{IsChecked, fields_of, proxies_of, contents_of, pointees_of, is_sized, is_present}
-use Rattle.fr_shape.specs.Served.{is_absent, is_nil}
+use Rattle.fr_shape.specs.Checked.{IsChecked, fields_of, proxies_of, contents_of, pointees_of, is_sized}
+use Rattle.fr_shape.specs.Lists.{is_nil}
 
 -- what an opaque or undefined shape is converted from: its builder, where it has a conversion too
 abbrev pub built_from : Shape → List ShapeId
-built_from shape = if is_present shape.convert then option_to_list shape.builder else []
+built_from shape = if is_some shape.convert then option_to_list shape.builder else []
 
 -- The children of a shape, left to right: what a scalar, a `str` or an `Other` wraps; what an opaque or undefined shape
 -- is built from; the fields of a struct, or of all of an enum's variants; contents, keys and values; a pointee.
@@ -50,8 +50,8 @@ pub data Reached (table : Table) (root : ℕ) : ℕ → Type 0 where
 -- needs a conversion, a proxy of whatever format, or metadata.
 abbrev pub refusal_of_other : Shape → Option PlanFault
 refusal_of_other shape =
-    if is_absent shape.inner then Some PlanFault.Unsupported
-    else if is_present shape.convert || not (is_nil (proxies_of shape.proxy shape.format_proxies)) || shape.metadata then None
+    if is_none shape.inner then Some PlanFault.Unsupported
+    else if is_some shape.convert || not (is_nil (proxies_of shape.proxy shape.format_proxies)) || shape.metadata then None
     else Some PlanFault.NeedsTryFrom
 
 abbrev pub refusal_by : Def → Shape → Option PlanFault
@@ -134,7 +134,7 @@ is_plain_field field = is_nil (proxies_of field.proxy field.format_proxies) && i
 -- the shape has no proxy, conversion or invariant, isn't dynamic, and none of its fields has a proxy or a validator
 abbrev pub is_plain_shape : Shape → Bool
 is_plain_shape shape =
-    is_nil (proxies_of shape.proxy shape.format_proxies) && is_absent shape.convert && is_absent shape.invariant
+    is_nil (proxies_of shape.proxy shape.format_proxies) && is_none shape.convert && is_none shape.invariant
     && not (is_dynamic shape.def) && list_all is_plain_field (fields_of shape.def)
 
 -- a table that is plain for a root: checked, with the root sized and plannable, and each shape reached plain

@@ -1,23 +1,16 @@
 -- The tables that the builder serves so far. The definition widens until it holds of every table.
-use Rattle.std.specs.Prelude.{◌≡◌, Bool, true, false, not, ◌&&◌, List, [], ◌∷◌, Option, Some, None}
+use Rattle.std.specs.Prelude.{◌≡◌, Bool, true, false, not, ◌&&◌, is_none}
 use Rattle.std.specs.List.{list_all}
 use Rattle.fr_shape.specs.declared.shape.Shape.{Shape}
 use Rattle.fr_shape.specs.declared.shape.Def.{Def}
 use Rattle.fr_shape.specs.declared.shape.Field.{Field}
+use Rattle.fr_shape.specs.Lists.{is_nil}
 use Rattle.fr_shape.specs.Look.{Table}
-
-abbrev pub is_absent : {X : Type 0} → Option X → Bool
-is_absent None = true
-is_absent (Some x) = false
-
-abbrev pub is_nil : {X : Type 0} → List X → Bool
-is_nil [] = true
-is_nil (x ∷ xs) = false
 
 -- a field with a name and a shape, a default or not, skipped or not, and nothing else said of it
 abbrev pub serves_field : Field → Bool
 serves_field field =
-    is_absent field.rename && is_absent field.alias && not field.flatten && is_absent field.proxy
+    is_none field.rename && is_none field.alias && not field.flatten && is_none field.proxy
     && is_nil field.format_proxies && is_nil field.validators
 
 -- scalars, opaque shapes, structs of each kind, options, lists and arrays
@@ -34,9 +27,9 @@ serves_def _ = false
 -- nothing else said of it
 abbrev pub serves : Shape → Bool
 serves shape =
-    serves_def shape.def && is_absent shape.inner && is_absent shape.builder && is_absent shape.convert
-    && is_absent shape.parse && is_absent shape.parse_bytes && is_absent shape.proxy && is_nil shape.format_proxies
-    && is_absent shape.invariant && not shape.metadata && not shape.deny_unknown && not shape.transparent
+    serves_def shape.def && is_none shape.inner && is_none shape.builder && is_none shape.convert
+    && is_none shape.parse && is_none shape.parse_bytes && is_none shape.proxy && is_nil shape.format_proxies
+    && is_none shape.invariant && not shape.metadata && not shape.deny_unknown && not shape.transparent
     && not shape.bytes_ok
 
 -- the builder serves each shape of the table

@@ -10,7 +10,7 @@ use crate::rules::{
 use crate::{Shape, ShapeId, ShapeTable};
 
 /// A broken rule of checked tables, counted from 1, and the entry that breaks it.
-#[derive(Clone, Copy, PartialEq, Eq)]
+#[derive(Drop)]
 pub struct TableFault {
     pub rule: u8,
     pub entry: u32,

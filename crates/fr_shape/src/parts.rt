@@ -5,7 +5,7 @@ ghost use Rattle.std.specs.Prelude.{option_to_list};
 ghost use Rattle.fr_shape.specs.View.{view, vals_view, entries_view};
 ghost use Rattle.fr_shape.specs.Tokens.{tokens, vals_tokens, entries_tokens};
 ghost use Rattle.fr_shape.specs.Look.{def_of};
-ghost use Rattle.fr_shape.specs.Served.{is_nil};
+ghost use Rattle.fr_shape.specs.Lists.{is_nil};
 ghost use Rattle.fr_shape.specs.Checked.{is_sized, is_integer, is_string, suits, proxies_of, fields_of, contents_of, custom_hooks, is_template, default_is_template};
 ghost use Rattle.fr_shape.specs.Tests.{part_passes, hook_passes, proxy_passes, field_passes};
 

@@ -2,7 +2,7 @@
 ghost use Rattle.std.specs.Prelude.{◌≡◌, ◌&&◌, ◌≤◌, length, map, not};
 ghost use Rattle.std.specs.List.{list_all, list_any};
 ghost use Rattle.std.specs.Str.{bytes_eq};
-ghost use Rattle.fr_shape.specs.Checked.{parts_of, pointees_of, all_proxies_of, effective_name, names_apart, variant_names, converts, ids_in_range, name_is_new, parts_are_sized, variants_apart, validators_suit, templates_fit, conversion_suits, hooks_in_range, option_preset_is_none};
+ghost use Rattle.fr_shape.specs.Checked.{parts_of, pointees_of, all_proxies_of, names_apart, variant_names, converts, ids_in_range, name_is_new, parts_are_sized, variants_apart, validators_suit, templates_fit, conversion_suits, hooks_in_range, option_preset_is_none};
 ghost use Rattle.fr_shape.specs.Tests.{part_passes, proxy_passes};
 ghost use Rattle.fr_shape.specs.Named.{name_of};
 

@@ -1,8 +1,11 @@
 //! The description of one type: its definition and what its author said of it.
 ghost use Rattle.std.specs.Prelude.{◌≡◌};
 ghost use Rattle.fr_shape.specs.Fills.{is_empty_struct};
+ghost use Rattle.fr_shape.specs.Named.{effective_name};
+ghost use Rattle.fr_shape.specs.Plain.{plain_shape, plain_field};
 
 use crate::{Items, Template, Text};
+use std::alloc::Global;
 
 /// The number of a shape in its table.
 #[derive(Clone, Copy, PartialEq, Eq)]
@@ -39,6 +42,32 @@ pub struct Shape {
     pub deny_unknown: bool,
     pub transparent: bool,
     pub bytes_ok: bool,
+}
+
+impl Shape {
+    /// A shape of which nothing else is said. Takes no memory.
+    pub fn new(alloc: Global, name: Text, def: Def) -> Shape
+        ensures plain { result ≡ plain_shape name def }
+    {
+        Shape {
+            name,
+            def,
+            preset: None,
+            default_attr: false,
+            inner: None,
+            builder: None,
+            convert: None,
+            parse: None,
+            parse_bytes: None,
+            proxy: None,
+            format_proxies: Items::new(alloc),
+            invariant: None,
+            metadata: false,
+            deny_unknown: false,
+            transparent: false,
+            bytes_ok: false,
+        }
+    }
 }
 
 /// What values of a shape are made of.
@@ -147,6 +176,18 @@ pub struct VariantDef {
     pub other: bool,
 }
 
+impl VariantDef {
+    /// `rename` where given, else `name`.
+    pub fn effective_name(&self) -> &Text
+        ensures name { result.now ≡ effective_name self.now.rename self.now.name }
+    {
+        match &self.rename {
+            Some(rename) => rename,
+            None => &self.name,
+        }
+    }
+}
+
 /// A field. Its effective name is `rename` where given, else `name`; it is marked where `default` is given.
 #[derive(Drop)]
 pub struct Field {
@@ -160,6 +201,36 @@ pub struct Field {
     pub proxy: Option<ProxyDef>,
     pub format_proxies: Items<FormatProxy>,
     pub validators: Items<ValidatorDef>,
+}
+
+impl Field {
+    /// A field of which nothing else is said. Takes no memory.
+    pub fn new(alloc: Global, name: Text, shape: ShapeId) -> Field
+        ensures plain { result ≡ plain_field name shape.0 }
+    {
+        Field {
+            name,
+            rename: None,
+            alias: None,
+            shape,
+            default: None,
+            skip: false,
+            flatten: false,
+            proxy: None,
+            format_proxies: Items::new(alloc),
+            validators: Items::new(alloc),
+        }
+    }
+
+    /// `rename` where given, else `name`.
+    pub fn effective_name(&self) -> &Text
+        ensures name { result.now ≡ effective_name self.now.rename self.now.name }
+    {
+        match &self.rename {
+            Some(rename) => rename,
+            None => &self.name,
+        }
+    }
 }
 
 /// Where a marked field's default comes from: a template of its own, or its shape's preset.

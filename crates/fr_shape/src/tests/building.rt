@@ -4,40 +4,13 @@ use std::alloc::Global;
 
 /// A shape of this name and definition, with nothing else said of it.
 pub fn shape(alloc: Global, name: &str, def: Def) -> Result<Shape, OutOfMemory> {
-    Ok(Shape {
-        name: Text::new(alloc, name)?,
-        def,
-        preset: None,
-        default_attr: false,
-        inner: None,
-        builder: None,
-        convert: None,
-        parse: None,
-        parse_bytes: None,
-        proxy: None,
-        format_proxies: Items::new(alloc),
-        invariant: None,
-        metadata: false,
-        deny_unknown: false,
-        transparent: false,
-        bytes_ok: false,
-    })
+    Ok(Shape::new(alloc, Text::new(alloc, name)?, def))
 }
 
 /// A field of this shape, with nothing else said of it.
 pub fn field(alloc: Global, shape: u32) -> Result<Field, OutOfMemory> {
-    Ok(Field {
-        name: Text::new(alloc, "field")?,
-        rename: None,
-        alias: None,
-        shape: ShapeId(shape),
-        default: None,
-        skip: false,
-        flatten: false,
-        proxy: None,
-        format_proxies: Items::new(alloc),
-        validators: Items::new(alloc),
-    })
+    let name = Text::new(alloc, "field")?;
+    Ok(Field::new(alloc, name, ShapeId(shape)))
 }
 
 /// Fields of these shapes.

@@ -1,5 +1,5 @@
 use Rattle.std.proofs.Common.{◌≡◌, drop}
-use Rattle.fr_model.specs.Places.{first_declared}
+use Rattle.fr_shape.specs.Named.{first_declared}
 use Rattle.fr_partial.proofs.admitting.first_declared.Given as goal
 
 abbrev pub invariant-loop-i : goal.invariant-loop-i

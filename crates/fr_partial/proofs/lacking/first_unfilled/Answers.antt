@@ -1,11 +1,10 @@
-use Rattle.std.proofs.Common.{◌≡◌, ℕ, suc, ◌+◌, ◌-◌, Option, false, sym, ◌∙◌, ap, arith}
-use Rattle.fr_shape.specs.Served.{is_absent}
+use Rattle.std.proofs.Common.{◌≡◌, ℕ, suc, ◌+◌, ◌-◌, Option, false, sym, ◌∙◌, ap, arith, is_none}
 use Rattle.fr_shape.specs.Val.{Val}
 use Rattle.fr_model.specs.Places.{fill_at}
 use Rattle.fr_partial.specs.Children.{first_unfilled}
 use Rattle.fr_partial.proofs.lacking.first_unfilled.Goals as goal
 
-next : (fill : ℕ → Option Val) (count i n : ℕ) → n ≡ suc (count - (i + 1)) → is_absent (fill i) ≡ false
+next : (fill : ℕ → Option Val) (count i n : ℕ) → n ≡ suc (count - (i + 1)) → is_none (fill i) ≡ false
     → first_unfilled fill n i ≡ first_unfilled fill (count - (i + 1)) (i + 1)
 next fill count i n e there =
     ap (λ (k : ℕ). first_unfilled fill k i) e ∙ rw there (ap (first_unfilled fill (count - (i + 1))) (omega arith))
