@@ -4,13 +4,14 @@ use Rattle.std.specs.List.Sorted.{IsPermutation, IsNonDecreasingBy}
 use Rattle.std.proofs.lemmas.List.{append-nil, append_assoc, length-append, length-take, length-drop}
 use Rattle.std.proofs.lemmas.List.Sorted.{length_permutation}
 use Rattle.fr_arena.specs.Ranges.{Range, indices_from}
+use Rattle.fr_rules.specs.declared.entries.TheConstants.{LOOKUP_THRESHOLD}
 use Rattle.fr_rules.specs.declared.entries.FieldLookupEntry.{FieldLookupEntry}
 use Rattle.fr_rules.specs.declared.field_lookups.FieldLookup.{FieldLookup}
 use Rattle.fr_rules.specs.declared.buckets.PrefixBucket.{PrefixBucket}
 use Rattle.fr_rules.specs.Buckets.{IsBucketed}
 use Rattle.fr_rules.specs.Pools.{Pool, Continues, HasGrown, part_of}
 use Rattle.fr_rules.specs.Prefixes.{prefix_in, prefix_len_of}
-use Rattle.fr_rules.specs.FieldLookups.{IsLongLookupOf, LookupsStay}
+use Rattle.fr_rules.specs.FieldLookups.{IsLongLookupOf, GainsOnly, LookupsStay}
 use Rattle.fr_rules.proofs.Parts.{part_of_front, part_behind}
 
 -- as many entries are stored as there are
@@ -38,27 +39,38 @@ module _ {X : Type 0} (before more after : List X) (range : Range) (grew : after
       let len : range.len ≡ length more = ap (λ (r : Range). r.len) behind in
       omega (arith, ap length grew, length-append before more)
 
--- a lookup whose entries and then buckets were put into the pool
-pub long_added : (entries sorted : List FieldLookupEntry) (buckets : List PrefixBucket) (prefix_len : ℕ)
-    → 8 < length entries → prefix_len ≡ prefix_len_of entries → IsPermutation entries sorted
-    → IsNonDecreasingBy (prefix_in prefix_len) sorted → IsBucketed prefix_len entries sorted buckets
-    → (before with_entries after : Pool) (stored_range buckets_range : Range)
-    → with_entries.entries ≡ before.entries ++ sorted → stored_range ≡ indices_from (length before.entries) (length sorted)
-    → after.entries ≡ with_entries.entries
-    → after.buckets ≡ with_entries.buckets ++ buckets → buckets_range ≡ indices_from (length with_entries.buckets) (length buckets)
-    → IsLongLookupOf after prefix_len stored_range buckets_range entries
-long_added entries sorted buckets prefix_len many by_rule same up described before with_entries after stored_range buckets_range entries_grew stored_behind kept buckets_grew buckets_behind =
-    let stored : sorted ≡ part_of after.entries stored_range = part_added before.entries sorted after.entries stored_range (kept ∙ entries_grew) stored_behind in
-    let bucketed : buckets ≡ part_of after.buckets buckets_range = part_added with_entries.buckets buckets after.buckets buckets_range buckets_grew buckets_behind in
-    record {
-      many = many;
-      by_rule = by_rule;
-      entries_inside = added_inside before.entries sorted after.entries stored_range (kept ∙ entries_grew) stored_behind;
-      buckets_inside = added_inside with_entries.buckets buckets after.buckets buckets_range buckets_grew buckets_behind;
-      same_entries = subst (IsPermutation entries) stored same;
-      sorted = subst (IsNonDecreasingBy (prefix_in prefix_len)) stored up;
-      bucketed = subst (IsBucketed prefix_len entries (part_of after.entries stored_range)) bucketed (subst (λ l. IsBucketed prefix_len entries l buckets) stored described);
-    }
+-- entries were put into the pool, and then buckets
+module _ (sorted : List FieldLookupEntry) (buckets : List PrefixBucket) (before with_entries after : Pool) (stored_range buckets_range : Range)
+    (entries_grew : with_entries.entries ≡ before.entries ++ sorted) (stored_behind : stored_range ≡ indices_from (length before.entries) (length sorted))
+    (kept : after.entries ≡ with_entries.entries)
+    (buckets_grew : after.buckets ≡ with_entries.buckets ++ buckets) (buckets_behind : buckets_range ≡ indices_from (length with_entries.buckets) (length buckets)) where
+  stored : sorted ≡ part_of after.entries stored_range
+  stored = part_added before.entries sorted after.entries stored_range (kept ∙ entries_grew) stored_behind
+
+  bucketed : buckets ≡ part_of after.buckets buckets_range
+  bucketed = part_added with_entries.buckets buckets after.buckets buckets_range buckets_grew buckets_behind
+
+  -- the lookup that names them
+  pub long_added : (entries : List FieldLookupEntry) (prefix_len : ℕ)
+      → LOOKUP_THRESHOLD < length entries → prefix_len ≡ prefix_len_of entries → IsPermutation entries sorted
+      → IsNonDecreasingBy (prefix_in prefix_len) sorted → IsBucketed prefix_len entries sorted buckets
+      → IsLongLookupOf after prefix_len stored_range buckets_range entries
+  long_added entries prefix_len many by_rule same up described = record {
+    many = many;
+    by_rule = by_rule;
+    entries_inside = added_inside before.entries sorted after.entries stored_range (kept ∙ entries_grew) stored_behind;
+    buckets_inside = added_inside with_entries.buckets buckets after.buckets buckets_range buckets_grew buckets_behind;
+    same_entries = subst (IsPermutation entries) stored same;
+    sorted = subst (IsNonDecreasingBy (prefix_in prefix_len)) stored up;
+    bucketed = subst (IsBucketed prefix_len entries (part_of after.entries stored_range)) bucketed (subst (λ l. IsBucketed prefix_len entries l buckets) stored described);
+  }
+
+  -- they are all that the pool gained
+  pub long_gained : (prefix_len : ℕ) → with_entries.buckets ≡ before.buckets → GainsOnly before after (FieldLookup.PrefixBuckets prefix_len stored_range buckets_range)
+  long_gained prefix_len same_buckets = (
+    kept ∙ entries_grew ∙ ap (λ l. before.entries ++ l) stored,
+    buckets_grew ∙ ap (λ l. l ++ buckets) same_buckets ∙ ap (λ l. before.buckets ++ l) bucketed,
+  )
 
 part_stays : {X : Type 0} (before after : List X) (range : Range) → Continues before after → range.start + range.len ≤ length before
     → part_of before range ≡ part_of after range

@@ -1,8 +1,8 @@
 -- The number of a variant, from the entries of the variants.
-use Rattle.std.proofs.Common.{◌≡◌, ℕ, zero, suc, ◌+◌, ◌<◌, Bool, true, false, cond, not, ◌&&◌, ◌||◌, List, [], ◌∷◌, length, get_or, map, Some, None, refl, sym, ap, ◌∙◌, subst, inl, inr, arith}
-use Rattle.std.specs.List.{find, list_any, position_from, All}
-use Rattle.std.specs.List.Sorted.{IsPermutation, IsNonDecreasingBy, IsPartitionPoint, IsSortedByKey}
-use Rattle.std.specs.Ordering.{nat_cmp, ordering_index, ordering_reverse}
+use Rattle.std.proofs.Common.{◌≡◌, ℕ, zero, suc, ◌+◌, ◌<◌, ◌≤◌, Bool, true, false, cond, not, ◌&&◌, ◌||◌, List, [], ◌∷◌, length, get_or, map, Option, Some, None, refl, sym, ap, ◌∙◌, subst, inl, inr, arith}
+use Rattle.std.specs.List.{find, list_any, position_from, All, Contains}
+use Rattle.std.specs.List.Sorted.{IsPermutation, IsNonDecreasingBy, IsPartitionedBy, IsPartitionPoint}
+use Rattle.std.specs.Ordering.{nat_cmp, ordering_index, ordering_reverse, is_lt}
 use Rattle.std.specs.declared.cmp.Ordering.{Ordering}
 use Rattle.std.specs.declared.cmp.Ordering.TheVariants.{Less, Equal, Greater}
 use Rattle.std.specs.Option.{option_map}
@@ -10,14 +10,15 @@ use Rattle.std.specs.Str.{bytes_eq}
 use Rattle.std.specs.Cmp.Lexicographic.{slice_cmp, bytes_decides, nat_list_cmp_total}
 use Rattle.std.proofs.lemmas.Bool.{cases_lt, and_parts}
 use Rattle.std.proofs.lemmas.Iterator.Adapters.{position_from-zero}
-use Rattle.std.proofs.lemmas.List.Elements.{All-head, All-tail, Contains-get_or}
+use Rattle.std.proofs.lemmas.List.{get_or_read}
+use Rattle.std.proofs.lemmas.List.Elements.{All-nil, All-cons, All-head, All-tail}
 use Rattle.std.proofs.lemmas.List.Recursion.{or_at}
 use Rattle.std.proofs.lemmas.List.Sorted.{All-permutation, Contains-permutation, IsPermutation-sym, searchable_from_sorted}
 use Rattle.std.proofs.lemmas.Map.Lookups.{exact_bytes}
 use Rattle.fr_shape.specs.declared.shape.VariantDef.{VariantDef}
 use Rattle.fr_shape.specs.Checked.{names_apart}
 use Rattle.fr_shape.specs.Named.{name_of}
-use Rattle.fr_rules.specs.VariantLookups.{VariantEntry, variant_entries, variant_entries_from, first_numbered, is_found_by, variant_named, HaveDistinctNames}
+use Rattle.fr_rules.specs.VariantLookups.{VariantEntry, variant_entries, variant_entries_from, first_numbered, is_found_by, variant_named, HaveDistinctNames, IsSortedByName}
 
 abbrev name_in : VariantEntry → List ℕ
 name_in entry = entry.0
@@ -105,6 +106,18 @@ found_at name (first ∷ entries) entry (suc k) apart within at same =
     ] refl in
     numbered_at_front name first entries false differs ∙ found_at name entries entry k parts.1 inside at same
 
+-- the first of a name, though others have it too
+found_first : (name : List ℕ) (entries : List VariantEntry) (place : ℕ) (blank : VariantEntry) → place < length entries
+    → ((k : ℕ) (d : VariantEntry) → k < place → bytes_eq (get_or entries k d).0 name ≡ false) → (get_or entries place blank).0 ≡ name
+    → first_numbered name entries ≡ Some (get_or entries place blank).1
+found_first name [] place blank within before same = absurd (omega arith)
+found_first name (entry ∷ entries) zero blank within before same =
+    numbered_at_front name entry entries true ((bytes_decides entry.0 name).1 same)
+found_first name (entry ∷ entries) (suc place) blank within before same =
+    let inside : place < length entries = omega arith in
+    numbered_at_front name entry entries false (before 0 blank (omega arith))
+    ∙ found_first name entries place blank inside (λ k d earlier. before (suc k) d (omega arith)) same
+
 absent : (name : List ℕ) (entries : List VariantEntry) → All (λ (entry : VariantEntry). bytes_eq entry.0 name ≡ false) entries → first_numbered name entries ≡ None
 absent name [] none = refl
 absent name (entry ∷ entries) none =
@@ -113,7 +126,7 @@ absent name (entry ∷ entries) none =
 
 -- ---- what a search among sorted entries says
 
-abbrev order : List ℕ → List ℕ → Ordering
+abbrev pub order : List ℕ → List ℕ → Ordering
 order = slice_cmp nat_cmp
 
 -- a text is not below or above itself
@@ -122,6 +135,26 @@ level xs =
     let turned = nat_list_cmp_total.antisymm xs xs in
     (λ less. let other = ap ordering_reverse less in cc, λ greater. let other = ap ordering_reverse greater in cc)
 
+lowest_is : (o : Ordering) → is_lt o ≡ true → ordering_index o ≡ 0
+lowest_is Less below = refl
+lowest_is Equal below = absurd cc
+lowest_is Greater below = absurd cc
+
+is_lowest : (o : Ordering) → ordering_index o ≡ 0 → is_lt o ≡ true
+is_lowest Less lowest = refl
+is_lowest Equal lowest = absurd (omega arith)
+is_lowest Greater lowest = absurd (omega arith)
+
+is_less : (o : Ordering) → is_lt o ≡ true → o ≡ Less
+is_less Less below = refl
+is_less Equal below = absurd cc
+is_less Greater below = absurd cc
+
+is_greater : (o : Ordering) → 1 < ordering_index o → o ≡ Greater
+is_greater Less above = absurd (omega arith)
+is_greater Equal above = absurd (omega arith)
+is_greater Greater above = refl
+
 differ : (xs ys : List ℕ) → (xs ≡ ys → ⊥) → bytes_eq xs ys ≡ false
 differ xs ys apart =
     elim (bytes_eq xs ys) as (λ b. bytes_eq xs ys ≡ b → b ≡ false) [
@@ -129,25 +162,121 @@ differ xs ys apart =
       | false ↦ λ _. refl
     ] refl
 
-module _ (name : List ℕ) (variants : List VariantDef) (sorted : List VariantEntry) (distinct : HaveDistinctNames variants) (moved : IsPermutation (variant_entries variants) sorted) where
-  pub found_sorted : (place : ℕ) (blank : VariantEntry) → place < length sorted → order (get_or sorted place blank).0 name ≡ Equal
-      → Some (get_or sorted place blank).1 ≡ variant_named name variants
-  found_sorted place blank within ties =
-      let entry = get_or sorted place blank in
-      let there = Contains-permutation sorted (variant_entries variants) entry (IsPermutation-sym (variant_entries variants) sorted moved) (Contains-get_or sorted place blank within) in
-      sym (found_at name (variant_entries variants) entry there.0 (entries_apart 0 variants distinct) there.1 there.2 (exact_bytes _ _ ties)) ∙ numbered name variants
+abbrev pub is_below : List ℕ → VariantEntry → Bool
+is_below name entry = is_lt (order entry.0 name)
 
-  pub absent_sorted : (place : ℕ) → IsSortedByKey name_in order sorted
-      → (IsNonDecreasingBy (λ (entry : VariantEntry). ordering_index (order entry.0 name)) sorted
-      → IsPartitionPoint (λ (entry : VariantEntry). order entry.0 name ≡ Less) (λ (entry : VariantEntry). order entry.0 name ≡ Greater) sorted place)
-      → None ≡ variant_named name variants
-  absent_sorted place up search =
-      let point = search (searchable_from_sorted nat_list_cmp_total name_in sorted name up) in
-      let none : All (λ (entry : VariantEntry). bytes_eq entry.0 name ≡ false) sorted = λ k blank within.
-      elim (cases_lt k place) [
-        | inl before ↦ differ _ _ (λ same. (level name).0 (subst (λ xs. order xs name ≡ Less) same (point.0 k blank (omega arith) before)))
-        | inr after ↦ differ _ _ (λ same. (level name).1 (subst (λ xs. order xs name ≡ Greater) same (point.1 k blank after within)))
-      ] in
-      sym (absent name (variant_entries variants)
-      (All-permutation (λ (entry : VariantEntry). bytes_eq entry.0 name ≡ false) sorted (variant_entries variants) (IsPermutation-sym (variant_entries variants) sorted moved) none))
-      ∙ numbered name variants
+module _ (name : List ℕ) (sorted : List VariantEntry) (up : IsSortedByName sorted) where
+  abbrev rank : VariantEntry → ℕ
+  rank entry = ordering_index (order entry.0 name)
+
+  ranks_up : IsNonDecreasingBy rank sorted
+  ranks_up = searchable_from_sorted nat_list_cmp_total name_in sorted name up
+
+  pub is_partitioned : IsPartitionedBy (is_below name) sorted
+  is_partitioned i j blank before within below =
+      is_lowest (order (get_or sorted i blank).0 name)
+      (let lower : rank (get_or sorted i blank) ≤ rank (get_or sorted j blank) = ranks_up i j blank before within in
+      let lowest : rank (get_or sorted j blank) ≡ 0 = lowest_is (order (get_or sorted j blank).0 name) below in
+      omega arith)
+
+  module _ (place : ℕ) (point : IsPartitionPoint (λ entry. is_below name entry ≡ true) (λ entry. is_below name entry ≡ false) sorted place) where
+    before_differ : (k : ℕ) (blank : VariantEntry) → k < place → bytes_eq (get_or sorted k blank).0 name ≡ false
+    before_differ k blank before =
+        differ _ _ (λ same. (level name).0 (subst (λ xs. order xs name ≡ Less) same (is_less _ (point.0 k blank (omega arith) before))))
+
+    module _ (entry : VariantEntry) (within : place < length sorted) (read : entry ≡ get_or sorted place entry) where
+      -- the first entry that isn't below the name has it
+      pub found_sorted : entry.0 ≡ name → Some entry.1 ≡ first_numbered name sorted
+      found_sorted same =
+          ap (λ (e : VariantEntry). Some e.1) read
+          ∙ sym (found_first name sorted place entry within (λ k d before. before_differ k d before) (sym (ap name_in read) ∙ same))
+
+      is_above : is_below name entry ≡ false → (entry.0 ≡ name → ⊥) → 1 < rank entry
+      is_above above apart =
+          elim (order entry.0 name) as (λ o. order entry.0 name ≡ o → is_lt o ≡ false → 1 < ordering_index o) [
+            | Less ↦ λ _ no. absurd cc
+            | Equal ↦ λ ties _. absurd (apart (exact_bytes _ _ ties))
+            | Greater ↦ λ _ _. omega arith
+          ] refl above
+
+      -- it has another, and so has each behind it
+      pub absent_sorted : (entry.0 ≡ name → ⊥) → None ≡ first_numbered name sorted
+      absent_sorted apart =
+          let above : is_below name entry ≡ false = ap (is_below name) read ∙ point.1 place entry (omega arith) within in
+          let high : 1 < rank entry = is_above above apart in
+          sym (absent name sorted (λ k d inside.
+          elim (cases_lt k place) [
+            | inl before ↦ before_differ k d before
+            | inr after ↦
+                let here : entry ≡ get_or sorted place d = get_or_read sorted place entry within read d in
+                let further : rank entry ≤ rank (get_or sorted k d) = subst (λ (e : VariantEntry). rank e ≤ rank (get_or sorted k d)) (sym here) (ranks_up place k d after inside) in
+                differ _ _ (λ same. (level name).1 (subst (λ xs. order xs name ≡ Greater) same (is_greater _ (omega arith))))
+          ]))
+
+    -- there is none that isn't below it
+    pub absent_past : length sorted ≤ place → None ≡ first_numbered name sorted
+    absent_past past = sym (absent name sorted (λ k blank inside. before_differ k blank (omega arith)))
+
+-- ---- the order of entries whose names are distinct is of no account
+
+lacked : (name : List ℕ) (entries : List VariantEntry) → first_numbered name entries ≡ None → All (λ (entry : VariantEntry). bytes_eq entry.0 name ≡ false) entries
+lacked name [] none = All-nil (λ (entry : VariantEntry). bytes_eq entry.0 name ≡ false)
+lacked name (entry ∷ entries) none =
+    elim (bytes_eq entry.0 name) as (λ b. bytes_eq entry.0 name ≡ b → All (λ (e : VariantEntry). bytes_eq e.0 name ≡ false) (entry ∷ entries)) [
+      | true ↦ λ same. let found = numbered_at_front name entry entries true same in absurd cc
+      | false ↦ λ differs.
+          All-cons (λ (e : VariantEntry). bytes_eq e.0 name ≡ false) entry entries differs
+          (lacked name entries (sym (numbered_at_front name entry entries false differs) ∙ none))
+    ] refl
+
+-- where an entry is found
+pub record IsFoundAs (name : List ℕ) (entries : List VariantEntry) (number : ℕ) (entry : VariantEntry) : Type 0 where
+  pub among : Contains entries entry
+  pub named : entry.0 ≡ name
+  pub numbered : entry.1 ≡ number
+
+held : (name : List ℕ) (entries : List VariantEntry) (number : ℕ) → first_numbered name entries ≡ Some number
+    → (entry : VariantEntry) × IsFoundAs name entries number entry
+held name [] number some = absurd cc
+held name (entry ∷ entries) number some =
+    elim (bytes_eq entry.0 name) as (λ b. bytes_eq entry.0 name ≡ b → (found : VariantEntry) × IsFoundAs name (entry ∷ entries) number found) [
+      | true ↦ λ same.
+          let here = numbered_at_front name entry entries true same in (
+            entry,
+            record {
+              among = (0, omega arith, refl);
+              named = (bytes_decides entry.0 name).0 same;
+              numbered = cc;
+            },
+          )
+      | false ↦ λ differs.
+          let later = held name entries number (sym (numbered_at_front name entry entries false differs) ∙ some) in (
+            later.0,
+            record {
+              among = (suc later.1.among.0, omega (arith, later.1.among.1), later.1.among.2);
+              named = later.1.named;
+              numbered = later.1.numbered;
+            },
+          )
+    ] refl
+
+pub moved_same : (name : List ℕ) (entries moved : List VariantEntry) → names_apart (map name_in entries) ≡ true → IsPermutation entries moved
+    → first_numbered name moved ≡ first_numbered name entries
+moved_same name entries moved apart permuted = go (first_numbered name moved) refl
+  where
+    back : IsPermutation moved entries
+    back = IsPermutation-sym entries moved permuted
+
+    go : (found : Option ℕ) → first_numbered name moved ≡ found → first_numbered name moved ≡ first_numbered name entries
+    go None none =
+        none ∙ sym (absent name entries (All-permutation (λ (entry : VariantEntry). bytes_eq entry.0 name ≡ false) moved entries back (lacked name moved none)))
+    go (Some number) some =
+        let it = held name moved number some in
+        let there = Contains-permutation moved entries it.0 back it.1.among in
+        some ∙ ap Some (sym it.1.numbered) ∙ sym (found_at name entries it.0 there.0 apart there.1 there.2 it.1.named)
+
+-- what a lookup of the variants finds is the variant of the name
+pub numbered_apart : (name : List ℕ) (variants : List VariantDef) (moved : List VariantEntry) → HaveDistinctNames variants
+    → IsPermutation (variant_entries variants) moved → first_numbered name moved ≡ variant_named name variants
+numbered_apart name variants moved distinct permuted =
+    moved_same name (variant_entries variants) moved (entries_apart 0 variants distinct) permuted ∙ numbered name variants

@@ -28,7 +28,8 @@ told_deferred meant field missing = DeferredFill.Missing
 -- the template that a mark brings, where it is the field's own
 abbrev pub own_of_mark : Option DefaultSource → Option Val
 own_of_mark (Some (DefaultSource.Custom v)) = Some v
-own_of_mark _ = None
+own_of_mark (Some DefaultSource.FromTrait) = None
+own_of_mark None = None
 
 -- the template that a field is marked with
 abbrev pub own_template : Option Field → Option Val

@@ -7,6 +7,7 @@ use Rattle.std.specs.Str.{bytes_eq}
 use Rattle.fr_shape.specs.declared.shape.VariantDef.{VariantDef}
 use Rattle.fr_shape.specs.Checked.{names_apart}
 use Rattle.fr_shape.specs.Named.{name_of}
+use Rattle.fr_rules.specs.declared.entries.TheConstants.{LOOKUP_THRESHOLD}
 use Rattle.fr_rules.specs.declared.variant_lookups.VariantLookup.{VariantLookup}
 
 -- a name and the number of its variant
@@ -34,17 +35,30 @@ variant_named name variants = position (is_found_by name) variants
 abbrev pub HaveDistinctNames : List VariantDef → Type 0
 HaveDistinctNames variants = IsTrue (names_apart (map name_of variants))
 
--- the number in the first entry of this name
+-- the number in the first entry of this whole name
 abbrev pub first_numbered : List ℕ → List VariantEntry → Option ℕ
 first_numbered name entries =
     option_map (λ (entry : VariantEntry). entry.1) (find (λ (entry : VariantEntry). bytes_eq entry.0 name) entries)
 
--- up to 8 entries stand in the variants' order, and more are sorted by name, byte by byte
+-- by name, byte by byte
+abbrev pub IsSortedByName : List VariantEntry → Type 0
+IsSortedByName entries = IsSortedByKey (λ (entry : VariantEntry). entry.0) (slice_cmp nat_cmp) entries
+
+-- the entries of a lookup, as it holds them
+abbrev pub entries_in : VariantLookup → List VariantEntry
+entries_in (VariantLookup.Small own) = own.items
+entries_in (VariantLookup.Sorted sorted) = sorted
+
+-- the entries stand as their form wants: in any order where all are looked through, else sorted by name
+abbrev pub IsInOrder : VariantLookup → Type 0
+IsInOrder (VariantLookup.Small own) = Unit {0}
+IsInOrder (VariantLookup.Sorted sorted) = IsSortedByName sorted
+
+-- up to the threshold entries stand in the variants' order, and more are sorted by name
 abbrev pub HoldsVariants : VariantLookup → List VariantEntry → Type 0
-HoldsVariants (VariantLookup.Small own) entries = (own.items ≡ entries) × (length entries ≤ 8)
+HoldsVariants (VariantLookup.Small own) entries = (own.items ≡ entries) × (length entries ≤ LOOKUP_THRESHOLD)
 HoldsVariants (VariantLookup.Sorted sorted) entries =
-    (8 < length entries) × IsPermutation entries sorted
-    × IsSortedByKey (λ (entry : VariantEntry). entry.0) (slice_cmp nat_cmp) sorted
+    (LOOKUP_THRESHOLD < length entries) × IsPermutation entries sorted × IsSortedByName sorted
 
 -- the lookup stands for these variants, whose names are distinct
 pub record IsVariantLookupOf (lookup : VariantLookup) (variants : List VariantDef) : Type 0 where

@@ -6,11 +6,17 @@ use fr_shape::{Field, Items, OutOfMemory, Text};
 use smallvec::SmallVec;
 use std::alloc::Global;
 
-/// A name by which a field is found. `index` is the number of the field.
+/// The most entries that a lookup holds itself and looks through one by one. One of more entries is searched by halves.
+pub const LOOKUP_THRESHOLD: usize = 8;
+
+/// A name by which a field is found.
 #[derive(Drop, Default)]
 pub struct FieldLookupEntry {
+    /// The whole name: the field's effective name or its alias.
     pub name: Text,
+    /// The number of the field in its list, counted from 0.
     pub index: u32,
+    /// Whether the name is the field's alias.
     pub is_alias: bool,
 }
 

@@ -1,35 +1,41 @@
 //! Lookups of fields by their names.
-ghost use Rattle.std.specs.Prelude.{◌≡◌, ◌<◌, ◌==◌, ℕ, List, length, filter, All, IfOk};
+ghost use Rattle.std.specs.Prelude.{◌≡◌, ◌<◌, ◌≤◌, ◌==◌, ◌↔◌, ℕ, List, length, filter, All, IsTrue, IfOk, OnErr};
 ghost use Rattle.fr_rules.specs.Entries.{entries_of, first_named};
 ghost use Rattle.fr_rules.specs.Pools.{Pool, HasGrown};
 ghost use Rattle.fr_rules.specs.Prefixes.{has_prefix};
 ghost use Rattle.fr_rules.specs.Buckets.{IsInside, IsBucketed};
-ghost use Rattle.fr_rules.specs.FieldLookups.{IsLookupOf, IsOfPool, IsSmall, own_entries, LookupsStay};
+ghost use Rattle.fr_rules.specs.FieldLookups.{IsLookupOf, IsOfPool, IsSmall, own_entries, entry_count, GainsOnly, IsLeft, LookupsStay};
 
 use crate::buckets::{buckets_of, sort_by_prefix};
 use crate::entries::{entries_of, first_named};
 use crate::prefixes::{prefix_len_of, prefix_of};
-use crate::{FieldLookupEntry, LookupPool, PrefixBucket};
+use crate::{FieldLookupEntry, LOOKUP_THRESHOLD, LookupPool, PrefixBucket};
 use fr_arena::SliceRange;
 use fr_shape::{Field, Items, OutOfMemory};
 use smallvec::SmallVec;
 use std::alloc::Global;
 
-/// Finds fields by their names. A short one holds its entries, and those of a long one lie in a `LookupPool`.
+/// Finds fields by their names.
 #[derive(Drop)]
 pub enum FieldLookup {
+    /// Up to `LOOKUP_THRESHOLD` entries, field by field.
     Small(SmallVec<FieldLookupEntry, 16>),
+    /// More entries, which lie in a `LookupPool`, sorted by prefix, with a bucket for each prefix.
     PrefixBuckets {
+        /// How many bytes of a name are its prefix: 4 or 8.
         prefix_len: usize,
+        /// Where the entries lie in the pool.
         entries: SliceRange<FieldLookupEntry>,
+        /// Where the buckets lie in the pool, in the order of their prefixes.
         buckets: SliceRange<PrefixBucket>,
     },
 }
 
-/// The lookup of these fields by their effective names and aliases.
+/// The lookup of these fields by their effective names and aliases. Only one of more than `LOOKUP_THRESHOLD` entries
+/// puts anything into the pool.
 ///
-/// It is refused too where a field's number or the pool would outgrow 32 bits. A refusal may leave entries in the pool
-/// that no lookup names.
+/// Where a field's number or the pool would outgrow 32 bits it returns `OutOfMemory` too. After that error the pool may
+/// have entries that no lookup names.
 pub fn build_field_lookup(
     alloc: Global,
     fields: &Items<Field>,
@@ -37,23 +43,28 @@ pub fn build_field_lookup(
 ) -> Result<FieldLookup, OutOfMemory>
     ensures lookup { IfOk result (λ lookup. IsLookupOf pool.new lookup (entries_of fields.now)) }
     ensures others_stay { HasGrown pool.old pool.new }
+    ensures gained { IfOk result (λ lookup. GainsOnly pool.old pool.new lookup) }
+    ensures few { length (entries_of fields.now) ≤ LOOKUP_THRESHOLD → pool.new ≡ pool.old }
+    ensures refused { OnErr result (IsLeft pool.old pool.new (entries_of fields.now)) }
 {
     let entries = entries_of(alloc, fields)?;
-    if entries.len() <= 8 {
+    if entries.len() <= LOOKUP_THRESHOLD {
         return Ok(FieldLookup::Small(entries));
     }
     build_long(alloc, entries.into_vec()?, pool)
 }
 
-/// The lookup of more entries than a short one has.
+/// The lookup of more entries than a small one has.
 fn build_long(
     alloc: Global,
     mut entries: Vec<FieldLookupEntry>,
     pool: &mut LookupPool,
 ) -> Result<FieldLookup, OutOfMemory>
-    requires { 8 < length entries.items }
+    requires { LOOKUP_THRESHOLD < length entries.items }
     ensures lookup { IfOk result (λ lookup. IsLookupOf pool.new lookup entries.items) }
     ensures others_stay { HasGrown pool.old pool.new }
+    ensures gained { IfOk result (λ lookup. GainsOnly pool.old pool.new lookup) }
+    ensures refused { OnErr result (IsLeft pool.old pool.new entries.items) }
 {
     if entries.len() > u32::MAX as usize {
         return Err(OutOfMemory);
@@ -71,7 +82,7 @@ fn build_long(
 }
 
 impl FieldLookup {
-    /// The number of the first field that has an entry of this whole name.
+    /// The number of the field, counted from 0, in the first entry of this whole name.
     ///
     /// The pool is that in which the lookup was built, also after it grew.
     pub fn find(&self, name: &str, pool: &LookupPool) -> Option<usize>
@@ -94,7 +105,7 @@ impl FieldLookup {
         }
     }
 
-    /// The same of a lookup that holds its entries itself.
+    /// The same for a lookup that holds its entries itself.
     pub fn find_small(&self, name: &str) -> Option<usize>
         requires small { IsSmall self.now }
         ensures first_named { result ≡ first_named name.now (own_entries self.now) }
@@ -107,8 +118,9 @@ impl FieldLookup {
 
     /// Whether there is no entry.
     pub fn is_empty(&self) -> bool
-        ensures empty { (pool : Pool) (entries : List FieldLookupEntry) → IsLookupOf pool self.now entries
-            → result ≡ (length entries == 0) }
+        ensures none { IsTrue result ↔ (entry_count self.now ≡ 0) }
+        ensures empty { (pool : Pool) (entries : List FieldLookupEntry)
+            → IsLookupOf pool self.now entries → result ≡ (length entries == 0) }
     {
         match self {
             FieldLookup::Small(entries) => entries.is_empty(),

@@ -10,17 +10,21 @@ use fr_shape::{Def, DefaultSource, Field, FieldRef, ShapeId, ShapeTable, StructK
 #[cfg(test)]
 mod tests;
 
-/// What a strict completion does with a hole: it takes a default, or the caller has to fill the field.
+/// What a strict completion does with a hole.
 #[derive(Clone, Copy, PartialEq, Eq)]
 pub enum FillRule {
+    /// The hole takes this default, where there is one.
     Defaultable(FieldDefault),
+    /// The caller has to fill the field.
     Required,
 }
 
-/// Where a default is found: at the field, which has a template of its own, or as the preset of the field's shape.
+/// Where a default is found.
 #[derive(Clone, Copy, PartialEq, Eq)]
 pub enum FieldDefault {
+    /// At this field, which is marked with a template of its own.
     Custom(FieldRef),
+    /// At the field's shape, which this is: its preset.
     FromTrait(ShapeId),
 }
 
@@ -33,18 +37,21 @@ impl FieldDefault {
         match self {
             FieldDefault::Custom(field) => match &table.field(field)?.default {
                 Some(DefaultSource::Custom(template)) => Some(template),
-                _ => None,
+                Some(DefaultSource::FromTrait) | None => None,
             },
             FieldDefault::FromTrait(shape) => table.preset(shape),
         }
     }
 }
 
-/// What the end of deferred mode does with a hole: it takes a default, or finds none.
+/// What the end of deferred mode does with a hole.
 #[derive(Drop)]
 pub enum DeferredFill {
+    /// The hole takes this default.
     Template(FieldDefault),
+    /// The field is marked as taking its shape's default, and the shape has none.
     MarkedWithoutDefault,
+    /// Nothing fills the field.
     Missing,
 }
 
@@ -52,7 +59,8 @@ pub enum DeferredFill {
 /// though its shape may have none.
 pub fn determine_fill_rule(table: &ShapeTable, field: FieldRef) -> FillRule
     requires there { IsSome (field_at table.now field) }
-    ensures rule { IfSome (field_at table.now field) (λ found. result ≡ told_strict field found (strict_rule_of table.now field found)) }
+    ensures rule { IfSome (field_at table.now field) (λ found. result
+        ≡ told_strict field found (strict_rule_of table.now field found)) }
 {
     let found = table.field(field).unwrap();
     match &found.default {
@@ -70,7 +78,8 @@ pub fn determine_fill_rule(table: &ShapeTable, field: FieldRef) -> FillRule
 /// The rule of a field's hole at the end of deferred mode.
 pub fn deferred_fill(table: &ShapeTable, field: FieldRef) -> DeferredFill
     requires there { IsSome (field_at table.now field) }
-    ensures rule { IfSome (field_at table.now field) (λ found. result ≡ told_deferred field found (deferred_rule_of table.now field found)) }
+    ensures rule { IfSome (field_at table.now field) (λ found. result
+        ≡ told_deferred field found (deferred_rule_of table.now field found)) }
 {
     let found = table.field(field).unwrap();
     match &found.default {
@@ -149,5 +158,11 @@ fn is_unit(def: &Def) -> bool
 fn is_collection(def: &Def) -> bool
     ensures { result ≡ is_collection def.now }
 {
-    matches!(def, Def::List(_) | Def::Map(..) | Def::Set(_))
+    match def {
+        Def::List(_) | Def::Map(..) | Def::Set(_) => true,
+        Def::Scalar(_) | Def::Str | Def::Opaque | Def::Dynamic | Def::Undefined | Def::Other =>
+            false,
+        Def::Struct(_) | Def::Enum(_) | Def::Option(_) | Def::Result(..) => false,
+        Def::Array(..) | Def::Slice(_) | Def::Pointer(_) => false,
+    }
 }

@@ -1,5 +1,5 @@
 //! The pool that holds the entries and buckets of all long lookups.
-ghost use Rattle.std.specs.Prelude.{◌≡◌, ◌+◌, ◌≤◌, [], ◌++◌, length, IfOk};
+ghost use Rattle.std.specs.Prelude.{◌≡◌, ◌+◌, ◌≤◌, [], ◌++◌, length, IfOk, OnErr};
 ghost use Rattle.fr_arena.specs.Ranges.{indices_from};
 ghost use Rattle.fr_rules.specs.Pools.{HasGrown, part_of};
 
@@ -9,7 +9,7 @@ use fr_shape::OutOfMemory;
 use std::alloc::Global;
 use std::marker::Model;
 
-/// The entries and the buckets of all lookups of a plan. It only grows.
+/// The entries and the buckets of all long lookups of a plan. It only grows.
 #[derive(Drop)]
 pub struct LookupPool {
     entries: Arena<FieldLookupEntry>,
@@ -64,6 +64,7 @@ impl LookupPool {
         ensures range { IfOk result (λ range. range
             ≡ indices_from (length self.old.entries) (length entries.items)) }
         ensures others { self.new.buckets ≡ self.old.buckets }
+        ensures refused { OnErr result (self.new.entries ≡ self.old.entries) }
         ensures grown { HasGrown self.old self.new }
     {
         if entries.len() > u32::MAX as usize - self.entries.len() {
@@ -83,6 +84,7 @@ impl LookupPool {
         ensures range { IfOk result (λ range. range
             ≡ indices_from (length self.old.buckets) (length buckets.items)) }
         ensures others { self.new.entries ≡ self.old.entries }
+        ensures refused { OnErr result (self.new.buckets ≡ self.old.buckets) }
         ensures grown { HasGrown self.old self.new }
     {
         if buckets.len() > u32::MAX as usize - self.buckets.len() {

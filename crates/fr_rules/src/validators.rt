@@ -14,24 +14,34 @@ mod tests;
 /// A validator of a field, ready to be run.
 #[derive(Drop)]
 pub struct PrecomputedValidator {
+    /// What it tests.
     pub kind: ValidatorKind,
 }
 
 /// What is tested. All but a hook's test hold the scalar kind of the field's shape.
 #[derive(Drop)]
 pub enum ValidatorKind {
+    /// What this hook says of the value.
     Custom(HookId),
+    /// The number is this one or more. Numbers of 128 bits and of pointer size pass.
     Min(i64, ScalarKind),
+    /// The number is this one or less. Numbers of 128 bits and of pointer size pass.
     Max(i64, ScalarKind),
+    /// The text has this many bytes or more.
     MinLength(u64, ScalarKind),
+    /// The text has this many bytes or fewer.
     MaxLength(u64, ScalarKind),
+    /// The text begins with `http://` or `https://`; no more is tested.
     Url(ScalarKind),
+    /// The text has this one within it, byte by byte. No character of the pattern is special.
     Regex(Text, ScalarKind),
+    /// The text has this one within it, byte by byte.
     Contains(Text, ScalarKind),
 }
 
 impl PrecomputedValidator {
-    /// Tests the value of `field`. Only a value that fails may want memory, for what is said of it.
+    /// Tests the value of `field`. Only a value that fails takes memory, for what is said of it, and where there is none
+    /// the error is `OutOfMemory`.
     ///
     /// The value should fit the scalar kind. One that is no number is in all bounds, and one that is no text is read as
     /// the empty text.
@@ -42,7 +52,8 @@ impl PrecomputedValidator {
         value: &Value,
         field: FieldRef,
     ) -> Result<(), ReflectErrorKind>
-        ensures passing { IsOk result ↔ IsTrue (passes_held (H.means hooks.now).check self.now.kind (view value.now)) }
+        ensures passing { IsOk result
+            ↔ IsTrue (passes_held (H.means hooks.now).check self.now.kind (view value.now)) }
         ensures failing { IfErr result (IsRefusal field self.now.kind (view value.now)) }
     {
         if passes(hooks, &self.kind, value) {
@@ -89,7 +100,8 @@ fn is_compared(kind: ScalarKind) -> bool
     match kind {
         ScalarKind::I8 | ScalarKind::I16 | ScalarKind::I32 | ScalarKind::I64 => true,
         ScalarKind::U8 | ScalarKind::U16 | ScalarKind::U32 | ScalarKind::U64 => true,
-        _ => false,
+        ScalarKind::I128 | ScalarKind::U128 | ScalarKind::ISize | ScalarKind::USize => false,
+        ScalarKind::Bool | ScalarKind::Char | ScalarKind::String | ScalarKind::CowStr => false,
     }
 }
 
