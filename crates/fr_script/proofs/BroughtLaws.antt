@@ -1,8 +1,8 @@
 -- Marks against what was brought.
-use Rattle.std.proofs.Common.{◌≡◌, ℕ, ◌+◌, ◌<◌, ◌&&◌, ◌||◌, not, nat_lt, nat_eq, ltb-true, cond, drop, Bool, true, false, List, [], ◌∷◌, ◌++◌, length, length-set, get_or, set, Option, Some, None, refl, sym, ap, ◌∙◌, subst, arith}
+use Rattle.std.proofs.Common.{◌≡◌, ℕ, zero, suc, ◌+◌, ◌<◌, ◌&&◌, ◌||◌, not, nat_lt, nat_eq, ltb-true, cond, drop, Bool, true, false, List, [], ◌∷◌, ◌++◌, length, length-set, get_or, set, replicate, Option, Some, None, refl, sym, ap, ◌∙◌, subst, arith}
 use Rattle.std.proofs.lemmas.Bool.Decides.{nat_tests}
 use Rattle.std.proofs.lemmas.Grind.{common_steps}
-use Rattle.std.proofs.lemmas.List.{drop_more}
+use Rattle.std.proofs.lemmas.List.{drop_more, length-replicate}
 use Rattle.std.proofs.lemmas.List.Folds.{list_any-append}
 use Rattle.std.specs.List.{list_any}
 use Rattle.fr_shape.specs.Fits.{fits}
@@ -13,7 +13,7 @@ use Rattle.fr_model.specs.declared.command.Command.{Command}
 use Rattle.fr_model.specs.Commands.{Call, call_of, calls_of}
 use Rattle.fr_model.specs.Scripts.{tokens_of}
 use Rattle.fr_script.specs.Documents.{is_new, are_new, is_valid_call, first_invalid}
-use Rattle.fr_script.specs.Marks.{AreMarks, marked, marked_by}
+use Rattle.fr_script.specs.Marks.{AreMarks, marked, marked_by, here_or, first_unmarked}
 
 -- the same tokens were brought, in another order
 AreSame : List ℕ → List ℕ → Type 0
@@ -122,25 +122,50 @@ module _ (ledger : List ℕ) where
     call_meets brought marks Call.SetDefault are = (refl, are)
     call_meets brought marks Call.End are = (refl, are)
 
-    abbrev from : List ℕ → ℕ → List Command → Option ℕ
-    from brought i script = first_invalid table ledger brought i (calls_of script)
+    decided : (brought : List ℕ) (call : Call) (calls : List Call) (i : ℕ) (found : Option (List Bool)) → MeetsCall brought call found
+        → ((after : List Bool) → AreMarks ledger (tokens_of call ++ brought) after
+        → first_unmarked table after (i + 1) calls ≡ first_invalid table ledger (tokens_of call ++ brought) (i + 1) calls)
+        → here_or i (λ after. first_unmarked table after (i + 1) calls) found
+        ≡ first_invalid table ledger brought i (call ∷ calls)
+    unfolding MeetsCall
+    decided brought call calls i None wrong rest = rw wrong refl
+    decided brought call calls i (Some after) meets rest = rw meets.0 (rest after meets.1)
 
-    module _ (brought : List ℕ) (marks : List Bool) (are : AreMarks ledger brought marks) (script : List Command) (i : ℕ) (command : Command) (h : i < length script) (is : command ≡ get_or script i command) where
-      here : from brought i (drop i script) ≡ cond (is_valid_call table ledger brought (call_of command)) (from (tokens_of (call_of command) ++ brought) (i + 1) (drop (i + 1) script)) (Some i)
-      here = ap (from brought i) (drop_more script i command h ∙ ap (λ c. c ∷ drop (i + 1) script) (sym is))
+    -- the first call that can't be marked is the first that isn't valid
+    pub unmarked_invalid : (calls : List Call) (brought : List ℕ) (marks : List Bool) (i : ℕ) → AreMarks ledger brought marks
+        → first_unmarked table marks i calls ≡ first_invalid table ledger brought i calls
+    unmarked_invalid [] brought marks i are = refl
+    unmarked_invalid (call ∷ calls) brought marks i are =
+        decided brought call calls i (marked_by table call marks) (call_meets brought marks call are)
+        (λ after those. unmarked_invalid calls (tokens_of call ++ brought) after (i + 1) those)
 
-      pub not_valid : marked_by table (call_of command) marks ≡ None → from brought i (drop i script) ≡ Some i
-      unfolding MeetsCall
-      not_valid none =
-          let wrong : is_valid_call table ledger brought (call_of command) ≡ false = subst (MeetsCall brought (call_of command)) none (call_meets brought marks (call_of command) are) in
-          here ∙ rw wrong
+-- a new ledger has no mark
+unmarked : (n t : ℕ) → get_or (replicate n false) t false ≡ false
+unmarked zero t = refl
+unmarked (suc n) zero = refl
+unmarked (suc n) (suc t) = unmarked n t
 
-      pub go_on : (after : List Bool) → marked_by table (call_of command) marks ≡ Some after → from brought i (drop i script) ≡ from (tokens_of (call_of command) ++ brought) (i + 1) (drop (i + 1) script)
-      unfolding MeetsCall
-      go_on after found =
-          let right : is_valid_call table ledger brought (call_of command) ≡ true = (subst (MeetsCall brought (call_of command)) found (call_meets brought marks (call_of command) are)).0 in
-          here ∙ rw right
+uncounted : (n t : ℕ) → ◌≡◌ {A = ℕ} (get_or (replicate n 0) t 0) 0
+uncounted zero t = refl
+uncounted (suc n) zero = refl
+uncounted (suc n) (suc t) = uncounted n t
 
-      pub marks_after : (after : List Bool) → marked_by table (call_of command) marks ≡ Some after → AreMarks ledger (tokens_of (call_of command) ++ brought) after
-      unfolding MeetsCall
-      marks_after after found = (subst (MeetsCall brought (call_of command)) found (call_meets brought marks (call_of command) are)).1
+pub none_marked : (n : ℕ) → AreMarks (replicate n 0) [] (replicate n false)
+none_marked n = record {
+  same_length = simp length-replicate;
+  each = λ t h. unmarked n t ∙ sym (ap (λ count. not (nat_eq count 0 && true)) (uncounted n t));
+}
+
+-- In a loop over commands.
+module _ (table : Table) (marks : List Bool) (script : List Command) (i : ℕ) (command : Command) (h : i < length script) (is : command ≡ get_or script i command) where
+  abbrev from : List Bool → ℕ → List Command → Option ℕ
+  from before j commands = first_unmarked table before j (calls_of commands)
+
+  here : from marks i (drop i script) ≡ here_or i (λ after. from after (i + 1) (drop (i + 1) script)) (marked_by table (call_of command) marks)
+  here = ap (from marks i) (drop_more script i command h ∙ ap (λ c. c ∷ drop (i + 1) script) (sym is))
+
+  pub not_valid : marked_by table (call_of command) marks ≡ None → from marks i (drop i script) ≡ Some i
+  not_valid none = here ∙ ap (here_or i (λ after. from after (i + 1) (drop (i + 1) script))) none
+
+  pub go_on : (after : List Bool) → marked_by table (call_of command) marks ≡ Some after → from marks i (drop i script) ≡ from after (i + 1) (drop (i + 1) script)
+  go_on after found = here ∙ ap (here_or i (λ marked. from marked (i + 1) (drop (i + 1) script))) found

@@ -1,15 +1,14 @@
 -- What was read of a document meets what the builder asks.
-use Rattle.std.proofs.Common.{◌≡◌, ℕ, zero, suc, ◌<◌, ◌≤◌, nat_lt, cond, Bool, true, false, List, [], ◌∷◌, length, replicate, not, Option, Some, None, Ok, Err, codes, refl, subst, arith}
-use Rattle.std.specs.Prelude.{Result}
+use Rattle.std.proofs.Common.{◌≡◌, ℕ, zero, suc, ◌<◌, ◌≤◌, nat_lt, cond, Bool, true, false, List, [], ◌∷◌, length, replicate, not, Option, Some, None, Ok, Err, codes, refl, ap, subst, sum_by, arith}
+use Rattle.std.specs.Prelude.{Result, nat_le, slice_get}
 use Rattle.std.specs.Option.{ok_or}
-use Rattle.std.proofs.lemmas.Bool.{ltb-true}
+use Rattle.std.proofs.lemmas.Bool.{ltb-true, leb-true}
+use Rattle.std.proofs.lemmas.List.Sums.{sum_by-cons}
 use Rattle.serde_json.specs.Data.{Data}
-use Rattle.serde_json.specs.Find.{get}
 use Rattle.serde_json.specs.Written.{has_float}
 use Rattle.fr_shape.specs.Look.{Table, IsIn, def_of}
-use Rattle.fr_shape.specs.Numbered.{field_count, IsNumbered}
+use Rattle.fr_shape.specs.Numbered.{field_count, variants_of, IsNumbered}
 use Rattle.fr_shape.specs.Served.{IsServed}
-use Rattle.fr_shape.specs.ServedLaws.{served_numbered}
 use Rattle.fr_doc.specs.declared.fault.DocFault.{DocFault}
 use Rattle.fr_doc.specs.declared.fault.DocPlace.{DocPlace}
 use Rattle.fr_doc.specs.declared.fault.DocSize.{DocSize}
@@ -19,7 +18,13 @@ use Rattle.fr_doc.specs.ShapeForms.{shapes_form}
 use Rattle.fr_doc.specs.TablesServed.{shapes_served}
 use Rattle.fr_model.specs.Scripts.{IsValid}
 use Rattle.fr_script.specs.DocumentFacts.{IsBuildable}
-use Rattle.fr_script.specs.Documents.{Document, asks, broken, below, root_form, tokens_form, script_form, parts_form, member_at, document_form, count_fields, at_most, sizes_pass, rules_pass, first_invalid, invalid, script_passes, tree_of, checked_parts, document_of}
+use Rattle.fr_script.specs.Documents.{Document, asks, broken, below, root_form, tokens_form, script_form, document_form, part_count, part_total, at_most, sizes_pass, rules_pass, first_invalid, invalid, script_passes, tree_of, document_of}
+use Rattle.fr_script.specs.Members.{members_form}
+use Rattle.fr_script.specs.declared.sizes.TheConstants.{SHAPE_LIMIT, PART_LIMIT, COMMAND_LIMIT, TOKEN_LIMIT}
+use Rattle.fr_doc.specs.declared.looping.TheConstants.{DOCUMENT_LIMIT}
+use Rattle.fr_shape.specs.declared.shape.Def.{Def}
+use Rattle.fr_shape.specs.declared.shape.Shape.{Shape}
+use Rattle.fr_shape.specs.declared.shape.VariantDef.{VariantDef}
 use Rattle.fr_script.proofs.RuleLaws.{passes_checked}
 use Rattle.fr_script.proofs.ValidScripts.{valid_where_none_invalid}
 
@@ -37,43 +42,120 @@ found : {X : Type 0} (o : Option X) (fault : DocFault) (x : X) → ok_or o fault
 found None fault x is = cc
 found (Some y) fault x is = cc
 
-within : (limit n : ℕ) (size : DocSize) (u : Unit {0}) → at_most limit n size ≡ Ok u → n ≤ limit
-within limit n size u is =
-    let small = ltb-true n (suc limit) (asked (nat_lt n (suc limit)) (DocFault.TooLarge size) u is) in
-    omega arith
+within : (limit n : ℕ) (fault : DocFault) (u : Unit {0}) → at_most limit n fault ≡ Ok u → n ≤ limit
+within limit n fault u is = leb-true n limit (asked (nat_le n limit) fault u is)
 
 -- Sizes.
 
 pub record HasFew (document : Document) : Type 0 where
-  pub few_shapes : length document.shapes ≤ 4096
-  pub few_fields : count_fields document.shapes ≤ 65536
-  pub few_calls : length document.script ≤ 200000
-  pub few_tokens : document.tokens ≤ 1000000
+  pub few_shapes : length document.shapes ≤ SHAPE_LIMIT
+  pub few_parts : part_total document.shapes ≤ PART_LIMIT
+  pub few_calls : length document.script ≤ COMMAND_LIMIT
+  pub few_tokens : document.tokens ≤ TOKEN_LIMIT
 
 pub sizes_known : (document : Document) (u : Unit {0}) → sizes_pass document ≡ Ok u → HasFew document
 unfolding sizes_pass
 sizes_known document u is =
-    let shapes = passed (at_most 4096 (length document.shapes) DocSize.Shapes) _ u is in
-    let fields = passed (at_most 65536 (count_fields document.shapes) DocSize.Fields) _ u shapes.2 in
-    let calls = passed (at_most 200000 (length document.script) DocSize.Commands) _ u fields.2 in
-    let tokens = passed (at_most 1000000 document.tokens DocSize.Tokens) _ u calls.2 in
+    let shapes = passed (at_most SHAPE_LIMIT (length document.shapes) (DocFault.TooLarge DocSize.Shapes)) _ u is in
+    let parts = passed (at_most PART_LIMIT (part_total document.shapes) (DocFault.TooLarge DocSize.Fields)) _ u shapes.2 in
+    let calls = passed (at_most COMMAND_LIMIT (length document.script) (DocFault.TooLarge DocSize.Commands)) _ u parts.2 in
+    let tokens = passed (at_most TOKEN_LIMIT document.tokens (DocFault.TooLarge DocSize.Tokens)) _ u calls.2 in
     record {
-      few_shapes = within 4096 (length document.shapes) DocSize.Shapes shapes.0 shapes.1;
-      few_fields = within 65536 (count_fields document.shapes) DocSize.Fields fields.0 fields.1;
-      few_calls = within 200000 (length document.script) DocSize.Commands calls.0 calls.1;
-      few_tokens = within 1000000 document.tokens DocSize.Tokens tokens.0 tokens.1;
+      few_shapes = within SHAPE_LIMIT (length document.shapes) _ shapes.0 shapes.1;
+      few_parts = within PART_LIMIT (part_total document.shapes) _ parts.0 parts.1;
+      few_calls = within COMMAND_LIMIT (length document.script) _ calls.0 calls.1;
+      few_tokens = within TOKEN_LIMIT document.tokens _ tokens.0 tokens.1;
     }
 
-fields_counted : (table : Table) (id : ℕ) → field_count (def_of table id) ≤ count_fields table
-fields_counted [] id = omega arith
-fields_counted (shape ∷ shapes) zero = omega arith
-fields_counted (shape ∷ shapes) (suc id) = let rest = fields_counted shapes id in omega arith
+fields_are_parts : (def : Def) → field_count def ≤ part_count def
+fields_are_parts (Def.Struct struct) = omega arith
+fields_are_parts (Def.Enum enum) = omega arith
+fields_are_parts (Def.Scalar kind) = omega arith
+fields_are_parts Def.Str = omega arith
+fields_are_parts Def.Opaque = omega arith
+fields_are_parts (Def.Option t) = omega arith
+fields_are_parts (Def.Result t e) = omega arith
+fields_are_parts (Def.List t) = omega arith
+fields_are_parts (Def.Map k v) = omega arith
+fields_are_parts (Def.Set t) = omega arith
+fields_are_parts (Def.Array t n) = omega arith
+fields_are_parts (Def.Pointer pointer) = omega arith
+fields_are_parts (Def.Slice t) = omega arith
+fields_are_parts Def.Dynamic = omega arith
+fields_are_parts Def.Undefined = omega arith
+fields_are_parts Def.Other = omega arith
 
-few_numbered : (table : Table) → IsServed table → length table ≤ 4096 → count_fields table ≤ 65536 → IsNumbered table
-few_numbered table served shapes fields =
-    served_numbered table served (omega arith) (λ id. let counted = fields_counted table id in omega arith)
+-- how many variants there are, and fields in all of them
+abbrev variant_parts : List VariantDef → ℕ
+variant_parts variants = sum_by (λ variant. 1 + length variant.fields) variants
 
--- Parts.
+next_parts : (variant : VariantDef) (variants : List VariantDef) → variant_parts (variant ∷ variants) ≡ 1 + length variant.fields + variant_parts variants
+next_parts variant variants = sum_by-cons (λ (v : VariantDef). 1 + length v.fields) variant variants
+
+fewer_variants : (variants : List VariantDef) → length variants ≤ variant_parts variants
+fewer_variants [] = omega arith
+fewer_variants (variant ∷ variants) = let rest = fewer_variants variants in let all = next_parts variant variants in omega arith
+
+fewer_fields : (variants : List VariantDef) (i : ℕ) (found : VariantDef) → slice_get variants i ≡ Some found → length found.fields ≤ variant_parts variants
+fewer_fields [] i found is = cc
+fewer_fields (variant ∷ variants) zero found is =
+    let same : variant ≡ found = cc in
+    let all = next_parts variant variants in
+    let len : length variant.fields ≡ length found.fields = ap (λ (v : VariantDef). length v.fields) same in
+    omega arith
+fewer_fields (variant ∷ variants) (suc i) found is =
+    let rest = fewer_fields variants i found is in
+    let all = next_parts variant variants in
+    omega arith
+
+variants_are_parts : (def : Def) → variant_parts (variants_of def) ≤ part_count def
+variants_are_parts (Def.Struct struct) = omega arith
+variants_are_parts (Def.Enum enum) = omega arith
+variants_are_parts (Def.Scalar kind) = omega arith
+variants_are_parts Def.Str = omega arith
+variants_are_parts Def.Opaque = omega arith
+variants_are_parts (Def.Option t) = omega arith
+variants_are_parts (Def.Result t e) = omega arith
+variants_are_parts (Def.List t) = omega arith
+variants_are_parts (Def.Map k v) = omega arith
+variants_are_parts (Def.Set t) = omega arith
+variants_are_parts (Def.Array t n) = omega arith
+variants_are_parts (Def.Pointer pointer) = omega arith
+variants_are_parts (Def.Slice t) = omega arith
+variants_are_parts Def.Dynamic = omega arith
+variants_are_parts Def.Undefined = omega arith
+variants_are_parts Def.Other = omega arith
+
+parts_counted : (table : Table) (id : ℕ) → part_count (def_of table id) ≤ part_total table
+parts_counted [] id = omega arith
+parts_counted (shape ∷ shapes) zero =
+    let all = sum_by-cons (λ (s : Shape). part_count s.def) shape shapes in
+    omega arith
+parts_counted (shape ∷ shapes) (suc id) =
+    let rest = parts_counted shapes id in
+    let all = sum_by-cons (λ (s : Shape). part_count s.def) shape shapes in
+    omega arith
+
+few_numbered : (table : Table) → length table ≤ SHAPE_LIMIT → part_total table ≤ PART_LIMIT → IsNumbered table
+few_numbered table shapes parts = record {
+  shapes = omega arith;
+  fields = λ id.
+      let here = fields_are_parts (def_of table id) in
+      let counted = parts_counted table id in
+      omega arith;
+  variants = λ id.
+      let fewer = fewer_variants (variants_of (def_of table id)) in
+      let here = variants_are_parts (def_of table id) in
+      let counted = parts_counted table id in
+      omega arith;
+  variant_fields = λ id i variant is.
+      let fewer = fewer_fields (variants_of (def_of table id)) i variant is in
+      let here = variants_are_parts (def_of table id) in
+      let counted = parts_counted table id in
+      omega arith;
+}
+
+-- Forms.
 
 kept_where : (b : Bool) (n root : ℕ) → cond b (Some n) None ≡ Some root → (b ≡ true) × (n ≡ root)
 kept_where true n root is = (refl, cc)
@@ -95,18 +177,16 @@ root_within shapes d root is =
 same_document : (made document : Document) (P : Document → Type 0) → ◌≡◌ {A = Result Document DocFault} (Ok made) (Ok document) → P made → P document
 same_document made document P is holds = let same : made ≡ document = cc in subst P same holds
 
-pub parts_known : (d : Data) (document : Document) → parts_form d ≡ Ok document → IsServed document.shapes × IsIn document.shapes document.root
-unfolding parts_form
-parts_known d document is =
-    let shapes_member = passed (member_at (codes "shapes") DocPlace.Document d) _ document is in
-    let shapes = passed (shapes_form shapes_member.0) _ document shapes_member.2 in
-    let root_member = passed (member_at (codes "root") DocPlace.Document d) _ document shapes.2 in
-    let root = passed (root_form (length shapes.0) root_member.0) _ document root_member.2 in
-    let tokens = passed (tokens_form (get (codes "tokens") d)) _ document root.2 in
-    let commands = passed (member_at (codes "commands") DocPlace.Document d) _ document tokens.2 in
-    let script = passed (script_form commands.0) _ document commands.2 in
+form_known : (d : Data) (document : Document) → document_form d ≡ Ok document → IsServed document.shapes × IsIn document.shapes document.root
+unfolding document_form
+form_known d document is =
+    let members = passed (broken DocPlace.Document (members_form d)) _ document is in
+    let shapes = passed (shapes_form members.0.shapes) _ document members.2 in
+    let root = passed (root_form (length shapes.0) members.0.root) _ document shapes.2 in
+    let tokens = passed (tokens_form members.0.tokens) _ document root.2 in
+    let script = passed (script_form members.0.commands) _ document tokens.2 in
     same_document _ document (λ read. IsServed read.shapes × IsIn read.shapes read.root) script.2
-    (shapes_served shapes_member.0 shapes.0 shapes.1, root_within (length shapes.0) root_member.0 root.0 root.1)
+    (shapes_served members.0.shapes shapes.0 shapes.1, root_within (length shapes.0) members.0.root root.0 root.1)
 
 -- The script.
 
@@ -122,30 +202,24 @@ script_known document u is =
 
 -- All together.
 
-checked_known : (d : Data) (document : Document) → checked_parts d ≡ Ok document → IsBuildable document
-unfolding checked_parts
-checked_known d document is =
-    let form = passed (document_form d) _ document is in
-    let parts = passed (parts_form d) _ document form.2 in
-    let sizes = passed (sizes_pass parts.0) _ document parts.2 in
-    let rules = passed (rules_pass parts.0.shapes) _ document sizes.2 in
-    let script = passed (script_passes parts.0) _ document rules.2 in
-    let few = sizes_known parts.0 sizes.0 sizes.1 in
-    let known = parts_known d parts.0 parts.1 in
-    same_document parts.0 document IsBuildable script.2 record {
-      checked = passes_checked parts.0.shapes rules.0 rules.1;
-      served = known.0;
-      rooted = known.1;
-      numbered = few_numbered parts.0.shapes known.0 few.few_shapes few.few_fields;
-      few_commands = few.few_calls;
-      few_tokens = few.few_tokens;
-      valid = script_known parts.0 script.0 script.1;
-    }
-
 pub document_buildable : (bytes : List ℕ) (document : Document) → document_of bytes ≡ Ok document → IsBuildable document
 unfolding document_of
 document_buildable bytes document is =
-    let short = passed (asks (nat_lt (length bytes) 8388609) DocFault.TooLong) _ document is in
+    let short = passed (at_most DOCUMENT_LIMIT (length bytes) DocFault.TooLong) _ document is in
     let tree = passed (ok_or (tree_of bytes) DocFault.NotJson) _ document short.2 in
     let float = passed (asks (not (has_float tree.0)) DocFault.HasFloat) _ document tree.2 in
-    checked_known tree.0 document float.2
+    let form = passed (document_form tree.0) _ document float.2 in
+    let sizes = passed (sizes_pass form.0) _ document form.2 in
+    let rules = passed (rules_pass form.0.shapes) _ document sizes.2 in
+    let script = passed (script_passes form.0) _ document rules.2 in
+    let few = sizes_known form.0 sizes.0 sizes.1 in
+    let known = form_known tree.0 form.0 form.1 in
+    same_document form.0 document IsBuildable script.2 record {
+      checked = passes_checked form.0.shapes rules.0 rules.1;
+      served = known.0;
+      rooted = known.1;
+      numbered = few_numbered form.0.shapes few.few_shapes few.few_parts;
+      few_commands = few.few_calls;
+      few_tokens = few.few_tokens;
+      valid = script_known form.0 script.0 script.1;
+    }

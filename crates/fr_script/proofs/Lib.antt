@@ -2,8 +2,10 @@ pub mod AnswerLaws
 pub mod Arguments
 pub mod BroughtLaws
 pub mod Buildable
+pub mod FirstInvalids
 pub mod FloatFree
 pub mod MarkLaws
+pub mod MemberLaws
 pub mod ReleasedLaws
 pub mod RuleLaws
 pub mod SizeLaws

@@ -1,27 +1,28 @@
--- Counting the fields of shapes one after another, and begins against ends.
-use Rattle.std.proofs.Common.{◌≡◌, ℕ, suc, ◌+◌, ◌-◌, ◌<◌, ◌≤◌, nat_lt, false, List, ◌∷◌, length, get_or, drop, sym, ap, ◌∙◌, arith}
-use Rattle.std.proofs.lemmas.List.{drop_more}
-use Rattle.std.proofs.lemmas.Bool.Decides.{nat_tests}
-use Rattle.fr_shape.specs.declared.shape.Shape.{Shape}
-use Rattle.fr_shape.specs.Numbered.{field_count}
-use Rattle.fr_script.specs.Documents.{count_fields}
+-- Counting off what the items of a list have, one after another.
+use Rattle.std.proofs.Common.{◌≡◌, ℕ, ◌+◌, ◌<◌, ◌≤◌, List, [], ◌∷◌, ◌++◌, length, get_or, take, Bool, true, false, nat_le, sum_by, refl, sym, ap, ◌∙◌, arith}
+use Rattle.std.proofs.lemmas.Bool.{le-leb, lt-leb}
+use Rattle.std.proofs.lemmas.List.{take_all, take_more}
+use Rattle.std.proofs.lemmas.List.Sums.{sum_by_push, sum_by-take-le}
 
-at_item : {X : Type 0} (xs : List X) (i : ℕ) (x : X) → i < length xs → x ≡ get_or xs i x → drop i xs ≡ x ∷ drop (i + 1) xs
-at_item xs i x h is = drop_more xs i x h ∙ ap (λ y. y ∷ drop (i + 1) xs) (sym is)
+module _ {X : Type 0} (f : X → ℕ) (xs : List X) (i : ℕ) (left limit : ℕ) (so_far : left + sum_by f (take i xs) ≡ limit) where
+  module _ (x : X) (h : i < length xs) (is : x ≡ get_or xs i x) where
+    with_next : sum_by f (take (i + 1) xs) ≡ sum_by f (take i xs) + f x
+    with_next = ap (sum_by f) (take_more xs i x h ∙ ap (λ y. take i xs ++ y ∷ []) (sym is)) ∙ sum_by_push f (take i xs) x
 
-rest_within : (a b l : ℕ) → a ≤ l → nat_lt (a + b) (suc l) ≡ nat_lt b (suc (l - a))
-rest_within a b l h = grind (arith, nat_tests)
+    -- the next item's were counted off too
+    pub counted_off : (fewer : ℕ) → fewer + f x ≡ left → fewer + sum_by f (take (i + 1) xs) ≡ limit
+    counted_off fewer taken = omega (arith, with_next)
 
-over : (a b l : ℕ) → l < a → nat_lt (a + b) (suc l) ≡ false
-over a b l h = grind (arith, nat_tests)
+    -- the next item has more than what is left
+    pub too_many : left < f x → limit < sum_by f xs
+    too_many more = omega (arith, with_next, sum_by-take-le f xs (i + 1))
 
-module _ (shapes : List Shape) (i : ℕ) (shape : Shape) (h : i < length shapes) (is : shape ≡ get_or shapes i shape) (left : ℕ) where
-  pub fields_left : field_count shape.def ≤ left → nat_lt (count_fields (drop i shapes)) (suc left) ≡ nat_lt (count_fields (drop (i + 1) shapes)) (suc (left - field_count shape.def))
-  fields_left fits =
-      ap (λ ss. nat_lt (count_fields ss) (suc left)) (at_item shapes i shape h is)
-      ∙ rest_within (field_count shape.def) (count_fields (drop (i + 1) shapes)) left fits
+  -- all were counted off
+  pub all_counted : length xs ≤ i → left + sum_by f xs ≡ limit
+  all_counted past = ap (λ ys. left + sum_by f ys) (sym (take_all i xs past)) ∙ so_far
 
-  pub fields_over : left < field_count shape.def → nat_lt (count_fields (drop i shapes)) (suc left) ≡ false
-  fields_over large =
-      ap (λ ss. nat_lt (count_fields ss) (suc left)) (at_item shapes i shape h is)
-      ∙ over (field_count shape.def) (count_fields (drop (i + 1) shapes)) left large
+pub is_within : (left total limit : ℕ) → left + total ≡ limit → true ≡ nat_le total limit
+is_within left total limit e = sym (le-leb total limit (omega arith))
+
+pub is_over : (total limit : ℕ) → limit < total → false ≡ nat_le total limit
+is_over total limit more = sym (lt-leb total limit more)

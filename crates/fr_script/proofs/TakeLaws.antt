@@ -1,18 +1,19 @@
 -- A document that is read only to its limit is the same document.
-use Rattle.std.proofs.Common.{◌≡◌, ℕ, ◌<◌, ◌≤◌, Bool, true, false, List, [], Option, Some, None, IfSome, length, take, drop, refl, sym, ap, ◌∙◌, arith}
-use Rattle.std.specs.Prelude.{nat_lt}
+use Rattle.std.proofs.Common.{◌≡◌, ℕ, ◌+◌, ◌<◌, ◌≤◌, Bool, true, false, List, [], Option, Some, None, IfSome, length, take, drop, refl, sym, ap, ◌∙◌, arith}
+use Rattle.std.specs.Prelude.{nat_lt, nat_le}
 use Rattle.std.proofs.lemmas.List.{take-append-drop}
 use Rattle.std.proofs.lemmas.List.{take_all}
 use Rattle.std.proofs.Math.ListN.{length-take}
-use Rattle.std.proofs.lemmas.Bool.{ltb-true, ltb-false, le-ltb}
+use Rattle.std.proofs.lemmas.Bool.{ltb-true, ltb-false, lt-leb}
 use Rattle.std.specs.Option.{option_map}
 use Rattle.std.specs.Io.KnownBytes.{prepend_known}
+use Rattle.fr_doc.specs.declared.looping.TheConstants.{DOCUMENT_LIMIT}
 use Rattle.fr_doc.specs.Causes.{LosesAtMost}
 use Rattle.fr_script.specs.Documents.{document_of}
 use Rattle.fr_script.specs.Reports.{outcome_of, outcome_of_document}
 
--- n stands for the limit, which is too large to compute with
-pub at_limit : (n : ℕ) (bytes : List ℕ) → n ≡ 8388609 → document_of (take n bytes) ≡ document_of bytes
+-- n stands for the most that is read, which is too large to compute with
+pub at_limit : (n : ℕ) (bytes : List ℕ) → n ≡ DOCUMENT_LIMIT + 1 → document_of (take n bytes) ≡ document_of bytes
 unfolding document_of
 at_limit n bytes e = go (nat_lt (length bytes) n) refl
   where
@@ -23,12 +24,12 @@ at_limit n bytes e = go (nat_lt (length bytes) n) refl
     go false long =
         let beyond : n ≤ length bytes = ltb-false (length bytes) n long in
         let cut : length (take n bytes) ≡ n = simp length-take (omega arith) in
-        let first : nat_lt (length (take n bytes)) 8388609 ≡ false
-        = ap (λ (k : ℕ). nat_lt k 8388609) cut ∙ le-ltb n 8388609 (omega arith) in
-        let second : nat_lt (length bytes) 8388609 ≡ false = le-ltb (length bytes) 8388609 (omega arith) in
+        let first : nat_le (length (take n bytes)) DOCUMENT_LIMIT ≡ false
+        = ap (λ (k : ℕ). nat_le k DOCUMENT_LIMIT) cut ∙ lt-leb n DOCUMENT_LIMIT (omega arith) in
+        let second : nat_le (length bytes) DOCUMENT_LIMIT ≡ false = lt-leb (length bytes) DOCUMENT_LIMIT (omega arith) in
         rw (first, second) refl
 
-pub outcome_at_limit : (n : ℕ) (bytes : List ℕ) → n ≡ 8388609 → outcome_of (take n bytes) ≡ outcome_of bytes
+pub outcome_at_limit : (n : ℕ) (bytes : List ℕ) → n ≡ DOCUMENT_LIMIT + 1 → outcome_of (take n bytes) ≡ outcome_of bytes
 outcome_at_limit n bytes e = ap outcome_of_document (at_limit n bytes e)
 
 -- what was read of a source is what it doesn't have any more

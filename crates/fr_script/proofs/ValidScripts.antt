@@ -39,7 +39,7 @@ comes_never ledger before t n is = record {
   new = λ some. absurd (omega arith);
 }
 
-times_more : (s : ℕ) (ss : List ℕ) (t : ℕ) → times (s ∷ ss) t ≡ cond (nat_eq s t) 1 0 + times ss t
+pub times_more : (s : ℕ) (ss : List ℕ) (t : ℕ) → times (s ∷ ss) t ≡ cond (nat_eq s t) 1 0 + times ss t
 times_more s ss t = omega (arith, times_append (s ∷ []) ss t)
 
 -- what isn't among them doesn't come

@@ -5,6 +5,7 @@ use Rattle.fr_shape.specs.Look.{IsIn}
 use Rattle.fr_shape.specs.Numbered.{IsNumbered}
 use Rattle.fr_shape.specs.Served.{IsServed}
 use Rattle.fr_model.specs.Scripts.{IsValid}
+use Rattle.fr_script.specs.declared.sizes.TheConstants.{COMMAND_LIMIT, TOKEN_LIMIT}
 use Rattle.fr_script.specs.Documents.{Document}
 
 -- The document's table, root and script meet what the builder asks, and their sizes are within the limits.
@@ -13,6 +14,6 @@ pub record IsBuildable (document : Document) : Type 0 where
   pub served : IsServed document.shapes
   pub rooted : IsIn document.shapes document.root
   pub numbered : IsNumbered document.shapes
-  pub few_commands : length document.script ≤ 200000
-  pub few_tokens : document.tokens ≤ 1000000
+  pub few_commands : length document.script ≤ COMMAND_LIMIT
+  pub few_tokens : document.tokens ≤ TOKEN_LIMIT
   pub valid : IsValid document.shapes document.script (replicate document.tokens 0)

@@ -1,28 +1,29 @@
 -- What a document is: its bytes, read in the order in which its faults are told.
-use Rattle.std.specs.Prelude.{ℕ, suc, ◌+◌, ◌==◌, Bool, true, false, not, ◌&&◌, List, [], ◌∷◌, ◌++◌, length, replicate, slice_index, nat_lt, nat_eq, Option, Some, None, Result, Ok, Err, codes, is_some, if◌then◌else◌}
+use Rattle.std.specs.Prelude.{ℕ, ◌+◌, ◌==◌, Bool, true, false, not, ◌&&◌, List, [], ◌∷◌, ◌++◌, length, replicate, slice_index, sum_by, nat_lt, nat_le, nat_eq, Option, Some, None, Result, Ok, Err, if◌then◌else◌}
 use Rattle.std.specs.List.{list_any}
 use Rattle.std.specs.Option.{ok_or}
 use Rattle.std.specs.Str.{is_utf8}
-use Rattle.serde_json.specs.Data.{Data, array, Members}
-use Rattle.serde_json.specs.Find.{get, as_object}
+use Rattle.serde_json.specs.Data.{Data, array}
 use Rattle.serde_json.specs.Read.{read}
 use Rattle.serde_json.specs.Written.{has_float}
+use Rattle.fr_shape.specs.declared.shape.Def.{Def}
 use Rattle.fr_shape.specs.declared.shape.Shape.{Shape}
 use Rattle.fr_shape.specs.Look.{Table}
 use Rattle.fr_shape.specs.Faults.{rules_of}
 use Rattle.fr_shape.specs.Fits.{fits}
-use Rattle.fr_shape.specs.Numbered.{field_count}
 use Rattle.fr_shape.specs.Tokens.{tokens}
 use Rattle.fr_doc.specs.declared.fault.DocFault.{DocFault}
 use Rattle.fr_doc.specs.declared.fault.DocPlace.{DocPlace}
 use Rattle.fr_doc.specs.declared.fault.DocSize.{DocSize}
+use Rattle.fr_doc.specs.declared.looping.TheConstants.{DOCUMENT_LIMIT}
 use Rattle.fr_doc.specs.FaultSteps.{◌>>=◌, each_at}
-use Rattle.fr_doc.specs.Keys.{has_no_other}
 use Rattle.fr_doc.specs.Numerals.{whole_number}
 use Rattle.fr_doc.specs.ShapeForms.{shapes_form}
 use Rattle.fr_model.specs.Commands.{Call}
 use Rattle.fr_model.specs.Scripts.{tokens_of}
+use Rattle.fr_script.specs.declared.sizes.TheConstants.{SHAPE_LIMIT, PART_LIMIT, COMMAND_LIMIT, TOKEN_LIMIT, DEPTH_LIMIT}
 use Rattle.fr_script.specs.CommandForms.{call_form}
+use Rattle.fr_script.specs.Members.{members_form}
 
 -- a table, a root, how many tokens there are, and a script
 pub record Document : Type 0 where
@@ -36,24 +37,13 @@ abbrev pub asks : Bool → DocFault → Result (Unit {0}) DocFault
 asks true fault = Ok tt
 asks false fault = Err fault
 
+abbrev pub at_most : ℕ → ℕ → DocFault → Result (Unit {0}) DocFault
+at_most limit n fault = asks (nat_le n limit) fault
+
 abbrev pub broken : {X : Type 0} → DocPlace → Option X → Result X DocFault
 broken place found = ok_or found (DocFault.BadForm place)
 
 -- Forms, by place: the document, its shapes, each shape, the root, the tokens, the commands, each command.
-
--- an object of shapes, a root, commands, and perhaps a number of tokens
-abbrev pub has_keys : Data → Members → Bool
-has_keys d members =
-    has_no_other members (codes "shapes" ∷ codes "root" ∷ codes "tokens" ∷ codes "commands" ∷ [])
-    && is_some (get (codes "shapes") d) && is_some (get (codes "root") d) && is_some (get (codes "commands") d)
-
-unfoldable pub document_form : Data → Result (Unit {0}) DocFault
-document_form d = do
-  members ← broken DocPlace.Document (as_object d)
-  asks (has_keys d members) (DocFault.BadForm DocPlace.Document)
-
-abbrev pub member_at : List ℕ → DocPlace → Data → Result Data DocFault
-member_at key place d = broken place (get key d)
 
 -- a number below the number of shapes
 abbrev pub below : ℕ → ℕ → Option ℕ
@@ -76,53 +66,70 @@ unfoldable pub script_form : Data → Result (List Call) DocFault
 script_form (array ds) = each_at call_at 0 ds
 script_form _ = Err (DocFault.BadForm DocPlace.Commands)
 
-unfoldable pub parts_form : Data → Result Document DocFault
-parts_form d = do
-  shapes_member ← member_at (codes "shapes") DocPlace.Document d
-  shapes ← shapes_form shapes_member
-  root_member ← member_at (codes "root") DocPlace.Document d
-  root ← root_form (length shapes) root_member
-  tokens ← tokens_form (get (codes "tokens") d)
-  commands_member ← member_at (codes "commands") DocPlace.Document d
-  script ← script_form commands_member
+unfoldable pub document_form : Data → Result Document DocFault
+document_form d = do
+  members ← broken DocPlace.Document (members_form d)
+  shapes ← shapes_form members.shapes
+  root ← root_form (length shapes) members.root
+  tokens ← tokens_form members.tokens
+  script ← script_form members.commands
   Ok (record { shapes = shapes; root = root; tokens = tokens; script = script })
 
 -- Sizes.
 
-abbrev pub count_fields : List Shape → ℕ
-count_fields [] = 0
-count_fields (shape ∷ shapes) = field_count shape.def + count_fields shapes
+-- how many fields and variants a definition has
+abbrev pub part_count : Def → ℕ
+part_count (Def.Struct struct) = length struct.fields
+part_count (Def.Enum enum) = sum_by (λ variant. 1 + length variant.fields) enum.variants
+part_count (Def.Scalar kind) = 0
+part_count Def.Str = 0
+part_count Def.Opaque = 0
+part_count (Def.Option t) = 0
+part_count (Def.Result t e) = 0
+part_count (Def.List t) = 0
+part_count (Def.Map k v) = 0
+part_count (Def.Set t) = 0
+part_count (Def.Array t n) = 0
+part_count (Def.Pointer pointer) = 0
+part_count (Def.Slice t) = 0
+part_count Def.Dynamic = 0
+part_count Def.Undefined = 0
+part_count Def.Other = 0
 
-abbrev pub begins : Call → Bool
-begins (Call.BeginField name) = true
-begins (Call.BeginNthField i) = true
-begins _ = false
+-- the same of all shapes together
+abbrev pub part_total : Table → ℕ
+part_total shapes = sum_by (λ shape. part_count shape.def) shapes
 
-abbrev pub is_end : Call → Bool
-is_end Call.End = true
-is_end _ = false
+-- how many places a call enters: one where its name begins with `begin_`
+abbrev pub begins : Call → ℕ
+begins (Call.BeginField name) = 1
+begins (Call.BeginNthField i) = 1
+begins (Call.Set shape v) = 0
+begins Call.SetDefault = 0
+begins Call.End = 0
 
-abbrev pub one_if : Bool → ℕ
-one_if true = 1
-one_if false = 0
+-- how many places it leaves
+abbrev pub ends : Call → ℕ
+ends (Call.BeginField name) = 0
+ends (Call.BeginNthField i) = 0
+ends (Call.Set shape v) = 0
+ends Call.SetDefault = 0
+ends Call.End = 1
 
--- after some command there were over 1,000 more begins than ends
+-- after some call there were more begins than ends by over the limit
 abbrev pub too_deep : (begun ended : ℕ) → List Call → Bool
 too_deep begun ended [] = false
 too_deep begun ended (call ∷ calls) =
-    if nat_lt (ended + one_if (is_end call) + 1000) (begun + one_if (begins call)) then true
-    else too_deep (begun + one_if (begins call)) (ended + one_if (is_end call)) calls
-
-abbrev pub at_most : ℕ → ℕ → DocSize → Result (Unit {0}) DocFault
-at_most limit n size = asks (nat_lt n (suc limit)) (DocFault.TooLarge size)
+    if nat_lt (ended + ends call + DEPTH_LIMIT) (begun + begins call) then true
+    else too_deep (begun + begins call) (ended + ends call) calls
 
 unfoldable pub sizes_pass : Document → Result (Unit {0}) DocFault
 sizes_pass document = do
-  _ ← at_most 4096 (length document.shapes) DocSize.Shapes
-  _ ← at_most 65536 (count_fields document.shapes) DocSize.Fields
-  _ ← at_most 200000 (length document.script) DocSize.Commands
-  _ ← at_most 1000000 document.tokens DocSize.Tokens
-  if too_deep 0 0 document.script then Err (DocFault.TooLarge DocSize.Depth) else Ok tt
+  _ ← at_most SHAPE_LIMIT (length document.shapes) (DocFault.TooLarge DocSize.Shapes)
+  _ ← at_most PART_LIMIT (part_total document.shapes) (DocFault.TooLarge DocSize.Fields)
+  _ ← at_most COMMAND_LIMIT (length document.script) (DocFault.TooLarge DocSize.Commands)
+  _ ← at_most TOKEN_LIMIT document.tokens (DocFault.TooLarge DocSize.Tokens)
+  asks (not (too_deep 0 0 document.script)) (DocFault.TooLarge DocSize.Depth)
 
 -- The table's rules: the smallest of the nine that is broken, at the first entry that breaks it.
 
@@ -159,7 +166,10 @@ are_new ledger brought (t ∷ ts) =
 abbrev pub is_valid_call : Table → List ℕ → List ℕ → Call → Bool
 is_valid_call table ledger brought (Call.Set shape v) =
     nat_lt shape (length table) && fits table shape v && are_new ledger brought (tokens v)
-is_valid_call table ledger brought _ = true
+is_valid_call table ledger brought (Call.BeginField name) = true
+is_valid_call table ledger brought (Call.BeginNthField i) = true
+is_valid_call table ledger brought Call.SetDefault = true
+is_valid_call table ledger brought Call.End = true
 
 -- the first of these calls, counted from i, that isn't valid after what was brought before it
 abbrev pub first_invalid : Table → List ℕ → List ℕ → ℕ → List Call → Option ℕ
@@ -181,20 +191,14 @@ script_passes document =
 abbrev pub tree_of : List ℕ → Option Data
 tree_of bytes = if is_utf8 bytes then read bytes else None
 
--- what the bytes are, in all the tests of their parts
-unfoldable pub checked_parts : Data → Result Document DocFault
-checked_parts d = do
-  _ ← document_form d
-  document ← parts_form d
+-- the document that bytes are, or their first fault
+unfoldable pub document_of : List ℕ → Result Document DocFault
+document_of bytes = do
+  _ ← at_most DOCUMENT_LIMIT (length bytes) DocFault.TooLong
+  d ← ok_or (tree_of bytes) DocFault.NotJson
+  _ ← asks (not (has_float d)) DocFault.HasFloat
+  document ← document_form d
   _ ← sizes_pass document
   _ ← rules_pass document.shapes
   _ ← script_passes document
   Ok document
-
--- the document that bytes are, or their first fault
-unfoldable pub document_of : List ℕ → Result Document DocFault
-document_of bytes = do
-  _ ← asks (nat_lt (length bytes) 8388609) DocFault.TooLong
-  d ← ok_or (tree_of bytes) DocFault.NotJson
-  _ ← asks (not (has_float d)) DocFault.HasFloat
-  checked_parts d

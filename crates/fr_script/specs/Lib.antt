@@ -2,10 +2,13 @@ pub mod Answers
 pub mod CommandForms
 pub mod DocumentFacts
 pub mod Documents
+pub mod FirstInvalid
 pub mod Headline
 pub mod Marks
+pub mod Members
 pub mod Outcomes
 pub mod Reading
 pub mod Reports
 pub mod Runs
+pub mod Sizes
 pub mod Tokens

@@ -1,11 +1,10 @@
 -- Marks on tokens, one for each token of a ledger. A marked token may not be brought.
-use Rattle.std.specs.Prelude.{◌≡◌, ◌<◌, ℕ, Bool, true, false, not, ◌&&◌, ◌==◌, List, [], ◌∷◌, length, nat_lt, slice_index, slice_index_or, slice_set, Option, Some, None, Result, Ok, Err, ⊤, if◌then◌else◌}
+use Rattle.std.specs.Prelude.{◌≡◌, ◌<◌, ℕ, ◌+◌, Bool, true, false, not, ◌&&◌, ◌==◌, List, [], ◌∷◌, length, nat_lt, slice_index, slice_index_or, slice_set, Option, Some, None, if◌then◌else◌}
 use Rattle.fr_shape.specs.Fits.{fits}
 use Rattle.fr_shape.specs.Look.{Table}
 use Rattle.fr_shape.specs.Tokens.{tokens}
 use Rattle.fr_model.specs.Commands.{Call}
 use Rattle.fr_script.specs.Documents.{is_new}
-use Rattle.fr_script.specs.declared.validity.ScriptFault.{ScriptFault}
 
 -- the token was released, or brought before
 abbrev pub is_taken : List ℕ → List ℕ → ℕ → Bool
@@ -26,15 +25,23 @@ marked (t ∷ ts) marks =
 abbrev pub marked_by : Table → Call → List Bool → Option (List Bool)
 marked_by table (Call.Set shape v) marks =
     if nat_lt shape (length table) && fits table shape v then marked (tokens v) marks else None
-marked_by table _ marks = Some marks
+marked_by table (Call.BeginField name) marks = Some marks
+marked_by table (Call.BeginNthField i) marks = Some marks
+marked_by table Call.SetDefault marks = Some marks
+marked_by table Call.End marks = Some marks
 
 -- the answer tells whether there are such marks, and then they were set
 abbrev pub Marks : Option (List Bool) → Bool → List Bool → Type 0
 Marks meant true after = meant ≡ Some after
 Marks meant false after = meant ≡ None
 
--- Ok where no command is invalid, and else the first that is; memory may be wanting anywhere
-abbrev pub Judges : Option ℕ → Result (Unit {0}) ScriptFault → Type 0
-Judges invalid (Ok passed) = invalid ≡ None
-Judges invalid (Err (ScriptFault.Invalid i)) = invalid ≡ Some i
-Judges invalid (Err ScriptFault.OutOfMemory) = ⊤
+-- this one where there are no marks, and else what comes of them
+abbrev pub here_or : ℕ → (List Bool → Option ℕ) → Option (List Bool) → Option ℕ
+here_or i go_on None = Some i
+here_or i go_on (Some after) = go_on after
+
+-- the first of these calls, counted from i, whose tokens can't be marked after those of the calls before it
+abbrev pub first_unmarked : Table → List Bool → ℕ → List Call → Option ℕ
+first_unmarked table marks i [] = None
+first_unmarked table marks i (call ∷ calls) =
+    here_or i (λ after. first_unmarked table after (i + 1) calls) (marked_by table call marks)

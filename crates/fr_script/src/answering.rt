@@ -1,5 +1,5 @@
 //! What a document comes to.
-use crate::build_script::ScriptError;
+use crate::building::ScriptError;
 use fr_doc::DocFault;
 use fr_partial::Built;
 use fr_shape::Items;

@@ -1,18 +1,20 @@
 //! Reading documents.
-ghost use Rattle.std.specs.Prelude.{◌≡◌, ◌<◌, ◌^◌, length};
-ghost use Rattle.serde_json.specs.View.{view as data_of};
+ghost use Rattle.std.specs.Prelude.{◌≡◌, ◌<◌, ◌^◌, length, option_map};
 ghost use Rattle.std.specs.Option.{ok_or};
+ghost use Rattle.serde_json.specs.View.{view as data_of};
+ghost use Rattle.fr_shape.specs.Look.{Table};
 ghost use Rattle.fr_doc.specs.Faults.{Gives};
 ghost use Rattle.fr_doc.specs.declared.fault.DocFault.{DocFault};
-ghost use Rattle.fr_script.specs.Documents.{checked_parts, document_of, rules_pass, script_passes, tree_of};
-ghost use Rattle.fr_script.specs.Reading.{GivesFor, document_view, parts_view};
+ghost use Rattle.fr_script.specs.Documents.{document_form, document_of, root_form, rules_pass, script_passes, tokens_form, tree_of};
+ghost use Rattle.fr_script.specs.Reading.{GivesFor, document_view};
 
-use crate::parts::{Parts, read_parts, test_form};
+use crate::command_form::script_of;
+use crate::members::members_of;
 use crate::sizes::test_sizes;
-use crate::validity::{ScriptFault, is_valid_script};
-use fr_doc::{DOCUMENT_LIMIT, DocFault, ReadError, has_float};
+use crate::validity::find_invalid;
+use fr_doc::{DOCUMENT_LIMIT, DocFault, DocPlace, ReadError, count_of, has_float, shapes_of};
 use fr_model::Script;
-use fr_shape::{Ledger, ShapeId, ShapeTable};
+use fr_shape::{ShapeId, ShapeTable};
 use serde_json::{Category, Value as Json};
 use std::alloc::Global;
 
@@ -37,7 +39,15 @@ pub fn read_document(alloc: Global, bytes: &[u8]) -> Result<Document, ReadError>
     if has_float(&json) {
         return Err(ReadError::Fault(DocFault::HasFloat));
     }
-    read_checked(alloc, &json)
+    let document = read_form(alloc, &json)?;
+    if let Err(fault) = test_sizes(&document) {
+        return Err(ReadError::Fault(fault));
+    }
+    if let Err(fault) = test_rules(&document.table) {
+        return Err(ReadError::Fault(fault));
+    }
+    test_script(alloc, &document)?;
+    Ok(document)
 }
 
 /// The JSON that bytes are.
@@ -53,41 +63,48 @@ fn read_tree(alloc: Global, bytes: &[u8]) -> Result<Json, ReadError>
     }
 }
 
-/// The document of a JSON without floats, in all the tests of its parts.
-#[tactic(auto, unfolding(crate::specs::Documents::checked_parts))]
-fn read_checked(alloc: Global, json: &Json) -> Result<Document, ReadError>
-    ensures { GivesFor document_view (checked_parts (data_of json.now)) result }
+/// Reads the members of a document one after another, up to the first place whose form is broken.
+#[tactic(auto, unfolding(crate::specs::Documents::document_form))]
+fn read_form(alloc: Global, json: &Json) -> Result<Document, ReadError>
+    ensures { GivesFor document_view (document_form (data_of json.now)) result }
 {
-    if let Err(fault) = test_form(json) {
-        return Err(ReadError::Fault(fault));
-    }
-    let parts = read_parts(alloc, json)?;
-    if let Err(fault) = test_sizes(&parts) {
-        return Err(ReadError::Fault(fault));
-    }
-    let document = into_document(alloc, parts);
-    if let Err(fault) = test_rules(&document.table) {
-        return Err(ReadError::Fault(fault));
-    }
-    test_script(alloc, &document)?;
-    Ok(document)
-}
-
-/// Makes the shapes a table. Takes no memory.
-fn into_document(alloc: Global, parts: Parts) -> Document
-    ensures { document_view result ≡ parts_view parts }
-{
-    let Parts {
-        shapes,
-        root,
-        tokens,
-        script,
-    } = parts;
-    Document {
+    let Some(members) = members_of(json) else {
+        return Err(ReadError::Fault(DocFault::BadForm(DocPlace::Document)));
+    };
+    let shapes = shapes_of(alloc, members.shapes)?;
+    let root = read_root(shapes.len(), members.root)?;
+    let tokens = read_tokens(members.tokens)?;
+    let script = script_of(alloc, members.commands)?;
+    Ok(Document {
         table: ShapeTable::new(alloc, shapes),
         root: ShapeId(root),
         tokens,
         script,
+    })
+}
+
+/// The number of one of so many shapes.
+#[tactic(auto, unfolding(crate::specs::Documents::root_form))]
+fn read_root(shapes: usize, json: &Json) -> Result<u32, ReadError>
+    ensures { Gives (root_form shapes (data_of json.now)) result }
+{
+    match count_of(json) {
+        Some(root) if (root as usize) < shapes => Ok(root),
+        _ => Err(ReadError::Fault(DocFault::BadForm(DocPlace::Root))),
+    }
+}
+
+/// How many tokens there are. None where nothing is said of them.
+#[tactic(auto, unfolding(crate::specs::Documents::tokens_form))]
+fn read_tokens(json: Option<&Json>) -> Result<u32, ReadError>
+    ensures { Gives (tokens_form (option_map (λ found. data_of found.now) json.entry)) result }
+{
+    let Some(json) = json else {
+        return Ok(0);
+    };
+    match count_of(json) {
+        Some(tokens) => Ok(tokens),
+        None => Err(ReadError::Fault(DocFault::BadForm(DocPlace::Tokens))),
     }
 }
 
@@ -102,18 +119,17 @@ fn test_rules(table: &ShapeTable) -> Result<(), DocFault>
     }
 }
 
-/// Tests that the script is valid over a ledger of the document's tokens.
+/// Tests that the script is valid over a new ledger of the document's tokens. Such a ledger has no mark yet.
 #[tactic(auto, unfolding(crate::specs::Documents::script_passes))]
 fn test_script(alloc: Global, document: &Document) -> Result<(), ReadError>
     requires few { length document.now.script < 2 ^ 32 }
     ensures { Gives (script_passes (document_view document.now)) result }
 {
-    let Ok(ledger) = Ledger::new(alloc, document.tokens) else {
+    let Ok(mut marks) = vec![in alloc; false; document.tokens as usize] else {
         return Err(ReadError::Memory);
     };
-    match is_valid_script(alloc, &document.table, &document.script, &ledger) {
-        Ok(()) => Ok(()),
-        Err(ScriptFault::Invalid(i)) => Err(ReadError::Fault(DocFault::Invalid(i))),
-        Err(ScriptFault::OutOfMemory) => Err(ReadError::Memory),
+    match find_invalid(&document.table, &document.script, marks.as_mut_slice()) {
+        None => Ok(()),
+        Some(i) => Err(ReadError::Fault(DocFault::Invalid(i))),
     }
 }

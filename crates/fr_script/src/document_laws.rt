@@ -1,15 +1,19 @@
 //! Laws of documents: each is the contract of a function that does nothing.
-ghost use Rattle.std.specs.Prelude.{◌≡◌, List, [], ℕ, None, Ok};
+ghost use Rattle.std.specs.Prelude.{◌≡◌, List, [], ℕ, None, Some, Ok};
 ghost use Rattle.fr_model.specs.Commands.{Call};
 ghost use Rattle.fr_model.specs.Scripts.{IsValid};
 ghost use Rattle.fr_shape.specs.Look.{Table};
 ghost use Rattle.fr_script.specs.DocumentFacts.{IsBuildable};
 ghost use Rattle.fr_script.specs.Documents.{Document, document_of, first_invalid};
+ghost use Rattle.fr_script.specs.FirstInvalid.{IsFirstInvalid};
 
-/// A script in which no command is invalid may be handed to the builder.
+/// The first command that isn't valid: where there is none the script may be handed to the builder, and else it may up
+/// to that command.
 pub fn law_valid_scripts()
     ensures valid { (table : Table) (ledger : List ℕ) (script : List Call)
         → first_invalid table ledger [] 0 script ≡ None → IsValid table script ledger }
+    ensures invalid { (table : Table) (ledger : List ℕ) (script : List Call) (n : ℕ)
+        → first_invalid table ledger [] 0 script ≡ Some n → IsFirstInvalid table script ledger n }
 {}
 
 /// What a document asks for may be built.

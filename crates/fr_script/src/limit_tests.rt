@@ -1,9 +1,14 @@
-//! Each limit of a document, at the largest size that it admits and at one past it.
-use crate::document::read_document;
-use fr_doc::{DocFault, DocSize, ReadError, TableFault};
+//! Each limit of a document, at the largest size that it admits and at one past it, each as a whole run.
+use crate::running::run;
+use crate::tests::check;
+use fr_doc::{MemSink, MemSource};
+use fr_shape::Items;
 use std::alloc::Global;
 use std::process::Abort;
 use std::test::Fail;
+
+/// What is reported of a builder at which nothing was set.
+const NOTHING_SET: &str = r#"{"error":{"command":0,"kind":"UninitializedValue"},"released":[]}"#;
 
 /// `front`, then `part` so many times with commas between, then `back`.
 pub(crate) fn joined(
@@ -24,52 +29,43 @@ pub(crate) fn joined(
     Ok(text)
 }
 
-/// The first fault of the document, if it has one.
-fn fault_of(alloc: Global, bytes: &[u8]) -> Result<Option<DocFault>, Fail> {
-    match read_document(alloc, bytes) {
-        Ok(_) => Ok(None),
-        Err(ReadError::Fault(fault)) => Ok(Some(fault)),
-        Err(ReadError::Memory) => Err("no memory".into()),
-    }
-}
-
-/// Reads the document with `count` parts, and then the one with a part more.
-fn check(
+/// Runs the document with `count` parts, which ends with this status and line, and then the one with a part more, which
+/// is at fault.
+fn check_limit(
     rt: &(impl Abort + AllocGlobal),
     (front, part, back): (&str, &str, &str),
     count: usize,
-    at: Option<DocFault>,
-    past: DocFault,
+    (status, at): (u8, &str),
+    past: &str,
 ) -> Result<(), Fail> {
     let alloc = rt.alloc();
     let text = joined(alloc, front, part, count, back)?;
-    assert!(rt;
-        fault_of(alloc, text.as_bytes())? == at,
-        "{part} at the limit"
-    );
+    check(rt, part, text.as_bytes(), status, at)?;
     let text = joined(alloc, front, part, count.wrapping_add(1), back)?;
-    assert!(rt;
-        fault_of(alloc, text.as_bytes())? == Some(past),
-        "{part} past the limit"
-    );
-    Ok(())
+    check(rt, part, text.as_bytes(), 2, past)
 }
 
 #[test]
-fn a_document_has_at_most_8_388_608_bytes(rt: HostRuntime) -> Result<(), Fail> {
+fn an_input_has_at_most_8_388_608_bytes(rt: HostRuntime) -> Result<(), Fail> {
     let alloc = rt.alloc();
-    let spaces = vec![in alloc; b' '; 8_388_609]?;
-    let bytes = spaces.as_slice();
-    assert!(rt; fault_of(alloc, bytes)? == Some(DocFault::TooLong));
-    if let Some((_, rest)) = bytes.split_last() {
-        assert!(rt; fault_of(alloc, rest)? == Some(DocFault::NotJson));
+    for (count, want) in [
+        (8_388_608, "{\"fault\":\"NotJson\"}\n"),
+        (8_388_609, "{\"fault\":\"TooLong\"}\n"),
+    ] {
+        let spaces = Items::from_vec(vec![in alloc; b' '; count]?);
+        let mut source = MemSource::new(spaces, 1_000_000, Items::new(alloc));
+        let mut sink = MemSink::new(alloc, 1_000, Items::new(alloc));
+        let words = vec![in alloc; String::from_str(alloc, "build")?]?;
+        let status = run(alloc, words.as_slice(), &mut source, &mut sink);
+        assert_eq!(rt; status, 2);
+        assert_eq!(rt; sink.taken(), want.as_bytes(), "{count} spaces");
     }
     Ok(())
 }
 
 #[test]
 fn a_document_has_at_most_4_096_shapes(rt: HostRuntime) -> Result<(), Fail> {
-    check(
+    check_limit(
         &rt,
         (
             r#"{"shapes":["#,
@@ -77,14 +73,14 @@ fn a_document_has_at_most_4_096_shapes(rt: HostRuntime) -> Result<(), Fail> {
             r#"],"root":0,"commands":[]}"#,
         ),
         4_096,
-        Some(DocFault::Unchecked(TableFault { rule: 2, entry: 1 })),
-        DocFault::TooLarge(DocSize::Shapes),
+        (2, r#"{"entry":1,"fault":"Unchecked","rule":2}"#),
+        r#"{"fault":"TooLarge","what":"shapes"}"#,
     )
 }
 
 #[test]
 fn a_document_has_at_most_65_536_fields(rt: HostRuntime) -> Result<(), Fail> {
-    check(
+    check_limit(
         &rt,
         (
             r#"{"shapes":[{"name":"a","def":{"struct":["#,
@@ -92,14 +88,14 @@ fn a_document_has_at_most_65_536_fields(rt: HostRuntime) -> Result<(), Fail> {
             r#"]}},{"name":"b","def":"u32"}],"root":1,"commands":[]}"#,
         ),
         65_536,
-        None,
-        DocFault::TooLarge(DocSize::Fields),
+        (1, NOTHING_SET),
+        r#"{"fault":"TooLarge","what":"fields"}"#,
     )
 }
 
 #[test]
 fn a_document_has_at_most_200_000_commands(rt: HostRuntime) -> Result<(), Fail> {
-    check(
+    check_limit(
         &rt,
         (
             r#"{"shapes":[{"name":"a","def":"u32"}],"root":0,"commands":["#,
@@ -107,14 +103,17 @@ fn a_document_has_at_most_200_000_commands(rt: HostRuntime) -> Result<(), Fail> 
             r#"]}"#,
         ),
         200_000,
-        None,
-        DocFault::TooLarge(DocSize::Commands),
+        (
+            1,
+            r#"{"error":{"command":0,"kind":"InvariantViolation"},"released":[]}"#,
+        ),
+        r#"{"fault":"TooLarge","what":"commands"}"#,
     )
 }
 
 #[test]
 fn a_script_is_at_most_1_000_deep(rt: HostRuntime) -> Result<(), Fail> {
-    check(
+    check_limit(
         &rt,
         (
             r#"{"shapes":[{"name":"a","def":"u32"}],"root":0,"commands":["#,
@@ -122,8 +121,11 @@ fn a_script_is_at_most_1_000_deep(rt: HostRuntime) -> Result<(), Fail> {
             r#"]}"#,
         ),
         1_000,
-        None,
-        DocFault::TooLarge(DocSize::Depth),
+        (
+            1,
+            r#"{"error":{"command":0,"kind":"OperationFailed"},"released":[]}"#,
+        ),
+        r#"{"fault":"TooLarge","what":"depth"}"#,
     )
 }
 
@@ -133,8 +135,13 @@ fn a_document_has_at_most_1_000_000_tokens(rt: HostRuntime) -> Result<(), Fail> 
     let front = r#"{"shapes":[{"name":"a","def":"u32"}],"root":0,"tokens":"#;
     let back = r#","commands":[]}"#;
     let most = joined(alloc, front, "1000000", 1, back)?;
-    assert!(rt; fault_of(alloc, most.as_bytes())? == None);
+    check(&rt, "at the limit", most.as_bytes(), 1, NOTHING_SET)?;
     let past = joined(alloc, front, "1000001", 1, back)?;
-    assert!(rt; fault_of(alloc, past.as_bytes())? == Some(DocFault::TooLarge(DocSize::Tokens)));
-    Ok(())
+    check(
+        &rt,
+        "past it",
+        past.as_bytes(),
+        2,
+        r#"{"fault":"TooLarge","what":"tokens"}"#,
+    )
 }

@@ -3,13 +3,13 @@ ghost use Rattle.std.specs.Prelude.{◌≡◌, ◌++◌, ◌∷◌, [], codes, s
 ghost use Rattle.serde_json.specs.Data.{array};
 ghost use Rattle.serde_json.specs.View.{view as data_of};
 ghost use Rattle.serde_json.specs.Written.{compact_text, has_float};
-ghost use Rattle.fr_script.specs.Answers.{outcome_view};
+ghost use Rattle.fr_script.specs.Answers.{outcome_view, refusal_view};
 ghost use Rattle.fr_script.specs.Reports.{outcome_data, report, kind_name, place_name, size_name, naturals, fault_data, error_data, with_released};
 ghost use Rattle.fr_shape.specs.View.{view};
 ghost use Rattle.fr_doc.specs.Printed.{value_data};
 
 use crate::answering::Answer;
-use crate::build_script::ScriptError;
+use crate::building::ScriptError;
 use fr_doc::{DocFault, DocPlace, DocSize, json_of, law_printed_float_free};
 use fr_shape::{OutOfMemory, ReflectErrorKind, Value};
 use serde_json::{Value as Json, json};
@@ -40,8 +40,8 @@ fn name_of_kind(kind: &ReflectErrorKind) -> &'static str
 }
 
 /// The name of a place in a document.
-fn name_of_place(alloc: Global, place: DocPlace) -> Result<String, AllocError>
-    ensures { IfOk result (λ name. string_bytes name ≡ place_name place) }
+fn name_of_place(alloc: Global, place: &DocPlace) -> Result<String, AllocError>
+    ensures { IfOk result (λ name. string_bytes name ≡ place_name place.now) }
 {
     match place {
         DocPlace::Document => String::from_str(alloc, "document"),
@@ -67,8 +67,8 @@ fn name_of_size(size: DocSize) -> &'static str
 }
 
 /// The JSON of a fault.
-fn json_of_fault(alloc: Global, fault: DocFault) -> Result<Json, AllocError>
-    ensures { IfOk result (λ json. data_of json ≡ fault_data fault) }
+fn json_of_fault(alloc: Global, fault: &DocFault) -> Result<Json, AllocError>
+    ensures { IfOk result (λ json. data_of json ≡ fault_data fault.now) }
 {
     match fault {
         DocFault::TooLong => json!(in alloc; { "fault": "TooLong" }),
@@ -79,7 +79,7 @@ fn json_of_fault(alloc: Global, fault: DocFault) -> Result<Json, AllocError>
             json!(in alloc; { "fault": "BadForm", "place": name.as_str() })
         }
         DocFault::TooLarge(size) => {
-            let name = name_of_size(size);
+            let name = name_of_size(*size);
             json!(in alloc; { "fault": "TooLarge", "what": name })
         }
         DocFault::Unchecked(broken) => {
@@ -87,6 +87,7 @@ fn json_of_fault(alloc: Global, fault: DocFault) -> Result<Json, AllocError>
             json!(in alloc; { "entry": entry, "fault": "Unchecked", "rule": rule })
         }
         DocFault::Invalid(command) => {
+            let command = *command;
             json!(in alloc; { "command": command, "fault": "Invalid" })
         }
     }
@@ -105,7 +106,8 @@ fn json_of_numbers(alloc: Global, numbers: &[u32]) -> Result<Json, AllocError>
 
 /// The JSON of a value and the tokens that were released.
 fn json_of_built(alloc: Global, value: &Value, released: &[u32]) -> Result<Json, AllocError>
-    ensures { IfOk result (λ json. data_of json ≡ with_released (codes "ok") (value_data (view value.now)) released.now) }
+    ensures { IfOk result (λ json. data_of json
+        ≡ with_released (codes "ok") (value_data (view value.now)) released.now) }
 {
     let Ok(ok) = json_of(alloc, value) else {
         return Err(AllocError);
@@ -117,7 +119,7 @@ fn json_of_built(alloc: Global, value: &Value, released: &[u32]) -> Result<Json,
 /// The JSON of a refusal and the tokens that were released.
 fn json_of_refused(alloc: Global, error: &ScriptError, released: &[u32]) -> Result<Json, AllocError>
     ensures { IfOk result (λ json. data_of json
-        ≡ with_released (codes "error") (error_data (record { number = error.now.number; kind = error.now.kind })) released.now) }
+        ≡ with_released (codes "error") (error_data (refusal_view error.now)) released.now) }
 {
     let command = error.number;
     let kind = name_of_kind(&error.kind);
@@ -130,7 +132,7 @@ fn json_of_answer(alloc: Global, answer: &Answer) -> Result<Json, AllocError>
     ensures { IfOk result (λ json. data_of json ≡ outcome_data (outcome_view answer.now)) }
 {
     match answer {
-        Answer::Fault(fault) => json_of_fault(alloc, *fault),
+        Answer::Fault(fault) => json_of_fault(alloc, fault),
         Answer::Built(built, released) => {
             json_of_built(alloc, built.value(), released.as_slice())
         }

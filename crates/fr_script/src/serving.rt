@@ -9,7 +9,7 @@ ghost use Rattle.fr_script.specs.Reading.{document_view};
 ghost use Rattle.fr_script.specs.Reports.{outcome_of, outcome_of_run, run_of, status_of, report};
 
 use crate::answering::Answer;
-use crate::build_script::{ScriptError, build_script};
+use crate::building::{ScriptError, build_script};
 use crate::document::{Document, read_document};
 use crate::document_laws::law_documents_buildable;
 use crate::released::released_tokens;

@@ -1,74 +1,81 @@
 //! The limits of what a document may have.
-ghost use Rattle.std.specs.Prelude.{◌≡◌, suc, nat_lt};
+ghost use Rattle.std.specs.Prelude.{◌≡◌, ◌+◌, ◌<◌, ◌^◌, length, sum_by, nat_le};
 ghost use Rattle.fr_model.specs.Commands.{calls_of};
-ghost use Rattle.fr_shape.specs.Numbered.{field_count};
-ghost use Rattle.fr_script.specs.Documents.{count_fields, sizes_pass, too_deep};
-ghost use Rattle.fr_script.specs.Reading.{parts_view};
+ghost use Rattle.fr_script.specs.Documents.{part_count, part_total, sizes_pass, too_deep};
+ghost use Rattle.fr_script.specs.Reading.{document_view};
+ghost use Rattle.fr_script.specs.Sizes.{CountsOff};
 
-use crate::parts::Parts;
+use crate::document::Document;
 use fr_doc::{DocFault, DocSize};
 use fr_model::Command;
-use fr_shape::{Def, Shape};
+use fr_shape::{Def, ShapeId, ShapeTable, VariantDef};
 
-const SHAPE_LIMIT: usize = 4096;
+/// The most shapes of a document.
+pub const SHAPE_LIMIT: usize = 4096;
 
-const FIELD_LIMIT: usize = 65_536;
+/// The most fields and variants of its shapes together.
+pub const PART_LIMIT: usize = 65_536;
 
-const COMMAND_LIMIT: usize = 200_000;
+/// The most commands of its script.
+pub const COMMAND_LIMIT: usize = 200_000;
 
-const TOKEN_LIMIT: u32 = 1_000_000;
+/// The most tokens.
+pub const TOKEN_LIMIT: u32 = 1_000_000;
 
 /// The most by which begins may outnumber ends after some command.
-const DEPTH_LIMIT: usize = 1000;
+pub const DEPTH_LIMIT: usize = 1000;
 
 /// Tests the limits one after another.
 #[tactic(auto, unfolding(crate::specs::Documents::sizes_pass))]
-pub fn test_sizes(parts: &Parts) -> Result<(), DocFault>
-    ensures { result ≡ sizes_pass (parts_view parts.now) }
+pub fn test_sizes(document: &Document) -> Result<(), DocFault>
+    ensures { result ≡ sizes_pass (document_view document.now) }
 {
-    if parts.shapes.len() > SHAPE_LIMIT {
+    if document.table.len() > SHAPE_LIMIT {
         return Err(DocFault::TooLarge(DocSize::Shapes));
     }
-    if !has_fields_within(parts.shapes.as_slice(), FIELD_LIMIT) {
+    if !has_parts_within(&document.table, PART_LIMIT) {
         return Err(DocFault::TooLarge(DocSize::Fields));
     }
-    if parts.script.len() > COMMAND_LIMIT {
+    if document.script.len() > COMMAND_LIMIT {
         return Err(DocFault::TooLarge(DocSize::Commands));
     }
-    if parts.tokens > TOKEN_LIMIT {
+    if document.tokens > TOKEN_LIMIT {
         return Err(DocFault::TooLarge(DocSize::Tokens));
     }
-    if is_too_deep(parts.script.as_slice()) {
+    if is_too_deep(document.script.as_slice()) {
         return Err(DocFault::TooLarge(DocSize::Depth));
     }
     Ok(())
 }
 
-/// Whether the structs have no more fields together than the limit.
-#[tactic(auto, using(crate::proofs::SizeLaws::fields_left, crate::proofs::SizeLaws::fields_over))]
-fn has_fields_within(shapes: &[Shape], limit: usize) -> bool
-    ensures { result ≡ nat_lt (count_fields shapes.now) (suc limit) }
+/// Whether the shapes have no more fields and variants together than the limit.
+fn has_parts_within(table: &ShapeTable, limit: usize) -> bool
+    requires few { length table.now < 2 ^ 32 }
+    ensures { result ≡ nat_le (part_total table.now) limit }
 {
     let mut left = limit;
-    for shape in shapes {
-        let count = count_of_fields(&shape.def);
-        if count > left {
-            return false;
+    for id in 0..table.len() as u32 {
+        let Some(shape) = table.get(ShapeId(id)) else {
+            return true;
+        };
+        match count_off(&shape.def, left) {
+            Some(others) => left = others,
+            None => return false,
         }
-        left -= count;
     }
     true
 }
 
-fn count_of_fields(def: &Def) -> usize
-    ensures { result ≡ field_count def.now }
+/// What is left of so many, a definition's fields and variants counted off. None where it has more.
+fn count_off(def: &Def, left: usize) -> Option<usize>
+    ensures { CountsOff left (part_count def.now) result }
 {
     match def {
-        Def::Struct(described) => described.fields.len(),
+        Def::Struct(described) => left.checked_sub(described.fields.len()),
+        Def::Enum(described) => count_off_variants(described.variants.as_slice(), left),
         Def::Scalar(_)
         | Def::Str
         | Def::Opaque
-        | Def::Enum(_)
         | Def::Option(_)
         | Def::Result(_, _)
         | Def::List(_)
@@ -79,8 +86,19 @@ fn count_of_fields(def: &Def) -> usize
         | Def::Slice(_)
         | Def::Dynamic
         | Def::Undefined
-        | Def::Other => 0,
+        | Def::Other => Some(left),
     }
+}
+
+/// The same of variants and their fields.
+fn count_off_variants(variants: &[VariantDef], limit: usize) -> Option<usize>
+    ensures { CountsOff limit (sum_by (λ variant. 1 + length variant.fields) variants.now) result }
+{
+    let mut left = limit;
+    for variant in variants {
+        left = left.checked_sub(1)?.checked_sub(variant.fields.len())?;
+    }
+    Some(left)
 }
 
 /// Whether begins outnumber ends by more than the limit after some command.

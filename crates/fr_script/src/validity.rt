@@ -1,8 +1,9 @@
 //! Which scripts may be run.
-ghost use Rattle.std.specs.Prelude.{◌^◌, ◌<◌, [], IfOk, length};
+ghost use Rattle.std.specs.Prelude.{◌≡◌, ◌^◌, ◌<◌, ℕ, [], IfOk, OnOk, length};
 ghost use Rattle.fr_model.specs.Commands.{calls_of};
-ghost use Rattle.fr_script.specs.Documents.{first_invalid};
-ghost use Rattle.fr_script.specs.Marks.{AreMarks, Judges};
+ghost use Rattle.fr_model.specs.Scripts.{IsValid};
+ghost use Rattle.fr_script.specs.FirstInvalid.{IsFirstInvalid};
+ghost use Rattle.fr_script.specs.Marks.{AreMarks, first_unmarked};
 
 use crate::marking::mark_command;
 use fr_model::Script;
@@ -29,19 +30,31 @@ pub fn is_valid_script(
     ledger: &Ledger,
 ) -> Result<(), ScriptFault>
     requires few { length script.now < 2 ^ 32 }
-    ensures verdict { Judges (first_invalid table.now ledger.now [] 0 (calls_of script.now)) result }
+    ensures valid { OnOk result (IsValid table.now (calls_of script.now) ledger.now) }
+    ensures invalid { (n : ℕ) → result ≡ Err (ScriptFault.Invalid n)
+        → IsFirstInvalid table.now (calls_of script.now) ledger.now n }
 {
     let mut marks = match marks_of(alloc, ledger) {
         Ok(marks) => marks,
         Err(_) => return Err(ScriptFault::OutOfMemory),
     };
-    let marks = marks.as_mut_slice();
+    match find_invalid(table, script, marks.as_mut_slice()) {
+        None => Ok(()),
+        Some(i) => Err(ScriptFault::Invalid(i)),
+    }
+}
+
+/// The first command that isn't valid where the marked tokens may not be brought. Marks what the others bring.
+pub fn find_invalid(table: &ShapeTable, script: &Script, marks: &mut [bool]) -> Option<u32>
+    requires few { length script.now < 2 ^ 32 }
+    ensures { result ≡ first_unmarked table.now marks.old 0 (calls_of script.now) }
+{
     for (i, command) in script.as_slice().iter().enumerate() {
         if !mark_command(table, command, marks) {
-            return Err(ScriptFault::Invalid(i as u32));
+            return Some(i as u32);
         }
     }
-    Ok(())
+    None
 }
 
 /// Marks for the tokens of a ledger. Those that were released are marked.

@@ -1,4 +1,0 @@
-use Rattle.fr_script.proofs.build_script.release_command.Goals as goal
-
-pub release-requires : goal.release-requires
-release-requires c = record { room = rw c.in-Set.is at c.requires }

@@ -1,0 +1,38 @@
+//! Documents of types and calls: reads them, builds the value that they ask for, and reports what comes of it.
+#![tactic(auto)]
+
+mod answering;
+mod building;
+mod command_form;
+mod document;
+mod document_laws;
+#[cfg(test)]
+mod document_tests;
+#[cfg(test)]
+mod limit_tests;
+mod marking;
+mod members;
+mod released;
+mod report;
+#[cfg(test)]
+mod row_tests;
+mod running;
+pub mod serving;
+mod sizes;
+#[cfg(test)]
+mod tests;
+mod validity;
+
+pub use answering::Answer;
+pub use building::{ScriptError, build_script};
+pub use document::{Document, read_document};
+pub use document_laws::{law_documents_buildable, law_valid_scripts};
+pub use fr_doc::{
+    CleanSink, CleanSource, DOCUMENT_LIMIT, DocFault, DocPlace, DocSize, Failed, MemSink,
+    MemSource, ReadError, ReaderSource, Sink, Source, TableFault, WriterSink,
+};
+pub use fr_model::{Command, Script};
+pub use running::run;
+pub use serving::answer;
+pub use sizes::{COMMAND_LIMIT, DEPTH_LIMIT, PART_LIMIT, SHAPE_LIMIT, TOKEN_LIMIT};
+pub use validity::{ScriptFault, is_valid_script};
