@@ -227,7 +227,7 @@ module _ (table : Table) (s : ℕ) (form : Form) where
     agree_change d (suc k) ts i notes after change (omega arith) other agrees.1 step,
   )
 
-  agree_nth : (d k : ℕ) (ts : Trees) (i : ℕ) (notes : Journal) → i ≡ k + d → d < count_trees ts
+  pub agree_nth : (d k : ℕ) (ts : Trees) (i : ℕ) (notes : Journal) → i ≡ k + d → d < count_trees ts
       → AgreeAll table s form notes k ts → Agrees table (child_as table s form i) (down i notes) (tree_nth d ts)
   agree_nth d k no_trees i notes e within agrees = absurd (omega arith)
   agree_nth zero k (branch t ts) i notes e within agrees =

@@ -8,6 +8,7 @@ pub mod Cursor
 pub mod DefaultRows
 pub mod Moves
 pub mod Opening
+pub mod Relating
 pub mod Rows
 pub mod Serving
 pub mod Steps

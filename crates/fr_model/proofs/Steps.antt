@@ -18,6 +18,7 @@ use Rattle.fr_model.specs.Journal.{entered_at, wrote_at, Journal, Held, held, lo
 use Rattle.fr_model.specs.Tree.{Tree, whole, State, cursor_shape, cursor_tree, initial}
 use Rattle.fr_model.specs.Complete.{complete}
 use Rattle.fr_model.specs.Step.{unless_refused, field_refusal, named_refusal, at_shape, enter_child, enters, begins_named, puts, set_refusal, puts_default, violates, ended, step, built}
+use Rattle.fr_model.specs.Relation.{IsRelated, BothGoOn}
 use Rattle.fr_model.specs.Run.{Refusal, numbered, and_then, run_from}
 use Rattle.fr_model.specs.Scripts.{IsFitting, AllFitting}
 use Rattle.fr_model.specs.Well.{IsInOrder}
@@ -25,6 +26,7 @@ use Rattle.fr_model.proofs.Beneath.{along, held_along}
 use Rattle.fr_model.proofs.Agreement.{by_value, Agrees, agree_along, completes_tree, completes_at, under_entered, under_wrote, follow}
 use Rattle.fr_model.proofs.Children.{SeesWhole, sees_whole, may_enter_by, ChildOf, enterable, ChildCase, a_child, no_child, child_case, NamedCase, a_named, no_such_name, no_names, named_case}
 use Rattle.fr_model.proofs.Cursor.{at_cursor, suits_at, same_shape, entry_at, begun_in_order, put_in_order, ended_in_order}
+use Rattle.fr_model.proofs.Relating.{agrees_each, each_stands}
 use Rattle.fr_model.proofs.Opening.{fresh_suits, fresh_at_cursor, fresh_agrees}
 use Rattle.fr_model.proofs.Templates.{preset_template}
 
@@ -279,3 +281,38 @@ start_alike table root = record {
   agrees = fresh_agrees table root (entered_at [] ∷ []) refl;
   same_cursor = refl;
 }
+
+-- the relation place by place
+
+related_alike : (table : Table) (root : ℕ) (state : State) (run : Progress) → IsInOrder table root state
+    → IsRelated table root state run → Alike table root state run
+related_alike table root state run order related = record {
+  in_order = order;
+  agrees = agrees_each table state.tree root run.notes related.each_place;
+  same_cursor = related.same_cursor;
+}
+
+alike_related : (table : Table) (root : ℕ) (state : State) (run : Progress) → Alike table root state run
+    → IsRelated table root state run
+alike_related table root state run alike = record {
+  same_cursor = alike.same_cursor;
+  each_place = λ place has. each_stands table place state.tree root run.notes alike.in_order.suits alike.agrees has;
+}
+
+pub start_is_related : (table : Table) (root : ℕ) → IsRelated table root (initial table root) initial_progress
+start_is_related table root = alike_related table root (initial table root) initial_progress (start_alike table root)
+
+pub step_keeps_related : (hooks : Meanings) (table : Table) (root : ℕ) (state : State) (run : Progress) (command : Call)
+    → IsChecked table → IsServed table → IsInOrder table root state → IsRelated table root state run
+    → IsFitting table command
+    → BothGoOn table root (step hooks table root state command) (rule table root run command)
+step_keeps_related hooks table root state run command checked served order related fit =
+    go (step hooks table root state command) (rule table root run command)
+    (both_step hooks table checked served root state run command (related_alike table root state run order related) fit)
+  where
+    go : (outcome : Result State ReflectErrorKind) (ruled : Option Progress) → BothStep table root outcome ruled
+        → BothGoOn table root outcome ruled
+    go (Ok next) (Some after) both = alike_related table root next after both
+    go (Ok next) None both = absurd both
+    go (Err kind) (Some after) both = absurd both
+    go (Err kind) None both = tt

@@ -6,9 +6,13 @@ use Rattle.fr_shape.specs.Hooks.{Meanings}
 use Rattle.fr_shape.specs.Look.{Table, IsIn}
 use Rattle.fr_shape.specs.Served.{IsServed}
 use Rattle.fr_model.specs.Commands.{Call}
-use Rattle.fr_model.specs.Journal.{journal_run}
+use Rattle.fr_model.specs.Journal.{Progress, initial_progress, rule, journal_run}
+use Rattle.fr_model.specs.Relation.{IsRelated, BothGoOn}
 use Rattle.fr_model.specs.Run.{full_run}
-use Rattle.fr_model.specs.Scripts.{AllFitting}
+use Rattle.fr_model.specs.Scripts.{IsFitting, AllFitting}
+use Rattle.fr_model.specs.Step.{step}
+use Rattle.fr_model.specs.Tree.{State, initial}
+use Rattle.fr_model.specs.Well.{IsInOrder}
 
 -- For every checked and served table, whatever the hooks mean, and for every script of fitting values: the machine
 -- answers `Ok v` exactly where the journal completes to v.
@@ -17,3 +21,15 @@ MachineAgrees =
     (hooks : Meanings) (table : Table) (root : ℕ) (script : List Call) → IsChecked table → IsServed table
     → IsIn table root → AllFitting table script
     → result_ok (full_run hooks table root script) ≡ journal_run table root script
+
+-- a new builder and a run that begins are related
+abbrev pub StartIsRelated : Type 0
+StartIsRelated = (table : Table) (root : ℕ) → IsRelated table root (initial table root) initial_progress
+
+-- Over a checked and served table, from a state in order and a run that is related to it, a fitting command is admitted
+-- exactly where a rule fits it, and then what follows is related again.
+abbrev pub StepKeepsRelated : Type 0
+StepKeepsRelated =
+    (hooks : Meanings) (table : Table) (root : ℕ) (state : State) (run : Progress) (command : Call) → IsChecked table
+    → IsServed table → IsInOrder table root state → IsRelated table root state run → IsFitting table command
+    → BothGoOn table root (step hooks table root state command) (rule table root run command)

@@ -5,6 +5,7 @@ pub mod Covering
 pub mod Journal
 pub mod Laws
 pub mod Places
+pub mod Relation
 pub mod Removed
 pub mod Run
 pub mod Scripts

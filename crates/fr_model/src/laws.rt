@@ -1,12 +1,15 @@
 //! Laws of the definitions: each is the contract of a function that does nothing.
-ghost use Rattle.fr_model.specs.Agree.{MachineAgrees};
+ghost use Rattle.fr_model.specs.Agree.{MachineAgrees, StartIsRelated, StepKeepsRelated};
 ghost use Rattle.fr_model.specs.Covering.{ScanAgrees, WaysAgree};
 ghost use Rattle.fr_model.specs.Laws.{BuildKeepsTokens, CompletesOrLacks, CompletingFits, CompletingKeepsTokens, StartIsWell, StepKeepsDistinct, StepKeepsOrder, StepKeepsTokens};
 
 /// For every script of fitting values over a checked and served table, whatever the hooks mean, the run of the commands
-/// answers `Ok` exactly where the journal completes, and with the journal's value.
+/// gives a value exactly where the journal completes, and the same one. At the start, and after each command that is
+/// admitted, what stands at each place of the tree is what the journal holds of it.
 pub fn law_agree()
     ensures agree { MachineAgrees }
+    ensures start { StartIsRelated }
+    ensures step { StepKeepsRelated }
 {}
 
 /// What a journal holds of a place is what the rules on covering notes say.
