@@ -1,21 +1,23 @@
 -- When a journal and a tree say the same, and that they then complete to the same.
 use Rattle.std.proofs.Common.{◌≡◌, ℕ, zero, suc, ◌+◌, ◌<◌, ◌≤◌, true, false, ◌==◌, List, [], ◌∷◌, ◌++◌, length, Option, Some, None, refl, sym, ◌∙◌, ap, ap₂, subst, arith}
 use Rattle.std.proofs.lemmas.Bool.{eq-eqb}
+use Rattle.std.specs.Option.{option_or}
 use Rattle.fr_shape.specs.declared.shape.Def.{Def}
 use Rattle.fr_shape.specs.declared.shape.Field.{Field}
 use Rattle.fr_shape.specs.Checked.{IsChecked}
 use Rattle.fr_shape.specs.Fills.{preset_of, is_empty_struct}
 use Rattle.fr_shape.specs.Hooks.{Meanings}
-use Rattle.fr_shape.specs.Look.{Table, def_of}
+use Rattle.fr_shape.specs.Look.{Table, def_of, field_in}
 use Rattle.fr_shape.specs.Lists.{is_nil}
 use Rattle.fr_shape.specs.Served.{IsServed}
 use Rattle.fr_shape.specs.Val.{Val, product, no_vals}
-use Rattle.fr_model.specs.Places.{Place, count_children, child_count, one_more, product_of, each_child, child_shape, fill_by, fill_at}
+use Rattle.fr_model.specs.Places.{Place, count_children, child_count, one_more, product_of, each_child, child_shape, fill_of_field, fill_at}
 use Rattle.fr_model.specs.Journal.{Note, entered_at, wrote_at, Journal, Held, in_parts, written, just_entered, untouched, held, longest, entered_struct, by_entered, entered_value, by_held, by_parts, child_makes, completes_within, completes}
 use Rattle.fr_model.specs.Tree.{Form, as_struct, as_array, Tree, hole, entered, whole, begun, Trees, no_trees, branch, tree_nth, change_nth, tree_at, change_at, shape_in, child_as, count_trees}
-use Rattle.fr_model.specs.Complete.{complete, complete_all, valid_child, hole_takes, or_else, made_by, made_of_entered}
-use Rattle.fr_model.specs.Well.{IsBegunAs, Suits, SuitAll, DoneBut, Leads}
+use Rattle.fr_model.specs.Complete.{complete, complete_all, valid_child, hole_takes, made, made_by, made_of_entered}
+use Rattle.fr_model.specs.Well.{IsBegunAs, Suits, DoneBut, Leads}
 use Rattle.fr_model.proofs.Beneath.{down, along, each_same, child_value, held_down, completes_down, completes_along, longest_down, longest_along, parts_long}
+use Rattle.fr_model.proofs.Structs.{made_product, SuitFrom}
 use Rattle.fr_model.proofs.Templates.{option_preset}
 use Rattle.fr_model.proofs.Serving.{valid_same}
 
@@ -56,14 +58,14 @@ by_untouched h parts of_entered e = rw e refl
 pub begun_count : (def : Def) (form : Form) (n : ℕ) → IsBegunAs def form n → n ≡ count_children def
 begun_count (Def.Struct struct) as_struct n begun_as = begun_as.0
 begun_count (Def.Array t m) as_array n begun_as = begun_as.0
-begun_count _ _ n begun_as = absurd begun_as
+begun_count _ _ n begun_as = absurd begun_as.0
 
 -- what is begun has parts
 begun_makes : (def : Def) (form : Form) (n : ℕ) (of_parts : Option Val) → IsBegunAs def form n
     → by_parts def of_parts ≡ of_parts
 begun_makes (Def.Struct struct) as_struct n of_parts begun_as = refl
 begun_makes (Def.Array t m) as_array n of_parts begun_as = refl
-begun_makes _ _ n of_parts begun_as = absurd begun_as
+begun_makes _ _ n of_parts begun_as = absurd begun_as.0
 
 -- a hole takes what the journal says of an untouched child
 begun_takes : (table : Table) (s : ℕ) (form : Form) (n : ℕ) → IsBegunAs (def_of table s) form n → (k : ℕ)
@@ -71,9 +73,9 @@ begun_takes : (table : Table) (s : ℕ) (form : Form) (n : ℕ) → IsBegunAs (d
 begun_takes table s as_struct n count k = refl
 begun_takes table s as_array n count k = go (def_of table s) count
   where
-    go : (def : Def) → IsBegunAs def as_array n → fill_by table s def k ≡ None
+    go : (def : Def) → IsBegunAs def as_array n → fill_of_field table s false (field_in def None k) ≡ None
     go (Def.Array t m) count = refl
-    go _ count = absurd count
+    go _ count = absurd count.0
 
 -- an entered place
 
@@ -88,7 +90,7 @@ entered_same hooks table s checked served fields =
     (child_count table s) 0 (λ k. sym (valid_same hooks table s as_struct k (fill_at table s k) served)))) fields
   where
     with_fields : (all : List Field) (preset fills valid : Option Val) → fills ≡ valid → is_nil all ≡ false
-        → entered_struct (length all) preset fills ≡ or_else preset valid
+        → entered_struct (length all) preset fills ≡ option_or preset valid
     with_fields [] preset fills valid e some = cc
     with_fields (field ∷ rest) (Some v) fills valid e some = refl
     with_fields (field ∷ rest) None fills valid e some = e
@@ -174,13 +176,14 @@ mutual
       ∙ begun_makes (def_of table s) form (count_trees ts) _ suits.0
       ∙ ap (λ (n : ℕ). product_of (each_child (child_value table steps notes s []) n 0))
       (sym (begun_count (def_of table s) form (count_trees ts) suits.0))
-      ∙ ap product_of
+      ∙ sym (made_product form (each_child (child_value table steps notes s []) (count_trees ts) 0))
+      ∙ ap (made form)
       (children_complete hooks table ts steps s form 0 notes checked served
       (begun_takes table s form (count_trees ts) suits.0) suits.1 agrees.1 (parts_long notes agrees.0) (omega arith))
 
   children_complete : (hooks : Meanings) (table : Table) (ts : Trees) (steps s : ℕ) (form : Form) (i : ℕ)
       (notes : Journal) → IsChecked table → IsServed table
-      → ((k : ℕ) → fill_at table s k ≡ hole_takes table s form k) → SuitAll table s form i ts
+      → ((k : ℕ) → fill_at table s k ≡ hole_takes table s form k) → SuitFrom table s form i ts
       → AgreeAll table s form notes i ts → 1 ≤ longest notes → longest notes ≤ steps
       → each_child (child_value table steps notes s []) (count_trees ts) i ≡ complete_all hooks table s form i ts
   children_complete hooks table no_trees steps s form i notes checked served takes suits agrees some long = refl

@@ -9,7 +9,7 @@ use Rattle.fr_shape.specs.declared.error.Operation.{Operation}
 use Rattle.fr_shape.specs.Look.{Table, def_of}
 use Rattle.fr_shape.specs.Val.{Val}
 use Rattle.fr_shape.specs.Named.{first_declared, field_named}
-use Rattle.fr_model.specs.Places.{count_children}
+use Rattle.fr_model.specs.Places.{array_limit, count_children}
 use Rattle.fr_model.specs.Journal.{Journal, Held, held, is_written, may_enter_children}
 use Rattle.fr_model.specs.Tree.{Tree, hole, entered, whole, begun}
 use Rattle.fr_model.specs.Step.{field_refusal, named_refusal}
@@ -55,7 +55,7 @@ may_enter_by def i h = nat_lt i (count_children def) && may_enter_children def h
 -- an enterable child of a place of this definition
 pub data ChildOf (def : Def) (i : ℕ) (t : Tree) : Type 0 where
   field_of : (struct : StructDef) → def ≡ Def.Struct struct → i < length struct.fields → ChildOf def i t
-  element_of : (item : ShapeId) (n : ℕ) → def ≡ Def.Array item n → i < n → n ≤ 4096 → IsOpen t → ChildOf def i t
+  element_of : (item : ShapeId) (n : ℕ) → def ≡ Def.Array item n → i < n → n ≤ array_limit → IsOpen t → ChildOf def i t
 
 pub enterable : (table : Table) (s i : ℕ) (t : Tree) → ChildOf (def_of table s) i t → Enterable table s i t
 enterable table s i t (field_of struct is below) = a_field struct is below
@@ -76,22 +76,22 @@ struct_case struct i t true e =
     a_child (field_of struct refl (ltb-true i (length struct.fields) e)) (rw e refl) (λ h sees. rw e refl)
 struct_case struct i t false e = no_child Operation.FieldIndexOutOfBounds (rw e refl) (λ h sees. rw e refl)
 
-array_case : (item : ShapeId) (n i : ℕ) (t : Tree) (below small : Bool) → nat_lt i n ≡ below → nat_le n 4096 ≡ small
+array_case : (item : ShapeId) (n i : ℕ) (t : Tree) (below small : Bool) → nat_lt i n ≡ below → nat_le n array_limit ≡ small
     → ChildCase (Def.Array item n) i t
 array_case item n i t false small e f = no_child Operation.ArrayIndexOutOfBounds (rw e refl) (λ h sees. rw e refl)
 array_case item n i t true false e f = no_child Operation.ArrayTooLarge (rw (e, f) refl) (λ h sees. rw (e, f) refl)
 array_case item n i (whole v) true true e f =
     no_child Operation.ElementOfWholeArray (rw (e, f) refl) (λ h sees. rw (e, f, sees) refl)
 array_case item n i hole true true e f =
-    a_child (element_of item n refl (ltb-true i n e) (leb-true n 4096 f) tt) (rw (e, f) refl) (λ h sees. rw (e, f, sees) refl)
+    a_child (element_of item n refl (ltb-true i n e) (leb-true n array_limit f) tt) (rw (e, f) refl) (λ h sees. rw (e, f, sees) refl)
 array_case item n i entered true true e f =
-    a_child (element_of item n refl (ltb-true i n e) (leb-true n 4096 f) tt) (rw (e, f) refl) (λ h sees. rw (e, f, sees) refl)
+    a_child (element_of item n refl (ltb-true i n e) (leb-true n array_limit f) tt) (rw (e, f) refl) (λ h sees. rw (e, f, sees) refl)
 array_case item n i (begun form ts) true true e f =
-    a_child (element_of item n refl (ltb-true i n e) (leb-true n 4096 f) tt) (rw (e, f) refl) (λ h sees. rw (e, f, sees) refl)
+    a_child (element_of item n refl (ltb-true i n e) (leb-true n array_limit f) tt) (rw (e, f) refl) (λ h sees. rw (e, f, sees) refl)
 
 pub child_case : (def : Def) (i : ℕ) (t : Tree) → ChildCase def i t
 child_case (Def.Struct struct) i t = struct_case struct i t (nat_lt i (length struct.fields)) refl
-child_case (Def.Array item n) i t = array_case item n i t (nat_lt i n) (nat_le n 4096) refl refl
+child_case (Def.Array item n) i t = array_case item n i t (nat_lt i n) (nat_le n array_limit) refl refl
 child_case (Def.Enum enumeration) i t =
     no_child Operation.FieldOfUnselectedVariant refl (λ h sees. rw (nothing_below i) refl)
 child_case (Def.Slice item) i t = no_child Operation.FieldOfSlice refl (λ h sees. rw (nothing_below i) refl)

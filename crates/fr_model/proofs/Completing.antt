@@ -1,5 +1,6 @@
 -- What completes, what fits of it, and what it holds.
-use Rattle.std.proofs.Common.{◌≡◌, ℕ, zero, suc, ◌+◌, true, is_none, is_some, Option, Some, None, refl, ◌∙◌, ap, arith}
+use Rattle.std.proofs.Common.{◌≡◌, ℕ, zero, suc, ◌+◌, true, is_none, is_some, Option, Some, None, refl, sym, ◌∙◌, ap, arith}
+use Rattle.std.specs.Option.{option_or}
 use Rattle.fr_shape.specs.declared.error.ReflectErrorKind.{ReflectErrorKind}
 use Rattle.fr_shape.specs.declared.shape.Def.{Def}
 use Rattle.fr_shape.specs.Checked.{IsChecked}
@@ -9,22 +10,24 @@ use Rattle.fr_shape.specs.Hooks.{Meanings}
 use Rattle.fr_shape.specs.Look.{Table, def_of}
 use Rattle.fr_shape.specs.Val.{Val, Vals, none, no_vals, first}
 use Rattle.fr_shape.specs.Tokens.{occurs, vals_occur}
-use Rattle.fr_model.specs.Places.{child_count, one_more, product_of, each_child, fill_at}
+use Rattle.fr_model.specs.Places.{child_count, one_more, each_child, fill_at}
 use Rattle.fr_model.specs.Tree.{Form, as_struct, as_array, Tree, hole, entered, whole, begun, Trees, no_trees, branch, child_as, count_trees, tree_occurs, trees_occur}
-use Rattle.fr_model.specs.Complete.{complete, complete_all, first_of, unless_there, failing_child, unless_failing, valid_child, hole_takes, missing_child, made_of_fills, made_by, lack_of_hole, lack_of_holes, lack_by, lack, lack_among, missing_value}
-use Rattle.fr_model.specs.Well.{IsFullAs, Suits, SuitAll}
-use Rattle.fr_model.proofs.Structs.{OneMore, one_more_is, ProductOf, product_is, ChildrenFit, begun_full, product_fits, settled_option}
+use Rattle.fr_model.specs.Complete.{complete, complete_all, unless_there, failing_child, unless_failing, valid_child, hole_takes, missing_child, made, made_of_fills, made_by, lack_of_hole, lack_of_holes, lack_by, lack, lack_among, missing_value}
+use Rattle.fr_model.specs.Well.{IsFullAs, Suits}
+use Rattle.fr_model.proofs.Structs.{OneMore, one_more_is, ProductOf, product_is, ChildrenFit, made_product, SuitFrom, begun_full, product_fits, settled_option}
 use Rattle.fr_model.proofs.Templates.{IsTemplate, template_holds, preset_template, fill_template}
 
 -- either a value or a lack
 
-no_product : (values : Option Vals) → is_none (product_of values) ≡ is_none values
-no_product (Some vs) = refl
-no_product None = refl
+no_made : (form : Form) (values : Option Vals) → is_none (made form values) ≡ is_none values
+no_made as_struct (Some vs) = refl
+no_made as_struct None = refl
+no_made as_array (Some vs) = refl
+no_made as_array None = refl
 
 not_all : (value : Option Val) (values : Option Vals) (here there : Option ReflectErrorKind)
     → is_none value ≡ is_some here → is_none values ≡ is_some there
-    → is_none (one_more value values) ≡ is_some (first_of here there)
+    → is_none (one_more value values) ≡ is_some (option_or here there)
 not_all None values (Some kind) there e f = refl
 not_all None values None there e f = cc
 not_all (Some v) values (Some kind) there e f = cc
@@ -35,12 +38,12 @@ not_all (Some v) (Some vs) None there e f = f
 valid_or_failing : (hooks : Meanings) (table : Table) (s : ℕ) (form : Form) (i : ℕ) (made : Option Val)
     (lacking : Option ReflectErrorKind) → is_none made ≡ is_some lacking
     → is_none (valid_child hooks table s form i made)
-    ≡ is_some (first_of lacking (failing_child hooks table s form i made))
+    ≡ is_some (option_or lacking (failing_child hooks table s form i made))
 valid_or_failing hooks table s form i (Some v) lacking e =
     go (failing_child hooks table s form i (Some v)) lacking e
   where
     go : (failing lacking : Option ReflectErrorKind) → is_none (Some v) ≡ is_some lacking
-        → is_none (unless_failing failing (Some v)) ≡ is_some (first_of lacking failing)
+        → is_none (unless_failing failing (Some v)) ≡ is_some (option_or lacking failing)
     go failing (Some kind) e = cc
     go (Some kind) None e = refl
     go None None e = refl
@@ -48,7 +51,7 @@ valid_or_failing hooks table s form i None lacking e =
     go (failing_child hooks table s form i None) lacking e
   where
     go : (failing lacking : Option ReflectErrorKind) → true ≡ is_some lacking
-        → is_none (unless_failing failing None) ≡ is_some (first_of lacking failing)
+        → is_none (unless_failing failing None) ≡ is_some (option_or lacking failing)
     go (Some other) (Some kind) e = refl
     go None (Some kind) e = refl
     go failing None e = cc
@@ -79,7 +82,7 @@ entered_or_lacks : (hooks : Meanings) (table : Table) (s : ℕ)
 entered_or_lacks hooks table s =
     go (def_of table s) (preset_of table s) (made_of_fills hooks table s)
     (lack_of_holes hooks table s as_struct (child_count table s) 0)
-    (no_product (each_child (λ k. valid_child hooks table s as_struct k (fill_at table s k)) (child_count table s) 0)
+    (no_made as_struct (each_child (λ k. valid_child hooks table s as_struct k (fill_at table s k)) (child_count table s) 0)
     ∙ holes_or_lack hooks table s (child_count table s) 0)
   where
     go : (def : Def) (preset of_fills : Option Val) (of_holes : Option ReflectErrorKind)
@@ -91,7 +94,7 @@ entered_or_lacks hooks table s =
     go (Def.Option t) None of_fills of_holes e = refl
     go _ preset of_fills of_holes e = refl
 
-first_grouped : (a b c : Option ReflectErrorKind) → first_of (first_of a b) c ≡ first_of a (first_of b c)
+first_grouped : (a b c : Option ReflectErrorKind) → option_or (option_or a b) c ≡ option_or a (option_or b c)
 first_grouped (Some kind) b c = refl
 first_grouped None b c = refl
 
@@ -99,10 +102,10 @@ child_or_lacks : (hooks : Meanings) (table : Table) (s : ℕ) (form : Form) (i :
     (rest : Option Vals) (lacking others : Option ReflectErrorKind) → is_none made ≡ is_some lacking
     → is_none rest ≡ is_some others
     → is_none (one_more (valid_child hooks table s form i made) rest)
-    ≡ is_some (first_of lacking (first_of (failing_child hooks table s form i made) others))
+    ≡ is_some (option_or lacking (option_or (failing_child hooks table s form i made) others))
 child_or_lacks hooks table s form i made rest lacking others e f =
     not_all (valid_child hooks table s form i made) rest
-    (first_of lacking (failing_child hooks table s form i made)) others
+    (option_or lacking (failing_child hooks table s form i made)) others
     (valid_or_failing hooks table s form i made lacking e) f
     ∙ ap (λ (o : Option ReflectErrorKind). is_some o)
     (first_grouped lacking (failing_child hooks table s form i made) others)
@@ -114,7 +117,7 @@ mutual
   completes_or_lacks hooks table s entered = entered_or_lacks hooks table s
   completes_or_lacks hooks table s (whole v) = refl
   completes_or_lacks hooks table s (begun form ts) =
-      no_product (complete_all hooks table s form 0 ts) ∙ all_complete_or_lack hooks table s form 0 ts
+      no_made form (complete_all hooks table s form 0 ts) ∙ all_complete_or_lack hooks table s form 0 ts
 
   all_complete_or_lack : (hooks : Meanings) (table : Table) (s : ℕ) (form : Form) (i : ℕ) (ts : Trees)
       → is_none (complete_all hooks table s form i ts) ≡ is_some (lack_among hooks table s form i ts)
@@ -211,10 +214,10 @@ made_of_template table s v template = record { fit = template.fit; hold = λ t. 
 
 made_of_children : (table : Table) (s : ℕ) (form : Form) (count : ℕ) (held : ℕ → ℕ) (children : Option Vals) (v : Val)
     → IsFullAs (def_of table s) form count
-    → ((vs : Vals) → children ≡ Some vs → Children table s form 0 count held vs) → product_of children ≡ Some v
+    → ((vs : Vals) → children ≡ Some vs → Children table s form 0 count held vs) → made form children ≡ Some v
     → Made table s held v
 made_of_children table s form count held children v full_as each e =
-    let parts : ProductOf children v = product_is children v e in
+    let parts : ProductOf children v = product_is children v (sym (made_product form children) ∙ e) in
     let those : Children table s form 0 count held parts.parts = each parts.parts parts.parts_are in
     rw parts.same (record {
       fit = product_fits table s form parts.parts (rw those.counted full_as) those.fit;
@@ -252,7 +255,7 @@ mutual
       (λ vs. all_completing_make hooks table trees s form 0 vs checked suits.1) e
 
   all_completing_make : (hooks : Meanings) (table : Table) (trees : Trees) (s : ℕ) (form : Form) (i : ℕ) (vs : Vals)
-      → IsChecked table → SuitAll table s form i trees → complete_all hooks table s form i trees ≡ Some vs
+      → IsChecked table → SuitFrom table s form i trees → complete_all hooks table s form i trees ≡ Some vs
       → Children table s form i (count_trees trees) (λ t. trees_occur trees t) vs
   all_completing_make hooks table no_trees s form i vs checked suits e = no_children table s form i vs e
   all_completing_make hooks table (branch hole trees) s form i vs checked suits e =

@@ -5,7 +5,7 @@ use Rattle.std.specs.Option.{option_map_or}
 use Rattle.fr_shape.specs.Val.{Val}
 use Rattle.fr_model.specs.Places.{Place, part_at}
 use Rattle.fr_model.specs.Journal.{Note, entered_at, wrote_at, Journal, Standing, covers, beneath, beside, standing, Held, in_parts, written, just_entered, untouched, after_write, at_least_entered, after_entry, held}
-use Rattle.fr_model.specs.Covering.{way_down, goes_on, enters, is_beneath, part_given, covering_part, since_covered, held_by_rules}
+use Rattle.fr_model.specs.Covering.{way_down, goes_on, is_entry_at, is_beneath, part_given, covering_part, since_covered, held_by_rules}
 
 -- how a noted place lies, in both forms
 data Lies (noted here : Place) : Type 0 where
@@ -45,10 +45,10 @@ covered_now : (note : Note) (notes : Journal) (here : Place) (v : Val) → part_
 covered_now note notes here v given = rw given refl
 
 not_covered_now : (note : Note) (notes : Journal) (here : Place) (below entry : Bool) → part_given note here ≡ None
-    → is_beneath here note ≡ below → enters here note ≡ entry
+    → is_beneath here note ≡ below → is_entry_at here note ≡ entry
     → held_by_rules (note ∷ notes) here
     ≡ ruled (below || list_any (is_beneath here) (since_covered notes here)) (covering_part notes here)
-    (entry || list_any (enters here) notes)
+    (entry || list_any (is_entry_at here) notes)
 not_covered_now note notes here below entry given is_below is_entry = rw (given, is_below, is_entry) refl
 
 entered_now : (has_beneath : Bool) (covering : Option Val) (was_entered : Bool)
@@ -75,7 +75,7 @@ entry_agrees : (noted : Place) (notes : Journal) (here : Place) → held notes h
 entry_agrees noted notes here before (it_covers [] is down up) =
     ap (λ (lie : Standing). after_entry lie (held notes here)) is
     ∙ ap at_least_entered before
-    ∙ entered_now (list_any (is_beneath here) (since_covered notes here)) (covering_part notes here) (list_any (enters here) notes)
+    ∙ entered_now (list_any (is_beneath here) (since_covered notes here)) (covering_part notes here) (list_any (is_entry_at here) notes)
     ∙ sym (not_covered_now (entered_at noted) notes here false true refl up (rw down refl))
 entry_agrees noted notes here before (it_covers (i ∷ way) is down up) =
     ap (λ (lie : Standing). after_entry lie (held notes here)) is

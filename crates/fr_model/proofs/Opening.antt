@@ -9,14 +9,14 @@ use Rattle.fr_shape.specs.Lists.{is_nil}
 use Rattle.fr_shape.specs.Look.{Table, def_of}
 use Rattle.fr_shape.specs.Val.{Val, Vals, unit, product, no_vals, first}
 use Rattle.fr_shape.specs.Fits.{fits, fields_fit}
-use Rattle.fr_model.specs.Places.{child_count, vals_nth}
+use Rattle.fr_model.specs.Places.{array_limit, child_count, vals_nth}
 use Rattle.fr_model.specs.Journal.{entered_at, Journal, Held, written, just_entered, untouched, at_least_entered, held}
 use Rattle.fr_model.specs.Tree.{Form, as_struct, as_array, form_of, Tree, hole, entered, whole, begun, Trees, no_trees, branch, tree_nth, change_nth, change_child, child_as, count_trees, holes, wholes, fresh}
-use Rattle.fr_model.specs.Step.{opened, enter, enter_child}
-use Rattle.fr_model.specs.Well.{IsBegunAs, Suits, SuitAll, IsDone, AllDone, AtCursor, DoneBut, Leads}
+use Rattle.fr_model.specs.Step.{opened_as, enter, enter_child}
+use Rattle.fr_model.specs.Well.{IsBegunAs, Suits, IsDone, AllDone, AtCursor, DoneBut, Leads}
 use Rattle.fr_model.proofs.Beneath.{down, held_down, IsLow, untouched_below, written_below}
 use Rattle.fr_model.proofs.Agreement.{IsWhole, by_value, by_entry, Agrees, AgreeAll, agree_change, begun_count, child_as_is, down_same, down_other}
-use Rattle.fr_model.proofs.Structs.{settled_struct, all_from, WholesSuit, wholes_suit, count_change, count_holes, holes_suit, suit_change}
+use Rattle.fr_model.proofs.Structs.{SuitFrom, settled_struct, all_from, WholesSuit, wholes_suit, count_change, count_holes, holes_suit, suit_change}
 
 -- the place isn't a value
 abbrev pub IsOpen : Tree → Type 0
@@ -27,7 +27,7 @@ IsOpen _ = Unit {0}
 -- too large
 pub data Enterable (table : Table) (s i : ℕ) (t : Tree) : Type 0 where
   a_field : (struct : StructDef) → def_of table s ≡ Def.Struct struct → i < length struct.fields → Enterable table s i t
-  an_element : (item : ShapeId) (n : ℕ) → def_of table s ≡ Def.Array item n → i < n → n ≤ 4096 → IsOpen t
+  an_element : (item : ShapeId) (n : ℕ) → def_of table s ≡ Def.Array item n → i < n → n ≤ array_limit → IsOpen t
       → Enterable table s i t
 
 within : (table : Table) (s i : ℕ) (t : Tree) → Enterable table s i t → i < child_count table s
@@ -39,19 +39,19 @@ begins_as : (table : Table) (s i : ℕ) (t : Tree) (n : ℕ) → Enterable table
 begins_as table s i t n (a_field struct is below) e =
     let there : n ≡ length struct.fields = rw is at e in rw is (there, omega arith)
 begins_as table s i t n (an_element item m is below few not_whole) e =
-    let there : n ≡ m = rw is at e in rw is (there, few)
+    let there : n ≡ m = rw is at e in rw is (there, omega (arith, few))
 
 begun_form : (def : Def) (form : Form) (n : ℕ) → IsBegunAs def form n → form ≡ form_of def
 begun_form (Def.Struct struct) as_struct n h = refl
 begun_form (Def.Array item m) as_array n h = refl
-begun_form _ _ n h = absurd h
+begun_form _ _ n h = absurd h.0
 
 -- the children that a place has, or gets when one of them is entered
 pub record Opening (table : Table) (s : ℕ) (form : Form) (t : Tree) : Type 0 where
   pub children : Trees
-  pub is : opened form (child_count table s) t ≡ begun form children
+  pub is : opened_as form (child_count table s) t ≡ begun form children
   pub begun_as : IsBegunAs (def_of table s) form (count_trees children)
-  pub suit : SuitAll table s form 0 children
+  pub suit : SuitFrom table s form 0 children
   pub done : AllDone children
   pub agree : (notes : Journal) → Agrees table s notes t → AgreeAll table s form notes 0 children
 
@@ -232,7 +232,7 @@ pub record Entry (table : Table) (s i : ℕ) (t after : Tree) : Type 0 where
 
 entry_opened : (table : Table) (s : ℕ) (form : Form) (i : ℕ) (t : Tree) → Opening table s form t
     → i < child_count table s
-    → Entry table s i t (change_child i (enter (def_of table (child_as table s form i))) (opened form (child_count table s) t))
+    → Entry table s i t (change_child i (enter (def_of table (child_as table s form i))) (opened_as form (child_count table s) t))
 entry_opened table s form i t place below =
     subst (λ (u : Tree). Entry table s i t (change_child i (enter (def_of table (child_as table s form i))) u))
     (sym place.is) (record {
@@ -262,7 +262,7 @@ pub entry : (table : Table) (s i : ℕ) (t : Tree) → Enterable table s i t →
 entry table s i t enterable at suits =
     subst
     (λ (m : ℕ). Entry table s i t
-    (change_child i (enter (def_of table m)) (opened (form_of (def_of table s)) (child_count table s) t)))
+    (change_child i (enter (def_of table m)) (opened_as (form_of (def_of table s)) (child_count table s) t)))
     (child_as_is table s (form_of (def_of table s)) i)
     (entry_opened table s (form_of (def_of table s)) i t (opening table s i t enterable at suits)
     (within table s i t enterable))

@@ -1,5 +1,5 @@
 -- The relation place by place says the same as the one node by node that the proofs go by.
-use Rattle.std.proofs.Common.{◌≡◌, ℕ, zero, suc, ◌+◌, ◌<◌, Bool, true, false, if◌then◌else◌, [], ◌∷◌, refl, sym, subst, arith}
+use Rattle.std.proofs.Common.{◌≡◌, ℕ, suc, ◌+◌, ◌<◌, Bool, true, false, if◌then◌else◌, [], ◌∷◌, refl, sym, subst, arith}
 use Rattle.fr_shape.specs.declared.shape.Def.{Def}
 use Rattle.fr_shape.specs.Fills.{is_empty_struct}
 use Rattle.fr_shape.specs.Look.{Table, def_of}
@@ -7,7 +7,7 @@ use Rattle.fr_shape.specs.Val.{Val, product, no_vals}
 use Rattle.fr_model.specs.Places.{Place, child_shape, shape_at}
 use Rattle.fr_model.specs.Journal.{Journal, Held, in_parts, written, just_entered, untouched, held}
 use Rattle.fr_model.specs.Tree.{Form, Tree, hole, entered, whole, begun, Trees, no_trees, branch, tree_nth, tree_at, child_as, count_trees}
-use Rattle.fr_model.specs.Relation.{HasPlace, IsBegun, StandsFor}
+use Rattle.fr_model.specs.Relation.{HasPlace, StandsFor}
 use Rattle.fr_model.specs.Well.{Suits}
 use Rattle.fr_model.proofs.Agreement.{IsWhole, by_value, by_entry, Agrees, AgreeAll, agree_nth, child_as_is}
 use Rattle.fr_model.proofs.Beneath.{down, held_down}

@@ -14,7 +14,7 @@ use Rattle.fr_shape.specs.Val.{Val}
 use Rattle.fr_model.specs.Commands.{Call}
 use Rattle.fr_shape.specs.Named.{field_named}
 use Rattle.fr_model.specs.Places.{Place, is_root, shape_at}
-use Rattle.fr_model.specs.Journal.{entered_at, wrote_at, Journal, Held, held, longest, completes, Progress, initial_progress, may_enter, enters_child, begins, writes, ends, rule, then_rules, rules, outcome}
+use Rattle.fr_model.specs.Journal.{entered_at, wrote_at, Journal, Held, held, longest, completes, Progress, initial_progress, may_enter, goes_to_child, goes_to_found, writes, ends, rule, then_rules, rules, outcome}
 use Rattle.fr_model.specs.Tree.{Tree, whole, State, cursor_shape, cursor_tree, initial}
 use Rattle.fr_model.specs.Complete.{complete}
 use Rattle.fr_model.specs.Step.{unless_refused, field_refusal, named_refusal, at_shape, enter_child, enters, begins_named, puts, set_refusal, puts_default, violates, ended, step, built}
@@ -49,24 +49,24 @@ entered_run run i = record { notes = entered_at (run.cursor ++ i ∷ []) ∷ run
 
 begun_both : (table : Table) (root s i : ℕ) (refusal : Option Operation) (may : Bool) (next : State) (run : Progress)
     → refusal ≡ None → may ≡ true → Alike table root next (entered_run run i)
-    → BothStep table root (unless_refused (at_shape s refusal) next) (enters_child may run i)
+    → BothStep table root (unless_refused (at_shape s refusal) next) (goes_to_child may run i)
 begun_both table root s i refusal may next run admitted there alike = rw (admitted, there) alike
 
 begun_neither : (table : Table) (root s i : ℕ) (refusal : Option Operation) (may : Bool) (operation : Operation)
     (next : State) (run : Progress)
     → refusal ≡ Some operation → may ≡ false
-    → BothStep table root (unless_refused (at_shape s refusal) next) (enters_child may run i)
+    → BothStep table root (unless_refused (at_shape s refusal) next) (goes_to_child may run i)
 begun_neither table root s i refusal may operation next run refused absent = rw (refused, absent) tt
 
 named_both : (table : Table) (root s i : ℕ) (state : State) (refusal : Option Operation) (found : Option ℕ)
     (run : Progress) (t : ℕ) → refusal ≡ None → found ≡ Some i → may_enter table t i (held run.notes run.cursor) ≡ true
     → Alike table root (enters table s state i) (entered_run run i)
-    → BothStep table root (begins_named table s state (at_shape s refusal) found) (begins table t run found)
+    → BothStep table root (begins_named table s state (at_shape s refusal) found) (goes_to_found table t run found)
 named_both table root s i state refusal found run t admitted is there alike = rw (admitted, is, there) alike
 
 named_none : (table : Table) (root s t : ℕ) (state : State) (refusal : Option ReflectErrorKind) (found : Option ℕ)
     (run : Progress) → found ≡ None
-    → BothStep table root (begins_named table s state refusal found) (begins table t run found)
+    → BothStep table root (begins_named table s state refusal found) (goes_to_found table t run found)
 named_none table root s t state (Some kind) found run is = rw is tt
 named_none table root s t state None found run is = rw is tt
 
@@ -113,7 +113,7 @@ module _ (hooks : Meanings) (table : Table) (checked : IsChecked table) (served 
           → BothStep table root
           (unless_refused (at_shape at_here (field_refusal (def_of table at_here) (cursor_tree state) i))
           (enters table at_here state i))
-          (enters_child (may_enter table (shape_at table root state.cursor) i (held notes state.cursor)) run i)
+          (goes_to_child (may_enter table (shape_at table root state.cursor) i (held notes state.cursor)) run i)
       go (a_child child admitted may) =
           begun_both table root at_here i (field_refusal (def_of table at_here) (cursor_tree state) i)
           (may_enter table (shape_at table root state.cursor) i (held notes state.cursor)) (enters table at_here state i) run admitted
@@ -130,14 +130,14 @@ module _ (hooks : Meanings) (table : Table) (checked : IsChecked table) (served 
       (λ (s : ℕ). BothStep table root
       (begins_named table at_here state (at_shape at_here (named_refusal (def_of table at_here)))
       (field_named name (def_of table at_here)))
-      (begins table s run (field_named name (def_of table s))))
+      (goes_to_found table s run (field_named name (def_of table s))))
       (sym same) (go (named_case name (def_of table at_here) (cursor_tree state)))
     where
       go : NamedCase name (def_of table at_here) (cursor_tree state)
           → BothStep table root
           (begins_named table at_here state (at_shape at_here (named_refusal (def_of table at_here)))
           (field_named name (def_of table at_here)))
-          (begins table at_here run (field_named name (def_of table at_here)))
+          (goes_to_found table at_here run (field_named name (def_of table at_here)))
       go (a_named i child admitted is may) =
           named_both table root at_here i state (named_refusal (def_of table at_here))
           (field_named name (def_of table at_here)) run at_here admitted is (may (held notes state.cursor)) (entered_alike i child)

@@ -8,7 +8,8 @@ use Rattle.fr_shape.specs.Look.{Table, def_of, settled}
 use Rattle.fr_shape.specs.Val.{Val, Vals, product, no_vals, first}
 use Rattle.fr_shape.specs.Fits.{fits, all_fit, fields_fit, count_vals}
 use Rattle.fr_model.specs.Places.{child_shape, one_more, product_of}
-use Rattle.fr_model.specs.Tree.{Form, as_struct, as_array, Tree, Trees, no_trees, branch, tree_nth, change_nth, child_as, count_trees, holes, wholes}
+use Rattle.fr_model.specs.Tree.{Form, as_struct, as_array, Tree, Trees, no_trees, branch, tree_nth, change_nth, child_as, shapes_from, count_trees, holes, wholes}
+use Rattle.fr_model.specs.Complete.{made}
 use Rattle.fr_model.specs.Well.{IsFullAs, IsBegunAs, Suits, SuitAll}
 use Rattle.fr_model.proofs.Templates.{both_true}
 
@@ -101,10 +102,15 @@ elements_all_fit table s t n is i (first v vs) fit =
     let others : all_fit table t.0 vs ≡ true = elements_all_fit table s t n is (suc i) vs fit.1 in
     rw (here, others) refl
 
+-- what a struct or an array makes of its children's values
+pub made_product : (form : Form) (values : Option Vals) → made form values ≡ product_of values
+made_product as_struct values = refl
+made_product as_array values = refl
+
 pub begun_full : (def : Def) (form : Form) (count : ℕ) → IsBegunAs def form count → IsFullAs def form count
 begun_full (Def.Struct struct) as_struct count begun_as = begun_as.0
 begun_full (Def.Array t n) as_array count begun_as = begun_as.0
-begun_full _ _ count begun_as = absurd begun_as
+begun_full _ _ count begun_as = absurd begun_as.0
 
 -- fitting children, one for each field or element, make a value that fits
 pub product_fits : (table : Table) (s : ℕ) (form : Form) (vs : Vals) → IsFullAs (def_of table s) form (count_vals vs)
@@ -120,6 +126,10 @@ product_fits table s form vs count fit = go (def_of table s) form refl count fit
         rw (settled_array table s t n is, eq-eqb (count_vals vs) n count, elements_all_fit table s t n is 0 vs fit) refl
     go _ _ is count fit = absurd count
 
+-- the trees suit the shapes of the children from number i on, of a place of shape s that is begun so
+abbrev pub SuitFrom : Table → ℕ → Form → ℕ → Trees → Type 0
+SuitFrom table s form i ts = SuitAll table (shapes_from table s form (count_trees ts) i) ts
+
 -- what is opened
 
 pub count_change : (i : ℕ) (change : Tree → Tree) (ts : Trees) → count_trees (change_nth i change ts) ≡ count_trees ts
@@ -131,13 +141,13 @@ pub count_holes : (n : ℕ) → count_trees (holes n) ≡ n
 count_holes zero = refl
 count_holes (suc n) = ap suc (count_holes n)
 
-pub holes_suit : (table : Table) (s : ℕ) (form : Form) (i n : ℕ) → SuitAll table s form i (holes n)
+pub holes_suit : (table : Table) (s : ℕ) (form : Form) (i n : ℕ) → SuitFrom table s form i (holes n)
 holes_suit table s form i zero = tt
 holes_suit table s form i (suc n) = (tt, holes_suit table s form (suc i) n)
 
 pub record WholesSuit (table : Table) (s i : ℕ) (fields : List Field) (vs : Vals) : Type 0 where
   pub count : count_trees (wholes vs) ≡ length fields
-  pub suit : SuitAll table s as_struct i (wholes vs)
+  pub suit : SuitFrom table s as_struct i (wholes vs)
 
 pub wholes_suit : (table : Table) (s : ℕ) (struct : StructDef) → def_of table s ≡ Def.Struct struct
     → (i : ℕ) (fields : List Field) (vs : Vals) → AreFrom struct.fields i fields → fields_fit table fields vs ≡ true
@@ -157,9 +167,9 @@ wholes_suit table s struct is i (field ∷ fields) (first v vs) from fit =
 -- one child, and all of them with one changed
 
 pub suit_change : (table : Table) (s : ℕ) (form : Form) (d k : ℕ) (ts : Trees) (i : ℕ) (change : Tree → Tree)
-    → i ≡ k + d → SuitAll table s form k ts
+    → i ≡ k + d → SuitFrom table s form k ts
     → (Suits table (child_as table s form i) (tree_nth d ts) → Suits table (child_as table s form i) (change (tree_nth d ts)))
-    → SuitAll table s form k (change_nth d change ts)
+    → SuitFrom table s form k (change_nth d change ts)
 suit_change table s form d k no_trees i change e suits step = tt
 suit_change table s form zero k (branch t ts) i change e suits step =
     let here : i ≡ k = omega arith in (
@@ -171,7 +181,7 @@ suit_change table s form (suc d) k (branch t ts) i change e suits step =
     (suits.0, suit_change table s form d (suc k) ts i change (omega arith) suits.1 step)
 
 pub suit_nth : (table : Table) (s : ℕ) (form : Form) (d k : ℕ) (ts : Trees) (i : ℕ) → i ≡ k + d
-    → SuitAll table s form k ts → Suits table (child_as table s form i) (tree_nth d ts)
+    → SuitFrom table s form k ts → Suits table (child_as table s form i) (tree_nth d ts)
 suit_nth table s form d k no_trees i e suits = tt
 suit_nth table s form zero k (branch t ts) i e suits =
     let here : i ≡ k = omega arith in subst (λ (m : ℕ). Suits table (child_as table s form m) t) (sym here) suits.0

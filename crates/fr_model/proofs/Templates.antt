@@ -8,13 +8,13 @@ use Rattle.fr_shape.specs.declared.shape.Field.{Field}
 use Rattle.fr_shape.specs.declared.shape.DefaultSource.{DefaultSource}
 use Rattle.fr_shape.specs.Checked.{IsChecked, fields_of, is_template, default_is_template, is_none_val}
 use Rattle.fr_shape.specs.Fills.{preset_in, preset_of, strict_by_mark, takes_shape_default, by_strict_rule, strict_fill}
-use Rattle.fr_shape.specs.Look.{Table, def_or_other, def_of}
+use Rattle.fr_shape.specs.Look.{Table, def_or_other, def_of, field_in}
 use Rattle.fr_shape.specs.Lists.{is_nil}
 use Rattle.fr_shape.specs.Val.{Val, none}
 use Rattle.fr_shape.specs.Fits.{fits}
 use Rattle.fr_shape.specs.Tokens.{tokens, times, occurs}
 use Rattle.fr_shape.specs.TokenLaws.{occurs_times}
-use Rattle.fr_model.specs.Places.{child_shape, fill_of_field, fill_by, fill_at}
+use Rattle.fr_model.specs.Places.{child_shape, fill_of_field, fill_at}
 
 -- lists and tests
 
@@ -145,13 +145,13 @@ pub fill_template : (table : Table) (s i : ℕ) (v : Val) → IsChecked table �
 fill_template table s i v checked e = go (def_of table s) refl e
   where
     of_field : (struct : StructDef) (found : Option Field) → def_of table s ≡ Def.Struct struct
-        → slice_get struct.fields i ≡ found → fill_of_field table s found ≡ Some v
+        → slice_get struct.fields i ≡ found → fill_of_field table s false found ≡ Some v
         → IsTemplate table (child_shape table s i) v
     of_field struct (Some field) is at e =
         rw (is, at) (field_template table s struct i field v checked is at e)
     of_field struct None is at e = cc
 
-    go : (def : Def) → def_of table s ≡ def → fill_by table s def i ≡ Some v
+    go : (def : Def) → def_of table s ≡ def → fill_of_field table s false (field_in def None i) ≡ Some v
         → IsTemplate table (child_shape table s i) v
     go (Def.Struct struct) is e = of_field struct (slice_get struct.fields i) is refl e
     go _ is e = cc

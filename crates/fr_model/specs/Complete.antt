@@ -1,5 +1,6 @@
 -- Completing a place in strict mode: the value that it makes, or what it lacks first.
 use Rattle.std.specs.Prelude.{ℕ, zero, suc, List, [], ◌∷◌, Option, Some, None, if◌then◌else◌}
+use Rattle.std.specs.Option.{option_or}
 use Rattle.fr_shape.specs.declared.shape.Def.{Def}
 use Rattle.fr_shape.specs.declared.shape.Field.{Field}
 use Rattle.fr_shape.specs.declared.shape.ValidatorDef.{ValidatorDef}
@@ -10,7 +11,7 @@ use Rattle.fr_shape.specs.Look.{Table, def_of, field_in}
 use Rattle.fr_shape.specs.Val.{Val, Vals, none, no_vals}
 use Rattle.fr_shape.specs.Validators.{passes_at, message}
 use Rattle.fr_model.specs.Places.{child_count, one_more, product_of, each_child, fill_at}
-use Rattle.fr_model.specs.Tree.{Form, as_struct, as_array, Tree, hole, entered, whole, begun, Trees, no_trees, branch, child_as}
+use Rattle.fr_model.specs.Tree.{Form, as_struct, as_array, Tree, hole, entered, whole, begun, Trees, no_trees, branch, for_hole, child_as}
 
 -- the refusals
 
@@ -24,11 +25,6 @@ missing_value s = ReflectErrorKind.UninitializedValue (record { 0 = s })
 abbrev pub invalid_field : ℕ → ℕ → List ℕ → ReflectErrorKind
 invalid_field s i text =
     ReflectErrorKind.ValidationFailed (record { shape = record { 0 = s }; variant = None; index = i }) text
-
--- the first of two, if any
-abbrev pub first_of : Option ReflectErrorKind → Option ReflectErrorKind → Option ReflectErrorKind
-first_of (Some kind) later = Some kind
-first_of None later = later
 
 abbrev pub unless_there : Option Val → ReflectErrorKind → Option ReflectErrorKind
 unless_there (Some v) kind = None
@@ -46,22 +42,23 @@ first_failing hooks def s i (validator ∷ validators) v =
 abbrev pub failing_field : Meanings → Table → ℕ → ℕ → Option Field → Option Val → Option ReflectErrorKind
 failing_field hooks table s i (Some field) (Some v) =
     first_failing hooks (def_of table field.shape.0) s i field.validators v
-failing_field hooks table s i _ _ = None
+failing_field hooks table s i (Some field) None = None
+failing_field hooks table s i None value = None
 
 -- of child i of a place of shape s that is begun so: the first validator that its value, if it has one, doesn't pass. An
 -- element of an array has none.
 abbrev pub failing_child : Meanings → Table → ℕ → Form → ℕ → Option Val → Option ReflectErrorKind
-failing_child hooks table s as_struct i made = failing_field hooks table s i (field_in (def_of table s) None i) made
-failing_child hooks table s as_array i made = None
+failing_child hooks table s as_struct i value = failing_field hooks table s i (field_in (def_of table s) None i) value
+failing_child hooks table s as_array i value = None
 
 -- the value, unless there is something to refuse
 abbrev pub unless_failing : Option ReflectErrorKind → Option Val → Option Val
-unless_failing (Some kind) made = None
-unless_failing None made = made
+unless_failing (Some kind) value = None
+unless_failing None value = value
 
 -- a child's value, where it passes its field's validators
 abbrev pub valid_child : Meanings → Table → ℕ → Form → ℕ → Option Val → Option Val
-valid_child hooks table s form i made = unless_failing (failing_child hooks table s form i made) made
+valid_child hooks table s form i value = unless_failing (failing_child hooks table s form i value) value
 
 -- what a hole takes as child i of a place of shape s that is begun so; an element of an array takes nothing
 abbrev pub hole_takes : Table → ℕ → Form → ℕ → Option Val
@@ -73,46 +70,61 @@ abbrev pub missing_child : ℕ → Form → ℕ → ReflectErrorKind
 missing_child s as_struct i = missing_field s i
 missing_child s as_array i = missing_value s
 
+-- what a place begun so makes of the values of its children, where each has one: a struct or an array their product
+abbrev pub made : Form → (values : Option Vals) → Option Val
+made as_struct values = product_of values
+made as_array values = product_of values
+
 -- The value of an entered place
 
 -- of a struct whose fields are all holes
 abbrev pub made_of_fills : Meanings → Table → ℕ → Option Val
 made_of_fills hooks table s =
-    product_of (each_child (λ i. valid_child hooks table s as_struct i (fill_at table s i)) (child_count table s) 0)
-
-abbrev pub or_else : Option Val → Option Val → Option Val
-or_else (Some v) other = Some v
-or_else None other = other
+    made as_struct (each_child (λ i. valid_child hooks table s as_struct i (fill_at table s i)) (child_count table s) 0)
 
 abbrev pub none_if_preset : Option Val → Option Val
 none_if_preset (Some v) = Some none
 none_if_preset None = None
 
 abbrev pub made_by : Def → (preset of_fills : Option Val) → Option Val
-made_by (Def.Struct struct) preset of_fills = or_else preset of_fills
+made_by (Def.Struct struct) preset of_fills = option_or preset of_fills
 made_by (Def.Option t) preset of_fills = none_if_preset preset
-made_by _ preset of_fills = None
+made_by (Def.Scalar kind) preset of_fills = None
+made_by Def.Str preset of_fills = None
+made_by Def.Opaque preset of_fills = None
+made_by (Def.Enum enumeration) preset of_fills = None
+made_by (Def.Result t e) preset of_fills = None
+made_by (Def.List t) preset of_fills = None
+made_by (Def.Map key item) preset of_fills = None
+made_by (Def.Set t) preset of_fills = None
+made_by (Def.Array t n) preset of_fills = None
+made_by (Def.Pointer pointer) preset of_fills = None
+made_by (Def.Slice t) preset of_fills = None
+made_by Def.Dynamic preset of_fills = None
+made_by Def.Undefined preset of_fills = None
+made_by Def.Other preset of_fills = None
 
 -- A struct with a default makes that, and no validator is asked; without one, what a struct of holes makes. An option
 -- with a default makes `None`. Anything else makes nothing.
 abbrev pub made_of_entered : Meanings → Table → ℕ → Option Val
 made_of_entered hooks table s = made_by (def_of table s) (preset_of table s) (made_of_fills hooks table s)
 
--- The value that a place of shape s makes: a whole place its own; an entered place as above; a begun place the product of
--- its children's, of which a hole takes its fill, where each makes one that passes its validators. A hole by itself makes none.
+-- The value that a place of shape s makes: a whole place its own; an entered place as above; a begun place what its form
+-- makes of its children's, of which a hole takes its fill, where each makes one that passes its validators. A hole by
+-- itself makes none.
 abbrev mutual
   pub complete : Meanings → Table → ℕ → Tree → Option Val
   complete hooks table s hole = None
   complete hooks table s entered = made_of_entered hooks table s
   complete hooks table s (whole v) = Some v
-  complete hooks table s (begun form ts) = product_of (complete_all hooks table s form 0 ts)
+  complete hooks table s (begun form ts) = made form (complete_all hooks table s form 0 ts)
 
   pub complete_all : Meanings → Table → ℕ → Form → ℕ → Trees → Option Vals
   complete_all hooks table s form i no_trees = Some no_vals
-  complete_all hooks table s form i (branch hole ts) =
-      one_more (valid_child hooks table s form i (hole_takes table s form i)) (complete_all hooks table s form (suc i) ts)
   complete_all hooks table s form i (branch t ts) =
-      one_more (valid_child hooks table s form i (complete hooks table (child_as table s form i) t))
+      one_more
+      (valid_child hooks table s form i
+      (for_hole t (hole_takes table s form i) (complete hooks table (child_as table s form i) t)))
       (complete_all hooks table s form (suc i) ts)
 
 -- What is lacking
@@ -120,14 +132,14 @@ abbrev mutual
 -- of child i, a hole: its fill, or that the fill passes its validators
 abbrev pub lack_of_hole : Meanings → Table → ℕ → Form → ℕ → Option ReflectErrorKind
 lack_of_hole hooks table s form i =
-    first_of (unless_there (hole_takes table s form i) (missing_child s form i))
+    option_or (unless_there (hole_takes table s form i) (missing_child s form i))
     (failing_child hooks table s form i (hole_takes table s form i))
 
 -- of so many children from number i on, all of them holes
 abbrev pub lack_of_holes : Meanings → Table → ℕ → Form → (count i : ℕ) → Option ReflectErrorKind
 lack_of_holes hooks table s form zero i = None
 lack_of_holes hooks table s form (suc count) i =
-    first_of (lack_of_hole hooks table s form i) (lack_of_holes hooks table s form count (suc i))
+    option_or (lack_of_hole hooks table s form i) (lack_of_holes hooks table s form count (suc i))
 
 abbrev pub unless_default : Option Val → Option ReflectErrorKind → Option ReflectErrorKind
 unless_default (Some v) lacking = None
@@ -136,7 +148,20 @@ unless_default None lacking = lacking
 abbrev pub lack_by : Def → (preset : Option Val) → (of_holes : Option ReflectErrorKind) → (missing : ReflectErrorKind) → Option ReflectErrorKind
 lack_by (Def.Struct struct) preset of_holes missing = unless_default preset of_holes
 lack_by (Def.Option t) preset of_holes missing = unless_there preset missing
-lack_by _ preset of_holes missing = Some missing
+lack_by (Def.Scalar kind) preset of_holes missing = Some missing
+lack_by Def.Str preset of_holes missing = Some missing
+lack_by Def.Opaque preset of_holes missing = Some missing
+lack_by (Def.Enum enumeration) preset of_holes missing = Some missing
+lack_by (Def.Result t e) preset of_holes missing = Some missing
+lack_by (Def.List t) preset of_holes missing = Some missing
+lack_by (Def.Map key item) preset of_holes missing = Some missing
+lack_by (Def.Set t) preset of_holes missing = Some missing
+lack_by (Def.Array t n) preset of_holes missing = Some missing
+lack_by (Def.Pointer pointer) preset of_holes missing = Some missing
+lack_by (Def.Slice t) preset of_holes missing = Some missing
+lack_by Def.Dynamic preset of_holes missing = Some missing
+lack_by Def.Undefined preset of_holes missing = Some missing
+lack_by Def.Other preset of_holes missing = Some missing
 
 -- of an entered place: of a struct without a default what a struct of holes lacks; of an option without one, and of
 -- anything else, its value
@@ -155,9 +180,8 @@ abbrev mutual
 
   pub lack_among : Meanings → Table → ℕ → Form → ℕ → Trees → Option ReflectErrorKind
   lack_among hooks table s form i no_trees = None
-  lack_among hooks table s form i (branch hole ts) =
-      first_of (lack_of_hole hooks table s form i) (lack_among hooks table s form (suc i) ts)
   lack_among hooks table s form i (branch t ts) =
-      first_of (lack hooks table (child_as table s form i) t)
-      (first_of (failing_child hooks table s form i (complete hooks table (child_as table s form i) t))
-      (lack_among hooks table s form (suc i) ts))
+      for_hole t (option_or (lack_of_hole hooks table s form i) (lack_among hooks table s form (suc i) ts))
+      (option_or (lack hooks table (child_as table s form i) t)
+      (option_or (failing_child hooks table s form i (complete hooks table (child_as table s form i) t))
+      (lack_among hooks table s form (suc i) ts)))

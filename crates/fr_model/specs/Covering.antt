@@ -15,17 +15,19 @@ way_down (i ∷ above) (j ∷ here) = if i == j then way_down above here else No
 -- there is such a way, and it ends where it begins
 abbrev pub stays : Option Place → Bool
 stays (Some []) = true
-stays _ = false
+stays (Some (i ∷ way)) = false
+stays None = false
 
 -- there is such a way, and it leads further down
 abbrev pub goes_on : Option Place → Bool
 goes_on (Some (i ∷ way)) = true
-goes_on _ = false
+goes_on (Some []) = false
+goes_on None = false
 
 -- the note says that this very place was entered
-abbrev pub enters : Place → Note → Bool
-enters here (entered_at noted) = stays (way_down noted here)
-enters here (wrote_at noted v) = false
+abbrev pub is_entry_at : Place → Note → Bool
+is_entry_at here (entered_at noted) = stays (way_down noted here)
+is_entry_at here (wrote_at noted v) = false
 
 -- the note is on a place strictly beneath this one
 abbrev pub is_beneath : Place → Note → Bool
@@ -53,7 +55,7 @@ abbrev pub held_by_rules : Journal → Place → Held
 held_by_rules notes here =
     if list_any (is_beneath here) (since_covered notes here) then in_parts
     else option_map_or written (covering_part notes here)
-    (if list_any (enters here) notes then just_entered else untouched)
+    (if list_any (is_entry_at here) notes then just_entered else untouched)
 
 -- the scan and the rules give the same of every place
 abbrev pub ScanAgrees : Type 0

@@ -7,7 +7,7 @@ use Rattle.fr_shape.specs.Look.{Table, def_of}
 use Rattle.fr_shape.specs.Val.{Val, product, no_vals}
 use Rattle.fr_model.specs.Commands.{Call}
 use Rattle.fr_shape.specs.Named.{field_named}
-use Rattle.fr_model.specs.Places.{Place, is_root, up, child_count, child_shape, shape_at, part_at, product_of, each_child, fill_at}
+use Rattle.fr_model.specs.Places.{Place, is_root, up, array_limit, child_count, child_shape, shape_at, part_at, product_of, each_child, fill_at}
 
 -- a place was entered, or a value was written to it
 pub data Note : Type 0 where
@@ -44,7 +44,9 @@ after_write v beside before = before
 
 abbrev pub at_least_entered : Held → Held
 at_least_entered untouched = just_entered
-at_least_entered held = held
+at_least_entered just_entered = just_entered
+at_least_entered (written v) = written v
+at_least_entered in_parts = in_parts
 
 -- a place that was entered holds at least that; the places above it have parts
 abbrev pub after_entry : Standing → Held → Held
@@ -78,7 +80,20 @@ entered_struct (suc count) None of_fills = of_fills
 abbrev pub by_entered : Def → (preset of_fills : Option Val) → Option Val
 by_entered (Def.Struct struct) preset of_fills = entered_struct (length struct.fields) preset of_fills
 by_entered (Def.Option t) preset of_fills = preset
-by_entered _ preset of_fills = None
+by_entered (Def.Scalar kind) preset of_fills = None
+by_entered Def.Str preset of_fills = None
+by_entered Def.Opaque preset of_fills = None
+by_entered (Def.Enum enumeration) preset of_fills = None
+by_entered (Def.Result t e) preset of_fills = None
+by_entered (Def.List t) preset of_fills = None
+by_entered (Def.Map key item) preset of_fills = None
+by_entered (Def.Set t) preset of_fills = None
+by_entered (Def.Array t n) preset of_fills = None
+by_entered (Def.Pointer pointer) preset of_fills = None
+by_entered (Def.Slice t) preset of_fills = None
+by_entered Def.Dynamic preset of_fills = None
+by_entered Def.Undefined preset of_fills = None
+by_entered Def.Other preset of_fills = None
 
 -- The value that a place of shape s makes where it was entered and nothing was put there: a struct's as above; an
 -- option's is its preset, if it has one; any other place makes none.
@@ -90,7 +105,20 @@ entered_value table s =
 abbrev pub by_parts : Def → (of_parts : Option Val) → Option Val
 by_parts (Def.Struct struct) of_parts = of_parts
 by_parts (Def.Array t n) of_parts = of_parts
-by_parts _ of_parts = None
+by_parts (Def.Scalar kind) of_parts = None
+by_parts Def.Str of_parts = None
+by_parts Def.Opaque of_parts = None
+by_parts (Def.Enum enumeration) of_parts = None
+by_parts (Def.Option t) of_parts = None
+by_parts (Def.Result t e) of_parts = None
+by_parts (Def.List t) of_parts = None
+by_parts (Def.Map key item) of_parts = None
+by_parts (Def.Set t) of_parts = None
+by_parts (Def.Pointer pointer) of_parts = None
+by_parts (Def.Slice t) of_parts = None
+by_parts Def.Dynamic of_parts = None
+by_parts Def.Undefined of_parts = None
+by_parts Def.Other of_parts = None
 
 abbrev pub by_held : Held → (of_parts of_entered : Option Val) → Option Val
 by_held in_parts of_parts of_entered = of_parts
@@ -101,7 +129,9 @@ by_held untouched of_parts of_entered = None
 -- an untouched child takes its fill, every other makes its own value
 abbrev pub child_makes : Held → (fill own : Option Val) → Option Val
 child_makes untouched fill own = fill
-child_makes _ fill own = own
+child_makes just_entered fill own = own
+child_makes (written v) fill own = own
+child_makes in_parts fill own = own
 
 -- The value that a place of shape s makes, or none. A place with a whole value makes it. A place with parts, which only
 -- a struct or an array has, makes the product of its children's values, of which an untouched one takes its fill, and none
@@ -127,36 +157,52 @@ initial_progress = record { notes = entered_at [] ∷ []; cursor = [] }
 
 abbrev pub is_written : Held → Bool
 is_written (written v) = true
-is_written _ = false
+is_written in_parts = false
+is_written just_entered = false
+is_written untouched = false
 
--- an array of this many elements may be entered: it has at most 4,096, and isn't whole
+-- an array of this many elements may be entered: it has no more than the limit, and isn't whole
 abbrev pub may_enter_elements : ℕ → Held → Bool
-may_enter_elements n held = nat_le n 4096 && not (is_written held)
+may_enter_elements n held = nat_le n array_limit && not (is_written held)
 
 -- the children of a place of this definition may be entered: a struct's always
 abbrev pub may_enter_children : Def → Held → Bool
 may_enter_children (Def.Array t n) held = may_enter_elements n held
-may_enter_children _ held = true
+may_enter_children (Def.Scalar kind) held = true
+may_enter_children Def.Str held = true
+may_enter_children Def.Opaque held = true
+may_enter_children (Def.Struct struct) held = true
+may_enter_children (Def.Enum enumeration) held = true
+may_enter_children (Def.Option t) held = true
+may_enter_children (Def.Result t e) held = true
+may_enter_children (Def.List t) held = true
+may_enter_children (Def.Map key item) held = true
+may_enter_children (Def.Set t) held = true
+may_enter_children (Def.Pointer pointer) held = true
+may_enter_children (Def.Slice t) held = true
+may_enter_children Def.Dynamic held = true
+may_enter_children Def.Undefined held = true
+may_enter_children Def.Other held = true
 
 -- child i of a place of shape s may be entered: it is there, and the children may be entered
 abbrev pub may_enter : Table → ℕ → ℕ → Held → Bool
 may_enter table s i held = nat_lt i (child_count table s) && may_enter_children (def_of table s) held
 
-abbrev pub enters_child : Bool → Progress → ℕ → Option Progress
-enters_child true run i =
-    Some (record { notes = entered_at (run.cursor ++ i ∷ []) ∷ run.notes; cursor = run.cursor ++ i ∷ [] })
-enters_child false run i = None
+abbrev pub goes_to_child : Bool → Progress → ℕ → Option Progress
+goes_to_child true run i =
+    Some (record run { notes = entered_at (run.cursor ++ i ∷ []) ∷ run.notes; cursor = run.cursor ++ i ∷ [] })
+goes_to_child false run i = None
 
-abbrev pub begins : Table → ℕ → Progress → Option ℕ → Option Progress
-begins table s run (Some i) = enters_child (may_enter table s i (held run.notes run.cursor)) run i
-begins table s run None = None
+abbrev pub goes_to_found : Table → ℕ → Progress → Option ℕ → Option Progress
+goes_to_found table s run (Some i) = goes_to_child (may_enter table s i (held run.notes run.cursor)) run i
+goes_to_found table s run None = None
 
 abbrev pub writes : Progress → Option Val → Option Progress
-writes run (Some v) = Some (record { notes = wrote_at run.cursor v ∷ run.notes; cursor = run.cursor })
+writes run (Some v) = Some (record run { notes = wrote_at run.cursor v ∷ run.notes })
 writes run None = None
 
 abbrev pub ends : Progress → Option Val → Option Progress
-ends run (Some v) = Some (record { notes = wrote_at run.cursor v ∷ run.notes; cursor = up run.cursor })
+ends run (Some v) = Some (record run { notes = wrote_at run.cursor v ∷ run.notes; cursor = up run.cursor })
 ends run None = None
 
 -- The rules: `begin_nth_field` at a struct with a field of that number, or at an array with such an element that may be
@@ -165,8 +211,8 @@ ends run None = None
 -- preset; `end` below the root notes the place's value, where it makes one, and goes up. Where no rule fits the command, the
 -- run is over and makes nothing.
 abbrev pub rule_at : Table → ℕ → Progress → Call → Option Progress
-rule_at table s run (Call.BeginField name) = begins table s run (field_named name (def_of table s))
-rule_at table s run (Call.BeginNthField i) = begins table s run (Some i)
+rule_at table s run (Call.BeginField name) = goes_to_found table s run (field_named name (def_of table s))
+rule_at table s run (Call.BeginNthField i) = goes_to_found table s run (Some i)
 rule_at table s run (Call.Set given v) = writes run (if s == given then Some v else None)
 rule_at table s run Call.SetDefault = writes run (preset_of table s)
 rule_at table s run Call.End =

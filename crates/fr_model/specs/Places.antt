@@ -1,10 +1,10 @@
 -- Places: lists of child numbers from the root, and what a table says of the shapes along them.
-use Rattle.std.specs.Prelude.{ℕ, zero, suc, Bool, true, false, List, [], ◌∷◌, length, slice_get, Option, Some, None}
+use Rattle.std.specs.Prelude.{ℕ, zero, suc, Bool, true, false, List, [], ◌∷◌, length, slice_get, Option, Some, None, is_some}
 use Rattle.fr_shape.specs.declared.shape.Def.{Def}
 use Rattle.fr_shape.specs.declared.shape.Field.{Field}
 use Rattle.fr_shape.specs.Fills.{strict_fill}
-use Rattle.fr_shape.specs.Look.{Table, def_of}
-use Rattle.fr_shape.specs.Val.{Val, Vals, product, no_vals, first}
+use Rattle.fr_shape.specs.Look.{Table, def_of, field_in}
+use Rattle.fr_shape.specs.Val.{Val, Vals, unit, bool, char, int, nat, text, token, product, variant, none, some, ok, err, list_of, map_of, set_of, ptr, dyn, no_vals, first}
 
 abbrev pub Place : Type 0
 Place = List ℕ
@@ -12,6 +12,10 @@ Place = List ℕ
 abbrev pub is_root : Place → Bool
 is_root [] = true
 is_root (i ∷ place) = false
+
+-- an array of more elements can only be set as a whole
+abbrev pub array_limit : ℕ
+array_limit = 4096
 
 -- the place above (the root's is itself)
 abbrev pub up : Place → Place
@@ -23,7 +27,20 @@ up (i ∷ j ∷ place) = i ∷ up (j ∷ place)
 abbrev pub count_children : Def → ℕ
 count_children (Def.Struct struct) = length struct.fields
 count_children (Def.Array t n) = n
-count_children _ = 0
+count_children (Def.Scalar kind) = 0
+count_children Def.Str = 0
+count_children Def.Opaque = 0
+count_children (Def.Enum enumeration) = 0
+count_children (Def.Option t) = 0
+count_children (Def.Result t e) = 0
+count_children (Def.List t) = 0
+count_children (Def.Map key item) = 0
+count_children (Def.Set t) = 0
+count_children (Def.Pointer pointer) = 0
+count_children (Def.Slice t) = 0
+count_children Def.Dynamic = 0
+count_children Def.Undefined = 0
+count_children Def.Other = 0
 
 abbrev pub child_count : Table → ℕ → ℕ
 child_count table s = count_children (def_of table s)
@@ -35,25 +52,39 @@ shape_of_field None = 0
 abbrev pub shape_of_child : Def → ℕ → ℕ
 shape_of_child (Def.Struct struct) i = shape_of_field (slice_get struct.fields i)
 shape_of_child (Def.Array t n) i = t.0
-shape_of_child _ i = 0
+shape_of_child (Def.Scalar kind) i = 0
+shape_of_child Def.Str i = 0
+shape_of_child Def.Opaque i = 0
+shape_of_child (Def.Enum enumeration) i = 0
+shape_of_child (Def.Option t) i = 0
+shape_of_child (Def.Result t e) i = 0
+shape_of_child (Def.List t) i = 0
+shape_of_child (Def.Map key item) i = 0
+shape_of_child (Def.Set t) i = 0
+shape_of_child (Def.Pointer pointer) i = 0
+shape_of_child (Def.Slice t) i = 0
+shape_of_child Def.Dynamic i = 0
+shape_of_child Def.Undefined i = 0
+shape_of_child Def.Other i = 0
 
 -- the shape of child i of a place: that of the field of this number, or of an element. Where there is no such child it
 -- is 0, which no definition asks for.
 abbrev pub child_shape : Table → ℕ → ℕ → ℕ
 child_shape table s i = shape_of_child (def_of table s) i
 
-abbrev pub fill_of_field : Table → ℕ → Option Field → Option Val
-fill_of_field table s (Some field) = strict_fill table s false field
-fill_of_field table s None = None
+abbrev pub fill_of_field : Table → ℕ → (of_variant : Bool) → Option Field → Option Val
+fill_of_field table s of_variant (Some field) = strict_fill table s of_variant field
+fill_of_field table s of_variant None = None
 
-abbrev pub fill_by : Table → ℕ → Def → ℕ → Option Val
-fill_by table s (Def.Struct struct) i = fill_of_field table s (slice_get struct.fields i)
-fill_by table s _ i = None
+-- what field i takes where it is a hole, if it has a fill: of a struct of shape s, or of the variant of this number of an
+-- enum of shape s
+abbrev pub fill_in : Table → ℕ → (selected : Option ℕ) → ℕ → Option Val
+fill_in table s selected i = fill_of_field table s (is_some selected) (field_in (def_of table s) selected i)
 
--- what child i of a place of shape s takes where it is a hole: of a struct the field's fill, if it has one; an element
--- of an array never takes anything
+-- what child i of a place of shape s takes where it is a hole: a struct's field its fill, if it has one; an element of an
+-- array never takes anything
 abbrev pub fill_at : Table → ℕ → ℕ → Option Val
-fill_at table s i = fill_by table s (def_of table s) i
+fill_at table s i = fill_in table s None i
 
 -- the shape of the place that this way leads to, from a place of shape s
 abbrev pub shape_at : Table → ℕ → Place → ℕ
@@ -62,14 +93,38 @@ shape_at table s (i ∷ place) = shape_at table (child_shape table s i) place
 
 -- the value of this number among some (a placeholder past their end)
 abbrev pub vals_nth : Vals → ℕ → Val
-vals_nth no_vals i = Val.unit
+vals_nth no_vals i = unit
 vals_nth (first v vs) zero = v
 vals_nth (first v vs) (suc i) = vals_nth vs i
 
+-- the values of the children that a value has: a product's, of fields or of elements
+abbrev pub parts_of : Val → Option Vals
+parts_of (product vs) = Some vs
+parts_of unit = None
+parts_of (bool b) = None
+parts_of (char c) = None
+parts_of (int i) = None
+parts_of (nat n) = None
+parts_of (text codes) = None
+parts_of (token t) = None
+parts_of (variant index vs) = None
+parts_of none = None
+parts_of (some v) = None
+parts_of (ok v) = None
+parts_of (err v) = None
+parts_of (list_of vs) = None
+parts_of (map_of es) = None
+parts_of (set_of vs) = None
+parts_of (ptr v) = None
+parts_of (dyn value) = None
+
+abbrev pub part_among : Option Vals → Val → ℕ → Val
+part_among (Some vs) v i = vals_nth vs i
+part_among None v i = v
+
 -- the part that a value gives to its child i (a value without children gives itself)
 abbrev pub part : Val → ℕ → Val
-part (product vs) i = vals_nth vs i
-part v i = v
+part v i = part_among (parts_of v) v i
 
 -- the part that a value gives to the place that this way leads to
 abbrev pub part_at : Val → Place → Val
@@ -79,7 +134,8 @@ part_at v (i ∷ place) = part_at (part v i) place
 -- a value and the ones after it, where all are there
 abbrev pub one_more : Option Val → Option Vals → Option Vals
 one_more (Some v) (Some vs) = Some (first v vs)
-one_more _ _ = None
+one_more (Some v) None = None
+one_more None vs = None
 
 -- the product of some values, where all are there
 abbrev pub product_of : Option Vals → Option Val

@@ -8,7 +8,10 @@ use Rattle.fr_model.specs.Commands.{Call}
 -- the tokens that a script's values bring, in order
 abbrev pub tokens_of : Call → List ℕ
 tokens_of (Call.Set shape v) = tokens v
-tokens_of _ = []
+tokens_of (Call.BeginField name) = []
+tokens_of (Call.BeginNthField i) = []
+tokens_of Call.SetDefault = []
+tokens_of Call.End = []
 
 abbrev pub script_tokens : List Call → List ℕ
 script_tokens [] = []
@@ -17,7 +20,10 @@ script_tokens (command ∷ commands) = tokens_of command ++ script_tokens comman
 -- how often a command, or a script, brings a token
 abbrev pub brings : Call → ℕ → ℕ
 brings (Call.Set shape v) t = occurs v t
-brings _ t = 0
+brings (Call.BeginField name) t = 0
+brings (Call.BeginNthField i) t = 0
+brings Call.SetDefault t = 0
+brings Call.End t = 0
 
 abbrev pub brought : List Call → ℕ → ℕ
 brought [] t = 0
@@ -26,7 +32,10 @@ brought (command ∷ commands) t = brings command t + brought commands t
 -- a command's value fits the shape that it names, which is in the table
 abbrev pub IsFitting : Table → Call → Type 0
 IsFitting table (Call.Set shape v) = IsIn table shape × (fits table shape v ≡ true)
-IsFitting table _ = Unit {0}
+IsFitting table (Call.BeginField name) = Unit {0}
+IsFitting table (Call.BeginNthField i) = Unit {0}
+IsFitting table Call.SetDefault = Unit {0}
+IsFitting table Call.End = Unit {0}
 
 abbrev pub AllFitting : Table → List Call → Type 0
 AllFitting table [] = Unit {0}

@@ -3,7 +3,7 @@ use Rattle.std.specs.Prelude.{◌≡◌, ℕ, List, refl}
 use Rattle.std.specs.Coded.{Coded, code_by, coded×, coded_ℕ, coded_list}
 use mathlib.Core.Path.{ap, ◌∙◌}
 use Rattle.fr_shape.specs.Code.{val_code}
-use Rattle.fr_shape.specs.Val.{Val, Vals, unit, none, some, product, list_of, no_vals, first}
+use Rattle.fr_shape.specs.Val.{Val, Vals, unit, bool, char, int, nat, text, token, product, variant, none, some, ok, err, list_of, map_of, set_of, ptr, dyn, no_vals, first}
 use Rattle.fr_model.specs.Tree.{as_struct, as_array, Tree, hole, entered, whole, begun, Trees, no_trees, branch, State}
 
 abbrev mutual
@@ -24,7 +24,20 @@ abbrev mutual
   restored (some v) = whole v
   restored (product vs) = begun as_struct (all_restored vs)
   restored (list_of vs) = begun as_array (all_restored vs)
-  restored _ = entered
+  restored unit = entered
+  restored (bool b) = entered
+  restored (char c) = entered
+  restored (int i) = entered
+  restored (nat n) = entered
+  restored (text codes) = entered
+  restored (token t) = entered
+  restored (variant index vs) = entered
+  restored (ok v) = entered
+  restored (err v) = entered
+  restored (map_of es) = entered
+  restored (set_of vs) = entered
+  restored (ptr v) = entered
+  restored (dyn value) = entered
 
   pub all_restored : Vals → Trees
   all_restored no_vals = no_trees

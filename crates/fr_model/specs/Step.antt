@@ -1,6 +1,7 @@
 -- What each command does to a builder's state, or which refusal it meets: one function for each command. The words
 -- here mean what they say at tables that are served.
 use Rattle.std.specs.Prelude.{ℕ, ◌==◌, [], ◌∷◌, ◌++◌, List, length, nat_lt, nat_le, Option, Some, None, Result, Ok, Err, if◌then◌else◌}
+use Rattle.std.specs.Option.{option_or}
 use Rattle.fr_shape.specs.declared.shape.Def.{Def}
 use Rattle.fr_shape.specs.declared.error.ReflectErrorKind.{ReflectErrorKind}
 use Rattle.fr_shape.specs.declared.error.Operation.{Operation}
@@ -8,11 +9,11 @@ use Rattle.fr_shape.specs.declared.error.Invariant.{Invariant}
 use Rattle.fr_shape.specs.Fills.{preset_of}
 use Rattle.fr_shape.specs.Hooks.{Meanings}
 use Rattle.fr_shape.specs.Look.{Table, def_of}
-use Rattle.fr_shape.specs.Val.{Val, product}
+use Rattle.fr_shape.specs.Val.{Val, Vals}
 use Rattle.fr_model.specs.Commands.{Call}
 use Rattle.fr_shape.specs.Named.{field_named}
-use Rattle.fr_model.specs.Places.{is_root, up, child_count, child_shape}
-use Rattle.fr_model.specs.Tree.{Form, form_of, Tree, hole, entered, whole, begun, wholes, holes, fresh, change_child, change_at, State, cursor_shape, cursor_tree, one_more_call}
+use Rattle.fr_model.specs.Places.{is_root, up, array_limit, count_children, child_shape, parts_of}
+use Rattle.fr_model.specs.Tree.{Form, form_of, Tree, hole, entered, whole, begun, for_hole, wholes, holes, fresh, change_child, change_at, State, cursor_shape, cursor_tree, one_more_call}
 use Rattle.fr_model.specs.Complete.{complete, lack, missing_value}
 
 -- the new state, unless there is something to refuse
@@ -32,29 +33,36 @@ at_shape s None = None
 
 -- Entering a child
 
--- the first of two, if any
-abbrev pub first_refused : Option Operation → Option Operation → Option Operation
-first_refused (Some operation) later = Some operation
-first_refused None later = later
-
 -- the elements of a whole array can't be entered
 abbrev pub element_refusal : Tree → Option Operation
 element_refusal (whole v) = Some Operation.ElementOfWholeArray
-element_refusal _ = None
+element_refusal hole = None
+element_refusal entered = None
+element_refusal (begun form children) = None
 
--- begin_nth_field is refused but at a struct with a field of that number, and at an array with such an element, of up to
--- 4,096, that isn't whole. Of several refusals of an array the first in this order is given: there is no such element;
--- the array is too large; it is whole.
+-- begin_nth_field is refused but at a struct with a field of that number, and at an array with such an element that has
+-- no more elements than the limit and isn't whole. Of several refusals of an array the first in this order is given: there
+-- is no such element; the array is too large; it is whole.
 abbrev pub field_refusal : Def → Tree → ℕ → Option Operation
-field_refusal (Def.Struct struct) t i =
+field_refusal (Def.Struct struct) tree i =
     if nat_lt i (length struct.fields) then None else Some Operation.FieldIndexOutOfBounds
-field_refusal (Def.Enum enumeration) t i = Some Operation.FieldOfUnselectedVariant
-field_refusal (Def.Array item n) t i =
-    first_refused (if nat_lt i n then None else Some Operation.ArrayIndexOutOfBounds)
-    (first_refused (if nat_le n 4096 then None else Some Operation.ArrayTooLarge) (element_refusal t))
-field_refusal (Def.Slice item) t i = Some Operation.FieldOfSlice
-field_refusal Def.Opaque t i = Some Operation.FieldOfOpaque
-field_refusal _ t i = Some Operation.FieldOfOther
+field_refusal (Def.Enum enumeration) tree i = Some Operation.FieldOfUnselectedVariant
+field_refusal (Def.Array item n) tree i =
+    option_or (if nat_lt i n then None else Some Operation.ArrayIndexOutOfBounds)
+    (option_or (if nat_le n array_limit then None else Some Operation.ArrayTooLarge) (element_refusal tree))
+field_refusal (Def.Slice item) tree i = Some Operation.FieldOfSlice
+field_refusal Def.Opaque tree i = Some Operation.FieldOfOpaque
+field_refusal (Def.Scalar kind) tree i = Some Operation.FieldOfOther
+field_refusal Def.Str tree i = Some Operation.FieldOfOther
+field_refusal (Def.Option t) tree i = Some Operation.FieldOfOther
+field_refusal (Def.Result t e) tree i = Some Operation.FieldOfOther
+field_refusal (Def.List t) tree i = Some Operation.FieldOfOther
+field_refusal (Def.Map key item) tree i = Some Operation.FieldOfOther
+field_refusal (Def.Set t) tree i = Some Operation.FieldOfOther
+field_refusal (Def.Pointer pointer) tree i = Some Operation.FieldOfOther
+field_refusal Def.Dynamic tree i = Some Operation.FieldOfOther
+field_refusal Def.Undefined tree i = Some Operation.FieldOfOther
+field_refusal Def.Other tree i = Some Operation.FieldOfOther
 
 -- begin_field is refused but at a struct
 abbrev pub named_refusal : Def → Option Operation
@@ -67,24 +75,39 @@ named_refusal (Def.Array item n) = Some Operation.NamedFieldOfSequence
 named_refusal (Def.Slice item) = Some Operation.NamedFieldOfSequence
 named_refusal Def.Opaque = Some Operation.NamedFieldOfOpaque
 named_refusal (Def.Pointer pointer) = Some Operation.NamedFieldOfPointer
-named_refusal _ = Some Operation.FieldOfOther
+named_refusal (Def.Option t) = Some Operation.FieldOfOther
+named_refusal (Def.Result t e) = Some Operation.FieldOfOther
+named_refusal (Def.List t) = Some Operation.FieldOfOther
+named_refusal (Def.Map key item) = Some Operation.FieldOfOther
+named_refusal (Def.Set t) = Some Operation.FieldOfOther
+named_refusal Def.Dynamic = Some Operation.FieldOfOther
+named_refusal Def.Other = Some Operation.FieldOfOther
 
--- a place as its children see it: an entered one has a hole for each, a whole one is begun with whole children, a begun
--- one stays as it is
-abbrev pub opened : Form → (count : ℕ) → Tree → Tree
-opened form count entered = begun form (holes count)
-opened form count (whole (product vs)) = begun form (wholes vs)
-opened form count t = t
+-- a whole place begun with whole children, if its value has any
+abbrev pub opened_value : Form → Val → (parts : Option Vals) → Tree
+opened_value form v (Some vs) = begun form (wholes vs)
+opened_value form v None = whole v
+
+-- a place that is to be begun so, with so many children, as they see it: an entered one has a hole for each, a whole one
+-- is begun with whole children, a begun one stays as it is
+abbrev pub opened_as : Form → (count : ℕ) → Tree → Tree
+opened_as form count hole = hole
+opened_as form count entered = begun form (holes count)
+opened_as form count (whole v) = opened_value form v (parts_of v)
+opened_as form count (begun made children) = begun made children
+
+-- the same, as the place's definition tells
+abbrev pub opened : Def → Tree → Tree
+opened def tree = opened_as (form_of def) (count_children def) tree
 
 -- a child of this definition that is entered: a hole is now fresh, anything else stays as it is
 abbrev pub enter : Def → Tree → Tree
-enter def hole = fresh def
-enter def t = t
+enter def tree = for_hole tree (fresh def) tree
 
 -- the place of shape s with its child i entered
 abbrev pub enter_child : Table → ℕ → ℕ → Tree → Tree
 enter_child table s i t =
-    change_child i (enter (def_of table (child_shape table s i))) (opened (form_of (def_of table s)) (child_count table s) t)
+    change_child i (enter (def_of table (child_shape table s i))) (opened (def_of table s) t)
 
 -- child i of the cursor's place is entered, and the cursor goes there
 abbrev pub enters : Table → ℕ → State → ℕ → State

@@ -1,5 +1,5 @@
 -- What is being built, as one tree, and the state of a builder.
-use Rattle.std.specs.Prelude.{ℕ, zero, suc, ◌+◌, min, [], ◌∷◌, if◌then◌else◌}
+use Rattle.std.specs.Prelude.{ℕ, zero, suc, ◌+◌, min, List, [], ◌∷◌, if◌then◌else◌}
 use Rattle.fr_shape.specs.declared.shape.Def.{Def}
 use Rattle.fr_shape.specs.Val.{Val, Vals, product, no_vals, first}
 use Rattle.fr_shape.specs.Tokens.{occurs}
@@ -15,7 +15,21 @@ pub data Form : Type 0 where
 -- as what a place of this definition is begun by entering a child
 abbrev pub form_of : Def → Form
 form_of (Def.Array t n) = as_array
-form_of _ = as_struct
+form_of (Def.Scalar kind) = as_struct
+form_of Def.Str = as_struct
+form_of Def.Opaque = as_struct
+form_of (Def.Struct struct) = as_struct
+form_of (Def.Enum enumeration) = as_struct
+form_of (Def.Option t) = as_struct
+form_of (Def.Result t e) = as_struct
+form_of (Def.List t) = as_struct
+form_of (Def.Map key item) = as_struct
+form_of (Def.Set t) = as_struct
+form_of (Def.Pointer pointer) = as_struct
+form_of (Def.Slice t) = as_struct
+form_of Def.Dynamic = as_struct
+form_of Def.Undefined = as_struct
+form_of Def.Other = as_struct
 
 -- A place: never entered; entered, with nothing put in; holding a value; or begun, with a tree for each child.
 mutual
@@ -28,6 +42,13 @@ mutual
   pub data Trees : Type 0 where
     no_trees : Trees
     branch : Tree → Trees → Trees
+
+-- the first of two for a hole, the second for anything else
+abbrev pub for_hole : {T : Type 0} → Tree → (of_hole of_other : T) → T
+for_hole hole of_hole of_other = of_hole
+for_hole entered of_hole of_other = of_other
+for_hole (whole v) of_hole of_other = of_other
+for_hole (begun form children) of_hole of_other = of_other
 
 -- the tree of this number (a hole past the end)
 abbrev pub tree_nth : ℕ → Trees → Tree
@@ -42,8 +63,10 @@ change_nth zero change (branch t ts) = branch (change t) ts
 change_nth (suc i) change (branch t ts) = branch t (change_nth i change ts)
 
 abbrev pub child_tree : ℕ → Tree → Tree
+child_tree i hole = hole
+child_tree i entered = hole
+child_tree i (whole v) = hole
 child_tree i (begun form ts) = tree_nth i ts
-child_tree i _ = hole
 
 -- the tree that stands at a place
 abbrev pub tree_at : Place → Tree → Tree
@@ -51,8 +74,10 @@ tree_at [] t = t
 tree_at (i ∷ place) t = tree_at place (child_tree i t)
 
 abbrev pub change_child : ℕ → (Tree → Tree) → Tree → Tree
+change_child i change hole = hole
+change_child i change entered = entered
+change_child i change (whole v) = whole v
 change_child i change (begun form ts) = begun form (change_nth i change ts)
-change_child i change t = t
 
 -- the tree with what stands at a place changed
 abbrev pub change_at : Place → (Tree → Tree) → Tree → Tree
@@ -64,9 +89,20 @@ abbrev pub child_as : Table → ℕ → Form → ℕ → ℕ
 child_as table s as_struct i = child_shape table s i
 child_as table s as_array i = child_shape table s i
 
+-- the shapes of so many of its children, number i first
+abbrev pub shapes_from : Table → ℕ → Form → (count i : ℕ) → List ℕ
+shapes_from table s form zero i = []
+shapes_from table s form (suc count) i = child_as table s form i ∷ shapes_from table s form count (suc i)
+
+-- the shapes of all its children, of which there are so many
+abbrev pub shapes_as : Table → ℕ → Form → (count : ℕ) → List ℕ
+shapes_as table s form count = shapes_from table s form count 0
+
 abbrev pub shape_below : Table → ℕ → ℕ → Tree → ℕ
+shape_below table s i hole = s
+shape_below table s i entered = s
+shape_below table s i (whole v) = s
 shape_below table s i (begun form ts) = child_as table s form i
-shape_below table s i _ = s
 
 -- the shape of the place that lies so in a tree whose top has shape s
 abbrev pub shape_in : Table → ℕ → Place → Tree → ℕ
@@ -99,8 +135,11 @@ abbrev mutual
   trees_occur no_trees t = 0
   trees_occur (branch tree ts) t = tree_occurs tree t + trees_occur ts t
 
--- A builder's state: the tree, the place at which it works, and how many of its calls have succeeded (a count that
--- stands still at 4294967295).
+-- the count of calls stands still here
+abbrev pub most_calls : ℕ
+most_calls = 4294967295
+
+-- A builder's state: the tree, the place at which it works, and how many of its calls have succeeded.
 pub record State : Type 0 where
   pub tree : Tree
   pub cursor : Place
@@ -115,7 +154,7 @@ abbrev pub cursor_tree : State → Tree
 cursor_tree state = tree_at state.cursor state.tree
 
 abbrev pub one_more_call : ℕ → ℕ
-one_more_call calls = min (calls + 1) 4294967295
+one_more_call calls = min (calls + 1) most_calls
 
 -- A place of this definition that is just entered: a struct without fields is whole with the empty product, as there is
 -- nothing to put in; at any other nothing was put in yet.

@@ -1,5 +1,6 @@
 -- What the place at which the builder works completes to, and what it lacks, by its children and their fills.
 use Rattle.std.proofs.Common.{◌≡◌, ℕ, zero, suc, ◌<◌, ◌^◌, Bool, true, false, List, [], ◌∷◌, length, Option, Some, None, IsSome, option_map, slice_get, inl, inr, refl, sym, ◌∙◌, ap, subst, arith}
+use Rattle.std.specs.Option.{option_or}
 use Rattle.fr_shape.specs.declared.value.Value.{Value}
 use Rattle.fr_shape.specs.declared.error.ReflectErrorKind.{ReflectErrorKind}
 use Rattle.fr_shape.specs.declared.shape.Def.{Def}
@@ -15,7 +16,7 @@ use Rattle.fr_shape.specs.Served.{IsServed}
 use Rattle.fr_shape.specs.Tokens.{occurs}
 use Rattle.fr_shape.specs.Val.{Val, Vals, unit, none, product}
 use Rattle.fr_shape.specs.View.{view}
-use Rattle.fr_model.specs.Complete.{complete, complete_all, lack, lack_among, lack_of_hole, lack_of_holes, lack_of_entered, made_of_entered, made_of_fills, valid_child, unless_failing, unless_there, first_of, hole_takes, missing_field, missing_value, missing_child, lack_by, made_by}
+use Rattle.fr_model.specs.Complete.{complete, complete_all, made as made_as, lack, lack_among, lack_of_hole, lack_of_holes, lack_of_entered, made_of_entered, made_of_fills, valid_child, unless_failing, unless_there, hole_takes, missing_field, missing_value, missing_child, lack_by, made_by}
 use Rattle.fr_model.specs.Places.{child_count, child_shape, fill_at, each_child, product_of}
 use Rattle.fr_model.specs.Tree.{Form, as_struct, as_array, begun, tree_occurs}
 use Rattle.fr_model.specs.Well.{IsFullAs}
@@ -29,9 +30,9 @@ use Rattle.fr_partial.proofs.FillingLaws.{is_absent_value, is_there, there_is, f
 use Rattle.fr_partial.proofs.StackLaws.{slots_occur}
 use Rattle.fr_partial.proofs.TemplateLaws.{IsTemplate, preset_template, fill_template, light_occurs, none_failing}
 
-first_of_none : (a : Option ReflectErrorKind) → first_of a None ≡ a
-first_of_none (Some kind) = refl
-first_of_none None = refl
+option_or_none : (a : Option ReflectErrorKind) → option_or a None ≡ a
+option_or_none (Some kind) = refl
+option_or_none None = refl
 
 pub none_mapped : (f : ℕ → ReflectErrorKind) (a : Option ℕ) → option_map f a ≡ None → a ≡ None
 none_mapped f (Some k) e = cc
@@ -67,6 +68,11 @@ is_product_there None h = cc
 missing_no_memory : (s : ℕ) (form : Form) (i : ℕ) → missing_child s form i ≡ ReflectErrorKind.OutOfMemory → ⊥
 missing_no_memory s as_struct i e = cc
 missing_no_memory s as_array i e = cc
+
+-- what a struct or an array makes of its children's values
+made_product : (form : Form) (values : Option Vals) → made_as form values ≡ product_of values
+made_product as_struct values = refl
+made_product as_array values = refl
 
 -- What a place makes agrees with what it lacks: it makes a value where it lacks nothing, and none where it lacks
 -- something, which is never memory.
@@ -133,9 +139,9 @@ module _ (hooks : Meanings) (table : Table) (s : ℕ) (served : IsServed table) 
   hole_lacks : (form : Form) (i : ℕ)
       → lack_of_hole hooks table s form i ≡ unless_there (hole_takes table s form i) (missing_child s form i)
   hole_lacks form i =
-      ap (first_of (unless_there (hole_takes table s form i) (missing_child s form i)))
+      ap (option_or (unless_there (hole_takes table s form i) (missing_child s form i)))
       (none_failing hooks table s form i (hole_takes table s form i) served)
-      ∙ first_of_none (unless_there (hole_takes table s form i) (missing_child s form i))
+      ∙ option_or_none (unless_there (hole_takes table s form i) (missing_child s form i))
 
   -- an entered place
 
@@ -250,7 +256,7 @@ module _ (hooks : Meanings) (table : Table) (s : ℕ) (served : IsServed table) 
 
     pub begun_complete : (cs : List Value)
         → complete hooks table s (begun form (slots cs)) ≡ product_of (filled (fill_at table s) 0 cs)
-    begun_complete cs = ap product_of (slots_complete 0 cs)
+    begun_complete cs = ap (made_as form) (slots_complete 0 cs) ∙ made_product form (filled (fill_at table s) 0 cs)
 
     pub begun_lacks_nothing : (cs : List Value) → lack hooks table s (begun form (slots cs)) ≡ None
         → first_lacking (fill_at table s) 0 cs ≡ None

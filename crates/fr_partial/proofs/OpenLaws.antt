@@ -1,5 +1,6 @@
 -- Opening a place: its children as the place holds them.
 use Rattle.std.proofs.Common.{◌≡◌, ℕ, suc, true, List, [], ◌∷◌, length, Option, Some, None, nat_lt, nat_le, Result, Ok, Err, IfOk, if◌then◌else◌, refl, sym, ◌∙◌, ap, subst, arith}
+use Rattle.std.specs.Option.{option_or}
 use Rattle.std.proofs.lemmas.List.Elements.{All-head, All-tail}
 use Rattle.fr_shape.specs.declared.value.Value.{Value}
 use Rattle.fr_shape.specs.declared.error.Operation.{Operation}
@@ -11,8 +12,8 @@ use Rattle.fr_shape.specs.Fits.{fits, fields_fit}
 use Rattle.fr_shape.specs.Tokens.{occurs, vals_occur}
 use Rattle.fr_shape.specs.Val.{Val, unit, product}
 use Rattle.fr_shape.specs.View.{view, vals_view}
-use Rattle.fr_model.specs.Places.{child_shape}
-use Rattle.fr_model.specs.Step.{opened, field_refusal, first_refused}
+use Rattle.fr_model.specs.Places.{array_limit, child_shape}
+use Rattle.fr_model.specs.Step.{opened_as, field_refusal}
 use Rattle.fr_model.specs.Tree.{Form, as_struct, as_array, hole, whole, begun, branch, wholes, holes}
 use Rattle.fr_model.specs.Well.{IsFullAs}
 use Rattle.fr_partial.specs.Children.{is_product}
@@ -52,7 +53,7 @@ absent_occur (c ∷ cs) t absent =
 
 -- a whole struct
 
-both_none : (a b : Option Operation) (x : Operation) → first_refused a (first_refused b (Some x)) ≡ None → ⊥
+both_none : (a b : Option Operation) (x : Operation) → option_or a (option_or b (Some x)) ≡ None → ⊥
 both_none (Some o) b x e = cc
 both_none None (Some o) x e = cc
 both_none None None x e = cc
@@ -74,7 +75,7 @@ whole_as_struct table s i v form count begun_as admitted = go (def_of table s) r
     go (Def.Array t n) e as_array b none =
         absurd
         (both_none (if nat_lt i n then None else Some Operation.ArrayIndexOutOfBounds)
-        (if nat_le n 4096 then None else Some Operation.ArrayTooLarge) Operation.ElementOfWholeArray none)
+        (if nat_le n array_limit then None else Some Operation.ArrayTooLarge) Operation.ElementOfWholeArray none)
     go _ e _ b none = absurd b
 
 -- the children of a whole struct of these fields, from number i on
@@ -130,9 +131,9 @@ module _ (table : Table) (s : ℕ) (form : Form) (count : ℕ) (as_it_is : AsStr
   whole_children v cs e h = (whole_opened v cs e h).children
 
   pub whole_tree : (v : Val) (cs : List Value) → v ≡ product (vals_view cs) → fits table s v ≡ true
-      → opened form count (whole v) ≡ begun form (slots cs)
+      → opened_as form count (whole v) ≡ begun form (slots cs)
   whole_tree v cs e h =
-      ap (λ (w : Val). opened form count (whole w)) e ∙ ap (begun form) (sym (whole_opened v cs e h).those)
+      ap (λ (w : Val). opened_as form count (whole w)) e ∙ ap (begun form) (sym (whole_opened v cs e h).those)
 
 -- a definition tells as what, and with how many children, a place is begun
 pub same_begun : (def : Def) (f g : Form) (n m : ℕ) → IsFullAs def f n → IsFullAs def g m → (f ≡ g) × (n ≡ m)

@@ -5,7 +5,7 @@ ghost use Rattle.fr_shape.specs.Look.{def_of};
 ghost use Rattle.fr_shape.specs.Tokens.{vals_occur};
 ghost use Rattle.fr_shape.specs.View.{view, vals_view};
 ghost use Rattle.fr_model.specs.Places.{child_shape};
-ghost use Rattle.fr_model.specs.Step.{field_refusal, enter, enter_child, opened};
+ghost use Rattle.fr_model.specs.Step.{field_refusal, enter, enter_child, opened_as};
 ghost use Rattle.fr_model.specs.Tree.{fresh, begun, tree_occurs};
 ghost use Rattle.fr_partial.specs.Entering.{Describes};
 ghost use Rattle.fr_partial.specs.Stack.{as_form, slot, slots, node, around, IsChild, AreChildren, IsPiece, IsParent, IsFrame};
@@ -62,7 +62,7 @@ fn open(
     requires place { IsPiece table.now shape.0 piece }
     requires child { Describes table.now shape.0 i child }
     requires admitted { field_refusal (def_of table.now shape.0) (node piece) i ≡ None }
-    ensures tree { IfOk result (λ children. opened (as_form child.form) child.count (node piece) ≡ begun (as_form child.form) (slots children.items)) }
+    ensures tree { IfOk result (λ children. opened_as (as_form child.form) child.count (node piece) ≡ begun (as_form child.form) (slots children.items)) }
     ensures count { IfOk result (λ children. length children.items ≡ child.count) }
     ensures fitting { IfOk result (λ children. AreChildren table.now shape.0 0 children.items) }
     ensures tokens { IfOk result (λ children. (t : ℕ) → vals_occur (vals_view children.items) t ≡ tree_occurs (node piece) t) }

@@ -3,7 +3,7 @@ use Rattle.fr_shape.specs.Look.{def_of}
 use Rattle.fr_shape.specs.Tokens.{occurs, vals_occur}
 use Rattle.fr_shape.specs.View.{view, vals_view}
 use Rattle.fr_model.specs.Places.{child_shape, child_count}
-use Rattle.fr_model.specs.Step.{enter, opened}
+use Rattle.fr_model.specs.Step.{enter, opened_as}
 use Rattle.fr_model.specs.Tree.{Form, tree_occurs}
 use Rattle.fr_partial.specs.Stack.{as_form, slot, node, IsChild, IsPiece}
 use Rattle.fr_partial.proofs.BeginLaws.{entered_tree, entered_children, entered_begun, entered_absent, entered_occurs}
@@ -18,9 +18,9 @@ returns-in-Ok-clause-tree c =
     c.take-value.ensures.rest.2
     (c.entered.ensures.tree
     ∙ ap (λ (n : ℕ). enter (def_of c.args.table.now n) (slot (view c.take-value.result))) c.requires.child.shape)
-    (ap (λ (form : Form). opened form (child_count c.args.table.now c.args.frame.shape.0) (node c.args.frame.piece))
+    (ap (λ (form : Form). opened_as form (child_count c.args.table.now c.args.frame.shape.0) (node c.args.frame.piece))
     (sym c.requires.child.form)
-    ∙ ap (λ (n : ℕ). opened (as_form c.args.child.form) n (node c.args.frame.piece)) (sym c.requires.child.count)
+    ∙ ap (λ (n : ℕ). opened_as (as_form c.args.child.form) n (node c.args.frame.piece)) (sym c.requires.child.count)
     ∙ c.in-Ok.ensures.tree)
 
 pub returns-in-Ok-clause-above : goal.returns-in-Ok-clause-above

@@ -3,7 +3,7 @@ use Rattle.fr_shape.specs.Look.{def_of}
 use Rattle.fr_shape.specs.Tokens.{vals_occur}
 use Rattle.fr_shape.specs.View.{view, vals_view}
 use Rattle.fr_model.specs.Tree.{Form, begun, holes, tree_occurs}
-use Rattle.fr_model.specs.Step.{opened}
+use Rattle.fr_model.specs.Step.{opened_as}
 use Rattle.fr_partial.specs.declared.frame.Piece.{Piece}
 use Rattle.fr_partial.specs.Stack.{as_form, node, slots, AreChildren, IsPiece}
 use Rattle.fr_partial.proofs.FillingLaws.{AreAbsent}
@@ -36,7 +36,7 @@ children_of-requires c =
 pub returns-in-Entered-clause-tree : goal.returns-in-Entered-clause-tree
 returns-in-Entered-clause-tree c =
     over_ok c.placeholders.result (λ children. AreAbsent children.items) (λ children. length children.items ≡ c.args.child.count)
-    (λ children. opened (as_form c.args.child.form) c.args.child.count (node c.args.piece) ≡ begun (as_form c.args.child.form) (slots children.items))
+    (λ children. opened_as (as_form c.args.child.form) c.args.child.count (node c.args.piece) ≡ begun (as_form c.args.child.form) (slots children.items))
     (λ children absent count.
     rw c.in-Entered.is
     (ap (λ n. begun (as_form c.args.child.form) (holes n)) (sym count)
