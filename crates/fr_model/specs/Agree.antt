@@ -15,7 +15,7 @@ use Rattle.fr_model.specs.Tree.{State, initial}
 use Rattle.fr_model.specs.Well.{IsInOrder}
 
 -- For every checked and served table, whatever the hooks mean, and for every script of fitting values: the machine
--- answers `Ok v` exactly where the journal completes to v.
+-- returns `Ok v` exactly where the journal completes to v.
 abbrev pub MachineAgrees : Type 0
 MachineAgrees =
     (hooks : Meanings) (table : Table) (root : ℕ) (script : List Call) → IsChecked table → IsServed table
