@@ -48,7 +48,7 @@ fn variant_entries(
         };
         let variant = &variants[i];
         if !variant.other {
-            let name = variant.rename.as_ref().unwrap_or(&variant.name);
+            let name = variant.effective_name();
             entries.push((Text::new(alloc, name.as_str())?, number))?;
         }
     }
