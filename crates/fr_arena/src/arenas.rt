@@ -14,7 +14,7 @@ use std::ops::Index;
 
 /// Values of one type, each of which keeps the index under which it was put.
 ///
-/// Contracts see the list of the values, at most 4294967295 of them. How much memory is taken ahead of need is only code.
+/// Contracts see the list of the values, at most `u32::MAX` of them. How much memory is taken ahead of need is only code.
 #[derive(Drop)]
 pub struct Arena<T> {
     values: Vec<T>,
@@ -51,9 +51,9 @@ impl<T> Arena<T> {
         })
     }
 
-    /// Puts `value` behind the others.
+    /// Puts `value` behind the others and returns its index. A refusal returns the value.
     pub fn alloc(&mut self, value: T) -> Result<Idx<T>, NotPushed<T>>
-        requires fits { length self.old < 4294967295 }
+        requires fits { length self.old < u32.MAX }
         ensures index { IfOk result (λ idx. idx ≡ length self.old) }
         ensures appended { OnOk result (self.new ≡ self.old ++ value ∷ []) }
         ensures refused { OnErr result (self.new ≡ self.old) }
@@ -64,7 +64,7 @@ impl<T> Arena<T> {
         Ok(Idx::new(raw))
     }
 
-    /// Puts all `values` behind the others, side by side.
+    /// Puts all `values` behind the others, side by side, and returns their indices.
     ///
     /// A refusal drops those that were already taken.
     pub fn alloc_extend<I: IntoIterator<Item = T>>(
@@ -73,9 +73,13 @@ impl<T> Arena<T> {
     ) -> Result<SliceRange<T>, OutOfMemory>
     where
         T: Drop,
-        requires ends { IsFiniteIterable I.into_iter_gives I.IntoIter.can_next I.IntoIter.remaining values }
-        requires fits { GivesAtMost I.into_iter_gives I.IntoIter.next_gives values (4294967295 - length self.old) }
-        ensures range { IfOk result (λ range. ForAllItems I.into_iter_gives I.IntoIter.next_gives values (λ xs. (self.new ≡ self.old ++ xs) × (range ≡ indices_from (length self.old) (length xs)))) }
+        requires ends { IsFiniteIterable I.into_iter_gives
+            I.IntoIter.can_next I.IntoIter.remaining values }
+        requires fits { GivesAtMost I.into_iter_gives
+            I.IntoIter.next_gives values (u32.MAX - length self.old) }
+        ensures range { IfOk result (λ range. ForAllItems I.into_iter_gives
+            I.IntoIter.next_gives values (λ xs. (self.new ≡ self.old ++ xs)
+            × (range ≡ indices_from (length self.old) (length xs)))) }
         ensures refused { OnErr result (self.new ≡ self.old) }
     {
         let start = self.values.len();
@@ -95,7 +99,8 @@ impl<T> Arena<T> {
     /// The value at `idx`, for writing.
     pub fn get_mut(&mut self, idx: Idx<T>) -> &mut T
         requires inside { idx < length self.old }
-        ensures* writes_back { sem 𝓛 (Lends (the_row T.row) T.row self.entry result (slice_set self.entry.now idx)) }
+        ensures* writes_back { sem 𝓛 (Lends (the_row T.row) T.row self.entry result
+            (slice_set self.entry.now idx)) }
         ensures value { result.now ≡ slice_index_or self.old idx result.now }
     {
         &mut self.values[idx.raw() as usize]
@@ -113,7 +118,7 @@ impl<T> Arena<T> {
     /// How many values there are.
     pub fn len(&self) -> usize
         ensures count { result ≡ length self.now }
-        ensures bound { result ≤ 4294967295 }
+        ensures bound { result ≤ u32.MAX }
     {
         self.values.len()
     }
@@ -141,7 +146,8 @@ fn append_all<T: Drop, I: IntoIterator<Item = T>>(
     more: I,
 ) -> Result<(), OutOfMemory>
     requires { IsFiniteIterable I.into_iter_gives I.IntoIter.can_next I.IntoIter.remaining more }
-    ensures appended { OnOk result (ForAllItems I.into_iter_gives I.IntoIter.next_gives more (λ xs. values.new.items ≡ values.old.items ++ xs)) }
+    ensures appended { OnOk result (ForAllItems I.into_iter_gives I.IntoIter.next_gives more
+        (λ xs. values.new.items ≡ values.old.items ++ xs)) }
     ensures refused { OnErr result (values.new.items ≡ values.old.items) }
 {
     let len = values.len();

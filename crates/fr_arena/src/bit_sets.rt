@@ -106,7 +106,8 @@ impl ISet {
     pub fn set(&mut self, index: usize)
         requires inside { index < self.old.capacity }
         ensures value { self.new ≡ record self.old { members = set.insert self.old.members index } }
-        ensures by_index { (other : ℕ) → set.contains self.new.members other ≡ (other == index || set.contains self.old.members other) }
+        ensures by_index { (other : ℕ) → set.contains self.new.members other
+            ≡ (other == index || set.contains self.old.members other) }
     {
         let word = self.words.get(index / 64);
         self.words.put(index / 64, word | (1 << (index % 64)));
@@ -116,7 +117,8 @@ impl ISet {
     pub fn unset(&mut self, index: usize)
         requires inside { index < self.old.capacity }
         ensures value { self.new ≡ record self.old { members = set.remove self.old.members index } }
-        ensures by_index { (other : ℕ) → set.contains self.new.members other ≡ (not (other == index) && set.contains self.old.members other) }
+        ensures by_index { (other : ℕ) → set.contains self.new.members other
+            ≡ (not (other == index) && set.contains self.old.members other) }
     {
         let word = self.words.get(index / 64);
         self.words.put(index / 64, word & !(1 << (index % 64)));
@@ -147,8 +149,10 @@ impl ISet {
     /// Puts each number below `count` into the set.
     pub fn set_all(&mut self, count: usize)
         requires inside { count ≤ self.old.capacity }
-        ensures value { self.new ≡ record self.old { members = set.union self.old.members (all_below count) } }
-        ensures by_index { (other : ℕ) → set.contains self.new.members other ≡ (nat_lt other count || set.contains self.old.members other) }
+        ensures value { self.new
+            ≡ record self.old { members = set.union self.old.members (all_below count) } }
+        ensures by_index { (other : ℕ) → set.contains self.new.members other
+            ≡ (nat_lt other count || set.contains self.old.members other) }
     {
         for at in 0..count.div_ceil(64) {
             let word = self.words.get(at);

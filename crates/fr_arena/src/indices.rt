@@ -69,14 +69,14 @@ impl<T> Idx<T> {
 
     /// The index that stands for none.
     pub fn invalid() -> Self
-        ensures number { result ≡ 4294967295 }
+        ensures number { result ≡ u32.MAX }
     {
         Idx::new(u32::MAX)
     }
 
     /// Whether this is any index but `invalid`.
     pub fn is_valid(self) -> bool
-        ensures valid { IsTrue result ↔ ¬ (self ≡ 4294967295) }
+        ensures valid { IsTrue result ↔ ¬ (self ≡ u32.MAX) }
     {
         self.raw != u32::MAX
     }
@@ -84,7 +84,7 @@ impl<T> Idx<T> {
 
 /// A run of indices of `T`s that lie side by side in an arena.
 ///
-/// Contracts see the first index and the number of indices. No index of a range is above 4294967294.
+/// Contracts see the first index and the number of indices. No range has the index `u32::MAX`.
 #[derive_where(Clone, Copy)]
 pub struct SliceRange<T> {
     start: u32,
@@ -119,7 +119,7 @@ impl<T> Eq for SliceRange<T> {
 impl<T> SliceRange<T> {
     /// The `len` indices from `start` on.
     pub fn new(start: u32, len: u32) -> Self
-        requires within { start + len ≤ 4294967295 }
+        requires within { start + len ≤ u32.MAX }
         ensures indices { result ≡ indices_from start len }
     {
         SliceRange {
@@ -146,7 +146,7 @@ impl<T> SliceRange<T> {
     /// How many indices there are.
     pub fn len(self) -> u32
         ensures value { result ≡ self.len }
-        ensures bound { self.start + self.len ≤ 4294967295 }
+        ensures bound { self.start + self.len ≤ u32.MAX }
     {
         self.len
     }
@@ -158,7 +158,7 @@ impl<T> SliceRange<T> {
         self.len == 0
     }
 
-    /// The index at place `n` of the range, if it has one.
+    /// The index at place `n` of the range, counted from 0, if it has one.
     pub fn get(self, n: usize) -> Option<Idx<T>>
         ensures index { SomeIff result (n < self.len) (self.start + n) }
     {

@@ -1,4 +1,4 @@
-//! The two answers of calls that find no memory.
+//! The two errors of calls that find no memory.
 ghost use Rattle.std.specs.Prelude.{◌≡◌};
 
 use std::alloc::{AllocError, AllocFailed};

@@ -46,14 +46,14 @@ impl<T> Model for ListRope<T> {
 }
 
 impl<T> ListRope<T> {
-    /// A rope of no items, whose chunks take 16 items each. It takes no memory.
+    /// A rope of no items, whose chunks take 16 items each. Takes no memory.
     pub fn new(alloc: Global) -> Self
         ensures empty { result ≡ empty_rope 16 }
     {
         ListRope::with_chunk_capacity(alloc, 16)
     }
 
-    /// A rope of no items, whose chunks take `n` items each. It takes no memory.
+    /// A rope of no items, whose chunks take `n` items each. Takes no memory.
     pub fn with_chunk_capacity(alloc: Global, n: usize) -> Self
         requires positive { 0 < n }
         ensures empty { result ≡ empty_rope n }
@@ -67,7 +67,7 @@ impl<T> ListRope<T> {
         }
     }
 
-    /// Puts `item` behind the others.
+    /// Puts `item` behind the others. A refusal returns the item.
     pub fn push(&mut self, item: T) -> Result<(), NotPushed<T>>
         ensures appended { OnOk result (self.new ≡ with_item self.old item) }
         ensures refused { OnErr result (self.new ≡ self.old) }
@@ -135,14 +135,15 @@ impl<T> ListRope<T> {
         }
     }
 
-    /// Hands all items to `f`, in order, and gives the chunks back.
+    /// Hands all items to `f`, in order, and frees the chunks.
     ///
     /// A caller whose own contract says what became of the items goes over `take_items` instead: no clause
     /// says what a closure that is passed on did to the values that it borrows.
     pub fn drain_into<F: FnMut(T)>(&mut self, mut f: F)
         requires callable { F.IsAlwaysCallable f }
         requires whole { self.old.marked ≡ length self.old.items }
-        ensures handed_over { (last : F) × FoldsTo (λ before item after. F.step before item tt after) f self.old.items last }
+        ensures handed_over { (last : F)
+            × FoldsTo (λ before item after. F.step before item tt after) f self.old.items last }
         ensures emptied { self.new ≡ empty_rope self.old.chunk_size }
     {
         let mut chunks = mem::replace(&mut self.chunks, Vec::new(self.alloc)).into_iter();
@@ -174,7 +175,8 @@ impl<T> ListRope<T> {
 // Hands the items of a chunk to `f`, in order.
 fn hand_over<T, F: FnMut(T)>(chunk: Vec<T>, f: &mut F)
     requires { F.IsAlwaysCallable f.old }
-    ensures handed_over { FoldsTo (λ before item after. F.step before item tt after) f.old chunk.items f.new }
+    ensures handed_over { FoldsTo (λ before item after. F.step before item tt after)
+        f.old chunk.items f.new }
     ensures callable { F.IsAlwaysCallable f.new }
 {
     let mut items = chunk.into_iter();

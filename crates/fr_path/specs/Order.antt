@@ -26,12 +26,29 @@ number (PathStep.Field i) = i
 number (PathStep.Index i) = i
 number (PathStep.MapKey i) = i
 number (PathStep.MapValue i) = i
-number _ = 0
+number PathStep.Deref = 0
+number PathStep.Inner = 0
+number PathStep.OptionSome = 0
+number PathStep.Proxy = 0
+number PathStep.ResultOk = 0
+number PathStep.ResultErr = 0
+number PathStep.SetItem = 0
+number (PathStep.Entry key) = 0
 
 -- the bytes of a step's key; none where it has no key
 abbrev pub key : PathStep → List ℕ
 key (PathStep.Entry text) = text
-key _ = []
+key (PathStep.Field i) = []
+key (PathStep.Index i) = []
+key PathStep.Deref = []
+key PathStep.Inner = []
+key PathStep.OptionSome = []
+key PathStep.Proxy = []
+key (PathStep.MapKey i) = []
+key (PathStep.MapValue i) = []
+key PathStep.ResultOk = []
+key PathStep.ResultErr = []
+key PathStep.SetItem = []
 
 -- two steps: of different variants as these are declared, of one variant by their numbers, and at last by the bytes of
 -- their keys

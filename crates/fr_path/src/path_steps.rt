@@ -9,20 +9,32 @@ use std::cmp::Ordering;
 
 /// How a path goes on from a place to one that is part of it.
 ///
-/// A number counts fields, elements, items or entries from 0. Contracts see the text of an `Entry` as its bytes.
+/// Numbers count from 0. Contracts see the text of an `Entry` as its bytes.
 #[derive(Drop)]
 pub enum PathStep {
+    /// To the field of this number, of a struct or of an enum's variant.
     Field(u32),
+    /// To the element or item of this number: of an array, a list or a dynamic array, or of a slice, from a pointer to it.
     Index(u32),
+    /// To what a pointer points to.
     Deref,
+    /// To the value that one of this shape is converted from.
     Inner,
+    /// To the content of an option.
     OptionSome,
+    /// To the stand-in of a proxy.
     Proxy,
+    /// To the key of the entry of this number.
     MapKey(u32),
+    /// To the value of the entry of this number.
     MapValue(u32),
+    /// To the content of an `Ok`.
     ResultOk,
+    /// To the content of an `Err`.
     ResultErr,
+    /// To the item that is being put into a set.
     SetItem,
+    /// To the value of this key of a dynamic object.
     Entry(Text),
 }
 
@@ -53,7 +65,8 @@ impl PathStep {
         match self {
             PathStep::Field(i) | PathStep::Index(i) => *i,
             PathStep::MapKey(i) | PathStep::MapValue(i) => *i,
-            _ => 0,
+            PathStep::Deref | PathStep::Inner | PathStep::OptionSome | PathStep::Proxy => 0,
+            PathStep::ResultOk | PathStep::ResultErr | PathStep::SetItem | PathStep::Entry(_) => 0,
         }
     }
 
@@ -62,7 +75,9 @@ impl PathStep {
     {
         match self {
             PathStep::Entry(key) => key.as_str(),
-            _ => "",
+            PathStep::Field(_) | PathStep::Index(_) | PathStep::MapKey(_) => "",
+            PathStep::MapValue(_) | PathStep::Deref | PathStep::Inner | PathStep::OptionSome => "",
+            PathStep::Proxy | PathStep::ResultOk | PathStep::ResultErr | PathStep::SetItem => "",
         }
     }
 

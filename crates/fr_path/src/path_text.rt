@@ -15,7 +15,8 @@ fn write_field(
     known: Option<ShapeId>,
     index: u32,
 ) -> Result<(), AllocError>
-    ensures { OnOk result (string_bytes text.new ≡ string_bytes text.old ++ field_text table.now known index) }
+    ensures { OnOk result (string_bytes text.new
+        ≡ string_bytes text.old ++ field_text table.now known index) }
 {
     if let Some(shape) = known {
         let meant = FieldRef {
@@ -38,7 +39,8 @@ fn write_step(
     first: bool,
     step: &PathStep,
 ) -> Result<(), AllocError>
-    ensures { OnOk result (string_bytes text.new ≡ string_bytes text.old ++ step_text table.now known first step.now) }
+    ensures { OnOk result (string_bytes text.new
+        ≡ string_bytes text.old ++ step_text table.now known first step.now) }
 {
     match step {
         PathStep::Field(i) => {

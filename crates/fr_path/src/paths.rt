@@ -71,7 +71,7 @@ impl Path {
         Ok(())
     }
 
-    /// Goes one step back, and gives that step.
+    /// Goes one step back, and returns that step.
     pub fn pop(&mut self) -> Option<PathStep>
         ensures last { IfSome result (λ step. self.old ≡ self.new ++ step ∷ []) }
         ensures unchanged { IfNone result (self.new ≡ self.old) }
@@ -98,6 +98,10 @@ impl Path {
     }
 
     /// The path in words, from a root of the shape `root`.
+    ///
+    /// A field is told by its declared name as long as the shapes on the way are known, and then by its number. A shape
+    /// is lost after a variant's field, a proxy, a field that isn't there, and a step that no value of the shape before
+    /// it can have; an array has elements where it can be entered, as one of 1 to 4,096 elements can.
     pub fn format_with_shape(
         &self,
         alloc: Global,

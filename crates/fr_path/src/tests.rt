@@ -25,42 +25,20 @@ fn add(
     let Ok(name) = Text::new(alloc, "shape") else {
         return;
     };
-    let _ = shapes.push(Shape {
-        name,
-        def,
-        preset: None,
-        default_attr: false,
-        inner,
-        builder,
-        convert,
-        parse: None,
-        parse_bytes: None,
-        proxy: None,
-        format_proxies: Items::new(alloc),
-        invariant: None,
-        metadata: false,
-        deny_unknown: false,
-        transparent: false,
-        bytes_ok: false,
-    });
+    let mut shape = Shape::new(alloc, name, def);
+    shape.inner = inner;
+    shape.builder = builder;
+    shape.convert = convert;
+    let _ = shapes.push(shape);
 }
 
 fn add_field(fields: &mut Items<fr_shape::Field>, alloc: Global, name: &str, shape: u32) {
     let (Ok(name), Ok(rename)) = (Text::new(alloc, name), Text::new(alloc, "renamed")) else {
         return;
     };
-    let _ = fields.push(fr_shape::Field {
-        name,
-        rename: Some(rename),
-        alias: None,
-        shape: ShapeId(shape),
-        default: None,
-        skip: false,
-        flatten: false,
-        proxy: None,
-        format_proxies: Items::new(alloc),
-        validators: Items::new(alloc),
-    });
+    let mut field = fr_shape::Field::new(alloc, name, ShapeId(shape));
+    field.rename = Some(rename);
+    let _ = fields.push(field);
 }
 
 /// The fields `id`, a number, and `xs`, a list.
@@ -146,11 +124,20 @@ fn add_conversions(shapes: &mut Items<Shape>, alloc: Global) {
     add(shapes, alloc, Def::Other, None, to, None);
 }
 
+/// The shapes 19 to 22: arrays of the struct with no element, with one, with as many as can be entered, and with one
+/// more.
+fn add_arrays(shapes: &mut Items<Shape>, alloc: Global) {
+    for count in [0, 1, 4096, 4097] {
+        add_plain(shapes, alloc, Def::Array(ShapeId(0), count));
+    }
+}
+
 fn table(alloc: Global) -> ShapeTable {
     let mut shapes = Items::new(alloc);
     add_products(&mut shapes, alloc);
     add_containers(&mut shapes, alloc);
     add_conversions(&mut shapes, alloc);
+    add_arrays(&mut shapes, alloc);
     ShapeTable::new(alloc, shapes)
 }
 
@@ -183,7 +170,7 @@ fn check(rt: &impl Abort, alloc: Global, table: &ShapeTable, root: u32, path: &P
 fn names_fields_while_shapes_are_known(rt: HostRuntime) {
     let alloc = rt.alloc();
     let table = table(alloc);
-    assert_eq!(rt; table.len(), 19);
+    assert_eq!(rt; table.len(), 23);
     for (root, path, want) in [
         (0, path(alloc, []), ""),
         (
@@ -212,6 +199,8 @@ fn names_fields_while_shapes_are_known(rt: HostRuntime) {
         (15, path(alloc, [Inner, Field(1)]), "::inner.xs"),
         (16, path(alloc, [Inner, Field(1)]), "::inner.xs"),
         (17, path(alloc, [OptionSome, Field(1)]), "::some.xs"),
+        (20, path(alloc, [Index(1), Field(1)]), "[1].xs"),
+        (21, path(alloc, [Index(4096), Field(1)]), "[4096].xs"),
     ] {
         check(&rt, alloc, &table, root, &path, want);
     }
@@ -222,7 +211,7 @@ fn names_fields_while_shapes_are_known(rt: HostRuntime) {
 fn numbers_fields_once_shapes_are_lost(rt: HostRuntime) {
     let alloc = rt.alloc();
     let table = table(alloc);
-    assert_eq!(rt; table.len(), 19);
+    assert_eq!(rt; table.len(), 23);
     for (root, path, want) in [
         (4, path(alloc, [Field(0), Field(1)]), "0.1"),
         (0, path(alloc, [Field(2), Field(1)]), "2.1"),
@@ -236,6 +225,8 @@ fn numbers_fields_once_shapes_are_lost(rt: HostRuntime) {
         (14, path(alloc, [Index(0), Field(1)]), "[0].1"),
         (17, path(alloc, [Inner, Field(1)]), "::inner.1"),
         (18, path(alloc, [Inner, Field(1)]), "::inner.1"),
+        (19, path(alloc, [Index(0), Field(1)]), "[0].1"),
+        (22, path(alloc, [Index(0), Field(1)]), "[0].1"),
     ] {
         check(&rt, alloc, &table, root, &path, want);
     }

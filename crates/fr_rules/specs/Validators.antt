@@ -1,12 +1,18 @@
 -- Validators that hold the scalar kind of their field.
-use Rattle.std.specs.Prelude.{◌≡◌, ℕ, ◌⊎◌, Bool, Option, Some, None, unwrap_or}
+use Rattle.std.specs.Prelude.{◌≡◌, ℕ, ℤ, pos, ◌⊎◌, Bool, Option, Some, None, unwrap_or}
 use Rattle.fr_shape.specs.declared.shape.FieldRef.{FieldRef}
 use Rattle.fr_shape.specs.declared.shape.ScalarKind.{ScalarKind}
 use Rattle.fr_shape.specs.declared.shape.ValidatorDef.{ValidatorDef}
 use Rattle.fr_shape.specs.declared.error.ReflectErrorKind.{ReflectErrorKind}
 use Rattle.fr_shape.specs.Val.{Val}
 use Rattle.fr_shape.specs.Validators.{passes, message}
+use Rattle.fr_rules.specs.declared.numbers.Number.{Number}
 use Rattle.fr_rules.specs.declared.validators.ValidatorKind.{ValidatorKind}
+
+-- the number, signed or not
+abbrev pub whole : Number → ℤ
+whole (Number.Int z) = z
+whole (Number.Nat n) = pos n
 
 -- the validator as a table has it
 abbrev pub validator_of : ValidatorKind → ValidatorDef

@@ -29,7 +29,8 @@ pub(crate) fn sort_by_prefix(
     ensures same { IsPermutation entries.old.items entries.new.items }
     ensures len { length entries.new.items ≡ length entries.old.items }
     ensures sorted { OnOk result (IsNonDecreasingBy (prefix_in prefix_len) entries.new.items) }
-    ensures stable { OnOk result ((prefix : ℕ) → filter (has_prefix prefix_len prefix) entries.new.items
+    ensures stable { OnOk result ((prefix : ℕ)
+        → filter (has_prefix prefix_len prefix) entries.new.items
         ≡ filter (has_prefix prefix_len prefix) entries.old.items) }
 {
     entries.sort_by_key(|entry| prefix_of(prefix_len, entry.name.as_str()))?;

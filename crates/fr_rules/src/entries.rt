@@ -34,7 +34,7 @@ pub(crate) fn entries_of(
             return Err(OutOfMemory);
         };
         let field = &fields[i];
-        let name = field.rename.as_ref().unwrap_or(&field.name);
+        let name = field.effective_name();
         entries.push(FieldLookupEntry {
             name: Text::new(alloc, name.as_str())?,
             index,

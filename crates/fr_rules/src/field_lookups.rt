@@ -87,8 +87,8 @@ impl FieldLookup {
     /// The pool is that in which the lookup was built, also after it grew.
     pub fn find(&self, name: &str, pool: &LookupPool) -> Option<usize>
         requires of_pool { IsOfPool pool.now self.now }
-        ensures first_named { (entries : List FieldLookupEntry) → IsLookupOf pool.now self.now entries
-            → result ≡ first_named name.now entries }
+        ensures first_named { (entries : List FieldLookupEntry)
+            → IsLookupOf pool.now self.now entries → result ≡ first_named name.now entries }
     {
         match self {
             FieldLookup::Small(_) => self.find_small(name),

@@ -7,6 +7,7 @@ mod entries;
 mod field_lookups;
 mod fills;
 mod messages;
+mod numbers;
 mod pools;
 mod prefixes;
 #[cfg(test)]

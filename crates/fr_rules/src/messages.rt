@@ -5,6 +5,7 @@ ghost use Rattle.fr_shape.specs.Validators.{number_in, number_text, message};
 ghost use Rattle.fr_rules.specs.Validators.{validator_of};
 
 use crate::ValidatorKind;
+use crate::numbers::{Number, number_in};
 use crate::validators::text_in;
 use fr_shape::{OutOfMemory, Text, Value};
 use std::alloc::{AllocError, Global};
@@ -22,7 +23,8 @@ pub(crate) fn message(
 }
 
 fn words(alloc: Global, kind: &ValidatorKind, value: &Value) -> Result<String, AllocError>
-    ensures { IfOk result (λ said. string_bytes said ≡ message (validator_of kind.now) (view value.now)) }
+    ensures { IfOk result (λ said. string_bytes said
+        ≡ message (validator_of kind.now) (view value.now)) }
 {
     let text = text_in(value);
     let len = text.len();
@@ -56,11 +58,12 @@ fn words(alloc: Global, kind: &ValidatorKind, value: &Value) -> Result<String, A
 
 /// The number that a value is, in decimal digits; of any other value nothing.
 fn number_text(alloc: Global, value: &Value) -> Result<String, AllocError>
-    ensures { IfOk result (λ digits. string_bytes digits ≡ number_text (number_in (view value.now))) }
+    ensures { IfOk result (λ digits. string_bytes digits
+        ≡ number_text (number_in (view value.now))) }
 {
-    match value {
-        Value::Int(z) => format!(in alloc; "{z}"),
-        Value::Nat(n) => format!(in alloc; "{n}"),
-        _ => Ok(String::new(alloc)),
+    match number_in(value) {
+        Some(Number::Int(z)) => format!(in alloc; "{z}"),
+        Some(Number::Nat(n)) => format!(in alloc; "{n}"),
+        None => Ok(String::new(alloc)),
     }
 }

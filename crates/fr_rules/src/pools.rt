@@ -1,5 +1,5 @@
 //! The pool that holds the entries and buckets of all long lookups.
-ghost use Rattle.std.specs.Prelude.{◌≡◌, ◌+◌, ◌≤◌, [], ◌++◌, length, IfOk, OnErr};
+ghost use Rattle.std.specs.Prelude.{◌≡◌, ◌+◌, ◌≤◌, [], ◌++◌, length, IfOk, OnOk, OnErr};
 ghost use Rattle.fr_arena.specs.Ranges.{indices_from};
 ghost use Rattle.fr_rules.specs.Pools.{HasGrown, part_of};
 
@@ -60,7 +60,7 @@ impl LookupPool {
         &mut self,
         entries: Vec<FieldLookupEntry>,
     ) -> Result<SliceRange<FieldLookupEntry>, OutOfMemory>
-        ensures added { IfOk result (λ range. self.new.entries ≡ self.old.entries ++ entries.items) }
+        ensures added { OnOk result (self.new.entries ≡ self.old.entries ++ entries.items) }
         ensures range { IfOk result (λ range. range
             ≡ indices_from (length self.old.entries) (length entries.items)) }
         ensures others { self.new.buckets ≡ self.old.buckets }
@@ -80,7 +80,7 @@ impl LookupPool {
         &mut self,
         buckets: Vec<PrefixBucket>,
     ) -> Result<SliceRange<PrefixBucket>, OutOfMemory>
-        ensures added { IfOk result (λ range. self.new.buckets ≡ self.old.buckets ++ buckets.items) }
+        ensures added { OnOk result (self.new.buckets ≡ self.old.buckets ++ buckets.items) }
         ensures range { IfOk result (λ range. range
             ≡ indices_from (length self.old.buckets) (length buckets.items)) }
         ensures others { self.new.entries ≡ self.old.entries }

@@ -15,18 +15,9 @@ fn text(alloc: Global, s: Option<&str>) -> Option<Text> {
 
 fn add_field(fields: &mut Items<Field>, alloc: Global, name: &str, alias: Option<&str>) {
     if let Some(name) = text(alloc, Some(name)) {
-        let _ = fields.push(Field {
-            name,
-            rename: None,
-            alias: text(alloc, alias),
-            shape: ShapeId(0),
-            default: None,
-            skip: false,
-            flatten: false,
-            proxy: None,
-            format_proxies: Items::new(alloc),
-            validators: Items::new(alloc),
-        });
+        let mut field = Field::new(alloc, name, ShapeId(0));
+        field.alias = text(alloc, alias);
+        let _ = fields.push(field);
     }
 }
 
@@ -189,27 +180,11 @@ fn enum_table(alloc: Global, names: &[&str]) -> ShapeTable {
     }
     let mut shapes = Items::new(alloc);
     if let Some(name) = text(alloc, Some("choice")) {
-        let _ = shapes.push(Shape {
-            name,
-            def: Def::Enum(EnumDef {
-                repr: EnumRepr::Rust,
-                variants,
-            }),
-            preset: None,
-            default_attr: false,
-            inner: None,
-            builder: None,
-            convert: None,
-            parse: None,
-            parse_bytes: None,
-            proxy: None,
-            format_proxies: Items::new(alloc),
-            invariant: None,
-            metadata: false,
-            deny_unknown: false,
-            transparent: false,
-            bytes_ok: false,
+        let def = Def::Enum(EnumDef {
+            repr: EnumRepr::Rust,
+            variants,
         });
+        let _ = shapes.push(Shape::new(alloc, name, def));
     }
     ShapeTable::new(alloc, shapes)
 }

@@ -5,6 +5,7 @@ ghost use Rattle.fr_shape.specs.Validators.{bytes_in, number_in, is_compared, is
 ghost use Rattle.fr_rules.specs.Validators.{passes_held, IsRefusal};
 
 use crate::messages::message;
+use crate::numbers::{Number, number_in};
 use fr_shape::{FieldRef, HookId, Hooks, OutOfMemory, ReflectErrorKind, ScalarKind, Text, Value};
 use std::alloc::Global;
 
@@ -89,7 +90,10 @@ pub(crate) fn text_in(value: &Value) -> &str
 {
     match value {
         Value::Text(text) => text.as_str(),
-        _ => "",
+        Value::Unit | Value::Bool(_) | Value::Char(_) | Value::Int(_) | Value::Nat(_) => "",
+        Value::Token(_) | Value::Product(_) | Value::Variant(..) | Value::None => "",
+        Value::Some(_) | Value::Ok(_) | Value::Err(_) | Value::Ptr(_) | Value::Dyn(_) => "",
+        Value::List(_) | Value::Map(_) | Value::Set(_) => "",
     }
 }
 
@@ -109,13 +113,13 @@ fn is_compared(kind: ScalarKind) -> bool
 fn is_least(low: i64, value: &Value) -> bool
     ensures { result ≡ is_least low (number_in (view value.now)) }
 {
-    match value {
-        Value::Int(z) => i128::from(low) <= *z,
-        Value::Nat(n) => match u128::try_from(low) {
-            Ok(low) => low <= *n,
+    match number_in(value) {
+        Some(Number::Int(z)) => i128::from(low) <= z,
+        Some(Number::Nat(n)) => match u128::try_from(low) {
+            Ok(low) => low <= n,
             Err(_) => true,
         },
-        _ => true,
+        None => true,
     }
 }
 
@@ -123,13 +127,13 @@ fn is_least(low: i64, value: &Value) -> bool
 fn is_most(high: i64, value: &Value) -> bool
     ensures { result ≡ is_most high (number_in (view value.now)) }
 {
-    match value {
-        Value::Int(z) => *z <= i128::from(high),
-        Value::Nat(n) => match u128::try_from(high) {
-            Ok(high) => *n <= high,
+    match number_in(value) {
+        Some(Number::Int(z)) => z <= i128::from(high),
+        Some(Number::Nat(n)) => match u128::try_from(high) {
+            Ok(high) => n <= high,
             Err(_) => false,
         },
-        _ => true,
+        None => true,
     }
 }
 

@@ -48,7 +48,7 @@ fn variant_entries(
         };
         let variant = &variants[i];
         if !variant.other {
-            let name = variant.rename.as_ref().unwrap_or(&variant.name);
+            let name = variant.effective_name();
             entries.push((Text::new(alloc, name.as_str())?, number))?;
         }
     }
@@ -94,7 +94,8 @@ impl VariantLookup {
     /// A lookup that no enum has, built by hand, gives the number beside the first such name. Only where names of the
     /// sorted form aren't sorted is nothing said of the result.
     pub fn find(&self, name: &str) -> Option<usize>
-        ensures first { IsInOrder self.now → result ≡ first_numbered name.now (entries_in self.now) }
+        ensures first { IsInOrder self.now
+            → result ≡ first_numbered name.now (entries_in self.now) }
         ensures named { (variants : List Variant) → IsVariantLookupOf self.now variants
             → result ≡ variant_named name.now variants }
     {

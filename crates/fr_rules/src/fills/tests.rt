@@ -14,18 +14,10 @@ fn field(
     default: Option<DefaultSource>,
     skip: bool,
 ) -> Result<Field, OutOfMemory> {
-    Ok(Field {
-        name: Text::new(alloc, "field")?,
-        rename: None,
-        alias: None,
-        shape: ShapeId(shape),
-        default,
-        skip,
-        flatten: false,
-        proxy: None,
-        format_proxies: Items::new(alloc),
-        validators: Items::new(alloc),
-    })
+    let mut field = Field::new(alloc, Text::new(alloc, "field")?, ShapeId(shape));
+    field.default = default;
+    field.skip = skip;
+    Ok(field)
 }
 
 /// A field for each rule. The shapes are those of `table`.
@@ -58,24 +50,10 @@ fn add(
     preset: Option<Value>,
     default_attr: bool,
 ) -> Result<(), OutOfMemory> {
-    shapes.push(Shape {
-        name: Text::new(alloc, name)?,
-        def,
-        preset: preset.map(|value| Template::new(value)),
-        default_attr,
-        inner: None,
-        builder: None,
-        convert: None,
-        parse: None,
-        parse_bytes: None,
-        proxy: None,
-        format_proxies: Items::new(alloc),
-        invariant: None,
-        metadata: false,
-        deny_unknown: false,
-        transparent: false,
-        bytes_ok: false,
-    })?;
+    let mut shape = Shape::new(alloc, Text::new(alloc, name)?, def);
+    shape.preset = preset.map(|value| Template::new(value));
+    shape.default_attr = default_attr;
+    shapes.push(shape)?;
     Ok(())
 }
 

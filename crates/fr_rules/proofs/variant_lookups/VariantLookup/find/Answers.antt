@@ -1,5 +1,5 @@
 use Rattle.std.proofs.Common.{sym, ap, ◌∙◌, subst}
-use Rattle.fr_rules.specs.VariantLookups.{VariantEntry, variant_entries, first_numbered, IsSortedByName, HoldsVariants}
+use Rattle.fr_rules.specs.VariantLookups.{variant_entries, first_numbered, IsSortedByName, HoldsVariants}
 use Rattle.fr_rules.proofs.Variants.{numbered, numbered_apart}
 use Rattle.fr_rules.proofs.variant_lookups.VariantLookup.find.Goals as goal
 
