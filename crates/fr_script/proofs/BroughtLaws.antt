@@ -156,6 +156,11 @@ none_marked n = record {
   each = λ t h. unmarked n t ∙ sym (ap (λ count. not (nat_eq count 0 && true)) (uncounted n t));
 }
 
+pub new_verdict : (table : Table) (n : ℕ) (calls : List Call) (marks : List Bool) → marks ≡ replicate n false
+    → first_unmarked table marks 0 calls ≡ first_invalid table (replicate n 0) [] 0 calls
+new_verdict table n calls marks is =
+    unmarked_invalid (replicate n 0) table calls [] marks 0 (subst (AreMarks (replicate n 0) []) (sym is) (none_marked n))
+
 -- In a loop over commands.
 module _ (table : Table) (marks : List Bool) (script : List Command) (i : ℕ) (command : Command) (h : i < length script) (is : command ≡ get_or script i command) where
   abbrev from : List Bool → ℕ → List Command → Option ℕ

@@ -97,8 +97,7 @@ module _ (ledger : List ℕ) where
     cut true call calls before i found is rest tells =
         let below = rest found tells in
         let far = below.1 in
-        let within = below.2.within in
-        (
+        let within = below.2.within in (
           suc below.0,
           omega arith,
           record {

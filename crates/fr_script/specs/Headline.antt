@@ -31,10 +31,14 @@ pub record IsRefusedRightly (document : Document) (released : List ℕ) : Type 0
 abbrev pub KeepsPromise : Result Document DocFault → Outcome → Type 0
 KeepsPromise (Ok document) (built v released) = IsBuiltRightly document v released
 KeepsPromise (Ok document) (refused refusal released) = IsRefusedRightly document released
+KeepsPromise (Ok document) (faulty other) = ⊥
+KeepsPromise (Err fault) (built v released) = ⊥
+KeepsPromise (Err fault) (refused refusal released) = ⊥
 KeepsPromise (Err fault) (faulty other) = fault ≡ other
-KeepsPromise _ _ = ⊥
 
 -- a built value was made by as many calls as the script has commands
 abbrev pub IsMadeByCalls : Result Document DocFault → Answer → Type 0
 IsMadeByCalls (Ok document) (Answer.Built value released) = value.calls ≡ length document.script
-IsMadeByCalls _ _ = Unit {0}
+IsMadeByCalls (Ok document) (Answer.Refused error released) = Unit {0}
+IsMadeByCalls (Ok document) (Answer.Fault fault) = Unit {0}
+IsMadeByCalls (Err fault) answer = Unit {0}

@@ -1,4 +1,4 @@
--- What the running of a script answers, against the machine and the journal.
+-- What the running of a script returns, against the machine and the journal.
 use Rattle.std.specs.Prelude.{◌≡◌, ◌⊎◌, ℕ, Bool, true, false, Option, Some, None, Result, Ok, Err}
 use Rattle.fr_shape.specs.declared.error.ReflectErrorKind.{ReflectErrorKind}
 use Rattle.fr_shape.specs.Tokens.{occurs}
@@ -7,13 +7,13 @@ use Rattle.fr_model.specs.Run.{Refusal}
 use Rattle.fr_partial.specs.BuiltValue.{BuiltValue}
 use Rattle.fr_script.specs.declared.building.ScriptError.{ScriptError}
 
--- The answer is the machine's: its value, or its refusal by number and kind; an error may also be want of memory.
+-- The answer is the machine's: its value, or its refusal by number and kind; an error may also be that no memory was left.
 abbrev pub IsRun : Result Val Refusal → Result BuiltValue ScriptError → Type 0
 IsRun meant (Ok built) = meant ≡ Ok built.value
 IsRun meant (Err error) =
     (error.kind ≡ ReflectErrorKind.OutOfMemory) ⊎ (meant ≡ Err (record { number = error.number; kind = error.kind }))
 
--- The answer is a value exactly where the journal completes, and then it is the journal's; want of memory aside.
+-- The answer is a value exactly where the journal completes, and then it is the journal's; out of memory aside.
 abbrev pub IsJournals : Option Val → Result BuiltValue ScriptError → Type 0
 IsJournals completed (Ok built) = completed ≡ Some built.value
 IsJournals completed (Err error) = (error.kind ≡ ReflectErrorKind.OutOfMemory) ⊎ (completed ≡ None)

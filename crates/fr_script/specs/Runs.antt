@@ -1,13 +1,15 @@
 -- What a whole run of the program is asked, and what it says.
-use Rattle.std.specs.Prelude.{◌≡◌, ℕ, Bool, false, List, [], ◌∷◌, Option, codes}
+use Rattle.std.specs.Prelude.{◌≡◌, ℕ, Bool, false, List, [], ◌∷◌, Option, String, string_bytes, codes}
+use Rattle.std.specs.declared.alloc.Global.{Global}
 use Rattle.std.specs.Io.KnownBytes.{append_known}
 use Rattle.std.specs.Str.{bytes_eq}
 use Rattle.fr_script.specs.Reports.{Outcome, status_of, report}
 
 -- the words are the one word `build`
-abbrev pub asks_build : List (List ℕ) → Bool
-asks_build (word ∷ []) = bytes_eq word (codes "build")
-asks_build _ = false
+abbrev pub asks_build : List (String Global) → Bool
+asks_build (word ∷ []) = bytes_eq (string_bytes word) (codes "build")
+asks_build [] = false
+asks_build (word ∷ other ∷ words) = false
 
 -- the line for any other words
 abbrev pub usage_line : List ℕ

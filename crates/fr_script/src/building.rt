@@ -48,7 +48,8 @@ pub fn build_script(
     ensures journal { IsJournals (journal_run table.now root.0 (calls_of script)) result }
     ensures calls { IfOk result (λ built. built.calls ≡ length script) }
     ensures fits { IfOk result (λ built. fits table.now root.0 built.value ≡ true) }
-    ensures settled { IsSettled (brought (calls_of script)) ledger.old (answered result) ledger.new }
+    ensures settled { IsSettled (brought (calls_of script)) ledger.old
+        (answered result) ledger.new }
 {
     law_agree();
     let mut commands = VecDeque::from(script.into_vec());
@@ -89,8 +90,10 @@ fn call<'t>(
     requires same { partial.shapes ≡ table.now }
     requires fitting { IsFitting table.now (call_of command) }
     requires room { Room (λ t. holds partial t + brings (call_of command) t) ledger.old }
-    ensures step { IsStep partial.entry (step no_hooks partial.entry.shapes partial.entry.root partial.entry.state (call_of command)) result }
-    ensures tokens { Conserved (λ t. holds partial.entry t + brings (call_of command) t) ledger.old (left result) ledger.new }
+    ensures step { IsStep partial.entry (step no_hooks partial.entry.shapes partial.entry.root
+        partial.entry.state (call_of command)) result }
+    ensures tokens { Conserved (λ t. holds partial.entry t + brings (call_of command) t) ledger.old
+        (left result) ledger.new }
 {
     match command {
         Command::BeginField(name) => partial.begin_field(name.as_str(), ledger),

@@ -77,7 +77,8 @@ fn find_bare(word: &str) -> Option<Command>
 /// A command with one argument.
 #[tactic(auto, unfolding(crate::specs::CommandForms::call_of_one))]
 fn read_with_one(alloc: Global, word: &str, a: &Json) -> Result<Option<Command>, OutOfMemory>
-    ensures { IfOk result (λ found. option_map call_of found ≡ call_of_one word.now (data_of a.now)) }
+    ensures { IfOk result (λ found. option_map call_of found
+        ≡ call_of_one word.now (data_of a.now)) }
 {
     match word {
         "begin_field" => match a.as_str() {

@@ -10,7 +10,9 @@ const DOCUMENT: &str =
 #[test]
 fn a_document_is_read_and_its_script_is_valid(rt: HostRuntime) -> Result<(), Fail> {
     let alloc = rt.alloc();
-    let document = read_document(alloc, DOCUMENT.as_bytes()).ok().ok_or("a fault")?;
+    let document = read_document(alloc, DOCUMENT.as_bytes())
+        .ok()
+        .ok_or("a fault")?;
     assert_eq!(rt; document.table.len(), 3);
     assert_eq!(rt; document.root.0, 1);
     assert_eq!(rt; document.tokens, 2);

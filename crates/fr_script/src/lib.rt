@@ -17,7 +17,7 @@ mod report;
 #[cfg(test)]
 mod row_tests;
 mod running;
-pub mod serving;
+mod serving;
 mod sizes;
 #[cfg(test)]
 mod tests;

@@ -77,7 +77,8 @@ fn mark_values(values: &Items<Value>, marks: &mut [bool]) -> bool
 
 #[cycle(marking)]
 fn mark_entries(entries: &Items<(Value, Value)>, marks: &mut [bool]) -> bool
-    ensures { Marks (marked (entries_tokens (entries_view entries.now)) marks.old) result marks.new }
+    ensures { Marks (marked (entries_tokens (entries_view entries.now)) marks.old) result
+        marks.new }
 {
     for entry in entries.as_slice() {
         if !mark_value(&entry.0, marks) {

@@ -1,5 +1,5 @@
 //! A whole run of the program, from its words and its input to its report and its status.
-ghost use Rattle.std.specs.Prelude.{◌≡◌, ◌⊎◌, ◌≤◌, ℕ, true, false, length, map, drop, take, string_bytes, IfSome};
+ghost use Rattle.std.specs.Prelude.{◌≡◌, ◌⊎◌, ◌≤◌, true, false, drop, IfSome};
 ghost use Rattle.std.specs.Io.KnownBytes.{append_known};
 ghost use Rattle.std.specs.Option.{option_map};
 ghost use Rattle.fr_doc.specs.Causes.{Rose, LosesAtMost, TakesBeginning};
@@ -17,32 +17,36 @@ const USAGE: &str = "usage: build | plan | gen N\n";
 /// Does what the words ask: `build` reads a document to its end and reports what it comes to.
 ///
 /// The status is 0 for a value, 1 for a refusal of the builder, 2 for a faulty document, 3 for other words, 4 where the
-/// source failed, 5 where the sink failed, and 6 for want of memory.
+/// source failed, 5 where the sink failed, and 6 where it is out of memory.
 pub fn run<S: Source, K: Sink>(alloc: Global, words: &[String], source: &mut S, sink: &mut K) -> u8
     ensures range { result ≤ 6 }
 
     // The words `build`, where the source tells what it has left: the outcome of all those bytes is reported.
-    ensures reported { asks_build (map string_bytes words.now) ≡ true → result ≤ 3
-        → IfSome (S.left source.old) (λ bytes. Tells (outcome_of bytes) result (K.taken sink.old) (K.taken sink.new)) }
-    ensures promised { asks_build (map string_bytes words.now) ≡ true → result ≤ 3
-        → IfSome (S.left source.old) (λ bytes. KeepsPromise (document_of bytes) (outcome_of bytes)) }
+    ensures reported { asks_build words.now ≡ true → result ≤ 3
+        → IfSome (S.left source.old) (λ bytes.
+        Tells (outcome_of bytes) result (K.taken sink.old) (K.taken sink.new)) }
+    ensures promised { asks_build words.now ≡ true → result ≤ 3
+        → IfSome (S.left source.old) (λ bytes.
+        KeepsPromise (document_of bytes) (outcome_of bytes)) }
     ensures reads { LosesAtMost INPUT_LIMIT (S.left source.old) (S.left source.new) }
 
     // Other words: nothing is read, and the usage line is written.
-    ensures words { asks_build (map string_bytes words.now) ≡ false → (result ≡ 3) ⊎ (result ≡ 5) }
-    ensures usage { result ≡ 3 → asks_build (map string_bytes words.now) ≡ false }
-    ensures usage_line { result ≡ 3 → K.taken sink.new ≡ append_known (K.taken sink.old) usage_line }
-    ensures unread { asks_build (map string_bytes words.now) ≡ false → source.new ≡ source.old }
+    ensures words { asks_build words.now ≡ false → (result ≡ 3) ⊎ (result ≡ 5) }
+    ensures usage { result ≡ 3 → asks_build words.now ≡ false }
+    ensures usage_line { result ≡ 3
+        → K.taken sink.new ≡ append_known (K.taken sink.old) usage_line }
+    ensures unread { asks_build words.now ≡ false → source.new ≡ source.old }
 
-    // The devices' faults and want of memory.
-    ensures complete { ¬ Rose (S.faults source.old) (S.faults source.new) → ¬ Rose (K.faults sink.old) (K.faults sink.new)
-        → (result ≤ 3) ⊎ (result ≡ 6) }
+    // The devices' faults, and out of memory.
+    ensures complete { ¬ Rose (S.faults source.old) (S.faults source.new)
+        → ¬ Rose (K.faults sink.old) (K.faults sink.new) → (result ≤ 3) ⊎ (result ≡ 6) }
     ensures read_fault { result ≡ 4 → Rose (S.faults source.old) (S.faults source.new) }
     ensures write_fault { result ≡ 5 → Rose (K.faults sink.old) (K.faults sink.new) }
     ensures unwritten { (result ≡ 4) ⊎ (result ≡ 6) → sink.new ≡ sink.old }
-    ensures beginning { result ≡ 5 → asks_build (map string_bytes words.now) ≡ true
-        → IfSome (S.left source.old) (λ bytes. TakesBeginning (K.taken sink.old) (K.taken sink.new) (report (outcome_of bytes))) }
-    ensures usage_beginning { result ≡ 5 → asks_build (map string_bytes words.now) ≡ false
+    ensures beginning { result ≡ 5 → asks_build words.now ≡ true
+        → IfSome (S.left source.old) (λ bytes.
+        TakesBeginning (K.taken sink.old) (K.taken sink.new) (report (outcome_of bytes))) }
+    ensures usage_beginning { result ≡ 5 → asks_build words.now ≡ false
         → TakesBeginning (K.taken sink.old) (K.taken sink.new) usage_line }
 {
     if !is_build(words) {
@@ -67,7 +71,7 @@ pub fn run<S: Source, K: Sink>(alloc: Global, words: &[String], source: &mut S, 
 
 /// Whether the words are the one word `build`.
 fn is_build(words: &[String]) -> bool
-    ensures { result ≡ asks_build (map string_bytes words.now) }
+    ensures { result ≡ asks_build words.now }
 {
     match words {
         [word] => word.as_str() == "build",

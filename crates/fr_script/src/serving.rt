@@ -18,10 +18,11 @@ use fr_doc::ReadError;
 use fr_shape::{Ledger, OutOfMemory, ReflectErrorKind};
 use std::alloc::Global;
 
-/// Reads a document, runs its script over a new ledger, and answers what came of it.
+/// Reads a document, runs its script over a new ledger, and returns what came of it.
 pub fn answer(alloc: Global, bytes: &[u8]) -> Result<Answer, OutOfMemory>
     ensures outcome { IfOk result (λ answer. outcome_view answer ≡ outcome_of bytes.now) }
-    ensures promise { IfOk result (λ answer. KeepsPromise (document_of bytes.now) (outcome_view answer)) }
+    ensures promise { IfOk result (λ answer.
+        KeepsPromise (document_of bytes.now) (outcome_view answer)) }
     ensures calls { IfOk result (λ answer. IsMadeByCalls (document_of bytes.now) answer) }
 {
     match read_document(alloc, bytes) {
@@ -39,7 +40,8 @@ fn answer_document(alloc: Global, document: Document) -> Result<Answer, OutOfMem
     requires { IsBuildable (document_view document) }
     ensures outcome { IfOk result (λ answer. outcome_view answer
         ≡ outcome_of_run (document_view document) (run_of (document_view document))) }
-    ensures promise { IfOk result (λ answer. KeepsPromise (Ok (document_view document)) (outcome_view answer)) }
+    ensures promise { IfOk result (λ answer.
+        KeepsPromise (Ok (document_view document)) (outcome_view answer)) }
     ensures calls { IfOk result (λ answer. IsMadeByCalls (Ok (document_view document)) answer) }
 {
     let Document {
@@ -77,7 +79,8 @@ fn is_want_of_memory(kind: &ReflectErrorKind) -> bool
 /// The status and the whole report on a document.
 pub fn respond(alloc: Global, bytes: &[u8]) -> Result<(u8, String), OutOfMemory>
     ensures status { IfOk result (λ response. response.0 ≡ status_of (outcome_of bytes.now)) }
-    ensures text { IfOk result (λ response. string_bytes response.1 ≡ report (outcome_of bytes.now)) }
+    ensures text { IfOk result (λ response.
+        string_bytes response.1 ≡ report (outcome_of bytes.now)) }
     ensures promise { OnOk result (KeepsPromise (document_of bytes.now) (outcome_of bytes.now)) }
 {
     let answer = answer(alloc, bytes)?;

@@ -16,4 +16,5 @@ returns c =
     let entries = members_view c.in-Object.members.entries in
     let object : as_object (data_of c.args.json.now) ≡ Some entries = rw c.in-Object.is (search (rules, value_lemmas)) in
     all_members (data_of c.args.json.now) entries object (sym c.has_only.ensures.only ∙ c.if-not-has_only.false)
-    (data_of c.in_ok-shapes.shapes.now) (data_of c.in_ok-root.root.now) (data_of c.in_ok-commands.commands.now) ? ? ? _ c.get-4.ensures
+    (data_of c.in_ok-shapes.shapes.now) (data_of c.in_ok-root.root.now) (data_of c.in_ok-commands.commands.now)
+    (sym c.in_ok-shapes.ensures) (sym c.in_ok-root.ensures) (sym c.in_ok-commands.ensures) _ c.get-4.ensures

@@ -1,4 +1,4 @@
-use Rattle.std.proofs.Common.{◌≡◌, ℕ, List, [], None, Some, Bool, sym, subst, ◌∙◌}
+use Rattle.std.proofs.Common.{◌≡◌, ℕ, List, [], None, Some, Bool, sym, ap, subst, ◌∙◌}
 use Rattle.fr_model.specs.Commands.{calls_of}
 use Rattle.fr_script.specs.Documents.{first_invalid}
 use Rattle.fr_script.specs.FirstInvalid.{IsFirstInvalid}
@@ -19,4 +19,4 @@ returns-clause-invalid c n same =
     let are : AreMarks c.args.ledger.now [] c.as_mut_slice.result.now = subst (AreMarks c.args.ledger.now []) (sym c.as_mut_slice.ensures.value) c.in-Ok.ensures in
     let number : c.in-Some.i ≡ n = cc in
     is_first c.args.ledger.now c.args.table.now (calls_of c.args.script.now) n
-    (sym (unmarked_invalid c.args.ledger.now c.args.table.now (calls_of c.args.script.now) [] c.as_mut_slice.result.now 0 are) ∙ sym c.in-Some.ensures ∙ ?)
+    (sym (unmarked_invalid c.args.ledger.now c.args.table.now (calls_of c.args.script.now) [] c.as_mut_slice.result.now 0 are) ∙ sym c.in-Some.ensures ∙ ap Some number)
