@@ -6,6 +6,7 @@ pub mod EndLaws
 pub mod FillingLaws
 pub mod FitLaws
 pub mod OpenLaws
+pub mod OrderLaws
 pub mod PutLaws
 pub mod StackLaws
 pub mod TemplateLaws
