@@ -8,6 +8,7 @@ pub mod FitLaws
 pub mod OpenLaws
 pub mod OrderLaws
 pub mod PutLaws
+pub mod RemovedLaws
 pub mod StackLaws
 pub mod TemplateLaws
 pub mod TestLaws
