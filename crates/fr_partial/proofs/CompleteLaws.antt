@@ -22,7 +22,7 @@ use Rattle.fr_model.specs.Tree.{Form, as_struct, as_array, begun, tree_occurs}
 use Rattle.fr_model.specs.Well.{IsFullAs, IsBegunAs}
 use Rattle.fr_partial.specs.declared.frame.Piece.{Piece}
 use Rattle.fr_partial.specs.Children.{is_placeholder, first_lacking, first_unfilled, filled, all_there}
-use Rattle.fr_partial.specs.Completing.{WantsMemory, WhyNot}
+use Rattle.fr_partial.specs.Completing.{NeedsMemory, WhyNot}
 use Rattle.fr_partial.specs.Filling.{has_no_hole}
 use Rattle.fr_partial.specs.Stack.{as_form, slots, node, IsPiece}
 use Rattle.fr_partial.proofs.FitLaws.{FitEach, product_fits, none_fits}
@@ -284,9 +284,9 @@ piece_agrees hooks table s (Piece.Whole v) served suits = agree_some (view v)
 piece_agrees hooks table s (Piece.Begun form children) served suits =
     begun_agree hooks table s served (as_form form) (length children.items) suits.0 children.items
 
--- a place that isn't completed for want of memory makes a value and takes a template
+-- a place that isn't completed because memory ran out makes a value and takes a template
 pub only_wants : (table : Table) (s : ℕ) (piece : Piece) (kind : ReflectErrorKind) → IsServed table → IsPiece table s piece
-    → WhyNot table s (node piece) kind → kind ≡ ReflectErrorKind.OutOfMemory → WantsMemory table s (node piece) kind
+    → WhyNot table s (node piece) kind → kind ≡ ReflectErrorKind.OutOfMemory → NeedsMemory table s (node piece) kind
 only_wants table s piece kind served suits (inl wants) memory = wants
 only_wants table s piece kind served suits (inr lacking) memory =
     absurd

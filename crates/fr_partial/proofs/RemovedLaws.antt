@@ -47,7 +47,7 @@ refused_drops before call ReflectErrorKind.OutOfMemory t e = refl
 refused_drops before call _ t e = rw e refl
 
 drops_all : (before : Builder) (call : Call) (kind : ReflectErrorKind) (t : ℕ)
-    → IsStep before (meaning before call) (Err kind) → dropped before call (Err kind) t ≡ holds before t + brings call t
+    → IsStep before call (Err kind) → dropped before call (Err kind) t ≡ holds before t + brings call t
 drops_all before call kind t (inl memory) =
     ap (λ (k : ReflectErrorKind). dropped before call (Err k) t) memory
 drops_all before call kind t (inr meant) = refused_drops before call kind t meant
@@ -58,7 +58,7 @@ refused_build_drops before ReflectErrorKind.OutOfMemory t e = refl
 refused_build_drops before _ t e = rw e refl
 
 build_drops_all : (before : Builder) (kind : ReflectErrorKind) (t : ℕ)
-    → IsBuilt before (meaning_of_build before) (Err kind) → dropped_at_build before (Err kind) t ≡ holds before t
+    → IsBuilt before (Err kind) → dropped_at_build before (Err kind) t ≡ holds before t
 build_drops_all before kind t (inl memory) =
     ap (λ (k : ReflectErrorKind). dropped_at_build before (Err k) t) memory
 build_drops_all before kind t (inr meant) = refused_build_drops before kind t meant
@@ -86,7 +86,7 @@ both_released first second kind old between new rose rose_again = record {
 
 pub rises_by_removed : StepKeepsTokens → (before : Builder) → IsBuilderInOrder before → (call : Call) (held : ℕ → ℕ)
     → ((t : ℕ) → held t ≡ holds before t + brings call t) → (result : Result Builder ReflectErrorKind)
-    → (old new : List ℕ) → IsStep before (meaning before call) result → Conserved held old (left result) new
+    → (old new : List ℕ) → IsStep before call result → Conserved held old (left result) new
     → RisesByRemoved before call result old new
 rises_by_removed law before ordered call held brought (Ok after) old new is_step conserved = record {
   same_length = conserved.same_length;
@@ -107,7 +107,7 @@ rises_by_removed law before ordered call held brought (Err kind) old new is_step
 }
 
 pub rises_by_removed_at_build : BuildKeepsTokens → (before : Builder) → IsBuilderInOrder before
-    → (result : Result BuiltValue ReflectErrorKind) (old new : List ℕ) → IsBuilt before (meaning_of_build before) result
+    → (result : Result BuiltValue ReflectErrorKind) (old new : List ℕ) → IsBuilt before result
     → Conserved (holds before) old (left_built result) new → RisesByRemovedAtBuild before result old new
 rises_by_removed_at_build law before ordered (Ok built) old new is_built conserved = record {
   same_length = conserved.same_length;

@@ -41,21 +41,25 @@ holds builder t = tree_occurs builder.state.tree t
 abbrev pub meaning : Builder → Call → Result State ReflectErrorKind
 meaning builder call = step no_hooks builder.shapes builder.root builder.state call
 
--- The call did exactly what is meant: it returns Ok where a state is meant, and stands for that state over the same
--- table and root; otherwise it is refused for the reason that is meant, or out of memory.
-abbrev pub IsStep : Builder → Result State ReflectErrorKind → Result Builder ReflectErrorKind → Type 0
-IsStep before meant (Ok after) =
+-- What is meant came about: where it is a state, the builder stands for it, over the same table and root; where it is a
+-- refusal, that is the refusal; or memory ran out.
+abbrev pub IsStepTo : Builder → (meant : Result State ReflectErrorKind) → Result Builder ReflectErrorKind → Type 0
+IsStepTo before meant (Ok after) =
     (meant ≡ Ok after.state) × (after.shapes ≡ before.shapes) × (after.root ≡ before.root)
-IsStep before meant (Err kind) = (kind ≡ ReflectErrorKind.OutOfMemory) ⊎ (meant ≡ Err kind)
+IsStepTo before meant (Err kind) = (kind ≡ ReflectErrorKind.OutOfMemory) ⊎ (meant ≡ Err kind)
+
+-- the call did exactly what it means, or was out of memory
+abbrev pub IsStep : Builder → Call → Result Builder ReflectErrorKind → Type 0
+IsStep before call result = IsStepTo before (meaning before call) result
 
 -- what `build` means: the value, or why it is refused
 abbrev pub meaning_of_build : Builder → Result Val ReflectErrorKind
 meaning_of_build builder = build no_hooks builder.shapes builder.root builder.state
 
--- `build` returns what is meant, made by as many calls as the builder had, or is out of memory.
-abbrev pub IsBuilt : Builder → Result Val ReflectErrorKind → Result BuiltValue ReflectErrorKind → Type 0
-IsBuilt before meant (Ok built) = (meant ≡ Ok built.value) × (built.calls ≡ before.state.calls)
-IsBuilt before meant (Err kind) = (kind ≡ ReflectErrorKind.OutOfMemory) ⊎ (meant ≡ Err kind)
+-- `build` did exactly what it means, its value made by as many calls as the builder had, or was out of memory
+abbrev pub IsBuilt : Builder → Result BuiltValue ReflectErrorKind → Type 0
+IsBuilt before (Ok built) = (meaning_of_build before ≡ Ok built.value) × (built.calls ≡ before.state.calls)
+IsBuilt before (Err kind) = (kind ≡ ReflectErrorKind.OutOfMemory) ⊎ (meaning_of_build before ≡ Err kind)
 
 -- Memory
 
@@ -63,9 +67,13 @@ IsBuilt before meant (Err kind) = (kind ≡ ReflectErrorKind.OutOfMemory) ⊎ (m
 abbrev pub IsNotOutOfMemory : {A : Type 0} → Result A ReflectErrorKind → Type 0
 IsNotOutOfMemory result = result ≡ Err ReflectErrorKind.OutOfMemory → ⊥
 
--- a call that is meant to be refused is refused for that, and not out of memory
-abbrev pub RefusesBeforeMemory : {A B : Type 0} → Result A ReflectErrorKind → Result B ReflectErrorKind → Type 0
-RefusesBeforeMemory meant result = IsErr meant → IsNotOutOfMemory result
+-- a call that means a refusal is refused so, and not out of memory
+abbrev pub RefusesBeforeMemory : Builder → Call → Result Builder ReflectErrorKind → Type 0
+RefusesBeforeMemory before call result = IsErr (meaning before call) → IsNotOutOfMemory result
+
+-- a `build` that means a refusal is refused so, and not out of memory
+abbrev pub BuildRefusesBeforeMemory : Builder → Result BuiltValue ReflectErrorKind → Type 0
+BuildRefusesBeforeMemory before result = IsErr (meaning_of_build before) → IsNotOutOfMemory result
 
 -- Tokens
 

@@ -4,7 +4,7 @@ ghost use Rattle.fr_shape.specs.Look.{def_of};
 ghost use Rattle.fr_shape.specs.Released.{Room, Conserved};
 ghost use Rattle.fr_model.specs.Step.{enters, field_refusal};
 ghost use Rattle.fr_model.specs.Tree.{cursor_tree};
-ghost use Rattle.fr_partial.specs.Builder.{here, holds, IsStep, left};
+ghost use Rattle.fr_partial.specs.Builder.{here, holds, left, IsStepTo};
 
 use crate::Partial;
 use crate::admitting::child_of;
@@ -20,9 +20,10 @@ impl<'t> Partial<'t> {
         ledger: &mut Ledger,
     ) -> Result<Partial<'t>, ReflectErrorKind>
         requires room { Room (holds self) ledger.old }
-        requires admitted { field_refusal (def_of self.shapes (here self)) (cursor_tree self.state) i ≡ None }
-        ensures step { IsStep self.entry (Ok (enters self.entry.shapes (here self.entry) self.entry.state i))
-            result }
+        requires admitted { field_refusal (def_of self.shapes (here self))
+            (cursor_tree self.state) i ≡ None }
+        ensures step { IsStepTo self.entry
+            (Ok (enters self.entry.shapes (here self.entry) self.entry.state i)) result }
         ensures tokens { Conserved (holds self.entry) ledger.old (left result) ledger.new }
     {
         let Partial {

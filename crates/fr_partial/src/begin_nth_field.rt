@@ -1,7 +1,7 @@
 //! `begin_nth_field`: on to a field or element of the place at which the builder works.
 ghost use Rattle.fr_shape.specs.Released.{Room, Conserved};
 ghost use Rattle.fr_model.specs.Commands.{Call};
-ghost use Rattle.fr_partial.specs.Builder.{holds, left, meaning, IsStep, RefusesBeforeMemory, RisesByRemoved};
+ghost use Rattle.fr_partial.specs.Builder.{holds, left, IsStep, RefusesBeforeMemory, RisesByRemoved};
 
 use crate::Partial;
 use crate::admitting::field_refusal;
@@ -17,10 +17,11 @@ impl<'t> Partial<'t> {
         ledger: &mut Ledger,
     ) -> Result<Partial<'t>, ReflectErrorKind>
         requires room { Room (holds self) ledger.old }
-        ensures step { IsStep self.entry (meaning self.entry (Call.BeginNthField idx)) result }
+        ensures step { IsStep self.entry (Call.BeginNthField idx) result }
         ensures tokens { Conserved (holds self.entry) ledger.old (left result) ledger.new }
-        ensures removed { RisesByRemoved self.entry (Call.BeginNthField idx) result ledger.old ledger.new }
-        ensures refused { RefusesBeforeMemory (meaning self.entry (Call.BeginNthField idx)) result }
+        ensures removed { RisesByRemoved self.entry (Call.BeginNthField idx) result
+            ledger.old ledger.new }
+        ensures refused { RefusesBeforeMemory self.entry (Call.BeginNthField idx) result }
     {
         law_removed();
         let shape = self.frame.shape;

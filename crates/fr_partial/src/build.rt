@@ -4,7 +4,7 @@ ghost use Rattle.fr_shape.specs.Fits.{fits};
 ghost use Rattle.fr_shape.specs.Released.{Room, RoseBy, Conserved};
 ghost use Rattle.fr_model.specs.Tree.{cursor_tree};
 ghost use Rattle.fr_partial.specs.Filling.{fills_nothing};
-ghost use Rattle.fr_partial.specs.Builder.{holds, left_built, meaning_of_build, IsBuilt, IsNotOutOfMemory, RefusesBeforeMemory, RisesByRemovedAtBuild};
+ghost use Rattle.fr_partial.specs.Builder.{holds, left_built, BuildRefusesBeforeMemory, IsBuilt, IsNotOutOfMemory, RisesByRemovedAtBuild};
 
 use crate::completing::complete;
 use crate::releasing::release_all;
@@ -17,12 +17,14 @@ impl<'t> Partial<'t> {
     /// before any is made.
     pub fn build(self, ledger: &mut Ledger) -> Result<Built, ReflectErrorKind>
         requires room { Room (holds self) ledger.old }
-        ensures built { IsBuilt self.entry (meaning_of_build self.entry) result }
-        ensures fits { IfOk result (λ built. fits self.entry.shapes self.entry.root built.value ≡ true) }
+        ensures built { IsBuilt self.entry result }
+        ensures fits { IfOk result (λ built.
+            fits self.entry.shapes self.entry.root built.value ≡ true) }
         ensures tokens { Conserved (holds self.entry) ledger.old (left_built result) ledger.new }
         ensures removed { RisesByRemovedAtBuild self.entry result ledger.old ledger.new }
-        ensures memory { fills_nothing (cursor_tree self.entry.state) ≡ true → IsNotOutOfMemory result }
-        ensures refused { RefusesBeforeMemory (meaning_of_build self.entry) result }
+        ensures memory { fills_nothing (cursor_tree self.entry.state) ≡ true
+            → IsNotOutOfMemory result }
+        ensures refused { BuildRefusesBeforeMemory self.entry result }
     {
         law_removed();
         let Partial {

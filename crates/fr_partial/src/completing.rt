@@ -122,7 +122,8 @@ pub fn complete(
         complete no_hooks table.now frame.shape.0 (node frame.piece) ≡ Some (view v)) }
     ensures kept { OnOk result (ledger.new ≡ ledger.old) }
     ensures why { IfErr result (λ kind. WhyNot table.now frame.shape.0 (node frame.piece) kind) }
-    ensures released { OnErr result (RoseBy (tree_occurs (node frame.piece)) ledger.old ledger.new) }
+    ensures released { OnErr result
+        (RoseBy (tree_occurs (node frame.piece)) ledger.old ledger.new) }
 {
     if let Some(kind) = lack_of(table, &frame) {
         release_piece(frame.piece, ledger);

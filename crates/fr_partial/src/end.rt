@@ -4,7 +4,7 @@ ghost use Rattle.fr_shape.specs.Released.{Room, Conserved};
 ghost use Rattle.fr_model.specs.Commands.{Call};
 ghost use Rattle.fr_model.specs.Tree.{cursor_tree};
 ghost use Rattle.fr_partial.specs.Filling.{fills_nothing};
-ghost use Rattle.fr_partial.specs.Builder.{holds, left, meaning, IsStep, IsNotOutOfMemory, RefusesBeforeMemory, RisesByRemoved};
+ghost use Rattle.fr_partial.specs.Builder.{holds, left, IsStep, IsNotOutOfMemory, RefusesBeforeMemory, RisesByRemoved};
 
 use crate::Partial;
 use crate::children::put;
@@ -19,11 +19,12 @@ impl<'t> Partial<'t> {
     /// and what is lacking is found before any is made.
     pub fn end(self, ledger: &mut Ledger) -> Result<Partial<'t>, ReflectErrorKind>
         requires room { Room (holds self) ledger.old }
-        ensures step { IsStep self.entry (meaning self.entry Call.End) result }
+        ensures step { IsStep self.entry Call.End result }
         ensures tokens { Conserved (holds self.entry) ledger.old (left result) ledger.new }
         ensures removed { RisesByRemoved self.entry Call.End result ledger.old ledger.new }
-        ensures memory { fills_nothing (cursor_tree self.entry.state) ≡ true → IsNotOutOfMemory result }
-        ensures refused { RefusesBeforeMemory (meaning self.entry Call.End) result }
+        ensures memory { fills_nothing (cursor_tree self.entry.state) ≡ true
+            → IsNotOutOfMemory result }
+        ensures refused { RefusesBeforeMemory self.entry Call.End result }
     {
         law_removed();
         let Partial {

@@ -95,7 +95,8 @@ pub fn enter_child(
         ≡ enter_child table.now frame.shape.0 i (node frame.piece)) }
     ensures above { IfOk result (λ both. IsParent table.now frame.shape.0 both.0) }
     ensures number { IfOk result (λ both. both.0.child ≡ i) }
-    ensures below { IfOk result (λ both. IsFrame table.now (child_shape table.now frame.shape.0 i) both.1) }
+    ensures below { IfOk result (λ both.
+        IsFrame table.now (child_shape table.now frame.shape.0 i) both.1) }
     ensures tokens { IfOk result (λ both.
         (t : ℕ) → vals_occur (vals_view both.0.children.items) t
         + tree_occurs (node both.1.piece) t ≡ tree_occurs (node frame.piece) t) }

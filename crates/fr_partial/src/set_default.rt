@@ -1,7 +1,7 @@
 //! `set_default`: the default of its shape at the place at which the builder works.
 ghost use Rattle.fr_shape.specs.Released.{Room, Conserved};
 ghost use Rattle.fr_model.specs.Commands.{Call};
-ghost use Rattle.fr_partial.specs.Builder.{holds, left, meaning, IsStep, RefusesBeforeMemory, RisesByRemoved};
+ghost use Rattle.fr_partial.specs.Builder.{holds, left, IsStep, RefusesBeforeMemory, RisesByRemoved};
 
 use crate::Partial;
 use crate::filling::copy_template;
@@ -13,10 +13,10 @@ impl<'t> Partial<'t> {
     /// it. Where there is no default, that is the refusal, and never out of memory.
     pub fn set_default(self, ledger: &mut Ledger) -> Result<Partial<'t>, ReflectErrorKind>
         requires room { Room (holds self) ledger.old }
-        ensures step { IsStep self.entry (meaning self.entry Call.SetDefault) result }
+        ensures step { IsStep self.entry Call.SetDefault result }
         ensures tokens { Conserved (holds self.entry) ledger.old (left result) ledger.new }
         ensures removed { RisesByRemoved self.entry Call.SetDefault result ledger.old ledger.new }
-        ensures refused { RefusesBeforeMemory (meaning self.entry Call.SetDefault) result }
+        ensures refused { RefusesBeforeMemory self.entry Call.SetDefault result }
     {
         law_removed();
         let shape = self.frame.shape;

@@ -4,7 +4,7 @@ ghost use Rattle.fr_shape.specs.Fits.{fits};
 ghost use Rattle.fr_shape.specs.Released.{Room, Conserved};
 ghost use Rattle.fr_shape.specs.Tokens.{occurs};
 ghost use Rattle.fr_model.specs.Commands.{Call};
-ghost use Rattle.fr_partial.specs.Builder.{holds, left, meaning, IsStep, IsNotOutOfMemory, RisesByRemoved};
+ghost use Rattle.fr_partial.specs.Builder.{holds, left, IsStep, IsNotOutOfMemory, RisesByRemoved};
 
 use crate::Partial;
 use fr_model::law_removed;
@@ -19,7 +19,7 @@ impl<'t> Partial<'t> {
     ) -> Result<Partial<'t>, ReflectErrorKind>
         requires fits { fits self.shapes value.shape value.value ≡ true }
         requires room { Room (λ t. holds self t + occurs value.value t) ledger.old }
-        ensures step { IsStep self.entry (meaning self.entry (Call.Set value.shape value.value)) result }
+        ensures step { IsStep self.entry (Call.Set value.shape value.value) result }
         ensures tokens { Conserved (λ t. holds self.entry t + occurs value.value t) ledger.old
             (left result) ledger.new }
         ensures removed { RisesByRemoved self.entry (Call.Set value.shape value.value) result

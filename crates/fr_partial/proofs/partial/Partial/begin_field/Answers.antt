@@ -2,7 +2,7 @@ use Rattle.std.proofs.Common.{◌≡◌, true, false, Result, Err, inr, sym, sub
 use Rattle.fr_shape.specs.declared.error.ReflectErrorKind.{ReflectErrorKind}
 use Rattle.fr_shape.specs.Look.{def_of}
 use Rattle.fr_model.specs.Tree.{State}
-use Rattle.fr_partial.specs.Builder.{holds, IsStep}
+use Rattle.fr_partial.specs.Builder.{holds, IsStepTo}
 use Rattle.fr_partial.specs.Stack.{node}
 use Rattle.fr_partial.proofs.BeginLaws.{admitted_there, named_within, named_admitted, named_refused, named_unknown}
 use Rattle.fr_model.specs.Commands.{Call}
@@ -25,7 +25,7 @@ enter-requires-clause-admitted c =
 
 pub returns-in-Some-field_named-clause-step : goal.returns-in-Some-field_named-clause-step
 returns-in-Some-field_named-clause-step c =
-    subst (λ (meant : Result State ReflectErrorKind). IsStep c.args.self meant c.enter.result)
+    subst (λ (meant : Result State ReflectErrorKind). IsStepTo c.args.self meant c.enter.result)
     (sym
     (named_admitted c.self.inside.table.now c.self.inside.root.0 c.self.inside.parents.items c.self.inside.frame
     c.self.inside.calls c.self.invariant.chain c.args.self c.self.view_is c.args.field_name.now c.in-Some-field_named.i

@@ -1,7 +1,7 @@
 use Rattle.std.proofs.Common.{◌≡◌, true, false, Result, Err, inr, sym, subst, arith}
 use Rattle.fr_shape.specs.declared.error.ReflectErrorKind.{ReflectErrorKind}
 use Rattle.fr_model.specs.Tree.{State}
-use Rattle.fr_partial.specs.Builder.{holds, IsStep}
+use Rattle.fr_partial.specs.Builder.{holds, IsStepTo}
 use Rattle.fr_partial.proofs.BeginLaws.{admitted_there, begin_admitted, begin_refused}
 use Rattle.fr_model.specs.Commands.{Call}
 use Rattle.fr_partial.proofs.RemovedLaws.{in_order, rises_by_removed, all_released}
@@ -21,7 +21,7 @@ returns-in-Some-clause-step c =
 
 pub returns-in-None-clause-step : goal.returns-in-None-clause-step
 returns-in-None-clause-step c =
-    subst (λ (meant : Result State ReflectErrorKind). IsStep c.args.self meant c.enter.result)
+    subst (λ (meant : Result State ReflectErrorKind). IsStepTo c.args.self meant c.enter.result)
     (sym
     (begin_admitted c.self.inside.table.now c.self.inside.root.0 c.self.inside.parents.items c.self.inside.frame
     c.self.inside.calls c.self.invariant.chain c.args.self c.self.view_is c.args.idx (sym c.in-None.ensures)))

@@ -12,8 +12,8 @@ use Rattle.fr_partial.specs.declared.frame.Frame.{Frame}
 use Rattle.fr_shape.specs.Fits.{fits}
 use Rattle.fr_shape.specs.Hooks.{no_hooks}
 use Rattle.fr_shape.specs.Look.{Table}
-use Rattle.fr_partial.specs.Builder.{Builder, holds, left_built, meaning_of_build, IsBuilt}
-use Rattle.fr_partial.specs.Completing.{WantsMemory}
+use Rattle.fr_partial.specs.Builder.{Builder, holds, left_built, IsBuilt}
+use Rattle.fr_partial.specs.Completing.{NeedsMemory}
 use Rattle.fr_partial.specs.Filling.{fills_nothing}
 use Rattle.fr_partial.specs.Stack.{node, IsFrame, IsChain, parents_hold}
 use Rattle.fr_partial.proofs.CompleteLaws.{Made, piece_made, only_wants}
@@ -96,7 +96,7 @@ returns-in-Ok-clause-tokens c = record {
 }
 
 wants : (c : In-Err) → c.in-Err.kind ≡ ReflectErrorKind.OutOfMemory
-    → WantsMemory c.self.inside.table.now c.self.inside.frame.shape.0 (node c.self.inside.frame.piece) c.in-Err.kind
+    → NeedsMemory c.self.inside.table.now c.self.inside.frame.shape.0 (node c.self.inside.frame.piece) c.in-Err.kind
 wants c is =
     only_wants c.self.inside.table.now c.self.inside.frame.shape.0 c.self.inside.frame.piece c.in-Err.kind
     c.self.invariant.served
@@ -139,7 +139,7 @@ returns-clause-tokens c = record {
 
 pub returns-then-is_empty-clause-removed : goal.returns-then-is_empty-clause-removed
 returns-then-is_empty-clause-removed c =
-    let is_built : IsBuilt c.args.self (meaning_of_build c.args.self) (Err c.in-Err.kind) = grind (arith, common_steps) in
+    let is_built : IsBuilt c.args.self (Err c.in-Err.kind) = grind (arith, common_steps) in
     let released : Conserved (holds c.args.self) c.args.ledger.now (left_built (Err c.in-Err.kind)) c.complete.new.ledger
     = grind (arith, common_steps) in
     rises_by_removed_at_build c.law_removed.ensures.build c.args.self
@@ -150,7 +150,7 @@ returns-then-is_empty-clause-removed c =
 pub returns-clause-removed : goal.returns-clause-removed
 returns-clause-removed c =
     let kind : ReflectErrorKind = ReflectErrorKind.InvariantViolation Invariant.BuildOpenFrames in
-    let is_built : IsBuilt c.args.self (meaning_of_build c.args.self) (Err kind) = grind (arith, common_steps) in
+    let is_built : IsBuilt c.args.self (Err kind) = grind (arith, common_steps) in
     rises_by_removed_at_build c.law_removed.ensures.build c.args.self
     (in_order c.self.inside.table.now c.self.inside.root.0 c.self.inside.parents.items c.self.inside.frame
     c.self.inside.calls c.args.self c.self.invariant c.self.view_is)

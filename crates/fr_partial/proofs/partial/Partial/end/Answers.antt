@@ -7,8 +7,8 @@ use Rattle.fr_shape.specs.TokenLaws.{both, Room_same, Room_fewer, Room_risen}
 use Rattle.fr_shape.specs.Tokens.{vals_occur}
 use Rattle.fr_shape.specs.View.{vals_view}
 use Rattle.fr_model.specs.Tree.{begun, tree_at, tree_occurs}
-use Rattle.fr_partial.specs.Builder.{Builder, holds, left, meaning, IsStep}
-use Rattle.fr_partial.specs.Completing.{WantsMemory}
+use Rattle.fr_partial.specs.Builder.{Builder, holds, left, IsStep}
+use Rattle.fr_partial.specs.Completing.{NeedsMemory}
 use Rattle.fr_partial.specs.Filling.{fills_nothing}
 use Rattle.fr_partial.specs.Stack.{as_form, node, slots, rebuild, parents_hold}
 use Rattle.fr_partial.proofs.StackLaws.{Popped, chain_frame}
@@ -155,7 +155,7 @@ returns-in-Err-clause-tokens c = record {
 }
 
 wants : (c : After-release_parents) → c.in-Err.kind ≡ ReflectErrorKind.OutOfMemory
-    → WantsMemory c.self.inside.table.now c.self.inside.frame.shape.0 (node c.self.inside.frame.piece) c.in-Err.kind
+    → NeedsMemory c.self.inside.table.now c.self.inside.frame.shape.0 (node c.self.inside.frame.piece) c.in-Err.kind
 wants c is =
     only_wants c.self.inside.table.now c.self.inside.frame.shape.0 c.self.inside.frame.piece c.in-Err.kind
     c.self.invariant.served
@@ -184,7 +184,7 @@ returns-in-Err-clause-refused c refused e =
 pub returns-in_default-clause-removed : goal.returns-in_default-clause-removed
 returns-in_default-clause-removed c =
     let kind : ReflectErrorKind = ReflectErrorKind.InvariantViolation Invariant.EndAtRoot in
-    let is_step : IsStep c.args.self (meaning c.args.self Call.End) (Err kind) = grind (arith, common_steps) in
+    let is_step : IsStep c.args.self Call.End (Err kind) = grind (arith, common_steps) in
     let released : Conserved (holds c.args.self) c.args.ledger.now (left (Err kind)) c.release_piece.new.ledger
     = grind (arith, common_steps) in
     rises_by_removed c.law_removed.ensures.step c.args.self
