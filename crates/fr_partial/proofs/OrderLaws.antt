@@ -1,5 +1,5 @@
 -- The open places of a builder are in order: each node suits its shape, and the cursor leads to the last of them.
-use Rattle.std.proofs.Common.{◌≡◌, ℕ, zero, suc, ◌+◌, ◌<◌, List, [], ◌∷◌, length, Option, Some, None, nat_lt, nat_le, Bool, true, false, if◌then◌else◌, slice_get, refl, sym, ◌∙◌, ap, subst, arith}
+use Rattle.std.proofs.Common.{◌≡◌, ℕ, zero, suc, ◌+◌, ◌<◌, List, [], ◌∷◌, length, Option, Some, None, nat_lt, nat_le, Bool, true, false, if◌then◌else◌, slice_get, refl, sym, ap, subst, arith}
 use Rattle.std.proofs.lemmas.Bool.{leb-true}
 use Rattle.fr_shape.specs.declared.error.Operation.{Operation}
 use Rattle.fr_shape.specs.declared.value.Value.{Value}
@@ -9,12 +9,12 @@ use Rattle.fr_shape.specs.Val.{Val, unit}
 use Rattle.fr_shape.specs.View.{view}
 use Rattle.fr_model.specs.Places.{child_shape}
 use Rattle.fr_model.specs.Step.{field_refusal, element_refusal, first_refused}
-use Rattle.fr_model.specs.Tree.{Form as TreeForm, as_struct, as_array, Tree, begun, Trees, branch, child_as, change_nth, count_trees}
+use Rattle.fr_model.specs.Tree.{Form as TreeForm, as_struct, as_array, Tree, begun, change_nth, count_trees}
 use Rattle.fr_model.specs.Well.{IsFullAs, IsBegunAs, Suits, SuitAll, IsDone, AllDone, AtCursor, DoneBut, Leads}
 use Rattle.fr_partial.specs.declared.frame.Frame.{Frame}
 use Rattle.fr_partial.specs.declared.frame.Parent.{Parent}
 use Rattle.fr_partial.specs.declared.frame.Piece.{Piece}
-use Rattle.fr_partial.specs.Stack.{as_form, slot, slots, node, around, rebuild, opens, IsChild, AreChildren, IsPiece, IsPlaceholder, IsChain}
+use Rattle.fr_partial.specs.Stack.{as_form, slot, slots, node, rebuild, opens, IsChild, AreChildren, IsPiece, IsPlaceholder, IsChain}
 use Rattle.fr_partial.proofs.StackLaws.{child_as_is}
 
 -- children

@@ -1,6 +1,6 @@
 -- The ledger rises by what a call removes: it follows from the step, from what is held and released, and from the law of
 -- the definitions.
-use Rattle.std.proofs.Common.{◌≡◌, ℕ, ◌+◌, List, slice_index, Result, Ok, Err, inl, inr, refl, sym, ◌∙◌, ap, subst, arith}
+use Rattle.std.proofs.Common.{◌≡◌, ℕ, ◌+◌, List, Result, Ok, Err, inl, inr, refl, ◌∙◌, ap, subst, arith}
 use Rattle.fr_shape.specs.declared.error.ReflectErrorKind.{ReflectErrorKind}
 use Rattle.fr_shape.specs.Checked.{IsChecked}
 use Rattle.fr_shape.specs.Hooks.{no_hooks}
