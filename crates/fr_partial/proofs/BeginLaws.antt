@@ -16,7 +16,7 @@ use Rattle.fr_shape.specs.View.{view}
 use Rattle.fr_shape.specs.Named.{field_named, first_declared}
 use Rattle.fr_model.specs.Places.{child_shape, count_children}
 use Rattle.fr_model.specs.Tree.{Form, Tree, begun, fresh, change_nth, change_child, change_at, tree_at, tree_occurs, State, one_more_call}
-use Rattle.fr_model.specs.Well.{IsFullAs}
+use Rattle.fr_model.specs.Well.{IsBegunAs}
 use Rattle.fr_model.specs.Step.{begin_nth_field, begin_field, enters, field_refusal, named_refusal, enter, enter_child}
 use Rattle.fr_partial.specs.declared.frame.Frame.{Frame}
 use Rattle.fr_partial.specs.declared.frame.Parent.{Parent}
@@ -46,10 +46,10 @@ entered_children table s cs i hole left children none rest =
     (subst (IsChild table (child_shape table s (0 + i))) (sym none) tt))
 
 pub entered_begun : (table : Table) (s : ℕ) (form : Form) (count : ℕ) (cs : List Value) (i : ℕ) (hole : Value)
-    (left : List Value) → IsFullAs (def_of table s) form count → length cs ≡ count → left ≡ set cs i hole
-    → IsFullAs (def_of table s) form (length left)
+    (left : List Value) → IsBegunAs (def_of table s) form count → length cs ≡ count → left ≡ set cs i hole
+    → IsBegunAs (def_of table s) form (length left)
 entered_begun table s form count cs i hole left begun_as counts rest =
-    subst (IsFullAs (def_of table s) form) (sym (ap length rest ∙ length-set cs i hole ∙ counts)) begun_as
+    subst (IsBegunAs (def_of table s) form) (sym (ap length rest ∙ length-set cs i hole ∙ counts)) begun_as
 
 pub entered_absent : (cs : List Value) (i : ℕ) (hole : Value) (left : List Value) → i < length cs → view hole ≡ unit
     → left ≡ set cs i hole → IsPlaceholder (slice_get left i)

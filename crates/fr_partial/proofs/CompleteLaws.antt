@@ -19,14 +19,15 @@ use Rattle.fr_shape.specs.View.{view}
 use Rattle.fr_model.specs.Complete.{complete, complete_all, made as made_as, lack, lack_among, lack_of_hole, lack_of_holes, lack_of_entered, made_of_entered, made_of_fills, valid_child, unless_failing, unless_there, hole_takes, missing_field, missing_value, missing_child, lack_by, made_by}
 use Rattle.fr_model.specs.Places.{child_count, child_shape, fill_at, each_child, product_of}
 use Rattle.fr_model.specs.Tree.{Form, as_struct, as_array, begun, tree_occurs}
-use Rattle.fr_model.specs.Well.{IsFullAs}
+use Rattle.fr_model.specs.Well.{IsFullAs, IsBegunAs}
 use Rattle.fr_partial.specs.declared.frame.Piece.{Piece}
 use Rattle.fr_partial.specs.Children.{is_placeholder, first_lacking, first_unfilled, filled, all_there}
-use Rattle.fr_partial.specs.Completing.{WantsMemory, WhyNot}
+use Rattle.fr_partial.specs.Completing.{NeedsMemory, WhyNot}
 use Rattle.fr_partial.specs.Filling.{has_no_hole}
 use Rattle.fr_partial.specs.Stack.{as_form, slots, node, IsPiece}
 use Rattle.fr_partial.proofs.FitLaws.{FitEach, product_fits, none_fits}
 use Rattle.fr_partial.proofs.FillingLaws.{is_absent_value, is_there, there_is, filled_there, filled_lacks, each_there, each_lacks, filled_fit, each_fit, filled_occurs, each_occurs}
+use Rattle.fr_partial.proofs.OrderLaws.{begun_full}
 use Rattle.fr_partial.proofs.StackLaws.{slots_occur}
 use Rattle.fr_partial.proofs.TemplateLaws.{IsTemplate, preset_template, fill_template, light_occurs, none_failing}
 
@@ -207,11 +208,11 @@ module _ (hooks : Meanings) (table : Table) (s : ℕ) (served : IsServed table) 
 
   -- a begun place
 
-  module _ (form : Form) (count : ℕ) (begun_as : IsFullAs (def_of table s) form count) where
+  module _ (form : Form) (count : ℕ) (begun_as : IsBegunAs (def_of table s) form count) where
     takes_is : (i : ℕ) → hole_takes table s form i ≡ fill_at table s i
     takes_is i = go (def_of table s) refl form begun_as
       where
-        go : (def : Def) → def_of table s ≡ def → (form : Form) → IsFullAs def form count
+        go : (def : Def) → def_of table s ≡ def → (form : Form) → IsBegunAs def form count
             → hole_takes table s form i ≡ fill_at table s i
         go def e as_struct b = refl
         go (Def.Array t n) e as_array b = rw e refl
@@ -283,9 +284,9 @@ piece_agrees hooks table s (Piece.Whole v) served suits = agree_some (view v)
 piece_agrees hooks table s (Piece.Begun form children) served suits =
     begun_agree hooks table s served (as_form form) (length children.items) suits.0 children.items
 
--- a place that isn't completed for want of memory makes a value and takes a template
+-- a place that isn't completed because memory ran out makes a value and takes a template
 pub only_wants : (table : Table) (s : ℕ) (piece : Piece) (kind : ReflectErrorKind) → IsServed table → IsPiece table s piece
-    → WhyNot table s (node piece) kind → kind ≡ ReflectErrorKind.OutOfMemory → WantsMemory table s (node piece) kind
+    → WhyNot table s (node piece) kind → kind ≡ ReflectErrorKind.OutOfMemory → NeedsMemory table s (node piece) kind
 only_wants table s piece kind served suits (inl wants) memory = wants
 only_wants table s piece kind served suits (inr lacking) memory =
     absurd
@@ -346,7 +347,8 @@ piece_made hooks table s (Piece.Begun form children) v checked served suits e =
     = filled_fit (fill_at table s) table s (fills_fit table s checked) 0 children.items those.those suits.1 those.there in
     subst (Made table s (tree_occurs (begun (as_form form) (slots children.items)))) those.is
     (record {
-      fitting = product_fits table s (as_form form) (length children.items) those.those suits.0 each.1 each.0;
+      fitting = product_fits table s (as_form form) (length children.items) those.those
+          (begun_full (def_of table s) (as_form form) (length children.items) suits.0) each.1 each.0;
       tokens = λ t.
           slots_occur children.items t
           ∙ sym

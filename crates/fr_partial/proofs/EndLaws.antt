@@ -13,7 +13,7 @@ use Rattle.fr_shape.specs.View.{view, vals_view}
 use Rattle.fr_model.specs.Places.{Place, is_root, up, child_shape}
 use Rattle.fr_model.specs.Tree.{Tree, whole, begun, tree_at, tree_occurs, trees_occur, one_more_call}
 use Rattle.fr_model.specs.Complete.{complete}
-use Rattle.fr_model.specs.Well.{IsFullAs}
+use Rattle.fr_model.specs.Well.{IsBegunAs}
 use Rattle.fr_model.specs.Step.{end, build, cause, or_missing}
 use Rattle.fr_partial.specs.declared.frame.Piece.{Piece}
 use Rattle.fr_partial.specs.declared.frame.Frame.{Frame}
@@ -141,11 +141,11 @@ module _ (table : Table) (root : ℕ) (above : List Parent) (parent : Parent) (f
 
   pub open_above : (children : List Value) (v : Value) → complete no_hooks table frame.shape.0 (node frame.piece) ≡ Some (view v)
       → children ≡ set parent.children.items parent.child v
-      → IsFullAs (def_of table parent.shape.0) (as_form parent.form) (length children) × AreChildren table parent.shape.0 0 children
+      → IsBegunAs (def_of table parent.shape.0) (as_form parent.form) (length children) × AreChildren table parent.shape.0 0 children
   open_above children v e wrote =
-      subst (λ (cs : List Value). IsFullAs (def_of table parent.shape.0) (as_form parent.form) (length cs) × AreChildren table parent.shape.0 0 cs)
+      subst (λ (cs : List Value). IsBegunAs (def_of table parent.shape.0) (as_form parent.form) (length cs) × AreChildren table parent.shape.0 0 cs)
       (sym wrote) (
-        subst (IsFullAs (def_of table parent.shape.0) (as_form parent.form)) (sym (length-set parent.children.items parent.child v))
+        subst (IsBegunAs (def_of table parent.shape.0) (as_form parent.form)) (sym (length-set parent.children.items parent.child v))
             popped.above.begun,
         children_set table parent.shape.0 0 parent.children.items parent.child v popped.above.children
             (fits_child table (child_shape table parent.shape.0 (0 + parent.child)) (view v)
@@ -167,10 +167,13 @@ module _ (table : Table) (root : ℕ) (above : List Parent) (parent : Parent) (f
       let those : trees_occur (slots children) t ≡ vals_occur (vals_view children) t = slots_occur children t in
       let after : tree_occurs (rebuild above (begun (as_form parent.form) (slots children))) t
       ≡ parents_hold above t + tree_occurs (begun (as_form parent.form) (slots children)) t
-      = occurs_rebuild table root above (record { shape = parent.shape; piece = Piece.Entered })
+      = occurs_rebuild table root above as_it_was
       (begun (as_form parent.form) (slots children)) t
-      (popped.instead (record { shape = parent.shape; piece = Piece.Entered }) (record { shape = refl; piece = tt })) in
+      (popped.instead as_it_was (record { shape = refl; piece = (popped.above.begun, popped.above.children) })) in
       omega arith
+    where
+      as_it_was : Frame
+      as_it_was = record { shape = parent.shape; piece = Piece.Begun parent.form parent.children }
 
 -- where the root makes a value, `build` isn't refused
 pub build_not_refused : (table : Table) (root : ℕ) (parents : List Parent) (frame : Frame) (calls : ℕ) (builder : Builder)

@@ -79,10 +79,6 @@ pub present : (a : Option Val) → is_none a ≡ false → IsSome a
 present (Some v) e = refl
 present None e = cc
 
-pub present_not : (a : Option Val) → a ≡ None → is_none a ≡ true
-present_not (Some v) e = cc
-present_not None e = refl
-
 module _ (fill : ℕ → Option Val) where
   -- nothing is lacking where all can be filled, and something where not
 

@@ -6,7 +6,9 @@ pub mod EndLaws
 pub mod FillingLaws
 pub mod FitLaws
 pub mod OpenLaws
+pub mod OrderLaws
 pub mod PutLaws
+pub mod RemovedLaws
 pub mod StackLaws
 pub mod TemplateLaws
 pub mod TestLaws

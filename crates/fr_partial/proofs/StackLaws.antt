@@ -76,7 +76,7 @@ around_occurs (c ∷ cs) (suc i) u t absent =
     omega arith
 
 -- however a place is begun, its children have the shapes that its definition says
-child_as_is : (table : Table) (s : ℕ) (form : Form) (i : ℕ) → child_as table s form i ≡ child_shape table s i
+pub child_as_is : (table : Table) (s : ℕ) (form : Form) (i : ℕ) → child_as table s form i ≡ child_shape table s i
 child_as_is table s as_struct i = refl
 child_as_is table s as_array i = refl
 

@@ -13,10 +13,10 @@ pub record IsLacking (table : Table) (s : ℕ) (t : Tree) (kind : ReflectErrorKi
   pub lacks : lack no_hooks table s t ≡ Some kind
 
 -- the place makes a value and takes a template, for which there is no memory
-pub record WantsMemory (table : Table) (s : ℕ) (t : Tree) (kind : ReflectErrorKind) : Type 0 where
+pub record NeedsMemory (table : Table) (s : ℕ) (t : Tree) (kind : ReflectErrorKind) : Type 0 where
   pub complete : IsSome (complete no_hooks table s t)
   pub takes : fills_nothing t ≡ false
   pub memory : kind ≡ ReflectErrorKind.OutOfMemory
 
 abbrev pub WhyNot : Table → ℕ → Tree → ReflectErrorKind → Type 0
-WhyNot table s t kind = WantsMemory table s t kind ⊎ IsLacking table s t kind
+WhyNot table s t kind = NeedsMemory table s t kind ⊎ IsLacking table s t kind

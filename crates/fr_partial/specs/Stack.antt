@@ -1,5 +1,5 @@
 -- The open places of a builder as one tree. Only the contracts inside this crate speak of them.
-use Rattle.std.specs.Prelude.{◌≡◌, ℕ, suc, ◌+◌, true, List, [], ◌∷◌, map, length, Option, Some, None, slice_get}
+use Rattle.std.specs.Prelude.{◌≡◌, ℕ, suc, ◌+◌, true, false, List, [], ◌∷◌, map, length, Option, Some, None, slice_get}
 use Rattle.fr_shape.specs.declared.value.Value.{Value}
 use Rattle.fr_shape.specs.Checked.{IsChecked}
 use Rattle.fr_shape.specs.Numbered.{IsNumbered}
@@ -8,10 +8,11 @@ use Rattle.fr_shape.specs.Look.{Table, def_of}
 use Rattle.fr_shape.specs.Val.{Val, unit}
 use Rattle.fr_shape.specs.View.{view, vals_view}
 use Rattle.fr_shape.specs.Tokens.{vals_occur}
+use Rattle.fr_shape.specs.Fills.{is_empty_struct}
 use Rattle.fr_shape.specs.Fits.{fits}
 use Rattle.fr_model.specs.Places.{Place, child_shape}
 use Rattle.fr_model.specs.Tree.{Form as TreeForm, as_struct, as_array, Tree, hole, entered, whole, begun, Trees, no_trees, branch, change_nth}
-use Rattle.fr_model.specs.Well.{IsFullAs}
+use Rattle.fr_model.specs.Well.{IsBegunAs}
 use Rattle.fr_partial.specs.declared.frame.Form.{Form}
 use Rattle.fr_partial.specs.declared.frame.Piece.{Piece}
 use Rattle.fr_partial.specs.declared.frame.Frame.{Frame}
@@ -59,11 +60,13 @@ abbrev pub AreChildren : Table → ℕ → ℕ → List Value → Type 0
 AreChildren table s i [] = Unit {0}
 AreChildren table s i (v ∷ vs) = IsChild table (child_shape table s i) (view v) × AreChildren table s (suc i) vs
 
+-- what stands at a place suits its shape: a struct without fields isn't just entered, a whole value fits, and a begun
+-- place has all its children
 abbrev pub IsPiece : Table → ℕ → Piece → Type 0
-IsPiece table s Piece.Entered = Unit {0}
+IsPiece table s Piece.Entered = is_empty_struct (def_of table s) ≡ false
 IsPiece table s (Piece.Whole v) = fits table s (view v) ≡ true
 IsPiece table s (Piece.Begun form children) =
-    IsFullAs (def_of table s) (as_form form) (length children.items) × AreChildren table s 0 children.items
+    IsBegunAs (def_of table s) (as_form form) (length children.items) × AreChildren table s 0 children.items
 
 -- a value that isn't there yet
 abbrev pub IsPlaceholder : Option Value → Type 0
@@ -73,7 +76,7 @@ IsPlaceholder None = ⊥
 -- a place above: a begun one whose open child isn't there
 pub record IsParent (table : Table) (s : ℕ) (parent : Parent) : Type 0 where
   pub shape : parent.shape.0 ≡ s
-  pub begun : IsFullAs (def_of table s) (as_form parent.form) (length parent.children.items)
+  pub begun : IsBegunAs (def_of table s) (as_form parent.form) (length parent.children.items)
   pub children : AreChildren table s 0 parent.children.items
   pub absent : IsPlaceholder (slice_get parent.children.items parent.child)
 

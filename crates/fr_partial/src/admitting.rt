@@ -25,7 +25,7 @@ fn element_refusal(item: ShapeId, count: u32, piece: &Piece, i: usize) -> Option
     } else {
         match piece {
             Piece::Whole(_) => Some(Operation::ElementOfWholeArray),
-            _ => None,
+            Piece::Entered | Piece::Begun(_, _) => None,
         }
     }
 }

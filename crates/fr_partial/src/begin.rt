@@ -3,8 +3,8 @@ ghost use Rattle.std.specs.Prelude.{◌≡◌, Ok, None};
 ghost use Rattle.fr_shape.specs.Look.{def_of};
 ghost use Rattle.fr_shape.specs.Released.{Room, Conserved};
 ghost use Rattle.fr_model.specs.Step.{enters, field_refusal};
-ghost use Rattle.fr_model.specs.Tree.{tree_at};
-ghost use Rattle.fr_partial.specs.Builder.{here, holds, IsStep, left};
+ghost use Rattle.fr_model.specs.Tree.{cursor_tree};
+ghost use Rattle.fr_partial.specs.Builder.{here, holds, left, IsStepTo};
 
 use crate::Partial;
 use crate::admitting::child_of;
@@ -13,15 +13,17 @@ use crate::releasing::{release_children, release_parents, release_piece};
 use fr_shape::{Ledger, ReflectErrorKind};
 
 impl<'t> Partial<'t> {
-    /// Enters a child that may be entered. Its place above may want memory.
+    /// Enters a child that may be entered. Its place above may need memory.
     pub(crate) fn enter(
         self,
         i: usize,
         ledger: &mut Ledger,
     ) -> Result<Partial<'t>, ReflectErrorKind>
         requires room { Room (holds self) ledger.old }
-        requires admitted { field_refusal (def_of self.shapes (here self)) (tree_at self.state.cursor self.state.tree) i ≡ None }
-        ensures step { IsStep self.entry (Ok (enters self.entry.shapes (here self.entry) self.entry.state i)) result }
+        requires admitted { field_refusal (def_of self.shapes (here self))
+            (cursor_tree self.state) i ≡ None }
+        ensures step { IsStepTo self.entry
+            (Ok (enters self.entry.shapes (here self.entry) self.entry.state i)) result }
         ensures tokens { Conserved (holds self.entry) ledger.old (left result) ledger.new }
     {
         let Partial {

@@ -1,25 +1,29 @@
 //! `begin_field`: on to a field that is told by its name.
-ghost use Rattle.std.specs.Prelude.{◌≡◌, IsErr};
 ghost use Rattle.fr_shape.specs.Released.{Room, Conserved};
-ghost use Rattle.fr_model.specs.Step.{begin_field};
-ghost use Rattle.fr_partial.specs.Builder.{here, holds, IsStep, left};
+ghost use Rattle.fr_model.specs.Commands.{Call};
+ghost use Rattle.fr_partial.specs.Builder.{holds, left, IsStep, RefusesBeforeMemory, RisesByRemoved};
 
 use crate::Partial;
 use crate::admitting::{field_named, named_refusal};
+use fr_model::law_removed;
 use fr_shape::{Ledger, ReflectErrorKind};
 
 impl<'t> Partial<'t> {
-    /// Enters the first field that is declared under this name. One that holds something already keeps it.
+    /// Enters the first field that is declared under this name. One that holds something already keeps it. Where no field
+    /// has the name, or the place is no struct, that is the refusal, and never out of memory.
     pub fn begin_field(
         self,
         field_name: &str,
         ledger: &mut Ledger,
     ) -> Result<Partial<'t>, ReflectErrorKind>
         requires room { Room (holds self) ledger.old }
-        ensures step { IsStep self.entry (begin_field self.entry.shapes (here self.entry) self.entry.state field_name.now) result }
+        ensures step { IsStep self.entry (Call.BeginField field_name.now) result }
         ensures tokens { Conserved (holds self.entry) ledger.old (left result) ledger.new }
-        ensures refused { IsErr (begin_field self.entry.shapes (here self.entry) self.entry.state field_name.now) → result ≡ Err ReflectErrorKind.OutOfMemory → ⊥ }
+        ensures removed { RisesByRemoved self.entry (Call.BeginField field_name.now) result
+            ledger.old ledger.new }
+        ensures refused { RefusesBeforeMemory self.entry (Call.BeginField field_name.now) result }
     {
+        law_removed();
         let shape = self.frame.shape;
         if let Some(operation) = named_refusal(self.table, shape) {
             self.abandon(ledger);

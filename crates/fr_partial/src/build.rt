@@ -1,29 +1,32 @@
 //! `build` and `abandon`: the two ends of a builder.
-ghost use Rattle.std.specs.Prelude.{◌≡◌, true, IfOk, IsErr};
+ghost use Rattle.std.specs.Prelude.{◌≡◌, true, IfOk};
 ghost use Rattle.fr_shape.specs.Fits.{fits};
-ghost use Rattle.fr_shape.specs.Hooks.{no_hooks};
 ghost use Rattle.fr_shape.specs.Released.{Room, RoseBy, Conserved};
-ghost use Rattle.fr_model.specs.Step.{build};
-ghost use Rattle.fr_model.specs.Tree.{tree_at};
+ghost use Rattle.fr_model.specs.Tree.{cursor_tree};
 ghost use Rattle.fr_partial.specs.Filling.{fills_nothing};
-ghost use Rattle.fr_partial.specs.Builder.{holds, IsBuilt, left_built};
+ghost use Rattle.fr_partial.specs.Builder.{holds, left_built, BuildRefusesBeforeMemory, IsBuilt, IsNotOutOfMemory, RisesByRemovedAtBuild};
 
 use crate::completing::complete;
 use crate::releasing::release_all;
 use crate::{Built, Partial};
+use fr_model::law_removed;
 use fr_shape::{Invariant, Ledger, ReflectErrorKind};
 
 impl<'t> Partial<'t> {
-    /// Completes the root and hands its value over. Only copies of templates want memory, and what is lacking is found
+    /// Completes the root and hands its value over. Only copies of templates need memory, and what is lacking is found
     /// before any is made.
     pub fn build(self, ledger: &mut Ledger) -> Result<Built, ReflectErrorKind>
         requires room { Room (holds self) ledger.old }
-        ensures built { IsBuilt self.entry (build no_hooks self.entry.shapes self.entry.root self.entry.state) result }
-        ensures fits { IfOk result (λ built. fits self.entry.shapes self.entry.root built.value ≡ true) }
+        ensures built { IsBuilt self.entry result }
+        ensures fits { IfOk result (λ built.
+            fits self.entry.shapes self.entry.root built.value ≡ true) }
         ensures tokens { Conserved (holds self.entry) ledger.old (left_built result) ledger.new }
-        ensures memory { fills_nothing (tree_at self.entry.state.cursor self.entry.state.tree) ≡ true → result ≡ Err ReflectErrorKind.OutOfMemory → ⊥ }
-        ensures refused { IsErr (build no_hooks self.entry.shapes self.entry.root self.entry.state) → result ≡ Err ReflectErrorKind.OutOfMemory → ⊥ }
+        ensures removed { RisesByRemovedAtBuild self.entry result ledger.old ledger.new }
+        ensures memory { fills_nothing (cursor_tree self.entry.state) ≡ true
+            → IsNotOutOfMemory result }
+        ensures refused { BuildRefusesBeforeMemory self.entry result }
     {
+        law_removed();
         let Partial {
             alloc,
             table,

@@ -59,7 +59,8 @@ pub fn put(children: &mut Vec<Value>, i: usize, child: Value)
 pub fn take(children: &mut Vec<Value>, i: usize) -> Value
     requires { i < length children.old.items }
     ensures taken { slice_get children.old.items i ≡ Some result }
-    ensures rest { (hole : Value) × (view hole ≡ unit) × (children.new.items ≡ slice_set children.old.items i hole) }
+    ensures rest { (hole : Value) × (view hole ≡ unit)
+        × (children.new.items ≡ slice_set children.old.items i hole) }
 {
     std::mem::replace(&mut children[i], Value::Unit)
 }

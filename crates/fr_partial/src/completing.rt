@@ -41,7 +41,7 @@ fn copy_fill(
     }
 }
 
-/// Puts a copy of its template at each child that isn't there. Only these want memory.
+/// Puts a copy of its template at each child that isn't there. Only these need memory.
 fn fill_holes(
     alloc: Global,
     table: &ShapeTable,
@@ -51,8 +51,10 @@ fn fill_holes(
     requires numbered { IsNumbered table.now }
     requires checked { IsChecked table.now }
     requires nothing_lacks { first_lacking (fill_at table.now shape.0) 0 children.old.items ≡ None }
-    ensures filled { OnOk result (filled (fill_at table.now shape.0) 0 children.old.items ≡ Some (vals_view children.new.items)) }
-    ensures tokens { (t : ℕ) → vals_occur (vals_view children.new.items) t ≡ vals_occur (vals_view children.old.items) t }
+    ensures filled { OnOk result (filled (fill_at table.now shape.0) 0 children.old.items
+        ≡ Some (vals_view children.new.items)) }
+    ensures tokens { (t : ℕ) → vals_occur (vals_view children.new.items) t
+        ≡ vals_occur (vals_view children.old.items) t }
     ensures memory { all_there children.old.items ≡ true → IsOk result }
 {
     for i in 0..children.len() {
@@ -74,7 +76,8 @@ fn made_of_fills(
     requires numbered { IsNumbered table.now }
     requires checked { IsChecked table.now }
     requires nothing_lacks { first_unfilled (fill_at table.now shape.0) count 0 ≡ None }
-    ensures { IfOk result (λ v. product_of (each_child (fill_at table.now shape.0) count 0) ≡ Some (view v)) }
+    ensures { IfOk result (λ v.
+        product_of (each_child (fill_at table.now shape.0) count 0) ≡ Some (view v)) }
 {
     let mut children = placeholders(alloc, count)?;
     fill_holes(alloc, table, shape, &mut children)?;
@@ -102,7 +105,7 @@ fn made_of_entered(alloc: Global, table: &ShapeTable, shape: ShapeId) -> Result<
     }
 }
 
-/// The value that the place makes. Where it makes none, or memory is wanting, its tokens are released. What is lacking
+/// The value that the place makes. Where it makes none, or there is no memory, its tokens are released. What is lacking
 /// is found first, without memory.
 pub fn complete(
     alloc: Global,
@@ -115,10 +118,12 @@ pub fn complete(
     requires served { IsServed table.now }
     requires place { IsFrame table.now frame.shape.0 frame }
     requires room { Room (tree_occurs (node frame.piece)) ledger.old }
-    ensures value { IfOk result (λ v. complete no_hooks table.now frame.shape.0 (node frame.piece) ≡ Some (view v)) }
+    ensures value { IfOk result (λ v.
+        complete no_hooks table.now frame.shape.0 (node frame.piece) ≡ Some (view v)) }
     ensures kept { OnOk result (ledger.new ≡ ledger.old) }
     ensures why { IfErr result (λ kind. WhyNot table.now frame.shape.0 (node frame.piece) kind) }
-    ensures released { OnErr result (RoseBy (tree_occurs (node frame.piece)) ledger.old ledger.new) }
+    ensures released { OnErr result
+        (RoseBy (tree_occurs (node frame.piece)) ledger.old ledger.new) }
 {
     if let Some(kind) = lack_of(table, &frame) {
         release_piece(frame.piece, ledger);

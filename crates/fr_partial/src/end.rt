@@ -1,29 +1,32 @@
 //! `end`: the place at which the builder works becomes whole, and the builder goes up.
-ghost use Rattle.std.specs.Prelude.{◌≡◌, true, IsErr};
-ghost use Rattle.fr_shape.specs.Hooks.{no_hooks};
+ghost use Rattle.std.specs.Prelude.{◌≡◌, true};
 ghost use Rattle.fr_shape.specs.Released.{Room, Conserved};
-ghost use Rattle.fr_model.specs.Step.{end};
-ghost use Rattle.fr_model.specs.Tree.{tree_at};
+ghost use Rattle.fr_model.specs.Commands.{Call};
+ghost use Rattle.fr_model.specs.Tree.{cursor_tree};
 ghost use Rattle.fr_partial.specs.Filling.{fills_nothing};
-ghost use Rattle.fr_partial.specs.Builder.{here, holds, IsStep, left};
+ghost use Rattle.fr_partial.specs.Builder.{holds, left, IsStep, IsNotOutOfMemory, RefusesBeforeMemory, RisesByRemoved};
 
 use crate::Partial;
 use crate::children::put;
 use crate::completing::complete;
 use crate::frame::{Frame, Parent, Piece};
 use crate::releasing::{release_children, release_parents, release_piece};
+use fr_model::law_removed;
 use fr_shape::{Invariant, Ledger, ReflectErrorKind};
 
 impl<'t> Partial<'t> {
-    /// Completes the place, writes its value into the place above, and goes there. Only copies of templates want
-    /// memory, and what is lacking is found before any is made.
+    /// Completes the place, writes its value into the place above, and goes there. Only copies of templates need memory,
+    /// and what is lacking is found before any is made.
     pub fn end(self, ledger: &mut Ledger) -> Result<Partial<'t>, ReflectErrorKind>
         requires room { Room (holds self) ledger.old }
-        ensures step { IsStep self.entry (end no_hooks self.entry.shapes (here self.entry) self.entry.state) result }
+        ensures step { IsStep self.entry Call.End result }
         ensures tokens { Conserved (holds self.entry) ledger.old (left result) ledger.new }
-        ensures memory { fills_nothing (tree_at self.entry.state.cursor self.entry.state.tree) ≡ true → result ≡ Err ReflectErrorKind.OutOfMemory → ⊥ }
-        ensures refused { IsErr (end no_hooks self.entry.shapes (here self.entry) self.entry.state) → result ≡ Err ReflectErrorKind.OutOfMemory → ⊥ }
+        ensures removed { RisesByRemoved self.entry Call.End result ledger.old ledger.new }
+        ensures memory { fills_nothing (cursor_tree self.entry.state) ≡ true
+            → IsNotOutOfMemory result }
+        ensures refused { RefusesBeforeMemory self.entry Call.End result }
     {
+        law_removed();
         let Partial {
             alloc,
             table,

@@ -50,7 +50,7 @@ fn entered(alloc: Global, table: &ShapeTable, shape: ShapeId, value: Value) -> P
     }
 }
 
-/// The children of a place, as many as it has fields or elements. Only a place that was just entered wants memory.
+/// The children of a place, as many as it has fields or elements. Only a place that was just entered needs memory.
 fn open(
     alloc: Global,
     table: &ShapeTable,
@@ -62,10 +62,13 @@ fn open(
     requires place { IsPiece table.now shape.0 piece }
     requires child { Describes table.now shape.0 i child }
     requires admitted { field_refusal (def_of table.now shape.0) (node piece) i ≡ None }
-    ensures tree { IfOk result (λ children. opened_as (as_form child.form) child.count (node piece) ≡ begun (as_form child.form) (slots children.items)) }
+    ensures tree { IfOk result (λ children.
+        opened_as (as_form child.form) child.count (node piece)
+        ≡ begun (as_form child.form) (slots children.items)) }
     ensures count { IfOk result (λ children. length children.items ≡ child.count) }
     ensures fitting { IfOk result (λ children. AreChildren table.now shape.0 0 children.items) }
-    ensures tokens { IfOk result (λ children. (t : ℕ) → vals_occur (vals_view children.items) t ≡ tree_occurs (node piece) t) }
+    ensures tokens { IfOk result (λ children.
+        (t : ℕ) → vals_occur (vals_view children.items) t ≡ tree_occurs (node piece) t) }
     ensures nothing_lost { OnErr result ((t : ℕ) → tree_occurs (node piece) t ≡ 0) }
 {
     let _table = table;
@@ -87,11 +90,16 @@ pub fn enter_child(
     requires place { IsFrame table.now frame.shape.0 frame }
     requires child { Describes table.now frame.shape.0 i child }
     requires admitted { field_refusal (def_of table.now frame.shape.0) (node frame.piece) i ≡ None }
-    ensures tree { IfOk result (λ both. around both.0 (node both.1.piece) ≡ enter_child table.now frame.shape.0 i (node frame.piece)) }
+    ensures tree { IfOk result (λ both.
+        around both.0 (node both.1.piece)
+        ≡ enter_child table.now frame.shape.0 i (node frame.piece)) }
     ensures above { IfOk result (λ both. IsParent table.now frame.shape.0 both.0) }
     ensures number { IfOk result (λ both. both.0.child ≡ i) }
-    ensures below { IfOk result (λ both. IsFrame table.now (child_shape table.now frame.shape.0 i) both.1) }
-    ensures tokens { IfOk result (λ both. (t : ℕ) → vals_occur (vals_view both.0.children.items) t + tree_occurs (node both.1.piece) t ≡ tree_occurs (node frame.piece) t) }
+    ensures below { IfOk result (λ both.
+        IsFrame table.now (child_shape table.now frame.shape.0 i) both.1) }
+    ensures tokens { IfOk result (λ both.
+        (t : ℕ) → vals_occur (vals_view both.0.children.items) t
+        + tree_occurs (node both.1.piece) t ≡ tree_occurs (node frame.piece) t) }
     ensures nothing_lost { OnErr result ((t : ℕ) → tree_occurs (node frame.piece) t ≡ 0) }
 {
     let Frame { shape, piece } = frame;

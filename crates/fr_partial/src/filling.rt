@@ -23,7 +23,9 @@ pub fn copy_template(alloc: Global, template: &Template) -> Result<Value, OutOfM
 /// The template that a field takes where it is a hole.
 fn strict_fill<'a>(table: &'a ShapeTable, field: FieldRef) -> Option<&'a Template>
     requires there { IsSome (field_at table.now field) }
-    ensures fill { IfSome (field_at table.now field) (λ found. option_copied result ≡ strict_fill table.now field.shape.0 (is_of_variant field) found) }
+    ensures fill { IfSome (field_at table.now field) (λ found.
+        option_copied result
+        ≡ strict_fill table.now field.shape.0 (is_of_variant field) found) }
 {
     match determine_fill_rule(table, field) {
         FillRule::Defaultable(default) => default.template(table),

@@ -1,10 +1,11 @@
 //! The builder.
-ghost use Rattle.std.specs.Prelude.{◌≡◌, IfOk, IsOk};
+ghost use Rattle.std.specs.Prelude.{◌≡◌, IfOk};
 ghost use Rattle.fr_shape.specs.Checked.{IsChecked};
 ghost use Rattle.fr_shape.specs.Look.{IsIn};
 ghost use Rattle.fr_shape.specs.Numbered.{IsNumbered};
 ghost use Rattle.fr_shape.specs.Served.{IsServed};
 ghost use Rattle.fr_model.specs.Tree.{initial};
+ghost use Rattle.fr_model.specs.Well.{IsInOrder};
 
 use crate::entering::fresh;
 use crate::frame::{Frame, Parent};
@@ -12,7 +13,7 @@ use fr_shape::{OutOfMemory, ShapeId, ShapeTable};
 use std::alloc::Global;
 use std::marker::Model;
 
-/// A builder of one value of a shape of `table`. Each consuming call spends it and answers it again, or is refused;
+/// A builder of one value of a shape of `table`. Each consuming call spends it and returns it again, or is refused;
 /// a refusal has released every token that it held. It has no `Drop`: `build` or `abandon` ends it.
 pub struct Partial<'t> {
     pub(crate) alloc: Global,
@@ -47,8 +48,8 @@ impl<'t> Model for Partial<'t> {
 }
 
 impl<'t> Partial<'t> {
-    /// A builder of a value of this shape, at which nothing was put yet. It needs no memory today; the error is for
-    /// the plan that it will hold.
+    /// A builder of a value of this shape, at which nothing was put yet. The error is for the plan of the shape that
+    /// the builder will hold.
     pub fn alloc_shape(
         alloc: Global,
         table: &'t ShapeTable,
@@ -61,7 +62,6 @@ impl<'t> Partial<'t> {
         ensures shapes { IfOk result (λ p. p.shapes ≡ table.now) }
         ensures root { IfOk result (λ p. p.root ≡ id.0) }
         ensures state { IfOk result (λ p. p.state ≡ initial table.now id.0) }
-        ensures succeeds { IsOk result }
     {
         Ok(Partial {
             alloc,
@@ -74,5 +74,16 @@ impl<'t> Partial<'t> {
             },
             calls: 0,
         })
+    }
+
+    /// What is true of every builder, whoever made it. It does nothing. With it a caller who was handed a builder can
+    /// use the laws of fr_model, but for those of distinct tokens, of which the caller's own premises tell.
+    pub fn law_in_order(&self)
+        ensures numbered { IsNumbered self.now.shapes }
+        ensures checked { IsChecked self.now.shapes }
+        ensures served { IsServed self.now.shapes }
+        ensures in_order { IsInOrder self.now.shapes self.now.root self.now.state }
+    {
+        let _frame = &self.frame;
     }
 }

@@ -20,7 +20,8 @@ impl<'t> Partial<'t> {
         ensures state { result.state ≡ puts self.entry.state (view value) }
         ensures shapes { result.shapes ≡ self.entry.shapes }
         ensures root { result.root ≡ self.entry.root }
-        ensures tokens { Conserved (λ t. holds self.entry t + occurs (view value) t) ledger.old (holds result) ledger.new }
+        ensures tokens { Conserved (λ t. holds self.entry t + occurs (view value) t) ledger.old
+            (holds result) ledger.new }
     {
         let Partial {
             alloc,

@@ -43,7 +43,8 @@ pub fn release_parents(mut parents: Vec<Parent>, ledger: &mut Ledger)
 /// Releases the tokens of all open places.
 pub fn release_all(parents: Vec<Parent>, piece: Piece, ledger: &mut Ledger)
     requires { Room (λ t. parents_hold parents.items t + tree_occurs (node piece) t) ledger.old }
-    ensures { RoseBy (λ t. parents_hold parents.items t + tree_occurs (node piece) t) ledger.old ledger.new }
+    ensures { RoseBy (λ t. parents_hold parents.items t + tree_occurs (node piece) t)
+        ledger.old ledger.new }
 {
     release_piece(piece, ledger);
     release_parents(parents, ledger);

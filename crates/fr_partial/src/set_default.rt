@@ -1,22 +1,24 @@
 //! `set_default`: the default of its shape at the place at which the builder works.
-ghost use Rattle.std.specs.Prelude.{◌≡◌, IsErr};
 ghost use Rattle.fr_shape.specs.Released.{Room, Conserved};
-ghost use Rattle.fr_model.specs.Step.{set_default};
-ghost use Rattle.fr_partial.specs.Builder.{here, holds, IsStep, left};
+ghost use Rattle.fr_model.specs.Commands.{Call};
+ghost use Rattle.fr_partial.specs.Builder.{holds, left, IsStep, RefusesBeforeMemory, RisesByRemoved};
 
 use crate::Partial;
 use crate::filling::copy_template;
+use fr_model::law_removed;
 use fr_shape::{Ledger, Operation, ReflectErrorKind};
 
 impl<'t> Partial<'t> {
     /// Puts a copy of the default of the place's shape there, in the stead of all that was put at the place and beneath
-    /// it. Where there is no default, that is the refusal, and never want of memory.
+    /// it. Where there is no default, that is the refusal, and never out of memory.
     pub fn set_default(self, ledger: &mut Ledger) -> Result<Partial<'t>, ReflectErrorKind>
         requires room { Room (holds self) ledger.old }
-        ensures step { IsStep self.entry (set_default self.entry.shapes (here self.entry) self.entry.state) result }
+        ensures step { IsStep self.entry Call.SetDefault result }
         ensures tokens { Conserved (holds self.entry) ledger.old (left result) ledger.new }
-        ensures refused { IsErr (set_default self.entry.shapes (here self.entry) self.entry.state) → result ≡ Err ReflectErrorKind.OutOfMemory → ⊥ }
+        ensures removed { RisesByRemoved self.entry Call.SetDefault result ledger.old ledger.new }
+        ensures refused { RefusesBeforeMemory self.entry Call.SetDefault result }
     {
+        law_removed();
         let shape = self.frame.shape;
         let Some(template) = self.table.preset(shape) else {
             self.abandon(ledger);

@@ -3,10 +3,11 @@ ghost use Rattle.std.specs.Prelude.{◌≡◌, ◌+◌, true};
 ghost use Rattle.fr_shape.specs.Fits.{fits};
 ghost use Rattle.fr_shape.specs.Released.{Room, Conserved};
 ghost use Rattle.fr_shape.specs.Tokens.{occurs};
-ghost use Rattle.fr_model.specs.Step.{set};
-ghost use Rattle.fr_partial.specs.Builder.{here, holds, IsStep, left};
+ghost use Rattle.fr_model.specs.Commands.{Call};
+ghost use Rattle.fr_partial.specs.Builder.{holds, left, IsStep, IsNotOutOfMemory, RisesByRemoved};
 
 use crate::Partial;
+use fr_model::law_removed;
 use fr_shape::{Ledger, ReflectErrorKind, Shaped, release};
 
 impl<'t> Partial<'t> {
@@ -18,10 +19,14 @@ impl<'t> Partial<'t> {
     ) -> Result<Partial<'t>, ReflectErrorKind>
         requires fits { fits self.shapes value.shape value.value ≡ true }
         requires room { Room (λ t. holds self t + occurs value.value t) ledger.old }
-        ensures step { IsStep self.entry (set (here self.entry) self.entry.state value.shape value.value) result }
-        ensures tokens { Conserved (λ t. holds self.entry t + occurs value.value t) ledger.old (left result) ledger.new }
-        ensures memory { result ≡ Err ReflectErrorKind.OutOfMemory → ⊥ }
+        ensures step { IsStep self.entry (Call.Set value.shape value.value) result }
+        ensures tokens { Conserved (λ t. holds self.entry t + occurs value.value t) ledger.old
+            (left result) ledger.new }
+        ensures removed { RisesByRemoved self.entry (Call.Set value.shape value.value) result
+            ledger.old ledger.new }
+        ensures memory { IsNotOutOfMemory result }
     {
+        law_removed();
         let expected = self.frame.shape;
         let actual = value.shape();
         if actual.0 == expected.0 {

@@ -22,24 +22,9 @@ fn shape(alloc: Global, name: &str, def: Def, preset: Option<Template>) -> Optio
     ensures def { IfSome result (λ shape. shape.def ≡ def) }
     ensures served { serves_def def ≡ true → IfSome result (λ shape. serves shape ≡ true) }
 {
-    Some(Shape {
-        name: Text::new(alloc, name).ok()?,
-        def,
-        preset,
-        default_attr: false,
-        inner: None,
-        builder: None,
-        convert: None,
-        parse: None,
-        parse_bytes: None,
-        proxy: None,
-        format_proxies: Items::new(alloc),
-        invariant: None,
-        metadata: false,
-        deny_unknown: false,
-        transparent: false,
-        bytes_ok: false,
-    })
+    let mut plain = Shape::new(alloc, Text::new(alloc, name).ok()?, def);
+    plain.preset = preset;
+    Some(plain)
 }
 
 fn defaulted(alloc: Global, name: &str, def: Def, default: Value) -> Option<Shape>
@@ -52,18 +37,9 @@ fn defaulted(alloc: Global, name: &str, def: Def, default: Value) -> Option<Shap
 fn field(alloc: Global, name: &str, shape: u32, default: Option<DefaultSource>) -> Option<Field>
     ensures { IfSome result (λ field. serves_field field ≡ true) }
 {
-    Some(Field {
-        name: Text::new(alloc, name).ok()?,
-        rename: None,
-        alias: None,
-        shape: ShapeId(shape),
-        default,
-        skip: false,
-        flatten: false,
-        proxy: None,
-        format_proxies: Items::new(alloc),
-        validators: Items::new(alloc),
-    })
+    let mut plain = Field::new(alloc, Text::new(alloc, name).ok()?, ShapeId(shape));
+    plain.default = default;
+    Some(plain)
 }
 
 /// A struct of a number with a default of its own, an option, a pair of numbers and a token.
@@ -98,8 +74,10 @@ struct Leaves {
 }
 
 fn describe_leaves(alloc: Global) -> Option<Leaves>
-    ensures served { IfSome result (λ l. (serves l.number ≡ true) × (serves l.opaque ≡ true) × (serves l.option ≡ true)) }
-    ensures counts { IfSome result (λ l. (field_count l.number.def ≡ 0) × (field_count l.opaque.def ≡ 0) × (field_count l.option.def ≡ 0)) }
+    ensures served { IfSome result (λ l. (serves l.number ≡ true) × (serves l.opaque ≡ true)
+        × (serves l.option ≡ true)) }
+    ensures counts { IfSome result (λ l. (field_count l.number.def ≡ 0)
+        × (field_count l.opaque.def ≡ 0) × (field_count l.option.def ≡ 0)) }
 {
     let number = defaulted(alloc, "number", Def::Scalar(ScalarKind::U32), Value::Nat(5))?;
     let opaque = shape(alloc, "opaque", Def::Opaque, None)?;
@@ -120,7 +98,8 @@ struct Branches {
 
 fn describe_branches(alloc: Global) -> Option<Branches>
     ensures served { IfSome result (λ b. (serves b.pair ≡ true) × (serves b.structure ≡ true)) }
-    ensures counts { IfSome result (λ b. (field_count b.pair.def ≡ 0) × (field_count b.structure.def ≡ 4)) }
+    ensures counts { IfSome result (λ b. (field_count b.pair.def ≡ 0)
+        × (field_count b.structure.def ≡ 4)) }
 {
     let pair = shape(alloc, "pair", Def::Array(ShapeId(0), 2), None)?;
     let described = members(alloc)?;

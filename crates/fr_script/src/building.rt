@@ -12,7 +12,6 @@ ghost use Rattle.fr_model.specs.Journal.{journal_run};
 ghost use Rattle.fr_model.specs.Run.{full_run};
 ghost use Rattle.fr_model.specs.Scripts.{IsFitting, IsValid, brings, brought};
 ghost use Rattle.fr_model.specs.Settled.{IsSettled};
-ghost use Rattle.fr_model.specs.Step.{step};
 ghost use Rattle.fr_partial.specs.Builder.{holds, IsStep, left};
 ghost use Rattle.fr_script.specs.Outcomes.{IsRun, IsJournals, answered};
 
@@ -90,8 +89,7 @@ fn call<'t>(
     requires same { partial.shapes ≡ table.now }
     requires fitting { IsFitting table.now (call_of command) }
     requires room { Room (λ t. holds partial t + brings (call_of command) t) ledger.old }
-    ensures step { IsStep partial.entry (step no_hooks partial.entry.shapes partial.entry.root
-        partial.entry.state (call_of command)) result }
+    ensures step { IsStep partial.entry (call_of command) result }
     ensures tokens { Conserved (λ t. holds partial.entry t + brings (call_of command) t) ledger.old
         (left result) ledger.new }
 {

@@ -8,6 +8,7 @@ use Rattle.fr_model.specs.Tree.{Form, tree_occurs}
 use Rattle.fr_partial.specs.Stack.{as_form, slot, node, IsChild, IsPiece}
 use Rattle.fr_partial.proofs.BeginLaws.{entered_tree, entered_children, entered_begun, entered_absent, entered_occurs}
 use Rattle.fr_partial.proofs.ChildrenLaws.{child_known, vals_occur_out}
+use Rattle.fr_partial.proofs.OrderLaws.{full_begun}
 use Rattle.fr_partial.proofs.entering.enter_child.Goals as goal
 
 pub returns-in-Ok-clause-tree : goal.returns-in-Ok-clause-tree
@@ -28,7 +29,10 @@ returns-in-Ok-clause-above c = record {
   shape = refl;
   begun =
       entered_begun c.args.table.now c.args.frame.shape.0 (as_form c.args.child.form) c.args.child.count c.in-Ok.opened.items c.args.i
-      c.take-value.ensures.rest.0 c.take-value.new.children.items c.requires.child.begun c.in-Ok.ensures.count
+      c.take-value.ensures.rest.0 c.take-value.new.children.items
+      (full_begun (def_of c.args.table.now c.args.frame.shape.0) (as_form c.args.child.form) c.args.child.count
+      (node c.args.frame.piece) c.args.i c.requires.child.begun c.requires.child.within c.requires.admitted)
+      c.in-Ok.ensures.count
       c.take-value.ensures.rest.2;
   children =
       entered_children c.args.table.now c.args.frame.shape.0 c.in-Ok.opened.items c.args.i c.take-value.ensures.rest.0

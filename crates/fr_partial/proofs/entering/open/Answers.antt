@@ -8,6 +8,7 @@ use Rattle.fr_partial.specs.declared.frame.Piece.{Piece}
 use Rattle.fr_partial.specs.Stack.{as_form, node, slots, AreChildren, IsPiece}
 use Rattle.fr_partial.proofs.FillingLaws.{AreAbsent}
 use Rattle.fr_partial.proofs.OpenLaws.{over_ok, absent_slots, absent_children, absent_occur, AsStruct, whole_as_struct, whole_is_product, whole_count, whole_children, whole_tree, same_begun}
+use Rattle.fr_partial.proofs.OrderLaws.{begun_full}
 use Rattle.fr_partial.proofs.StackLaws.{slots_occur}
 use Rattle.fr_partial.proofs.entering.open.Goals as goal
 use Rattle.fr_partial.proofs.entering.open.Goals.{In-Whole, In-Begun}
@@ -26,7 +27,10 @@ same : (c : In-Begun)
     → (as_form c.in-Begun.field-0 ≡ as_form c.args.child.form) × (length c.in-Begun.children.items ≡ c.args.child.count)
 same c =
     same_begun (def_of c.args.table.now c.args.shape.0) (as_form c.in-Begun.field-0) (as_form c.args.child.form)
-    (length c.in-Begun.children.items) c.args.child.count (piece c).0 c.requires.child.begun
+    (length c.in-Begun.children.items) c.args.child.count
+    (begun_full (def_of c.args.table.now c.args.shape.0) (as_form c.in-Begun.field-0)
+    (length c.in-Begun.children.items) (piece c).0)
+    c.requires.child.begun
 
 pub children_of-requires : goal.children_of-requires
 children_of-requires c =

@@ -10,6 +10,7 @@ use Rattle.fr_partial.specs.Children.{first_lacking}
 use Rattle.fr_partial.specs.Stack.{as_form, node, IsPiece}
 use Rattle.fr_partial.proofs.CompleteLaws.{slots_lack, few_children}
 use Rattle.fr_partial.proofs.FillingLaws.{lacking_below}
+use Rattle.fr_partial.proofs.OrderLaws.{begun_full}
 use Rattle.fr_partial.proofs.lacking.lack_of.Goals as goal
 
 pub missing_child-requires : goal.missing_child-requires
@@ -19,7 +20,8 @@ missing_child-requires c h =
     let few : length c.in-Begun.children.items < 2 ^ 32
     = few_children c.args.table.now c.args.frame.now.shape.0 (length c.in-Begun.children.items) c.requires.numbered
     (subst (λ (form : Form). IsFullAs (def_of c.args.table.now c.args.frame.now.shape.0) form (length c.in-Begun.children.items)) h
-    suits.0) in
+    (begun_full (def_of c.args.table.now c.args.frame.now.shape.0) (as_form c.in-Begun.form)
+    (length c.in-Begun.children.items) suits.0)) in
     let first : first_lacking (fill_at c.args.table.now c.args.frame.now.shape.0) 0 c.in-Begun.children.items ≡ Some c.in-Some.i
     = ap (first_lacking (fill_at c.args.table.now c.args.frame.now.shape.0) 0) (sym c.deref.ensures.value)
     ∙ sym c.in-Some.ensures in

@@ -1,10 +1,12 @@
-use Rattle.std.proofs.Common.{false, true, ◌≡◌, Result, inr, sym, subst}
+use Rattle.std.proofs.Common.{◌≡◌, true, false, Result, Err, inr, sym, subst, arith}
 use Rattle.fr_shape.specs.declared.error.ReflectErrorKind.{ReflectErrorKind}
 use Rattle.fr_shape.specs.Look.{def_of}
 use Rattle.fr_model.specs.Tree.{State}
-use Rattle.fr_partial.specs.Builder.{IsStep}
+use Rattle.fr_partial.specs.Builder.{holds, IsStepTo}
 use Rattle.fr_partial.specs.Stack.{node}
 use Rattle.fr_partial.proofs.BeginLaws.{admitted_there, named_within, named_admitted, named_refused, named_unknown}
+use Rattle.fr_model.specs.Commands.{Call}
+use Rattle.fr_partial.proofs.RemovedLaws.{in_order, rises_by_removed, all_released}
 use Rattle.fr_partial.proofs.partial.Partial.begin_field.Goals as goal
 
 pub returns-in-Some-clause-step : goal.returns-in-Some-clause-step
@@ -23,7 +25,7 @@ enter-requires-clause-admitted c =
 
 pub returns-in-Some-field_named-clause-step : goal.returns-in-Some-field_named-clause-step
 returns-in-Some-field_named-clause-step c =
-    subst (λ (meant : Result State ReflectErrorKind). IsStep c.args.self meant c.enter.result)
+    subst (λ (meant : Result State ReflectErrorKind). IsStepTo c.args.self meant c.enter.result)
     (sym
     (named_admitted c.self.inside.table.now c.self.inside.root.0 c.self.inside.parents.items c.self.inside.frame
     c.self.inside.calls c.self.invariant.chain c.args.self c.self.view_is c.args.field_name.now c.in-Some-field_named.i
@@ -45,3 +47,33 @@ returns-in-Some-field_named-clause-refused c refused e =
     c.in-Some-field_named.i (sym c.in_default.ensures) (sym c.in-Some-field_named.ensures))
     at refused in
     cc
+
+pub returns-in-Some-clause-removed : goal.returns-in-Some-clause-removed
+returns-in-Some-clause-removed c =
+    rises_by_removed c.law_removed.ensures.step c.args.self
+    (in_order c.self.inside.table.now c.self.inside.root.0 c.self.inside.parents.items c.self.inside.frame
+    c.self.inside.calls c.args.self c.self.invariant c.self.view_is)
+    (Call.BeginField c.args.field_name.now) (holds c.args.self) (λ t. omega arith)
+    (Err (ReflectErrorKind.OperationFailed c.self.inside.frame.shape c.in-Some.operation)) c.args.ledger.now
+    c.abandon.new.ledger (returns-in-Some-clause-step c)
+    (all_released (holds c.args.self) (ReflectErrorKind.OperationFailed c.self.inside.frame.shape c.in-Some.operation)
+    c.args.ledger.now c.abandon.new.ledger c.abandon.ensures.released)
+
+pub returns-in-Some-field_named-clause-removed : goal.returns-in-Some-field_named-clause-removed
+returns-in-Some-field_named-clause-removed c =
+    rises_by_removed c.law_removed.ensures.step c.args.self
+    (in_order c.self.inside.table.now c.self.inside.root.0 c.self.inside.parents.items c.self.inside.frame
+    c.self.inside.calls c.args.self c.self.invariant c.self.view_is)
+    (Call.BeginField c.args.field_name.now) (holds c.args.self) (λ t. omega arith) c.enter.result c.args.ledger.now
+    c.enter.new.ledger (returns-in-Some-field_named-clause-step c) c.enter.ensures.tokens
+
+pub returns-in-None-clause-removed : goal.returns-in-None-clause-removed
+returns-in-None-clause-removed c =
+    rises_by_removed c.law_removed.ensures.step c.args.self
+    (in_order c.self.inside.table.now c.self.inside.root.0 c.self.inside.parents.items c.self.inside.frame
+    c.self.inside.calls c.args.self c.self.invariant c.self.view_is)
+    (Call.BeginField c.args.field_name.now) (holds c.args.self) (λ t. omega arith)
+    (Err (ReflectErrorKind.FieldError c.self.inside.frame.shape)) c.args.ledger.now c.abandon-in-None.new.ledger
+    (returns-in-None-clause-step c)
+    (all_released (holds c.args.self) (ReflectErrorKind.FieldError c.self.inside.frame.shape) c.args.ledger.now
+    c.abandon-in-None.new.ledger c.abandon-in-None.ensures.released)

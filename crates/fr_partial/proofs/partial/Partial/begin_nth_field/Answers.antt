@@ -1,8 +1,10 @@
-use Rattle.std.proofs.Common.{◌≡◌, true, false, Result, inr, sym, subst}
+use Rattle.std.proofs.Common.{◌≡◌, true, false, Result, Err, inr, sym, subst, arith}
 use Rattle.fr_shape.specs.declared.error.ReflectErrorKind.{ReflectErrorKind}
 use Rattle.fr_model.specs.Tree.{State}
-use Rattle.fr_partial.specs.Builder.{IsStep}
+use Rattle.fr_partial.specs.Builder.{holds, IsStepTo}
 use Rattle.fr_partial.proofs.BeginLaws.{admitted_there, begin_admitted, begin_refused}
+use Rattle.fr_model.specs.Commands.{Call}
+use Rattle.fr_partial.proofs.RemovedLaws.{in_order, rises_by_removed, all_released}
 use Rattle.fr_partial.proofs.partial.Partial.begin_nth_field.Goals as goal
 
 pub enter-requires-clause-admitted : goal.enter-requires-clause-admitted
@@ -19,7 +21,7 @@ returns-in-Some-clause-step c =
 
 pub returns-in-None-clause-step : goal.returns-in-None-clause-step
 returns-in-None-clause-step c =
-    subst (λ (meant : Result State ReflectErrorKind). IsStep c.args.self meant c.enter.result)
+    subst (λ (meant : Result State ReflectErrorKind). IsStepTo c.args.self meant c.enter.result)
     (sym
     (begin_admitted c.self.inside.table.now c.self.inside.root.0 c.self.inside.parents.items c.self.inside.frame
     c.self.inside.calls c.self.invariant.chain c.args.self c.self.view_is c.args.idx (sym c.in-None.ensures)))
@@ -32,3 +34,22 @@ returns-in-None-clause-refused c refused e =
     c.self.inside.calls c.self.invariant.chain c.args.self c.self.view_is c.args.idx (sym c.in-None.ensures))
     at refused in
     cc
+
+pub returns-in-Some-clause-removed : goal.returns-in-Some-clause-removed
+returns-in-Some-clause-removed c =
+    rises_by_removed c.law_removed.ensures.step c.args.self
+    (in_order c.self.inside.table.now c.self.inside.root.0 c.self.inside.parents.items c.self.inside.frame
+    c.self.inside.calls c.args.self c.self.invariant c.self.view_is)
+    (Call.BeginNthField c.args.idx) (holds c.args.self) (λ t. omega arith)
+    (Err (ReflectErrorKind.OperationFailed c.self.inside.frame.shape c.in-Some.operation)) c.args.ledger.now
+    c.abandon.new.ledger (returns-in-Some-clause-step c)
+    (all_released (holds c.args.self) (ReflectErrorKind.OperationFailed c.self.inside.frame.shape c.in-Some.operation)
+    c.args.ledger.now c.abandon.new.ledger c.abandon.ensures.released)
+
+pub returns-in-None-clause-removed : goal.returns-in-None-clause-removed
+returns-in-None-clause-removed c =
+    rises_by_removed c.law_removed.ensures.step c.args.self
+    (in_order c.self.inside.table.now c.self.inside.root.0 c.self.inside.parents.items c.self.inside.frame
+    c.self.inside.calls c.args.self c.self.invariant c.self.view_is)
+    (Call.BeginNthField c.args.idx) (holds c.args.self) (λ t. omega arith) c.enter.result c.args.ledger.now
+    c.enter.new.ledger (returns-in-None-clause-step c) c.enter.ensures.tokens

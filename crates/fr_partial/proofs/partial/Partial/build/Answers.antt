@@ -1,6 +1,9 @@
-use Rattle.std.proofs.Common.{◌≡◌, ℕ, List, [], ◌∷◌, refl, vec_len, length, slice_index, sym, ap, ◌∙◌, subst, true, false, arith}
+use Rattle.std.proofs.Common.{◌≡◌, ℕ, List, [], ◌∷◌, refl, vec_len, length, Err, slice_index, sym, ap, ◌∙◌, subst, true, false, arith}
+use Rattle.std.proofs.lemmas.Grind.{common_steps}
 use Rattle.std.proofs.lemmas.Bool.{eqb-true}
+use Rattle.fr_shape.specs.declared.error.Invariant.{Invariant}
 use Rattle.fr_shape.specs.declared.error.ReflectErrorKind.{ReflectErrorKind}
+use Rattle.fr_shape.specs.Released.{Conserved}
 use Rattle.fr_shape.specs.Tokens.{occurs}
 use Rattle.fr_shape.specs.View.{view}
 use Rattle.fr_model.specs.Tree.{tree_at, tree_occurs}
@@ -9,14 +12,15 @@ use Rattle.fr_partial.specs.declared.frame.Frame.{Frame}
 use Rattle.fr_shape.specs.Fits.{fits}
 use Rattle.fr_shape.specs.Hooks.{no_hooks}
 use Rattle.fr_shape.specs.Look.{Table}
-use Rattle.fr_partial.specs.Builder.{Builder, holds}
-use Rattle.fr_partial.specs.Completing.{WantsMemory}
+use Rattle.fr_partial.specs.Builder.{Builder, holds, left_built, IsBuilt}
+use Rattle.fr_partial.specs.Completing.{NeedsMemory}
 use Rattle.fr_partial.specs.Filling.{fills_nothing}
 use Rattle.fr_partial.specs.Stack.{node, IsFrame, IsChain, parents_hold}
 use Rattle.fr_partial.proofs.CompleteLaws.{Made, piece_made, only_wants}
 use Rattle.fr_partial.proofs.StackLaws.{chain_frame}
 use Rattle.fr_partial.proofs.BuilderLaws.{places_hold, holds_of, room_of, room_here, tree_here}
 use Rattle.fr_partial.proofs.EndLaws.{build_not_refused}
+use Rattle.fr_partial.proofs.RemovedLaws.{in_order, rises_by_removed_at_build}
 use Rattle.fr_partial.proofs.partial.Partial.build.Goals as goal
 use Rattle.fr_partial.proofs.partial.Partial.build.Goals.{After-is_empty, In-Ok, In-Err}
 
@@ -92,7 +96,7 @@ returns-in-Ok-clause-tokens c = record {
 }
 
 wants : (c : In-Err) → c.in-Err.kind ≡ ReflectErrorKind.OutOfMemory
-    → WantsMemory c.self.inside.table.now c.self.inside.frame.shape.0 (node c.self.inside.frame.piece) c.in-Err.kind
+    → NeedsMemory c.self.inside.table.now c.self.inside.frame.shape.0 (node c.self.inside.frame.piece) c.in-Err.kind
 wants c is =
     only_wants c.self.inside.table.now c.self.inside.frame.shape.0 c.self.inside.frame.piece c.in-Err.kind
     c.self.invariant.served
@@ -132,3 +136,22 @@ returns-clause-tokens c = record {
       omega (arith, held (goal.at.returns-clause-tokens c).After-is_empty t, c.release_all.ensures.each t);
   none_falls = λ t. omega (arith, c.release_all.ensures.each t);
 }
+
+pub returns-then-is_empty-clause-removed : goal.returns-then-is_empty-clause-removed
+returns-then-is_empty-clause-removed c =
+    let is_built : IsBuilt c.args.self (Err c.in-Err.kind) = grind (arith, common_steps) in
+    let released : Conserved (holds c.args.self) c.args.ledger.now (left_built (Err c.in-Err.kind)) c.complete.new.ledger
+    = grind (arith, common_steps) in
+    rises_by_removed_at_build c.law_removed.ensures.build c.args.self
+    (in_order c.self.inside.table.now c.self.inside.root.0 c.self.inside.parents.items c.self.inside.frame
+    c.self.inside.calls c.args.self c.self.invariant c.self.view_is)
+    (Err c.in-Err.kind) c.args.ledger.now c.complete.new.ledger is_built released
+
+pub returns-clause-removed : goal.returns-clause-removed
+returns-clause-removed c =
+    let kind : ReflectErrorKind = ReflectErrorKind.InvariantViolation Invariant.BuildOpenFrames in
+    let is_built : IsBuilt c.args.self (Err kind) = grind (arith, common_steps) in
+    rises_by_removed_at_build c.law_removed.ensures.build c.args.self
+    (in_order c.self.inside.table.now c.self.inside.root.0 c.self.inside.parents.items c.self.inside.frame
+    c.self.inside.calls c.args.self c.self.invariant c.self.view_is)
+    (Err kind) c.args.ledger.now c.release_all.new.ledger is_built (returns-clause-tokens c)

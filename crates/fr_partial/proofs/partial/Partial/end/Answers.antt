@@ -1,11 +1,14 @@
-use Rattle.std.proofs.Common.{◌≡◌, ℕ, ◌+◌, length, slice_index, true, false, refl, sym, ap, ◌∙◌, inl, inr, arith}
+use Rattle.std.proofs.Common.{◌≡◌, ℕ, ◌+◌, length, slice_index, true, false, Ok, Err, refl, sym, ap, ◌∙◌, inl, inr, arith}
+use Rattle.std.proofs.lemmas.Grind.{common_steps}
+use Rattle.fr_shape.specs.declared.error.Invariant.{Invariant}
 use Rattle.fr_shape.specs.declared.error.ReflectErrorKind.{ReflectErrorKind}
+use Rattle.fr_shape.specs.Released.{Conserved}
 use Rattle.fr_shape.specs.TokenLaws.{both, Room_same, Room_fewer, Room_risen}
 use Rattle.fr_shape.specs.Tokens.{vals_occur}
 use Rattle.fr_shape.specs.View.{vals_view}
 use Rattle.fr_model.specs.Tree.{begun, tree_at, tree_occurs}
-use Rattle.fr_partial.specs.Builder.{Builder, holds}
-use Rattle.fr_partial.specs.Completing.{WantsMemory}
+use Rattle.fr_partial.specs.Builder.{Builder, holds, left, IsStep}
+use Rattle.fr_partial.specs.Completing.{NeedsMemory}
 use Rattle.fr_partial.specs.Filling.{fills_nothing}
 use Rattle.fr_partial.specs.Stack.{as_form, node, slots, rebuild, parents_hold}
 use Rattle.fr_partial.proofs.StackLaws.{Popped, chain_frame}
@@ -13,6 +16,8 @@ use Rattle.fr_partial.proofs.ChildrenLaws.{absent_within}
 use Rattle.fr_partial.proofs.BuilderLaws.{room_here, tree_here}
 use Rattle.fr_partial.proofs.CompleteLaws.{only_wants}
 use Rattle.fr_partial.proofs.EndLaws.{popped, holds_popped, end_completes, end_refused, end_not_refused, open_above, holds_after}
+use Rattle.fr_model.specs.Commands.{Call}
+use Rattle.fr_partial.proofs.RemovedLaws.{in_order, rises_by_removed}
 use Rattle.fr_partial.proofs.partial.Partial.end.Goals as goal
 use Rattle.fr_partial.proofs.partial.Partial.end.Goals.{In-Some, After-release_parents}
 
@@ -150,7 +155,7 @@ returns-in-Err-clause-tokens c = record {
 }
 
 wants : (c : After-release_parents) → c.in-Err.kind ≡ ReflectErrorKind.OutOfMemory
-    → WantsMemory c.self.inside.table.now c.self.inside.frame.shape.0 (node c.self.inside.frame.piece) c.in-Err.kind
+    → NeedsMemory c.self.inside.table.now c.self.inside.frame.shape.0 (node c.self.inside.frame.piece) c.in-Err.kind
 wants c is =
     only_wants c.self.inside.table.now c.self.inside.frame.shape.0 c.self.inside.frame.piece c.in-Err.kind
     c.self.invariant.served
@@ -175,3 +180,30 @@ returns-in-Err-clause-refused c refused e =
     c.self.inside.frame c.self.inside.calls c.self.inside.parents.items c.in-Some.ensures.items
     c.self.invariant.chain c.args.self c.self.view_is c.self.invariant.checked c.self.invariant.served
     (wants c is).complete refused
+
+pub returns-in_default-clause-removed : goal.returns-in_default-clause-removed
+returns-in_default-clause-removed c =
+    let kind : ReflectErrorKind = ReflectErrorKind.InvariantViolation Invariant.EndAtRoot in
+    let is_step : IsStep c.args.self Call.End (Err kind) = grind (arith, common_steps) in
+    let released : Conserved (holds c.args.self) c.args.ledger.now (left (Err kind)) c.release_piece.new.ledger
+    = grind (arith, common_steps) in
+    rises_by_removed c.law_removed.ensures.step c.args.self
+    (in_order c.self.inside.table.now c.self.inside.root.0 c.self.inside.parents.items c.self.inside.frame
+    c.self.inside.calls c.args.self c.self.invariant c.self.view_is)
+    Call.End (holds c.args.self) (λ t. omega arith) (Err kind) c.args.ledger.now c.release_piece.new.ledger is_step released
+
+pub returns-in-Err-clause-removed : goal.returns-in-Err-clause-removed
+returns-in-Err-clause-removed c =
+    rises_by_removed c.law_removed.ensures.step c.args.self
+    (in_order c.self.inside.table.now c.self.inside.root.0 c.self.inside.parents.items c.self.inside.frame
+    c.self.inside.calls c.args.self c.self.invariant c.self.view_is)
+    Call.End (holds c.args.self) (λ t. omega arith) (Err c.in-Err.kind) c.args.ledger.now c.release_parents.new.ledger
+    (returns-in-Err-clause-step c) (returns-in-Err-clause-tokens c)
+
+pub returns-in-Ok-clause-removed : goal.returns-in-Ok-clause-removed
+returns-in-Ok-clause-removed c =
+    rises_by_removed c.law_removed.ensures.step c.args.self
+    (in_order c.self.inside.table.now c.self.inside.root.0 c.self.inside.parents.items c.self.inside.frame
+    c.self.inside.calls c.args.self c.self.invariant c.self.view_is)
+    Call.End (holds c.args.self) (λ t. omega arith) (Ok _) c.args.ledger.now c.complete.new.ledger
+    (returns-in-Ok-clause-step c) (returns-in-Ok-clause-tokens c)

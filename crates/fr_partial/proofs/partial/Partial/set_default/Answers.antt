@@ -1,4 +1,4 @@
-use Rattle.std.proofs.Common.{◌≡◌, ℕ, ◌+◌, true, false, Ok, refl, inr, sym, ap, ◌∙◌, arith}
+use Rattle.std.proofs.Common.{◌≡◌, ℕ, ◌+◌, true, false, Ok, Err, refl, inl, inr, sym, ap, ◌∙◌, arith}
 use Rattle.fr_shape.specs.TokenLaws.{Room_same, Conserved_same}
 use Rattle.fr_shape.specs.Tokens.{occurs}
 use Rattle.fr_shape.specs.Val.{Val}
@@ -8,6 +8,10 @@ use Rattle.fr_model.specs.Tree.{State}
 use Rattle.fr_partial.specs.Builder.{holds, here, left}
 use Rattle.fr_partial.proofs.PutLaws.{fits_here, default_there, default_missing}
 use Rattle.fr_partial.proofs.TemplateLaws.{IsTemplate, preset_template, light_occurs}
+use Rattle.fr_shape.specs.declared.error.Operation.{Operation}
+use Rattle.fr_shape.specs.declared.error.ReflectErrorKind.{ReflectErrorKind}
+use Rattle.fr_model.specs.Commands.{Call}
+use Rattle.fr_partial.proofs.RemovedLaws.{in_order, rises_by_removed, all_released}
 use Rattle.fr_partial.proofs.partial.Partial.set_default.Goals as goal
 use Rattle.fr_partial.proofs.partial.Partial.set_default.Goals.{In-Some, In-Ok}
 
@@ -72,3 +76,32 @@ returns-in-Err-clause-refused c refused e =
     (sym c.in-Some.ensures.template) in
     let no : false ≡ true = rw there at refused in
     cc
+
+pub returns-in_default-clause-removed : goal.returns-in_default-clause-removed
+returns-in_default-clause-removed c =
+    rises_by_removed c.law_removed.ensures.step c.args.self
+    (in_order c.self.inside.table.now c.self.inside.root.0 c.self.inside.parents.items c.self.inside.frame
+    c.self.inside.calls c.args.self c.self.invariant c.self.view_is)
+    Call.SetDefault (holds c.args.self) (λ t. omega arith)
+    (Err (ReflectErrorKind.OperationFailed c.self.inside.frame.shape Operation.NoDefault)) c.args.ledger.now
+    c.abandon.new.ledger (returns-in_default-clause-step c)
+    (all_released (holds c.args.self) (ReflectErrorKind.OperationFailed c.self.inside.frame.shape Operation.NoDefault)
+    c.args.ledger.now c.abandon.new.ledger c.abandon.ensures.released)
+
+pub returns-in-Ok-clause-removed : goal.returns-in-Ok-clause-removed
+returns-in-Ok-clause-removed c =
+    rises_by_removed c.law_removed.ensures.step c.args.self
+    (in_order c.self.inside.table.now c.self.inside.root.0 c.self.inside.parents.items c.self.inside.frame
+    c.self.inside.calls c.args.self c.self.invariant c.self.view_is)
+    Call.SetDefault (holds c.args.self) (λ t. omega arith) (Ok c.put.result) c.args.ledger.now c.put.new.ledger
+    (returns-in-Ok-clause-step c) (returns-in-Ok-clause-tokens c)
+
+pub returns-in-Err-clause-removed : goal.returns-in-Err-clause-removed
+returns-in-Err-clause-removed c =
+    rises_by_removed c.law_removed.ensures.step c.args.self
+    (in_order c.self.inside.table.now c.self.inside.root.0 c.self.inside.parents.items c.self.inside.frame
+    c.self.inside.calls c.args.self c.self.invariant c.self.view_is)
+    Call.SetDefault (holds c.args.self) (λ t. omega arith) (Err ReflectErrorKind.OutOfMemory) c.args.ledger.now
+    c.abandon-in-Err.new.ledger (inl refl)
+    (all_released (holds c.args.self) ReflectErrorKind.OutOfMemory c.args.ledger.now c.abandon-in-Err.new.ledger
+    c.abandon-in-Err.ensures.released)

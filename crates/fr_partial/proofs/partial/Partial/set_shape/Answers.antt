@@ -1,11 +1,15 @@
-use Rattle.std.proofs.Common.{◌≡◌, ℕ, true, Ok, inr, sym, ap, ◌∙◌, subst}
+use Rattle.std.proofs.Common.{◌≡◌, ℕ, ◌+◌, true, Ok, Err, inr, sym, ap, ◌∙◌, subst}
 use Rattle.fr_shape.specs.Fits.{fits}
 use Rattle.fr_shape.specs.Val.{Val}
 use Rattle.fr_shape.specs.View.{view}
 use Rattle.fr_model.specs.Step.{set, puts}
 use Rattle.fr_model.specs.Tree.{State}
-use Rattle.fr_partial.specs.Builder.{Builder, here}
+use Rattle.fr_partial.specs.Builder.{Builder, here, holds}
 use Rattle.fr_partial.proofs.PutLaws.{fits_here, set_admitted, set_refused}
+use Rattle.fr_shape.specs.declared.error.ReflectErrorKind.{ReflectErrorKind}
+use Rattle.fr_model.specs.Commands.{Call}
+use Rattle.fr_shape.specs.Tokens.{occurs}
+use Rattle.fr_partial.proofs.RemovedLaws.{in_order, rises_by_removed, both_released}
 use Rattle.fr_partial.proofs.partial.Partial.set_shape.Goals as goal
 
 pub put-requires-clause-fits : goal.put-requires-clause-fits
@@ -34,3 +38,27 @@ returns-else-actual-expected-clause-step c =
     ∙ set_refused c.self.inside.table.now c.self.inside.root.0 c.self.inside.parents.items c.self.inside.frame
     c.self.inside.calls c.self.invariant.chain c.args.self c.self.view_is c.shape-actual.result c.args.value.value
     c.if-actual-expected.false)
+
+pub returns-then-actual-expected-clause-removed : goal.returns-then-actual-expected-clause-removed
+returns-then-actual-expected-clause-removed c =
+    rises_by_removed c.law_removed.ensures.step c.args.self
+    (in_order c.self.inside.table.now c.self.inside.root.0 c.self.inside.parents.items c.self.inside.frame
+    c.self.inside.calls c.args.self c.self.invariant c.self.view_is)
+    (Call.Set c.args.value.shape c.args.value.value)
+    (λ t. holds c.args.self t + occurs (view c.into_value.result) t)
+    (λ t. ap (λ (v : Val). holds c.args.self t + occurs v t) c.into_value.ensures.value) (Ok c.put.result)
+    c.args.ledger.now c.put.new.ledger (returns-then-actual-expected-clause-step c) c.put.ensures.tokens
+
+pub returns-else-actual-expected-clause-removed : goal.returns-else-actual-expected-clause-removed
+returns-else-actual-expected-clause-removed c =
+    rises_by_removed c.law_removed.ensures.step c.args.self
+    (in_order c.self.inside.table.now c.self.inside.root.0 c.self.inside.parents.items c.self.inside.frame
+    c.self.inside.calls c.args.self c.self.invariant c.self.view_is)
+    (Call.Set c.args.value.shape c.args.value.value)
+    (λ t. holds c.args.self t + occurs (view c.into_value-else-actual-expected.result) t)
+    (λ t. ap (λ (v : Val). holds c.args.self t + occurs v t) c.into_value-else-actual-expected.ensures.value)
+    (Err (ReflectErrorKind.WrongShape c.self.inside.frame.shape c.shape-actual.result)) c.args.ledger.now
+    c.abandon.new.ledger (returns-else-actual-expected-clause-step c)
+    (both_released (occurs (view c.into_value-else-actual-expected.result)) (holds c.args.self)
+    (ReflectErrorKind.WrongShape c.self.inside.frame.shape c.shape-actual.result) c.args.ledger.now
+    c.release.new.ledger c.abandon.new.ledger c.release.ensures.released c.abandon.ensures.released)
