@@ -67,19 +67,19 @@ fn name_of_size(size: DocSize) -> &'static str
 }
 
 /// The JSON of a fault.
-fn json_of_fault(alloc: Global, fault: DocFault) -> Result<Json, AllocError>
-    ensures { IfOk result (λ json. data_of json ≡ fault_data fault) }
+fn json_of_fault(alloc: Global, fault: &DocFault) -> Result<Json, AllocError>
+    ensures { IfOk result (λ json. data_of json ≡ fault_data fault.now) }
 {
     match fault {
         DocFault::TooLong => json!(in alloc; { "fault": "TooLong" }),
         DocFault::NotJson => json!(in alloc; { "fault": "NotJson" }),
         DocFault::HasFloat => json!(in alloc; { "fault": "HasFloat" }),
         DocFault::BadForm(place) => {
-            let name = name_of_place(alloc, place)?;
+            let name = name_of_place(alloc, *place)?;
             json!(in alloc; { "fault": "BadForm", "place": name.as_str() })
         }
         DocFault::TooLarge(size) => {
-            let name = name_of_size(size);
+            let name = name_of_size(*size);
             json!(in alloc; { "fault": "TooLarge", "what": name })
         }
         DocFault::Unchecked(broken) => {
@@ -87,6 +87,7 @@ fn json_of_fault(alloc: Global, fault: DocFault) -> Result<Json, AllocError>
             json!(in alloc; { "entry": entry, "fault": "Unchecked", "rule": rule })
         }
         DocFault::Invalid(command) => {
+            let command = *command;
             json!(in alloc; { "command": command, "fault": "Invalid" })
         }
     }
@@ -130,7 +131,7 @@ fn json_of_answer(alloc: Global, answer: &Answer) -> Result<Json, AllocError>
     ensures { IfOk result (λ json. data_of json ≡ outcome_data (outcome_view answer.now)) }
 {
     match answer {
-        Answer::Fault(fault) => json_of_fault(alloc, *fault),
+        Answer::Fault(fault) => json_of_fault(alloc, fault),
         Answer::Built(built, released) => {
             json_of_built(alloc, built.value(), released.as_slice())
         }
