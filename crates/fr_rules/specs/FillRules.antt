@@ -6,13 +6,13 @@ use Rattle.fr_shape.specs.declared.shape.FieldRef.{FieldRef}
 use Rattle.fr_shape.specs.declared.shape.DefaultSource.{DefaultSource}
 use Rattle.fr_shape.specs.Look.{Table, field_at}
 use Rattle.fr_shape.specs.Val.{Val}
-use Rattle.fr_shape.specs.Fills.{preset_of, Template, of_field, of_shape, StrictRule, defaultable, required, DeferredRule, filled, marked_without_default, missing}
+use Rattle.fr_shape.specs.Fills.{preset_of, TemplateSource, of_field, of_shape, StrictRule, defaultable, required, DeferredRule, filled, marked_without_default, missing}
 use Rattle.fr_rules.specs.declared.fills.FieldDefault.{FieldDefault}
 use Rattle.fr_rules.specs.declared.fills.FillRule.{FillRule}
 use Rattle.fr_rules.specs.declared.fills.DeferredFill.{DeferredFill}
 
 -- a field's own template is told by the field, its shape's default by the shape
-abbrev pub told_template : FieldRef → Field → Template → FieldDefault
+abbrev pub told_template : FieldRef → Field → TemplateSource → FieldDefault
 told_template meant field (of_field v) = FieldDefault.Custom meant
 told_template meant field of_shape = FieldDefault.FromTrait field.shape
 

@@ -1,21 +1,20 @@
 -- What it takes for a table to be checked: nine rules, each asked of every entry, of which some look at other entries.
-use Rattle.std.specs.Prelude.{◌≡◌, ℕ, ◌==◌, Bool, true, false, not, ◌&&◌, ◌||◌, List, [], ◌∷◌, ◌++◌, map, length, nat_lt, Option, Some, is_none, is_some, option_to_list, take, slice_get}
+use Rattle.std.specs.Prelude.{◌≡◌, ℕ, ◌==◌, Bool, true, false, not, ◌&&◌, ◌||◌, List, [], ◌∷◌, ◌++◌, map, length, nat_lt, Option, Some, None, is_none, is_some, option_to_list, take, slice_get}
 use Rattle.std.specs.List.{list_all, list_any, flat_map}
 use Rattle.std.specs.Str.{bytes_eq}
 use Rattle.fr_shape.specs.declared.shape.Shape.{Shape}
 use Rattle.fr_shape.specs.declared.shape.ShapeId.{ShapeId}
 use Rattle.fr_shape.specs.declared.shape.HookId.{HookId}
 use Rattle.fr_shape.specs.declared.shape.Def.{Def}
-use Rattle.fr_shape.specs.declared.shape.ScalarKind.{ScalarKind}
 use Rattle.fr_shape.specs.declared.shape.VariantDef.{VariantDef}
 use Rattle.fr_shape.specs.declared.shape.Field.{Field}
 use Rattle.fr_shape.specs.declared.shape.DefaultSource.{DefaultSource}
 use Rattle.fr_shape.specs.declared.shape.ProxyDef.{ProxyDef}
 use Rattle.fr_shape.specs.declared.shape.FormatProxy.{FormatProxy}
 use Rattle.fr_shape.specs.declared.shape.ValidatorDef.{ValidatorDef}
-use Rattle.fr_shape.specs.Look.{Table, def_of}
+use Rattle.fr_shape.specs.Look.{Table, def_of, variants_of}
 use Rattle.fr_shape.specs.Val.{Val, none}
-use Rattle.fr_shape.specs.Fits.{fits, signed_bits, unsigned_bits}
+use Rattle.fr_shape.specs.Fits.{fits, signed_bits, unsigned_bits, is_text_kind}
 use Rattle.fr_shape.specs.Tokens.{tokens}
 use Rattle.fr_shape.specs.Lists.{is_nil}
 use Rattle.fr_shape.specs.Named.{name_of}
@@ -24,7 +23,20 @@ use Rattle.fr_shape.specs.Named.{name_of}
 abbrev pub fields_of : Def → List Field
 fields_of (Def.Struct struct) = struct.fields
 fields_of (Def.Enum enumeration) = flat_map (λ (variant : VariantDef). variant.fields) enumeration.variants
-fields_of _ = []
+fields_of (Def.Scalar kind) = []
+fields_of Def.Str = []
+fields_of Def.Opaque = []
+fields_of (Def.Option t) = []
+fields_of (Def.Result t e) = []
+fields_of (Def.List t) = []
+fields_of (Def.Map k v) = []
+fields_of (Def.Set t) = []
+fields_of (Def.Array t n) = []
+fields_of (Def.Pointer pointer) = []
+fields_of (Def.Slice t) = []
+fields_of Def.Dynamic = []
+fields_of Def.Undefined = []
+fields_of Def.Other = []
 
 -- the proxies of a shape or field, whatever their format
 abbrev pub proxies_of : Option ProxyDef → List FormatProxy → List ProxyDef
@@ -45,11 +57,33 @@ contents_of (Def.Map k v) = k ∷ v ∷ []
 contents_of (Def.Set t) = t ∷ []
 contents_of (Def.Array t n) = t ∷ []
 contents_of (Def.Slice t) = t ∷ []
-contents_of _ = []
+contents_of (Def.Scalar kind) = []
+contents_of Def.Str = []
+contents_of Def.Opaque = []
+contents_of (Def.Struct struct) = []
+contents_of (Def.Enum enumeration) = []
+contents_of (Def.Pointer pointer) = []
+contents_of Def.Dynamic = []
+contents_of Def.Undefined = []
+contents_of Def.Other = []
 
 abbrev pub pointees_of : Def → List ShapeId
 pointees_of (Def.Pointer pointer) = option_to_list pointer.pointee
-pointees_of _ = []
+pointees_of (Def.Scalar kind) = []
+pointees_of Def.Str = []
+pointees_of Def.Opaque = []
+pointees_of (Def.Struct struct) = []
+pointees_of (Def.Enum enumeration) = []
+pointees_of (Def.Option t) = []
+pointees_of (Def.Result t e) = []
+pointees_of (Def.List t) = []
+pointees_of (Def.Map k v) = []
+pointees_of (Def.Set t) = []
+pointees_of (Def.Array t n) = []
+pointees_of (Def.Slice t) = []
+pointees_of Def.Dynamic = []
+pointees_of Def.Undefined = []
+pointees_of Def.Other = []
 
 -- the shapes named by an entry that have to be sized: all but a pointee
 abbrev pub parts_of : Shape → List ShapeId
@@ -60,25 +94,63 @@ parts_of shape =
 abbrev pub is_sized : Def → Bool
 is_sized Def.Str = false
 is_sized (Def.Slice t) = false
-is_sized _ = true
+is_sized (Def.Scalar kind) = true
+is_sized Def.Opaque = true
+is_sized (Def.Struct struct) = true
+is_sized (Def.Enum enumeration) = true
+is_sized (Def.Option t) = true
+is_sized (Def.Result t e) = true
+is_sized (Def.List t) = true
+is_sized (Def.Map k v) = true
+is_sized (Def.Set t) = true
+is_sized (Def.Array t n) = true
+is_sized (Def.Pointer pointer) = true
+is_sized Def.Dynamic = true
+is_sized Def.Undefined = true
+is_sized Def.Other = true
 
 abbrev pub names_apart : List (List ℕ) → Bool
 names_apart [] = true
 names_apart (name ∷ names) = not (list_any (bytes_eq name) names) && names_apart names
 
 abbrev pub variant_names : Def → List (List ℕ)
-variant_names (Def.Enum enumeration) =
-    map name_of enumeration.variants
-variant_names _ = []
+variant_names def = map name_of (variants_of def)
 
 abbrev pub is_integer : Def → Bool
-is_integer (Def.Scalar kind) = not (is_none (signed_bits kind) && is_none (unsigned_bits kind))
-is_integer _ = false
+is_integer (Def.Scalar kind) = is_some (signed_bits kind) || is_some (unsigned_bits kind)
+is_integer Def.Str = false
+is_integer Def.Opaque = false
+is_integer (Def.Struct struct) = false
+is_integer (Def.Enum enumeration) = false
+is_integer (Def.Option t) = false
+is_integer (Def.Result t e) = false
+is_integer (Def.List t) = false
+is_integer (Def.Map k v) = false
+is_integer (Def.Set t) = false
+is_integer (Def.Array t n) = false
+is_integer (Def.Pointer pointer) = false
+is_integer (Def.Slice t) = false
+is_integer Def.Dynamic = false
+is_integer Def.Undefined = false
+is_integer Def.Other = false
 
 abbrev pub is_string : Def → Bool
-is_string (Def.Scalar ScalarKind.String) = true
-is_string (Def.Scalar ScalarKind.CowStr) = true
-is_string _ = false
+is_string (Def.Scalar kind) = is_text_kind kind
+is_string Def.Str = false
+is_string Def.Opaque = false
+is_string (Def.Struct struct) = false
+is_string (Def.Enum enumeration) = false
+is_string (Def.Option t) = false
+is_string (Def.Result t e) = false
+is_string (Def.List t) = false
+is_string (Def.Map k v) = false
+is_string (Def.Set t) = false
+is_string (Def.Array t n) = false
+is_string (Def.Pointer pointer) = false
+is_string (Def.Slice t) = false
+is_string Def.Dynamic = false
+is_string Def.Undefined = false
+is_string Def.Other = false
 
 -- the validator may stand on a field of this definition
 abbrev pub suits : Def → ValidatorDef → Bool
@@ -97,27 +169,58 @@ is_template table id v = fits table id v && is_nil (tokens v)
 
 abbrev pub default_is_template : Table → ℕ → Option DefaultSource → Bool
 default_is_template table id (Some (DefaultSource.Custom v)) = is_template table id v
-default_is_template table id _ = true
+default_is_template table id (Some DefaultSource.FromTrait) = true
+default_is_template table id None = true
 
 -- a shape of this definition may be converted to: a scalar or an `Other` that wraps something, an option that
 -- wraps its content, or an opaque or undefined shape with a builder
 abbrev pub converts : Def → (inner builder : Option ShapeId) → Bool
 converts (Def.Scalar kind) inner builder = is_some inner
 converts (Def.Option t) (Some wrapped) builder = wrapped.0 == t.0
+converts (Def.Option t) None builder = false
 converts Def.Opaque inner builder = is_some builder
 converts Def.Undefined inner builder = is_some builder
 converts Def.Other inner builder = is_some inner
-converts _ inner builder = false
+converts Def.Str inner builder = false
+converts (Def.Struct struct) inner builder = false
+converts (Def.Enum enumeration) inner builder = false
+converts (Def.Result t e) inner builder = false
+converts (Def.List t) inner builder = false
+converts (Def.Map k v) inner builder = false
+converts (Def.Set t) inner builder = false
+converts (Def.Array t n) inner builder = false
+converts (Def.Pointer pointer) inner builder = false
+converts (Def.Slice t) inner builder = false
+converts Def.Dynamic inner builder = false
 
 abbrev pub may_have_builder : Def → Bool
 may_have_builder Def.Opaque = true
 may_have_builder Def.Undefined = true
-may_have_builder _ = false
+may_have_builder (Def.Scalar kind) = false
+may_have_builder Def.Str = false
+may_have_builder (Def.Struct struct) = false
+may_have_builder (Def.Enum enumeration) = false
+may_have_builder (Def.Option t) = false
+may_have_builder (Def.Result t e) = false
+may_have_builder (Def.List t) = false
+may_have_builder (Def.Map k v) = false
+may_have_builder (Def.Set t) = false
+may_have_builder (Def.Array t n) = false
+may_have_builder (Def.Pointer pointer) = false
+may_have_builder (Def.Slice t) = false
+may_have_builder Def.Dynamic = false
+may_have_builder Def.Other = false
 
 abbrev pub custom_hooks : List ValidatorDef → List HookId
 custom_hooks [] = []
 custom_hooks (ValidatorDef.Custom hook ∷ validators) = hook ∷ custom_hooks validators
-custom_hooks (_ ∷ validators) = custom_hooks validators
+custom_hooks (ValidatorDef.Min low ∷ validators) = custom_hooks validators
+custom_hooks (ValidatorDef.Max high ∷ validators) = custom_hooks validators
+custom_hooks (ValidatorDef.MinLength low ∷ validators) = custom_hooks validators
+custom_hooks (ValidatorDef.MaxLength high ∷ validators) = custom_hooks validators
+custom_hooks (ValidatorDef.Url ∷ validators) = custom_hooks validators
+custom_hooks (ValidatorDef.Regex pattern ∷ validators) = custom_hooks validators
+custom_hooks (ValidatorDef.Contains needle ∷ validators) = custom_hooks validators
 
 abbrev pub hooks_of : Shape → List HookId
 hooks_of shape =

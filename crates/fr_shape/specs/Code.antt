@@ -1,7 +1,7 @@
 -- The code of plain values: a plain value is stored as a `Value` that shows it. A struct with a `Model` may
 -- then have plain values in what contracts see of it.
 use Rattle.std.specs.Prelude.{◌≡◌, ℕ, List, [], ◌∷◌, map}
-use Rattle.std.specs.Coded.{Coded, code_by, coded_list}
+use Rattle.std.specs.Coded.{Coded, code_by}
 use mathlib.Core.Path.{refl, ap, ◌∙◌}
 use denote.RawPtr.{null_ptr}
 use Rattle.std.specs.declared.alloc.Global.{Global}
@@ -133,7 +133,3 @@ abbrev mutual
 -- a plain value, stored as a `Value` that shows it
 abbrev pub val_code : Coded Val
 val_code = code_by Value value.the_row.coded back view comes_back
-
--- several of them, stored one by one
-abbrev pub vals_code : Coded Vals
-vals_code = code_by (List Value) (coded_list value.the_row.coded) vals_back vals_view vals_come_back

@@ -1,6 +1,6 @@
 -- What a hole takes when its struct or variant is completed. A rule says where the template comes from, or that there is
 -- none; the fill is the template itself.
-use Rattle.std.specs.Prelude.{ℕ, Bool, false, true, not, ◌&&◌, ◌||◌, List, [], ◌∷◌, slice_get, Option, Some, None, is_some, if◌then◌else◌}
+use Rattle.std.specs.Prelude.{ℕ, Bool, false, true, not, ◌&&◌, ◌||◌, slice_get, Option, Some, None, is_some, if◌then◌else◌}
 use Rattle.fr_shape.specs.declared.shape.Shape.{Shape}
 use Rattle.fr_shape.specs.declared.shape.Def.{Def}
 use Rattle.fr_shape.specs.declared.shape.StructKind.{StructKind}
@@ -41,7 +41,9 @@ is_empty_struct _ = false
 
 abbrev pub is_tuple : StructKind → Bool
 is_tuple StructKind.Tuple = true
-is_tuple _ = false
+is_tuple StructKind.Struct = false
+is_tuple StructKind.TupleStruct = false
+is_tuple StructKind.Unit = false
 
 -- the unit shape: a tuple without fields
 abbrev pub is_unit : Def → Bool
@@ -52,21 +54,33 @@ abbrev pub is_collection : Def → Bool
 is_collection (Def.List t) = true
 is_collection (Def.Map k v) = true
 is_collection (Def.Set t) = true
-is_collection _ = false
+is_collection (Def.Scalar kind) = false
+is_collection Def.Str = false
+is_collection Def.Opaque = false
+is_collection (Def.Struct struct) = false
+is_collection (Def.Enum enumeration) = false
+is_collection (Def.Option t) = false
+is_collection (Def.Result t e) = false
+is_collection (Def.Array t n) = false
+is_collection (Def.Pointer pointer) = false
+is_collection (Def.Slice t) = false
+is_collection Def.Dynamic = false
+is_collection Def.Undefined = false
+is_collection Def.Other = false
 
 -- where a template comes from: the field has its own, or it is the default of the field's shape
-pub data Template : Type 0 where
-  of_field : Val → Template
-  of_shape : Template
+pub data TemplateSource : Type 0 where
+  of_field : Val → TemplateSource
+  of_shape : TemplateSource
 
-abbrev pub template_of : Table → Field → Template → Option Val
+abbrev pub template_of : Table → Field → TemplateSource → Option Val
 template_of table field (of_field v) = Some v
 template_of table field of_shape = preset_of table field.shape.0
 
 -- What a strict completion does with a hole: there is a template to take (which the field's shape may turn out not to
 -- have), or the caller has to fill it.
 pub data StrictRule : Type 0 where
-  defaultable : Template → StrictRule
+  defaultable : TemplateSource → StrictRule
   required : StrictRule
 
 -- A field that isn't marked takes its shape's default, where there is one, in these cases: its shape is an option; the
@@ -100,7 +114,7 @@ strict_fill table container of_variant field = by_strict_rule table field (stric
 -- What the end of deferred mode does with a hole: it takes a template; or its field is marked, but there is no default;
 -- or it is just missing.
 pub data DeferredRule : Type 0 where
-  filled : Template → DeferredRule
+  filled : TemplateSource → DeferredRule
   marked_without_default : DeferredRule
   missing : DeferredRule
 

@@ -20,7 +20,16 @@ signed_bits ScalarKind.I32 = Some 32
 signed_bits ScalarKind.I64 = Some 64
 signed_bits ScalarKind.I128 = Some 128
 signed_bits ScalarKind.ISize = Some 64
-signed_bits _ = None
+signed_bits ScalarKind.Bool = None
+signed_bits ScalarKind.Char = None
+signed_bits ScalarKind.U8 = None
+signed_bits ScalarKind.U16 = None
+signed_bits ScalarKind.U32 = None
+signed_bits ScalarKind.U64 = None
+signed_bits ScalarKind.U128 = None
+signed_bits ScalarKind.USize = None
+signed_bits ScalarKind.String = None
+signed_bits ScalarKind.CowStr = None
 
 -- how many bits an unsigned kind has
 abbrev pub unsigned_bits : ScalarKind → Option ℕ
@@ -30,18 +39,48 @@ unsigned_bits ScalarKind.U32 = Some 32
 unsigned_bits ScalarKind.U64 = Some 64
 unsigned_bits ScalarKind.U128 = Some 128
 unsigned_bits ScalarKind.USize = Some 64
-unsigned_bits _ = None
+unsigned_bits ScalarKind.Bool = None
+unsigned_bits ScalarKind.Char = None
+unsigned_bits ScalarKind.I8 = None
+unsigned_bits ScalarKind.I16 = None
+unsigned_bits ScalarKind.I32 = None
+unsigned_bits ScalarKind.I64 = None
+unsigned_bits ScalarKind.I128 = None
+unsigned_bits ScalarKind.ISize = None
+unsigned_bits ScalarKind.String = None
+unsigned_bits ScalarKind.CowStr = None
 
 -- in the range of this many bits with a sign: from minus half of 2 to the bits, to one below that half
 abbrev pub in_signed : ℤ → Option ℕ → Bool
 in_signed (pos n) (Some bits) = nat_lt n (2 ^ (bits - 1))
 in_signed (negsuc n) (Some bits) = nat_lt n (2 ^ (bits - 1))
-in_signed _ None = false
+in_signed z None = false
 
 -- in the range of this many bits
 abbrev pub in_unsigned : ℕ → Option ℕ → Bool
 in_unsigned n (Some bits) = nat_lt n (2 ^ bits)
 in_unsigned n None = false
+
+-- the kinds whose values are texts
+abbrev pub is_text_kind : ScalarKind → Bool
+is_text_kind ScalarKind.String = true
+is_text_kind ScalarKind.CowStr = true
+is_text_kind ScalarKind.Bool = false
+is_text_kind ScalarKind.Char = false
+is_text_kind ScalarKind.I8 = false
+is_text_kind ScalarKind.I16 = false
+is_text_kind ScalarKind.I32 = false
+is_text_kind ScalarKind.I64 = false
+is_text_kind ScalarKind.I128 = false
+is_text_kind ScalarKind.ISize = false
+is_text_kind ScalarKind.U8 = false
+is_text_kind ScalarKind.U16 = false
+is_text_kind ScalarKind.U32 = false
+is_text_kind ScalarKind.U64 = false
+is_text_kind ScalarKind.U128 = false
+is_text_kind ScalarKind.USize = false
+
+-- Each word says of a definition whether it takes a form of value. Where several take one, all are written out.
 
 abbrev pub takes_bool : Def → Bool
 takes_bool (Def.Scalar ScalarKind.Bool) = true
@@ -61,23 +100,60 @@ takes_nat n _ = false
 
 -- texts: the scalars String and CowStr, and the unsized str
 abbrev pub takes_text : Def → Bool
-takes_text (Def.Scalar ScalarKind.String) = true
-takes_text (Def.Scalar ScalarKind.CowStr) = true
+takes_text (Def.Scalar kind) = is_text_kind kind
 takes_text Def.Str = true
-takes_text _ = false
+takes_text Def.Opaque = false
+takes_text (Def.Struct struct) = false
+takes_text (Def.Enum enumeration) = false
+takes_text (Def.Option t) = false
+takes_text (Def.Result t e) = false
+takes_text (Def.List t) = false
+takes_text (Def.Map k v) = false
+takes_text (Def.Set t) = false
+takes_text (Def.Array t n) = false
+takes_text (Def.Pointer pointer) = false
+takes_text (Def.Slice t) = false
+takes_text Def.Dynamic = false
+takes_text Def.Undefined = false
+takes_text Def.Other = false
 
 -- one token: opaque and undefined shapes, and a pointer without a known pointee
 abbrev pub takes_token : Def → Bool
 takes_token Def.Opaque = true
 takes_token Def.Undefined = true
 takes_token (Def.Pointer pointer) = is_none pointer.pointee
-takes_token _ = false
+takes_token (Def.Scalar kind) = false
+takes_token Def.Str = false
+takes_token (Def.Struct struct) = false
+takes_token (Def.Enum enumeration) = false
+takes_token (Def.Option t) = false
+takes_token (Def.Result t e) = false
+takes_token (Def.List t) = false
+takes_token (Def.Map k v) = false
+takes_token (Def.Set t) = false
+takes_token (Def.Array t n) = false
+takes_token (Def.Slice t) = false
+takes_token Def.Dynamic = false
+takes_token Def.Other = false
 
 -- one fitting child a field of a struct, or n fitting children of an array of n
 abbrev pub takes_product : Def → (one_a_field : List Field → Bool) → (each_fits : ℕ → Bool) → (count : ℕ) → Bool
 takes_product (Def.Struct struct) one_a_field each_fits count = one_a_field struct.fields
 takes_product (Def.Array t n) one_a_field each_fits count = nat_eq count n && each_fits t.0
-takes_product _ one_a_field each_fits count = false
+takes_product (Def.Scalar kind) one_a_field each_fits count = false
+takes_product Def.Str one_a_field each_fits count = false
+takes_product Def.Opaque one_a_field each_fits count = false
+takes_product (Def.Enum enumeration) one_a_field each_fits count = false
+takes_product (Def.Option t) one_a_field each_fits count = false
+takes_product (Def.Result t e) one_a_field each_fits count = false
+takes_product (Def.List t) one_a_field each_fits count = false
+takes_product (Def.Map k v) one_a_field each_fits count = false
+takes_product (Def.Set t) one_a_field each_fits count = false
+takes_product (Def.Pointer pointer) one_a_field each_fits count = false
+takes_product (Def.Slice t) one_a_field each_fits count = false
+takes_product Def.Dynamic one_a_field each_fits count = false
+takes_product Def.Undefined one_a_field each_fits count = false
+takes_product Def.Other one_a_field each_fits count = false
 
 abbrev pub fields_of_variant : Option VariantDef → (List Field → Bool) → Bool
 fields_of_variant (Some chosen) one_a_field = one_a_field chosen.fields
@@ -107,7 +183,20 @@ takes_err _ content_fits = false
 abbrev pub takes_list : Def → (each_fits : ℕ → Bool) → Bool
 takes_list (Def.List t) each_fits = each_fits t.0
 takes_list (Def.Slice t) each_fits = each_fits t.0
-takes_list _ each_fits = false
+takes_list (Def.Scalar kind) each_fits = false
+takes_list Def.Str each_fits = false
+takes_list Def.Opaque each_fits = false
+takes_list (Def.Struct struct) each_fits = false
+takes_list (Def.Enum enumeration) each_fits = false
+takes_list (Def.Option t) each_fits = false
+takes_list (Def.Result t e) each_fits = false
+takes_list (Def.Map k v) each_fits = false
+takes_list (Def.Set t) each_fits = false
+takes_list (Def.Array t n) each_fits = false
+takes_list (Def.Pointer pointer) each_fits = false
+takes_list Def.Dynamic each_fits = false
+takes_list Def.Undefined each_fits = false
+takes_list Def.Other each_fits = false
 
 -- fitting items, no two of them `same`
 abbrev pub takes_set : Def → (each_fits : ℕ → Bool) → (apart : Bool) → Bool

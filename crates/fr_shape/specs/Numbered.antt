@@ -1,8 +1,8 @@
 -- Shapes, fields and variants are told by numbers of 32 bits, so a table has no more of them than that.
-use Rattle.std.specs.Prelude.{◌≡◌, ℕ, ◌<◌, ◌^◌, length, slice_get, List, [], Some}
+use Rattle.std.specs.Prelude.{◌≡◌, ℕ, ◌<◌, ◌^◌, length, slice_get, Some}
 use Rattle.fr_shape.specs.declared.shape.Def.{Def}
 use Rattle.fr_shape.specs.declared.shape.VariantDef.{VariantDef}
-use Rattle.fr_shape.specs.Look.{Table, def_of}
+use Rattle.fr_shape.specs.Look.{Table, def_of, variants_of}
 
 -- how many fields a struct has
 abbrev pub field_count : Def → ℕ
@@ -22,25 +22,6 @@ field_count (Def.Slice t) = 0
 field_count Def.Dynamic = 0
 field_count Def.Undefined = 0
 field_count Def.Other = 0
-
--- the variants of an enum
-abbrev pub variants_of : Def → List VariantDef
-variants_of (Def.Enum enumeration) = enumeration.variants
-variants_of (Def.Scalar kind) = []
-variants_of Def.Str = []
-variants_of Def.Opaque = []
-variants_of (Def.Struct struct) = []
-variants_of (Def.Option t) = []
-variants_of (Def.Result t e) = []
-variants_of (Def.List t) = []
-variants_of (Def.Map k v) = []
-variants_of (Def.Set t) = []
-variants_of (Def.Array t n) = []
-variants_of (Def.Pointer pointer) = []
-variants_of (Def.Slice t) = []
-variants_of Def.Dynamic = []
-variants_of Def.Undefined = []
-variants_of Def.Other = []
 
 -- fewer than 2 ^ 32 shapes, as few fields in each struct, as few variants in each enum, and as few fields in each variant
 pub record IsNumbered (table : Table) : Type 0 where

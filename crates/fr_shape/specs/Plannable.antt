@@ -16,6 +16,10 @@ use Rattle.fr_shape.specs.Lists.{is_nil}
 abbrev pub built_from : Shape → List ShapeId
 built_from shape = if is_some shape.convert then option_to_list shape.builder else []
 
+-- fields, contents, keys and values, a pointee
+abbrev pub made_of : Def → List ShapeId
+made_of def = map (λ (field : Field). field.shape) (fields_of def) ++ contents_of def ++ pointees_of def
+
 -- The children of a shape, left to right: what a scalar, a `str` or an `Other` wraps; what an opaque or undefined shape
 -- is built from; the fields of a struct, or of all of an enum's variants; contents, keys and values; a pointee.
 abbrev pub children_by : Def → Shape → List ShapeId
@@ -24,7 +28,17 @@ children_by Def.Str shape = option_to_list shape.inner
 children_by Def.Other shape = option_to_list shape.inner
 children_by Def.Opaque shape = built_from shape
 children_by Def.Undefined shape = built_from shape
-children_by def shape = map (λ (field : Field). field.shape) (fields_of def) ++ contents_of def ++ pointees_of def
+children_by (Def.Struct struct) shape = made_of (Def.Struct struct)
+children_by (Def.Enum enumeration) shape = made_of (Def.Enum enumeration)
+children_by (Def.Option t) shape = made_of (Def.Option t)
+children_by (Def.Result t e) shape = made_of (Def.Result t e)
+children_by (Def.List t) shape = made_of (Def.List t)
+children_by (Def.Map k v) shape = made_of (Def.Map k v)
+children_by (Def.Set t) shape = made_of (Def.Set t)
+children_by (Def.Array t n) shape = made_of (Def.Array t n)
+children_by (Def.Pointer pointer) shape = made_of (Def.Pointer pointer)
+children_by (Def.Slice t) shape = made_of (Def.Slice t)
+children_by Def.Dynamic shape = made_of Def.Dynamic
 
 abbrev pub children_of : Shape → List ShapeId
 children_of shape = children_by shape.def shape
@@ -56,7 +70,21 @@ refusal_of_other shape =
 
 abbrev pub refusal_by : Def → Shape → Option PlanFault
 refusal_by Def.Other shape = refusal_of_other shape
-refusal_by def shape = None
+refusal_by (Def.Scalar kind) shape = None
+refusal_by Def.Str shape = None
+refusal_by Def.Opaque shape = None
+refusal_by (Def.Struct struct) shape = None
+refusal_by (Def.Enum enumeration) shape = None
+refusal_by (Def.Option t) shape = None
+refusal_by (Def.Result t e) shape = None
+refusal_by (Def.List t) shape = None
+refusal_by (Def.Map k v) shape = None
+refusal_by (Def.Set t) shape = None
+refusal_by (Def.Array t n) shape = None
+refusal_by (Def.Pointer pointer) shape = None
+refusal_by (Def.Slice t) shape = None
+refusal_by Def.Dynamic shape = None
+refusal_by Def.Undefined shape = None
 
 abbrev pub refusal_of : Shape → Option PlanFault
 refusal_of shape = refusal_by shape.def shape

@@ -21,7 +21,16 @@ serves_def (Def.Struct struct) = list_all serves_field struct.fields
 serves_def (Def.Option t) = true
 serves_def (Def.List t) = true
 serves_def (Def.Array t n) = true
-serves_def _ = false
+serves_def Def.Str = false
+serves_def (Def.Enum enumeration) = false
+serves_def (Def.Result t e) = false
+serves_def (Def.Map k v) = false
+serves_def (Def.Set t) = false
+serves_def (Def.Pointer pointer) = false
+serves_def (Def.Slice t) = false
+serves_def Def.Dynamic = false
+serves_def Def.Undefined = false
+serves_def Def.Other = false
 
 -- a shape with a name and a definition, a preset or not, with or without the attribute that its fields default, and
 -- nothing else said of it

@@ -1,7 +1,7 @@
 -- Laws of tokens and ledgers, for proofs: how the words on held and released tokens fit together.
-use Rattle.std.proofs.Common.{◌≡◌, ℕ, ◌+◌, ◌<◌, ◌≤◌, cond, List, ◌++◌, length, get_or, set, length-set, nat_eq, refl, sym, ◌∙◌, arith}
+use Rattle.std.proofs.Common.{◌≡◌, ℕ, ◌+◌, ◌<◌, ◌≤◌, cond, List, ◌++◌, length, get_or, set, length-set, nat_eq, refl, ◌∙◌, arith}
 use Rattle.std.proofs.lemmas.List.Sums.{sum_by-append}
-use Rattle.std.proofs.lemmas.Grind.{same_number_lists, common_steps}
+use Rattle.std.proofs.lemmas.Grind.{common_steps}
 use Rattle.std.proofs.lemmas.Bool.Decides.{nat_tests}
 use Rattle.fr_shape.specs.Val.{Val, Vals, Entries, unit, bool, char, int, nat, text, token, product, variant, none, some, ok, err, list_of, map_of, set_of, ptr, dyn, no_vals, first, no_entries, entry}
 use Rattle.fr_shape.specs.Tokens.{tokens, vals_tokens, entries_tokens, times, occurs, vals_occur, entries_occur}
@@ -53,9 +53,6 @@ mutual
 
 -- Room. What has room by itself: a part of what has, and what is left of it.
 
-pub Room_nothing : (ledger : List ℕ) → Room nothing ledger
-Room_nothing ledger t h = absurd (omega (arith, h))
-
 pub Room_same : (f g : ℕ → ℕ) (ledger : List ℕ) → ((t : ℕ) → f t ≡ g t) → Room f ledger → Room g ledger
 Room_same f g ledger same room t h =
     let held : 0 < f t = omega (arith, h, same t) in (
@@ -73,9 +70,6 @@ Room_fewer f g ledger fewer room t h =
 
 pub Room_left : (f g : ℕ → ℕ) (ledger : List ℕ) → Room (both f g) ledger → Room f ledger
 Room_left f g ledger = Room_fewer f (both f g) ledger (λ t. omega arith)
-
-pub Room_right : (f g : ℕ → ℕ) (ledger : List ℕ) → Room (both f g) ledger → Room g ledger
-Room_right f g ledger = Room_fewer g (both f g) ledger (λ t. omega arith)
 
 -- what is left has room in the ledger that the rest was released into
 pub Room_conserved : (held : ℕ → ℕ) (before : List ℕ) (left : ℕ → ℕ) (after : List ℕ) → Conserved held before left after → Room held before → Room left after
@@ -111,37 +105,11 @@ Room_risen f g before after room r t h =
 
 -- Conserved
 
--- what was held was released, and nothing is left
-pub Conserved_released : (held : ℕ → ℕ) (before after : List ℕ) → RoseBy held before after → Conserved held before nothing after
-Conserved_released held before after r = record {
-  same_length = r.same_length;
-  kept_or_released = λ t. omega (arith, r.each t);
-  none_falls = λ t. omega (arith, r.each t);
-}
-
--- nothing is left, so what was held was released
-pub RoseBy_conserved : (held : ℕ → ℕ) (before after : List ℕ) → Conserved held before nothing after → RoseBy held before after
-RoseBy_conserved held before after c =
-    record { same_length = c.same_length; each = λ t. omega (arith, c.kept_or_released t) }
-
--- all that was held is left
-pub Conserved_kept : (held : ℕ → ℕ) (ledger : List ℕ) → Conserved held ledger held ledger
-Conserved_kept held ledger =
-    record { same_length = refl; kept_or_released = λ t. refl; none_falls = λ t. omega arith }
-
 pub Conserved_same : (f g : ℕ → ℕ) (before : List ℕ) (f' g' : ℕ → ℕ) (after : List ℕ) → ((t : ℕ) → f t ≡ g t) → ((t : ℕ) → f' t ≡ g' t) → Conserved f before f' after → Conserved g before g' after
 Conserved_same f g before f' g' after same same' c = record {
   same_length = c.same_length;
   kept_or_released = λ t. omega (arith, c.kept_or_released t, same t, same' t);
   none_falls = c.none_falls;
-}
-
--- two steps, one after the other
-pub Conserved_then : (held : ℕ → ℕ) (before : List ℕ) (between : ℕ → ℕ) (ledger : List ℕ) (left : ℕ → ℕ) (after : List ℕ) → Conserved held before between ledger → Conserved between ledger left after → Conserved held before left after
-Conserved_then held before between ledger left after c d = record {
-  same_length = d.same_length ∙ c.same_length;
-  kept_or_released = λ t. omega (arith, c.kept_or_released t, d.kept_or_released t);
-  none_falls = λ t. omega (arith, c.none_falls t, d.none_falls t);
 }
 
 -- what is held aside meanwhile
@@ -152,24 +120,10 @@ Conserved_aside held before left after aside c = record {
   none_falls = c.none_falls;
 }
 
--- one part is released, and the other is left
-pub Conserved_part : (f g : ℕ → ℕ) (before after : List ℕ) → RoseBy f before after → Conserved (both f g) before g after
-Conserved_part f g before after r = record {
-  same_length = r.same_length;
-  kept_or_released = λ t. omega (arith, r.each t);
-  none_falls = λ t. omega (arith, r.each t);
-}
-
 -- the other part keeps its room
 pub Room_aside : (held : ℕ → ℕ) (before : List ℕ) (left : ℕ → ℕ) (after : List ℕ) (aside : ℕ → ℕ) → Conserved held before left after → Room (both held aside) before → Room (both left aside) after
 Room_aside held before left after aside c =
     Room_conserved (both held aside) before (both left aside) after (Conserved_aside held before left after aside c)
-
--- what was held, where it rose and what is left make up the new ledger
-pub Conserved_fixes : (held : ℕ → ℕ) (before : List ℕ) (left : ℕ → ℕ) (after other : List ℕ) → Conserved held before left after → Conserved held before left other → after ≡ other
-Conserved_fixes held before left after other c d =
-    same_number_lists after other (c.same_length ∙ sym d.same_length)
-    (λ t h. omega (arith, c.kept_or_released t, d.kept_or_released t))
 
 -- one token, whose count is raised by one
 abbrev pub one : ℕ → ℕ → ℕ

@@ -16,7 +16,14 @@ is_compared ScalarKind.U8 = true
 is_compared ScalarKind.U16 = true
 is_compared ScalarKind.U32 = true
 is_compared ScalarKind.U64 = true
-is_compared _ = false
+is_compared ScalarKind.Bool = false
+is_compared ScalarKind.Char = false
+is_compared ScalarKind.I128 = false
+is_compared ScalarKind.ISize = false
+is_compared ScalarKind.U128 = false
+is_compared ScalarKind.USize = false
+is_compared ScalarKind.String = false
+is_compared ScalarKind.CowStr = false
 
 -- the number that an integer value is, and the bytes of a text (of any other value nothing)
 abbrev pub number_in : Val → Option ℤ

@@ -9,22 +9,36 @@ use crate::rules::{
 };
 use crate::{Shape, ShapeId, ShapeTable};
 
-/// A broken rule of checked tables, counted from 1, and the entry that breaks it.
+/// A broken rule of checked tables.
 #[derive(Drop)]
 pub struct TableFault {
+    /// The rule's number, from 1 to 9, as `ShapeTable::check` lists them.
     pub rule: u8,
+    /// The number of the shape that breaks it, counted from 0.
     pub entry: u32,
 }
 
 impl ShapeTable {
     /// Tests the nine rules of a checked table. The fault is the smallest rule that is broken, at its first entry.
+    ///
+    /// 1. Each `ShapeId` is below the number of shapes.
+    /// 2. No two shapes have the same name.
+    /// 3. All that an entry names is sized, but for what a pointer points to.
+    /// 4. No two variants of an enum have the same effective name.
+    /// 5. `Min` and `Max` stand on integers, lengths and tests of texts on texts, and `Custom` on anything.
+    /// 6. Each preset and each default of a field's own fits its shape and holds no token.
+    /// 7. `convert` stands on a scalar or an `Other` with `inner`, on an option whose `inner` is its content, and on an
+    ///    opaque or undefined shape with `builder`; `builder` stands on an opaque or undefined shape.
+    /// 8. Each `HookId` is below 65,536.
+    /// 9. The preset of an option is `None`.
     pub fn check(&self) -> Result<(), TableFault>
         requires few { length self.now < 2 ^ 32 }
         ensures ok { OnOk result (IsChecked self.now) }
         ensures rule_is_known { IfErr result (λ f. (1 ≤ f.rule) × (f.rule ≤ 9)) }
         ensures rule_broken { IfErr result (λ f. IsBrokenAt self.now f.rule f.entry) }
         ensures smaller_rules_hold { IfErr result (λ f. EarlierRulesHold self.now f.rule) }
-        ensures earlier_entries_keep { IfErr result (λ f. EarlierEntriesKeep self.now f.rule f.entry) }
+        ensures earlier_entries_keep { IfErr result (λ f.
+            EarlierEntriesKeep self.now f.rule f.entry) }
     {
         for rule in 1..10u8 {
             match first_broken(self, rule) {
@@ -40,7 +54,8 @@ impl ShapeTable {
 fn first_broken(table: &ShapeTable, rule: u8) -> Option<u32>
     requires few { length table.now < 2 ^ 32 }
     requires known { (1 ≤ rule) × (rule ≤ 9) }
-    ensures broken { MatchOption result (EachKeeps table.now (keeps table.now rule)) (λ entry. IsBrokenAt table.now rule entry) }
+    ensures broken { MatchOption result (EachKeeps table.now (keeps table.now rule))
+        (λ entry. IsBrokenAt table.now rule entry) }
     ensures first { IfSome result (λ entry. EarlierEntriesKeep table.now rule entry) }
 {
     let shapes = table.as_slice();

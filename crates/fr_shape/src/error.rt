@@ -52,58 +52,74 @@ pub enum TrackerKind {
 /// the call brought, which has then been released. `OutOfMemory` alone comes without a cause in the arguments.
 #[derive(Drop)]
 pub enum ReflectErrorKind {
+    /// The type has no plan.
     Alloc(AllocError),
+    /// A variant, a content or a side was asked for at a place of shape `actual`, which is no enum, option or result.
     WasNotA {
         expected: Expected,
         actual: ShapeId,
     },
+    /// The place, which has this shape, doesn't allow the operation.
     OperationFailed {
         shape: ShapeId,
         operation: Operation,
     },
+    /// A list, a map or a set was begun at a place that is begun as something else.
     UnexpectedTracker {
         call: InitCall,
         current: TrackerKind,
     },
+    /// The value's shape is `actual`, and the place's is `expected`.
     WrongShape {
         expected: ShapeId,
         actual: ShapeId,
     },
+    /// No field of this shape is declared under the name.
     FieldError {
         shape: ShapeId,
     },
+    /// A place was completed while this field of it was unset, with nothing that fills it.
     UninitializedField {
         field: FieldRef,
     },
+    /// A place of this shape was completed while it had no value, with nothing that fills it.
     UninitializedValue {
         shape: ShapeId,
     },
+    /// A field takes the default of its shape, this one, which has none.
     DefaultAttrButNoDefaultImpl {
         shape: ShapeId,
     },
+    /// The value of this field doesn't pass one of its validators; the message tells what it would have to be.
     ValidationFailed {
         field: FieldRef,
         message: Text,
     },
+    /// The hook of a proxy refused to convert, with this message (an empty one where it takes no such source).
     CustomDeserializationError {
         message: Text,
         src_shape: ShapeId,
         dst_shape: ShapeId,
     },
+    /// The hook that converts from `inner` or `builder` gave no value.
     TryFromError {
         src_shape: ShapeId,
         dst_shape: ShapeId,
         inner: TryFromFault,
     },
+    /// The text or the bytes don't stand for a value of this shape.
     ParseFailed {
         shape: ShapeId,
     },
+    /// The call doesn't suit the builder's mode or depth, or the built value doesn't pass the invariant of its shape.
     InvariantViolation {
         invariant: Invariant,
     },
+    /// The place can't say whether that field is set.
     InvalidOperation {
         reason: Reason,
     },
+    /// No memory was left.
     OutOfMemory,
 }
 

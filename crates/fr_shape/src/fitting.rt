@@ -4,7 +4,7 @@ ghost use Rattle.fr_shape.specs.View.{view, vals_view, entries_view};
 ghost use Rattle.fr_shape.specs.Fits.{fits, all_fit, fields_fit, entries_fit, takes_int, takes_nat, takes_text, takes_token, takes_product, takes_variant, takes_ptr, count_vals};
 
 use crate::distinct::{keys_once, no_key_twice, none_twice};
-use crate::scalars::{is_in_signed, is_in_unsigned};
+use crate::scalars::{is_in_signed, is_in_unsigned, is_text_kind};
 use crate::settling::settle;
 use crate::{Def, Field, Items, ScalarKind, ShapeId, ShapeTable, Value};
 
@@ -50,19 +50,35 @@ pub fn fits(table: &ShapeTable, id: ShapeId, v: &Value) -> bool
 #[cycle(fitting)]
 #[tactic(auto, using(crate::proofs::Settled::count_length))]
 fn product_fits(table: &ShapeTable, def: &Def, values: &Items<Value>) -> bool
-    ensures { result ≡ takes_product def.now (λ fields. fields_fit table.now fields (vals_view values.now)) (λ t. all_fit table.now t (vals_view values.now)) (count_vals (vals_view values.now)) }
+    ensures { result ≡ takes_product def.now
+        (λ fields. fields_fit table.now fields (vals_view values.now))
+        (λ t. all_fit table.now t (vals_view values.now)) (count_vals (vals_view values.now)) }
 {
     match def {
         Def::Struct(described) => fields_fit(table, &described.fields, values),
         Def::Array(t, count) => values.len() == *count as usize && all_fit(table, *t, values),
-        _ => false,
+        Def::Scalar(_)
+        | Def::Str
+        | Def::Opaque
+        | Def::Enum(_)
+        | Def::Option(_)
+        | Def::Result(_, _)
+        | Def::List(_)
+        | Def::Map(_, _)
+        | Def::Set(_)
+        | Def::Pointer(_)
+        | Def::Slice(_)
+        | Def::Dynamic
+        | Def::Undefined
+        | Def::Other => false,
     }
 }
 
 /// Whether the values are the fields of an enum's variant.
 #[cycle(fitting)]
 fn variant_fits(table: &ShapeTable, def: &Def, i: u32, values: &Items<Value>) -> bool
-    ensures { result ≡ takes_variant def.now i (λ fields. fields_fit table.now fields (vals_view values.now)) }
+    ensures { result ≡ takes_variant def.now i
+        (λ fields. fields_fit table.now fields (vals_view values.now)) }
 {
     let Def::Enum(described) = def else {
         return false;
@@ -92,7 +108,21 @@ fn takes_int(def: &Def, z: i128) -> bool
 {
     match def {
         Def::Scalar(kind) => is_in_signed(*kind, z),
-        _ => false,
+        Def::Str
+        | Def::Opaque
+        | Def::Struct(_)
+        | Def::Enum(_)
+        | Def::Option(_)
+        | Def::Result(_, _)
+        | Def::List(_)
+        | Def::Map(_, _)
+        | Def::Set(_)
+        | Def::Array(_, _)
+        | Def::Pointer(_)
+        | Def::Slice(_)
+        | Def::Dynamic
+        | Def::Undefined
+        | Def::Other => false,
     }
 }
 
@@ -101,17 +131,45 @@ fn takes_nat(def: &Def, n: u128) -> bool
 {
     match def {
         Def::Scalar(kind) => is_in_unsigned(*kind, n),
-        _ => false,
+        Def::Str
+        | Def::Opaque
+        | Def::Struct(_)
+        | Def::Enum(_)
+        | Def::Option(_)
+        | Def::Result(_, _)
+        | Def::List(_)
+        | Def::Map(_, _)
+        | Def::Set(_)
+        | Def::Array(_, _)
+        | Def::Pointer(_)
+        | Def::Slice(_)
+        | Def::Dynamic
+        | Def::Undefined
+        | Def::Other => false,
     }
 }
 
 fn takes_text(def: &Def) -> bool
     ensures { result ≡ takes_text def.now }
 {
-    matches!(
-        def,
-        Def::Scalar(ScalarKind::String | ScalarKind::CowStr) | Def::Str
-    )
+    match def {
+        Def::Scalar(kind) => is_text_kind(*kind),
+        Def::Str => true,
+        Def::Opaque
+        | Def::Struct(_)
+        | Def::Enum(_)
+        | Def::Option(_)
+        | Def::Result(_, _)
+        | Def::List(_)
+        | Def::Map(_, _)
+        | Def::Set(_)
+        | Def::Array(_, _)
+        | Def::Pointer(_)
+        | Def::Slice(_)
+        | Def::Dynamic
+        | Def::Undefined
+        | Def::Other => false,
+    }
 }
 
 fn takes_token(def: &Def) -> bool
@@ -120,7 +178,19 @@ fn takes_token(def: &Def) -> bool
     match def {
         Def::Opaque | Def::Undefined => true,
         Def::Pointer(pointer) => pointer.pointee.is_none(),
-        _ => false,
+        Def::Scalar(_)
+        | Def::Str
+        | Def::Struct(_)
+        | Def::Enum(_)
+        | Def::Option(_)
+        | Def::Result(_, _)
+        | Def::List(_)
+        | Def::Map(_, _)
+        | Def::Set(_)
+        | Def::Array(_, _)
+        | Def::Slice(_)
+        | Def::Dynamic
+        | Def::Other => false,
     }
 }
 

@@ -14,8 +14,11 @@ use std::alloc::Global;
 /// Why a hook gives no value.
 #[derive(Drop)]
 pub enum HookFault {
+    /// It takes such a source, but not this one; the text tells why.
     Refused(Text),
+    /// It doesn't do this, or takes no such source.
     Unsupported,
+    /// No memory was left.
     OutOfMemory,
 }
 
@@ -29,7 +32,8 @@ impl From<OutOfMemory> for HookFault {
     }
 }
 
-/// The hooks that a table names by number. Each call answers what `means` says of its arguments.
+/// The hooks that a table names by number. Each call returns what `means` says of its arguments, or that no memory was
+/// left.
 pub trait Hooks {
     // What each hook means.
     ghost means: { Self → Meanings };
@@ -38,7 +42,9 @@ pub trait Hooks {
     fn check(&self, h: HookId, value: &Value) -> bool
         ensures meaning { result ≡ (means self.now).check h.0 (view value.now) };
 
-    /// Makes a value of `target` from a value of another shape. Tokens that don't stand in the answer are released.
+    /// Makes a value of `target` from a value of another shape. It has to account for each token of `value`: a token
+    /// that doesn't stand in the result is released once, and after a fault, `OutOfMemory` too, every token of `value`
+    /// is. No other count of the ledger may change.
     fn convert(
         &self,
         alloc: Global,
@@ -52,8 +58,10 @@ pub trait Hooks {
         requires target { IsIn table.now target.0 }
         requires distinct { IsDistinct (view value) }
         requires room { Room (occurs (view value)) ledger.old }
-        ensures meaning { Answers ((means self.now).convert table.now h.0 target.0 (view value)) result }
-        ensures kept_or_released { IfOk result (λ v. Conserved (occurs (view value)) ledger.old (occurs (view v)) ledger.new) }
+        ensures meaning { Answers
+            ((means self.now).convert table.now h.0 target.0 (view value)) result }
+        ensures kept_or_released { IfOk result (λ v.
+            Conserved (occurs (view value)) ledger.old (occurs (view v)) ledger.new) }
         ensures released { OnErr result (RoseBy (occurs (view value)) ledger.old ledger.new) };
 
     /// Makes a value of `target` from a text.
@@ -80,7 +88,8 @@ pub trait Hooks {
     ) -> Result<Value, HookFault>
         requires checked { IsChecked table.now }
         requires target { IsIn table.now target.0 }
-        ensures meaning { Answers ((means self.now).parse_bytes table.now h.0 target.0 bytes.now) result };
+        ensures meaning { Answers
+            ((means self.now).parse_bytes table.now h.0 target.0 bytes.now) result };
 
     // What is given fits its target, conversions make up no token, and parses give none.
     ghost lawful: { (hooks : Self) → IsLawful (means hooks) };

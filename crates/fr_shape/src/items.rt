@@ -1,4 +1,4 @@
-//! A list that contracts see as the list of its items, and the two answers for want of memory.
+//! A list that contracts see as the list of its items, and the two errors of being out of memory.
 ghost use Rattle.std.specs.Prelude.{◌≡◌, [], ◌∷◌, ◌++◌, ◌<◌, ◌≤◌, ◌↔◌, length, slice_get, OnOk, IfErr, OnErr, IsNone, IsTrue};
 ghost use Rattle.std.specs.Option.{option_copied};
 

@@ -1,14 +1,16 @@
 //! Tests of what an entry of a table names: shapes, proxies, hooks and fields.
-ghost use Rattle.std.specs.Prelude.{◌≡◌, ◌&&◌, Bool};
+ghost use Rattle.std.specs.Prelude.{◌≡◌, ◌&&◌, ◌||◌, Bool, [], ◌∷◌, is_some};
 ghost use Rattle.std.specs.List.{list_all};
 ghost use Rattle.std.specs.Prelude.{option_to_list};
 ghost use Rattle.fr_shape.specs.View.{view, vals_view, entries_view};
 ghost use Rattle.fr_shape.specs.Tokens.{tokens, vals_tokens, entries_tokens};
 ghost use Rattle.fr_shape.specs.Look.{def_of};
+ghost use Rattle.fr_shape.specs.Fits.{signed_bits, unsigned_bits};
 ghost use Rattle.fr_shape.specs.Lists.{is_nil};
 ghost use Rattle.fr_shape.specs.Checked.{is_sized, is_integer, is_string, suits, proxies_of, fields_of, contents_of, custom_hooks, is_template, default_is_template};
 ghost use Rattle.fr_shape.specs.Tests.{part_passes, hook_passes, proxy_passes, field_passes};
 
+use crate::scalars::is_text_kind;
 use crate::{
     Def, DefaultSource, Field, FormatProxy, HookId, Items, ProxyDef, ScalarKind, ShapeId,
     ShapeTable, Template, ValidatorDef, Value, fits,
@@ -38,7 +40,23 @@ pub(crate) enum FieldTest {
 fn is_sized(def: &Def) -> bool
     ensures { result ≡ is_sized def.now }
 {
-    !matches!(def, Def::Str | Def::Slice(_))
+    match def {
+        Def::Str | Def::Slice(_) => false,
+        Def::Scalar(_)
+        | Def::Opaque
+        | Def::Struct(_)
+        | Def::Enum(_)
+        | Def::Option(_)
+        | Def::Result(_, _)
+        | Def::List(_)
+        | Def::Map(_, _)
+        | Def::Set(_)
+        | Def::Array(_, _)
+        | Def::Pointer(_)
+        | Def::Dynamic
+        | Def::Undefined
+        | Def::Other => true,
+    }
 }
 
 pub(crate) fn part_passes(table: &ShapeTable, test: PartTest, id: ShapeId) -> bool
@@ -72,7 +90,15 @@ pub(crate) fn contents_pass(table: &ShapeTable, test: PartTest, def: &Def) -> bo
         Def::Result(a, b) | Def::Map(a, b) => {
             part_passes(table, test, *a) && part_passes(table, test, *b)
         }
-        _ => true,
+        Def::Scalar(_)
+        | Def::Str
+        | Def::Opaque
+        | Def::Struct(_)
+        | Def::Enum(_)
+        | Def::Pointer(_)
+        | Def::Dynamic
+        | Def::Undefined
+        | Def::Other => true,
     }
 }
 
@@ -101,7 +127,8 @@ pub(crate) fn proxies_pass(
     proxy: &Option<ProxyDef>,
     format_proxies: &Items<FormatProxy>,
 ) -> bool
-    ensures { result ≡ list_all (proxy_passes table.now test) (proxies_of proxy.now format_proxies.now) }
+    ensures { result ≡ list_all (proxy_passes table.now test)
+        (proxies_of proxy.now format_proxies.now) }
 {
     if let Some(proxy) = proxy {
         if !proxy_passes(table, test, proxy) {
@@ -116,22 +143,70 @@ pub(crate) fn proxies_pass(
     true
 }
 
+fn is_integer_kind(kind: ScalarKind) -> bool
+    ensures { result ≡ is_some (signed_bits kind) || is_some (unsigned_bits kind) }
+{
+    match kind {
+        ScalarKind::Bool | ScalarKind::Char | ScalarKind::String | ScalarKind::CowStr => false,
+        ScalarKind::I8
+        | ScalarKind::I16
+        | ScalarKind::I32
+        | ScalarKind::I64
+        | ScalarKind::I128
+        | ScalarKind::ISize
+        | ScalarKind::U8
+        | ScalarKind::U16
+        | ScalarKind::U32
+        | ScalarKind::U64
+        | ScalarKind::U128
+        | ScalarKind::USize => true,
+    }
+}
+
 fn is_integer(def: &Def) -> bool
     ensures { result ≡ is_integer def.now }
 {
     match def {
-        Def::Scalar(kind) => !matches!(
-            kind,
-            ScalarKind::Bool | ScalarKind::Char | ScalarKind::String | ScalarKind::CowStr
-        ),
-        _ => false,
+        Def::Scalar(kind) => is_integer_kind(*kind),
+        Def::Str
+        | Def::Opaque
+        | Def::Struct(_)
+        | Def::Enum(_)
+        | Def::Option(_)
+        | Def::Result(_, _)
+        | Def::List(_)
+        | Def::Map(_, _)
+        | Def::Set(_)
+        | Def::Array(_, _)
+        | Def::Pointer(_)
+        | Def::Slice(_)
+        | Def::Dynamic
+        | Def::Undefined
+        | Def::Other => false,
     }
 }
 
 fn is_string(def: &Def) -> bool
     ensures { result ≡ is_string def.now }
 {
-    matches!(def, Def::Scalar(ScalarKind::String | ScalarKind::CowStr))
+    match def {
+        Def::Scalar(kind) => is_text_kind(*kind),
+        Def::Str
+        | Def::Opaque
+        | Def::Struct(_)
+        | Def::Enum(_)
+        | Def::Option(_)
+        | Def::Result(_, _)
+        | Def::List(_)
+        | Def::Map(_, _)
+        | Def::Set(_)
+        | Def::Array(_, _)
+        | Def::Pointer(_)
+        | Def::Slice(_)
+        | Def::Dynamic
+        | Def::Undefined
+        | Def::Other => false,
+    }
 }
 
 fn suits(def: &Def, validator: &ValidatorDef) -> bool
@@ -159,14 +234,27 @@ fn validators_suit(def: &Def, validators: &Items<ValidatorDef>) -> bool
     true
 }
 
+fn custom_hook(validator: &ValidatorDef) -> Option<HookId>
+    ensures { option_to_list result ≡ custom_hooks (validator.now ∷ []) }
+{
+    match validator {
+        ValidatorDef::Custom(hook) => Some(*hook),
+        ValidatorDef::Min(_)
+        | ValidatorDef::Max(_)
+        | ValidatorDef::MinLength(_)
+        | ValidatorDef::MaxLength(_)
+        | ValidatorDef::Url
+        | ValidatorDef::Regex(_)
+        | ValidatorDef::Contains(_) => None,
+    }
+}
+
 fn custom_hooks_pass(validators: &Items<ValidatorDef>) -> bool
     ensures { result ≡ list_all hook_passes (custom_hooks validators.now) }
 {
     for validator in validators.as_slice() {
-        if let ValidatorDef::Custom(hook) = validator {
-            if hook.0 >= 65536 {
-                return false;
-            }
+        if !hook_passes(custom_hook(validator)) {
+            return false;
         }
     }
     true
@@ -237,7 +325,7 @@ fn default_is_template(table: &ShapeTable, id: ShapeId, default: &Option<Default
 {
     match default {
         Some(DefaultSource::Custom(template)) => is_template(table, id, template),
-        _ => true,
+        Some(DefaultSource::FromTrait) | None => true,
     }
 }
 
@@ -284,6 +372,19 @@ pub(crate) fn fields_pass(table: &ShapeTable, test: FieldTest, def: &Def) -> boo
             }
             true
         }
-        _ => true,
+        Def::Scalar(_)
+        | Def::Str
+        | Def::Opaque
+        | Def::Option(_)
+        | Def::Result(_, _)
+        | Def::List(_)
+        | Def::Map(_, _)
+        | Def::Set(_)
+        | Def::Array(_, _)
+        | Def::Pointer(_)
+        | Def::Slice(_)
+        | Def::Dynamic
+        | Def::Undefined
+        | Def::Other => true,
     }
 }

@@ -2,7 +2,7 @@
 ghost use Rattle.std.specs.Prelude.{◌≡◌, ◌&&◌, ◌≤◌, length, map, not};
 ghost use Rattle.std.specs.List.{list_all, list_any};
 ghost use Rattle.std.specs.Str.{bytes_eq};
-ghost use Rattle.fr_shape.specs.Checked.{parts_of, pointees_of, all_proxies_of, names_apart, variant_names, converts, ids_in_range, name_is_new, parts_are_sized, variants_apart, validators_suit, templates_fit, conversion_suits, hooks_in_range, option_preset_is_none};
+ghost use Rattle.fr_shape.specs.Checked.{parts_of, pointees_of, all_proxies_of, names_apart, variant_names, converts, may_have_builder, ids_in_range, name_is_new, parts_are_sized, variants_apart, validators_suit, templates_fit, conversion_suits, hooks_in_range, option_preset_is_none};
 ghost use Rattle.fr_shape.specs.Tests.{part_passes, proxy_passes};
 ghost use Rattle.fr_shape.specs.Named.{name_of};
 
@@ -38,7 +38,21 @@ fn pointee_passes(table: &ShapeTable, test: PartTest, def: &Def) -> bool
 {
     match def {
         Def::Pointer(pointer) => option_passes(table, test, pointer.pointee),
-        _ => true,
+        Def::Scalar(_)
+        | Def::Str
+        | Def::Opaque
+        | Def::Struct(_)
+        | Def::Enum(_)
+        | Def::Option(_)
+        | Def::Result(_, _)
+        | Def::List(_)
+        | Def::Map(_, _)
+        | Def::Set(_)
+        | Def::Array(_, _)
+        | Def::Slice(_)
+        | Def::Dynamic
+        | Def::Undefined
+        | Def::Other => true,
     }
 }
 
@@ -133,7 +147,39 @@ fn converts(shape: &Shape) -> bool
             None => false,
         },
         Def::Opaque | Def::Undefined => shape.builder.is_some(),
-        _ => false,
+        Def::Str
+        | Def::Struct(_)
+        | Def::Enum(_)
+        | Def::Result(_, _)
+        | Def::List(_)
+        | Def::Map(_, _)
+        | Def::Set(_)
+        | Def::Array(_, _)
+        | Def::Pointer(_)
+        | Def::Slice(_)
+        | Def::Dynamic => false,
+    }
+}
+
+fn may_have_builder(def: &Def) -> bool
+    ensures { result ≡ may_have_builder def.now }
+{
+    match def {
+        Def::Opaque | Def::Undefined => true,
+        Def::Scalar(_)
+        | Def::Str
+        | Def::Struct(_)
+        | Def::Enum(_)
+        | Def::Option(_)
+        | Def::Result(_, _)
+        | Def::List(_)
+        | Def::Map(_, _)
+        | Def::Set(_)
+        | Def::Array(_, _)
+        | Def::Pointer(_)
+        | Def::Slice(_)
+        | Def::Dynamic
+        | Def::Other => false,
     }
 }
 
@@ -141,7 +187,7 @@ pub(crate) fn conversion_suits(shape: &Shape) -> bool
     ensures { result ≡ conversion_suits shape.now }
 {
     (shape.convert.is_none() || converts(shape))
-        && (shape.builder.is_none() || matches!(&shape.def, Def::Opaque | Def::Undefined))
+        && (shape.builder.is_none() || may_have_builder(&shape.def))
 }
 
 #[tactic(auto, using(crate::proofs::Faults::hooks_split))]

@@ -77,7 +77,24 @@ impl ShapeTable {
                     .fields
                     .get(f.index as usize)
             }
-            _ => None,
+            (Def::Struct(_), Some(_)) | (Def::Enum(_), None) => None,
+            (
+                Def::Scalar(_)
+                | Def::Str
+                | Def::Opaque
+                | Def::Option(_)
+                | Def::Result(_, _)
+                | Def::List(_)
+                | Def::Map(_, _)
+                | Def::Set(_)
+                | Def::Array(_, _)
+                | Def::Pointer(_)
+                | Def::Slice(_)
+                | Def::Dynamic
+                | Def::Undefined
+                | Def::Other,
+                _,
+            ) => None,
         }
     }
 }
