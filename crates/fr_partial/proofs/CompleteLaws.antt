@@ -210,9 +210,9 @@ module _ (hooks : Meanings) (table : Table) (s : ℕ) (served : IsServed table) 
 
   module _ (form : Form) (count : ℕ) (begun_as : IsBegunAs (def_of table s) form count) where
     takes_is : (i : ℕ) → hole_takes table s form i ≡ fill_at table s i
-    takes_is i = go (def_of table s) refl form begun_as
+    takes_is i = go (def_of table s) refl form begun_as.0
       where
-        go : (def : Def) → def_of table s ≡ def → (form : Form) → IsBegunAs def form count
+        go : (def : Def) → def_of table s ≡ def → (form : Form) → IsFullAs def form count
             → hole_takes table s form i ≡ fill_at table s i
         go def e as_struct b = refl
         go (Def.Array t n) e as_array b = rw e refl

@@ -1,5 +1,6 @@
 -- The open places of a builder are in order: each node suits its shape, and the cursor leads to the last of them.
-use Rattle.std.proofs.Common.{◌≡◌, ℕ, zero, suc, ◌+◌, ◌<◌, List, [], ◌∷◌, length, Option, Some, None, nat_lt, nat_le, Bool, true, false, if◌then◌else◌, slice_get, refl, sym, ap, subst, arith}
+use Rattle.std.proofs.Common.{◌≡◌, ℕ, zero, suc, ◌+◌, ◌<◌, ◌≤◌, List, [], ◌∷◌, length, Option, Some, None, nat_lt, nat_le, Bool, true, false, if◌then◌else◌, slice_get, refl, sym, ap, subst, arith}
+use Rattle.std.specs.Option.{option_or}
 use Rattle.std.proofs.lemmas.Bool.{leb-true}
 use Rattle.fr_shape.specs.declared.error.Operation.{Operation}
 use Rattle.fr_shape.specs.declared.value.Value.{Value}
@@ -7,9 +8,9 @@ use Rattle.fr_shape.specs.declared.shape.Def.{Def}
 use Rattle.fr_shape.specs.Look.{Table, def_of}
 use Rattle.fr_shape.specs.Val.{Val, unit}
 use Rattle.fr_shape.specs.View.{view}
-use Rattle.fr_model.specs.Places.{child_shape}
-use Rattle.fr_model.specs.Step.{field_refusal, element_refusal, first_refused}
-use Rattle.fr_model.specs.Tree.{Form as TreeForm, as_struct, as_array, Tree, begun, change_nth, count_trees}
+use Rattle.fr_model.specs.Places.{array_limit, child_shape}
+use Rattle.fr_model.specs.Step.{field_refusal, element_refusal}
+use Rattle.fr_model.specs.Tree.{Form as TreeForm, as_struct, as_array, Tree, begun, shapes_from, change_nth, count_trees}
 use Rattle.fr_model.specs.Well.{IsFullAs, IsBegunAs, Suits, SuitAll, IsDone, AllDone, AtCursor, DoneBut, Leads}
 use Rattle.fr_partial.specs.declared.frame.Frame.{Frame}
 use Rattle.fr_partial.specs.declared.frame.Parent.{Parent}
@@ -24,7 +25,7 @@ suit_slot table s unit child = tt
 suit_slot table s _ child = child
 
 suit_slots : (table : Table) (s : ℕ) (form : TreeForm) (i : ℕ) (cs : List Value) → AreChildren table s i cs
-    → SuitAll table s form i (slots cs)
+    → SuitAll table (shapes_from table s form (count_trees (slots cs)) i) (slots cs)
 suit_slots table s form i [] children = tt
 suit_slots table s form i (c ∷ cs) children = (
   subst (λ (shape : ℕ). Suits table shape (slot (view c))) (sym (child_as_is table s form i))
@@ -35,7 +36,8 @@ suit_slots table s form i (c ∷ cs) children = (
 -- with another tree at one of them
 suit_changed : (table : Table) (s : ℕ) (form : TreeForm) (i : ℕ) (cs : List Value) (k : ℕ) (u : Tree)
     → AreChildren table s i cs → Suits table (child_shape table s (i + k)) u
-    → SuitAll table s form i (change_nth k (λ old. u) (slots cs))
+    → SuitAll table (shapes_from table s form (count_trees (change_nth k (λ old. u) (slots cs))) i)
+    (change_nth k (λ old. u) (slots cs))
 suit_changed table s form i [] k u children suits = tt
 suit_changed table s form i (c ∷ cs) zero u children suits = (
   subst (λ (shape : ℕ). Suits table shape u) (sym (child_as_is table s form i))
@@ -112,19 +114,15 @@ leads_rebuild table s (parent ∷ parents) frame chain =
 -- as what a place may be begun
 
 pub begun_full : (def : Def) (form : TreeForm) (count : ℕ) → IsBegunAs def form count → IsFullAs def form count
-begun_full (Def.Struct struct) as_struct count is = is.0
-begun_full (Def.Struct struct) as_array count is = absurd is
-begun_full (Def.Array item n) as_array count is = is.0
-begun_full (Def.Array item n) as_struct count is = absurd is
-begun_full _ form count is = absurd is
+begun_full def form count is = is.0
 
 not_too_large : (n : ℕ) (a b : Option Operation)
-    → first_refused a (first_refused (if nat_le n 4096 then None else Some Operation.ArrayTooLarge) b) ≡ None
-    → nat_le n 4096 ≡ true
+    → option_or a (option_or (if nat_le n array_limit then None else Some Operation.ArrayTooLarge) b) ≡ None
+    → nat_le n array_limit ≡ true
 not_too_large n (Some o) b e = cc
-not_too_large n None b e = go (nat_le n 4096) refl
+not_too_large n None b e = go (nat_le n array_limit) refl
   where
-    go : (small : Bool) → nat_le n 4096 ≡ small → nat_le n 4096 ≡ true
+    go : (small : Bool) → nat_le n array_limit ≡ small → nat_le n array_limit ≡ true
     go true h = h
     go false h = let no : Some Operation.ArrayTooLarge ≡ None = rw h at e in cc
 
@@ -134,6 +132,8 @@ pub full_begun : (def : Def) (form : TreeForm) (count : ℕ) (t : Tree) (i : ℕ
 full_begun (Def.Struct struct) as_struct count t i full within admitted = (full, omega arith)
 full_begun (Def.Struct struct) as_array count t i full within admitted = absurd full
 full_begun (Def.Array item n) as_array count t i full within admitted =
-    (full, leb-true n 4096 (not_too_large n (if nat_lt i n then None else Some Operation.ArrayIndexOutOfBounds) (element_refusal t) admitted))
+    let small : n ≤ array_limit
+    = leb-true n array_limit (not_too_large n (if nat_lt i n then None else Some Operation.ArrayIndexOutOfBounds) (element_refusal t) admitted) in
+    (full, omega (arith, small))
 full_begun (Def.Array item n) as_struct count t i full within admitted = absurd full
 full_begun _ form count t i full within admitted = absurd full
