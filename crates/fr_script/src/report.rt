@@ -75,7 +75,7 @@ fn json_of_fault(alloc: Global, fault: &DocFault) -> Result<Json, AllocError>
         DocFault::NotJson => json!(in alloc; { "fault": "NotJson" }),
         DocFault::HasFloat => json!(in alloc; { "fault": "HasFloat" }),
         DocFault::BadForm(place) => {
-            let name = name_of_place(alloc, *place)?;
+            let name = name_of_place(alloc, place)?;
             json!(in alloc; { "fault": "BadForm", "place": name.as_str() })
         }
         DocFault::TooLarge(size) => {
