@@ -76,8 +76,9 @@ impl<'t> Partial<'t> {
         })
     }
 
-    /// What is true of every builder, whoever made it. It does nothing. With it a caller who was handed a builder can
-    /// use the laws of fr_model, but for those of distinct tokens, of which the caller's own premises tell.
+    /// Does nothing: its contract is what is true of every builder, whoever made it. With it the laws of fr_model apply
+    /// to a builder that one was handed. That its tokens are distinct follows from the caller's own premises, by
+    /// `law_well`.
     pub fn law_in_order(&self)
         ensures numbered { IsNumbered self.now.shapes }
         ensures checked { IsChecked self.now.shapes }
