@@ -7,7 +7,8 @@ use Rattle.std.proofs.lemmas.List.Sums.{sum_by-cons}
 use Rattle.serde_json.specs.Data.{Data}
 use Rattle.serde_json.specs.Written.{has_float}
 use Rattle.fr_shape.specs.Look.{Table, IsIn, def_of}
-use Rattle.fr_shape.specs.Numbered.{field_count, variants_of, IsNumbered}
+use Rattle.fr_shape.specs.Numbered.{field_count, IsNumbered}
+use Rattle.fr_shape.specs.Look.{variants_of}
 use Rattle.fr_shape.specs.Served.{IsServed}
 use Rattle.fr_doc.specs.declared.fault.DocFault.{DocFault}
 use Rattle.fr_doc.specs.declared.fault.DocPlace.{DocPlace}
