@@ -1,5 +1,9 @@
 pub mod Apart
 pub mod Faults
 pub mod InTurn
+pub mod KeysApart
+pub mod NoneTwice
 mod Once
+pub mod Ordered
 pub mod Settled
+pub mod TakenNames

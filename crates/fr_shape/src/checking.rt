@@ -3,6 +3,8 @@ ghost use Rattle.std.specs.Prelude.{◌≡◌, ◌<◌, ◌≤◌, ◌^◌, leng
 ghost use Rattle.fr_shape.specs.Checked.{IsChecked, EachKeeps};
 ghost use Rattle.fr_shape.specs.Faults.{keeps, IsBrokenAt, EarlierRulesHold, EarlierEntriesKeep};
 
+use crate::names::first_taken_name;
+use crate::repeated::is_long;
 use crate::rules::{
     conversion_suits, hooks_in_range, ids_in_range, name_is_new, option_preset_is_none,
     parts_are_sized, templates_fit, validators_suit, variants_apart,
@@ -41,7 +43,7 @@ impl ShapeTable {
             EarlierEntriesKeep self.now f.rule f.entry) }
     {
         for rule in 1..10u8 {
-            match first_broken(self, rule) {
+            match first_fault(self, rule) {
                 Some(entry) => return Err(TableFault { rule, entry }),
                 None => {}
             }
@@ -50,7 +52,22 @@ impl ShapeTable {
     }
 }
 
-/// The number of the first entry that breaks the rule.
+/// The number of the first entry that breaks the rule. Names are told apart by their order where there are many.
+fn first_fault(table: &ShapeTable, rule: u8) -> Option<u32>
+    requires few { length table.now < 2 ^ 32 }
+    requires known { (1 ≤ rule) × (rule ≤ 9) }
+    ensures broken { MatchOption result (EachKeeps table.now (keeps table.now rule)) (λ entry. IsBrokenAt table.now rule entry) }
+    ensures first { IfSome result (λ entry. EarlierEntriesKeep table.now rule entry) }
+{
+    if rule == 2 && is_long(table.len()) {
+        if let Ok(taken) = first_taken_name(table) {
+            return taken;
+        }
+    }
+    first_broken(table, rule)
+}
+
+/// The same, entry by entry.
 fn first_broken(table: &ShapeTable, rule: u8) -> Option<u32>
     requires few { length table.now < 2 ^ 32 }
     requires known { (1 ≤ rule) × (rule ≤ 9) }

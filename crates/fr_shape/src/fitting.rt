@@ -34,12 +34,11 @@ pub fn fits(table: &ShapeTable, id: ShapeId, v: &Value) -> bool
         Value::List(values) =>
             matches!(def, Def::List(t) | Def::Slice(t) if all_fit(table, *t, values)),
         Value::Set(values) => {
-            matches!(def, Def::Set(t) if all_fit(table, *t, values))
-                && none_twice(values.as_slice())
+            matches!(def, Def::Set(t) if all_fit(table, *t, values)) && none_twice(values)
         }
         Value::Map(entries) => {
             matches!(def, Def::Map(k, w) if entries_fit(table, *k, *w, entries))
-                && no_key_twice(entries.as_slice())
+                && no_key_twice(entries)
         }
         Value::Ptr(inner) => pointee_fits(table, def, inner),
         Value::Dyn(d) => matches!(def, Def::Dynamic) && keys_once(d),

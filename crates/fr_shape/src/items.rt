@@ -113,4 +113,9 @@ impl<T> Items<T> {
     {
         self.items.as_slice()
     }
+
+    /// What the list takes its memory from.
+    pub(crate) fn alloc(&self) -> Global {
+        *self.items.allocator()
+    }
 }

@@ -3,6 +3,7 @@
 
 mod checking;
 mod comparing;
+mod contents;
 mod copying;
 mod distinct;
 mod error;
@@ -11,8 +12,11 @@ mod hooks;
 mod items;
 mod laws;
 mod ledger;
+mod names;
+mod ordering;
 mod parts;
 mod releasing;
+mod repeated;
 mod rules;
 mod scalars;
 mod settling;
@@ -38,6 +42,7 @@ pub use hooks::{HookFault, Hooks, NoHooks};
 pub use items::{Items, NotPushed, OutOfMemory};
 pub use laws::{law_conserved, law_hooks, law_no_hooks};
 pub use ledger::Ledger;
+pub use ordering::{compare, law_compare};
 pub use releasing::release;
 pub use shape::{
     Def, DefaultSource, EnumDef, EnumRepr, Field, FieldRef, FormatProxy, HookId, KnownPointer,

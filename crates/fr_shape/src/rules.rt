@@ -4,13 +4,13 @@ ghost use Rattle.std.specs.List.{list_all, list_any};
 ghost use Rattle.std.specs.Str.{bytes_eq};
 ghost use Rattle.fr_shape.specs.Checked.{parts_of, pointees_of, all_proxies_of, names_apart, variant_names, converts, may_have_builder, ids_in_range, name_is_new, parts_are_sized, variants_apart, validators_suit, templates_fit, conversion_suits, hooks_in_range, option_preset_is_none};
 ghost use Rattle.fr_shape.specs.Tests.{part_passes, proxy_passes};
-ghost use Rattle.fr_shape.specs.Named.{name_of};
 
+use crate::names::names_apart;
 use crate::parts::{
     FieldTest, PartTest, ProxyTest, contents_pass, fields_pass, hook_passes, is_template,
     option_passes, proxies_pass,
 };
-use crate::{Def, Shape, ShapeId, ShapeTable, Text, Value, VariantDef};
+use crate::{Def, Shape, ShapeId, ShapeTable, Value};
 
 /// The proxies of a shape and of its fields.
 #[tactic(auto, using(crate::proofs::Faults::proxies_split))]
@@ -81,42 +81,11 @@ pub(crate) fn parts_are_sized(table: &ShapeTable, shape: &Shape) -> bool
     parts_pass(table, PartTest::Sized, shape)
 }
 
-fn name_of(variant: &VariantDef) -> &Text
-    ensures { result.now ≡ name_of variant.now }
-{
-    match &variant.rename {
-        Some(rename) => rename,
-        None => &variant.name,
-    }
-}
-
-fn is_name(name: &Text, variants: &[VariantDef]) -> bool
-    ensures { result ≡ list_any (bytes_eq name.now) (map name_of variants.now) }
-{
-    for variant in variants {
-        if *name == *name_of(variant) {
-            return true;
-        }
-    }
-    false
-}
-
-fn names_apart(variants: &[VariantDef]) -> bool
-    ensures { result ≡ names_apart (map name_of variants.now) }
-{
-    for i in 0..variants.len() {
-        if is_name(name_of(&variants[i]), &variants[i + 1..]) {
-            return false;
-        }
-    }
-    true
-}
-
 pub(crate) fn variants_apart(shape: &Shape) -> bool
     ensures { result ≡ variants_apart shape.now }
 {
     match &shape.def {
-        Def::Enum(described) => names_apart(described.variants.as_slice()),
+        Def::Enum(described) => names_apart(&described.variants),
         _ => true,
     }
 }

@@ -56,6 +56,12 @@ impl ShapeTable {
         self.shapes.as_slice()
     }
 
+    pub(crate) fn shapes(&self) -> &Items<Shape>
+        ensures { result.now ≡ self.now }
+    {
+        &self.shapes
+    }
+
     /// The template of a shape's default, if it has one.
     pub fn preset(&self, id: ShapeId) -> Option<&Template>
         ensures template { option_copied result ≡ preset_of self.now id.0 }
