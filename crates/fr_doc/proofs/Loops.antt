@@ -4,14 +4,15 @@ use Rattle.std.proofs.lemmas.List.{drop_all, map-append}
 use Rattle.serde_json.specs.Data.{Data}
 use Rattle.serde_json.specs.View.{view, items_view}
 use Rattle.serde_json.specs.declared.value.Value.{Value}
-use Rattle.fr_doc.specs.declared.form_error.FormError.{FormError}
+use Rattle.fr_doc.specs.declared.fault.ReadError.{ReadError}
+use Rattle.fr_doc.specs.declared.read_error.Broken.{Broken}
 use Rattle.fr_doc.specs.Reading.{Reads}
 use Rattle.fr_doc.specs.Steps.{◌>>=◌, each}
 
 -- where a step finds a broken form, or no memory, so does the whole
-pub then_fails : {A B X Y : Type 0} (seen : A → X) (saw : B → Y) (e : FormError) (form : Option X) (next : X → Option Y) {whole : Option Y} → whole ≡ (form >>= next) → Reads seen form (Err e) → Reads saw whole (Err e)
-then_fails seen saw FormError.Memory form next steps found = tt
-then_fails seen saw FormError.Broken form next steps found = steps ∙ ap (λ o. o >>= next) found
+pub then_fails : {A B X Y : Type 0} (seen : A → X) (saw : B → Y) (e : ReadError Broken) (form : Option X) (next : X → Option Y) {whole : Option Y} → whole ≡ (form >>= next) → Reads seen form (Err e) → Reads saw whole (Err e)
+then_fails seen saw ReadError.Memory form next steps found = tt
+then_fails seen saw (ReadError.Fault broken) form next steps found = steps ∙ ap (λ o. o >>= next) found
 
 -- what was read so far, before what is still to be read
 abbrev pub behind : {X : Type 0} → List X → Option (List X) → Option (List X)
@@ -55,9 +56,9 @@ module _ {X : Type 0} (form : Data → Option X) where
       sym so_far ∙ ap (behind xs) next
 
   module _ {Y : Type 0} (back : List X → Y) (vs : List Value) (whole : Option Y) (split : whole ≡ option_map back (each form (items_view vs))) where
-    pub fails : {A B : Type 0} (seen : A → X) (saw : B → Y) (i : ℕ) (d : Value) (xs : List X) (e : FormError) → i < length vs → d ≡ get_or vs i d → Reads seen (form (view d)) (Err e) → IsSoFar vs i xs → Reads saw whole (Err e)
-    fails seen saw i d xs FormError.Memory h is found so_far = tt
-    fails seen saw i d xs FormError.Broken h is found so_far = split ∙ ap (option_map back) (so_far_broken vs i d xs h is found so_far)
+    pub fails : {A B : Type 0} (seen : A → X) (saw : B → Y) (i : ℕ) (d : Value) (xs : List X) (e : ReadError Broken) → i < length vs → d ≡ get_or vs i d → Reads seen (form (view d)) (Err e) → IsSoFar vs i xs → Reads saw whole (Err e)
+    fails seen saw i d xs ReadError.Memory h is found so_far = tt
+    fails seen saw i d xs (ReadError.Fault broken) h is found so_far = split ∙ ap (option_map back) (so_far_broken vs i d xs h is found so_far)
 
     pub ends : (i : ℕ) (xs : List X) → length vs ≤ i → IsSoFar vs i xs → whole ≡ Some (back xs)
     ends i xs h so_far =

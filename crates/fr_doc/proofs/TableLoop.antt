@@ -35,7 +35,7 @@ module _ {X : Type 0} (part : ℕ → Data → Result X DocFault) where
       sym (one_more xs x (left_at vs (i + 1))) ∙ (sym (ap (before xs) next) ∙ so_far)
 
   module _ (vs : List Value) (whole : Result (List X) DocFault) (same : whole ≡ each_at part 0 (items_view vs)) where
-    pub read_fails : (i : ℕ) (d : Value) (xs : List X) (e : ReadError) → i < length vs → d ≡ get_or vs i d → Gives (part i (view d)) (Err e) → IsReadTo vs i xs → Gives whole (Err e)
+    pub read_fails : (i : ℕ) (d : Value) (xs : List X) (e : ReadError DocFault) → i < length vs → d ≡ get_or vs i d → Gives (part i (view d)) (Err e) → IsReadTo vs i xs → Gives whole (Err e)
     read_fails i d xs ReadError.Memory h is found so_far = tt
     read_fails i d xs (ReadError.Fault fault) h is found so_far =
         let next : left_at vs i ≡ Err fault = left_step vs i d h ∙ rw (← is, found) in

@@ -4,7 +4,7 @@ use Rattle.fr_doc.specs.declared.fault.DocFault.{DocFault}
 use Rattle.fr_doc.specs.declared.fault.ReadError.{ReadError}
 
 -- what was read is what the part is, a fault is the part's fault, and memory may be wanting anywhere
-abbrev pub Gives : {X : Type 0} → Result X DocFault → Result X ReadError → Type 0
+abbrev pub Gives : {X : Type 0} → Result X DocFault → Result X (ReadError DocFault) → Type 0
 Gives part (Ok found) = part ≡ Ok found
 Gives part (Err (ReadError.Fault fault)) = part ≡ Err fault
 Gives part (Err ReadError.Memory) = ⊤

@@ -8,11 +8,14 @@ pub mod FieldForms
 pub mod FloatFree
 pub mod Keys
 pub mod Memory
+pub mod Names
 pub mod Numerals
 pub mod Printed
+pub mod ProxyForms
 pub mod Reading
 pub mod ShapeForms
 pub mod Steps
-pub mod TablesServed
 pub mod Tags
+pub mod ValidatorForms
 pub mod ValueForms
+pub mod VariantForms

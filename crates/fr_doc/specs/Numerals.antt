@@ -3,7 +3,7 @@ use Rattle.std.specs.Prelude.{ℕ, ◌+◌, ◌^◌, ◌&&◌, nat_lt, cond, ℤ
 use Rattle.std.specs.Str.{all_ascii_digits, chars}
 use Rattle.std.specs.Str.Parse.{digits_value, starts_with_minus}
 use Rattle.serde_json.specs.Data.{Data, number, string}
-use Rattle.serde_json.specs.Find.{as_u64, as_i64, as_integer}
+use Rattle.serde_json.specs.Find.{as_number, as_u64, as_i64, as_integer}
 use Rattle.fr_doc.specs.Steps.{◌>>=◌}
 
 -- one or more of the digits 0 to 9
@@ -73,3 +73,9 @@ whole_number _ = None
 abbrev pub byte : Data → Option ℕ
 byte (number n) = below 256 (as_u64 n)
 byte _ = None
+
+-- a whole number of 64 bits
+abbrev pub length_form : Data → Option ℕ
+length_form d = do
+  n ← as_number d
+  as_u64 n

@@ -4,13 +4,14 @@ use Rattle.fr_shape.specs.declared.value.Value.{Value}
 use Rattle.fr_shape.specs.declared.value.Dyn.{Dyn}
 use Rattle.fr_shape.specs.Val.{Val, Dynamic}
 use Rattle.fr_shape.specs.View.{view, dyn_view}
-use Rattle.fr_doc.specs.declared.form_error.FormError.{FormError}
+use Rattle.fr_doc.specs.declared.fault.ReadError.{ReadError}
+use Rattle.fr_doc.specs.declared.read_error.Broken.{Broken}
 
 -- what was read is seen as what the form holds; broken only where there is no form, and memory may be wanting anywhere
-abbrev pub Reads : {A X : Type 0} → (A → X) → Option X → Result A FormError → Type 0
+abbrev pub Reads : {A X : Type 0} → (A → X) → Option X → Result A (ReadError Broken) → Type 0
 Reads seen form (Ok found) = form ≡ Some (seen found)
-Reads seen form (Err FormError.Broken) = form ≡ None
-Reads seen form (Err FormError.Memory) = ⊤
+Reads seen form (Err (ReadError.Fault broken)) = form ≡ None
+Reads seen form (Err ReadError.Memory) = ⊤
 
 -- a dynamic object's entry as plain data
 abbrev pub member_view : List ℕ × Dyn → List ℕ × Dynamic

@@ -5,8 +5,9 @@ ghost use Rattle.fr_shape.specs.View.{dyn_view, dynamics_of, members_of};
 ghost use Rattle.fr_doc.specs.DynForms.{bytes_form, dyn_form, dynamics_form, dyn_one_key_form, dyn_object_form, dyn_member_form};
 ghost use Rattle.fr_doc.specs.Reading.{Reads, member_view};
 
-use crate::form_error::FormError;
+use crate::fault::ReadError;
 use crate::numerals::{byte_of, small_int_of};
+use crate::read_error::{Broken, FormError};
 use crate::tag::{DynTag, find_dyn_tag};
 use fr_shape::{Dyn, Items, Text};
 use serde_json::{Map, Value as Json};
@@ -17,11 +18,11 @@ fn read_bytes(alloc: Global, json: &Json) -> Result<Items<u8>, FormError>
     ensures { Reads (λ bytes. bytes) (bytes_form (data_of json.now)) result }
 {
     let Json::Array(items) = json else {
-        return Err(FormError::Broken);
+        return Err(ReadError::Fault(Broken));
     };
     let mut bytes = Items::new(alloc);
     for item in items {
-        bytes.push(byte_of(item).ok_or(FormError::Broken)?)?;
+        bytes.push(byte_of(item).ok_or(Broken)?)?;
     }
     Ok(bytes)
 }
@@ -36,7 +37,7 @@ pub fn read_dyn(alloc: Global, json: &Json) -> Result<Dyn, FormError>
         Json::Bool(b) => Ok(Dyn::Bool(*b)),
         Json::Number(number) => match number.as_u64() {
             Some(n) => Ok(Dyn::Nat(n)),
-            None => Err(FormError::Broken),
+            None => Err(ReadError::Fault(Broken)),
         },
         Json::String(text) => Ok(Dyn::Text(Text::new(alloc, text.as_str())?)),
         Json::Array(items) => Ok(Dyn::Array(read_dyns(alloc, items)?)),
@@ -51,16 +52,16 @@ fn read_tagged_dyn(alloc: Global, members: &Map<String, Json>) -> Result<Dyn, Fo
 {
     let mut entries = members.iter();
     let (Some((key, inner)), None) = (entries.next(), entries.next()) else {
-        return Err(FormError::Broken);
+        return Err(ReadError::Fault(Broken));
     };
     match find_dyn_tag(key.as_str()) {
         Some(DynTag::Int) => match small_int_of(inner) {
             Some(n) => Ok(Dyn::Int(n)),
-            None => Err(FormError::Broken),
+            None => Err(ReadError::Fault(Broken)),
         },
         Some(DynTag::Bytes) => Ok(Dyn::Bytes(read_bytes(alloc, inner)?)),
         Some(DynTag::Object) => Ok(Dyn::Object(read_dyn_members(alloc, inner)?)),
-        None => Err(FormError::Broken),
+        None => Err(ReadError::Fault(Broken)),
     }
 }
 
@@ -81,7 +82,7 @@ fn read_dyn_members(alloc: Global, json: &Json) -> Result<Items<(Text, Dyn)>, Fo
     ensures { Reads (λ ms. members_of (map member_view ms)) (dyn_object_form (data_of json.now)) result }
 {
     let Json::Array(items) = json else {
-        return Err(FormError::Broken);
+        return Err(ReadError::Fault(Broken));
     };
     let mut members = Items::new(alloc);
     for item in items {
@@ -96,14 +97,14 @@ fn read_dyn_member(alloc: Global, json: &Json) -> Result<(Text, Dyn), FormError>
     ensures { Reads member_view (dyn_member_form (data_of json.now)) result }
 {
     let Json::Array(items) = json else {
-        return Err(FormError::Broken);
+        return Err(ReadError::Fault(Broken));
     };
     let mut items = items.iter();
     let (Some(key), Some(inner), None) = (items.next(), items.next(), items.next()) else {
-        return Err(FormError::Broken);
+        return Err(ReadError::Fault(Broken));
     };
     let Json::String(key) = key else {
-        return Err(FormError::Broken);
+        return Err(ReadError::Fault(Broken));
     };
     let dynamic = read_dyn(alloc, inner)?;
     Ok((Text::new(alloc, key.as_str())?, dynamic))

@@ -2,7 +2,7 @@
 use crate::TableFault;
 
 /// A part of a document whose form may be broken. Shapes and commands are counted from 0.
-#[derive(Clone, Copy, PartialEq, Eq)]
+#[derive(Drop)]
 pub enum DocPlace {
     Document,
     Shapes,
@@ -37,7 +37,7 @@ pub enum DocFault {
 
 /// Why a reading gave nothing: no memory was left, or what was read is at fault.
 #[derive(Drop)]
-pub enum ReadError {
+pub enum ReadError<F = DocFault> {
     Memory,
-    Fault(DocFault),
+    Fault(F),
 }

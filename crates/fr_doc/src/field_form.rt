@@ -1,90 +1,115 @@
-//! Reading fields, and what optional keys say.
-ghost use Rattle.std.specs.Prelude.{◌≡◌, Some, option_map};
+//! Reading fields.
+ghost use Rattle.std.specs.Prelude.{◌≡◌, option_map};
 ghost use Rattle.serde_json.specs.View.{view as data_of};
-ghost use Rattle.fr_doc.specs.FieldForms.{flag_form, template_form, named_source, keyed_source, source_form, default_form, described_field, field_form, fields_form};
+ghost use Rattle.fr_doc.specs.FieldForms.{named_default, keyed_default, default_form, field_object as field_object_form, field_form, fields_form};
+ghost use Rattle.fr_doc.specs.Keys.{given};
 ghost use Rattle.fr_doc.specs.Reading.{Reads};
 
-use crate::form_error::FormError;
-use crate::members::has_only;
-use crate::numerals::count_of;
+use crate::fault::ReadError;
+use crate::members::{object_of, only_member, required};
+use crate::numerals::id_of;
+use crate::optional::{read_flag, read_given_text, read_text};
+use crate::proxy_form::{read_format_proxies, read_given_proxy};
+use crate::read_error::{Broken, FormError};
+use crate::validator_form::read_validators;
 use crate::value_form::read_value;
-use fr_shape::{DefaultSource, Field, Items, ShapeId, Template, Text};
+use fr_shape::{DefaultSource, Field, Items, Template};
 use serde_json::Value as Json;
 use std::alloc::Global;
 
-/// A flag. It is false where nothing is said.
-#[tactic(auto, unfolding(crate::specs::FieldForms::flag_form))]
-pub fn flag_of(found: Option<&Json>) -> Option<bool>
-    ensures { result ≡ flag_form (option_map (λ d. data_of d.now) found.entry) }
-{
-    match found {
-        Some(json) => json.as_bool(),
-        None => Some(false),
-    }
-}
-
-/// A template, if one is given.
-#[tactic(auto, unfolding(crate::specs::FieldForms::template_form))]
-pub fn read_template(alloc: Global, found: Option<&Json>) -> Result<Option<Template>, FormError>
-    ensures { Reads (λ template. template)
-        (template_form (option_map (λ d. data_of d.now) found.entry)) result }
-{
-    match found {
-        Some(json) => Ok(Some(Template::new(read_value(alloc, json)?))),
-        None => Ok(None),
-    }
-}
-
 /// A default's name, or an object of exactly one key.
-#[tactic(auto, unfolding(crate::specs::FieldForms::source_form))]
-fn read_source(alloc: Global, json: &Json) -> Result<DefaultSource, FormError>
-    ensures { Reads (λ source. source) (source_form (data_of json.now)) result }
+#[tactic(auto, unfolding(crate::specs::FieldForms::default_form))]
+fn read_default(alloc: Global, json: &Json) -> Result<DefaultSource, FormError>
+    ensures { Reads (λ default. default) (default_form (data_of json.now)) result }
 {
     match json {
-        Json::String(word) => read_named_source(word.as_str()),
+        Json::String(word) => read_named_default(word.as_str()),
         Json::Object(members) => {
-            let mut entries = members.iter();
-            let (Some((key, inner)), None) = (entries.next(), entries.next()) else {
-                return Err(FormError::Broken);
-            };
-            read_keyed_source(alloc, key.as_str(), inner)
+            let (key, inner) = only_member(members).ok_or(Broken)?;
+            read_keyed_default(alloc, key, inner)
         }
-        _ => Err(FormError::Broken),
+        _ => Err(ReadError::Fault(Broken)),
     }
 }
 
 /// The default of the field's shape.
-#[tactic(auto, unfolding(crate::specs::FieldForms::named_source))]
-fn read_named_source(word: &str) -> Result<DefaultSource, FormError>
-    ensures { Reads (λ source. source) (named_source word.now) result }
+#[tactic(auto, unfolding(crate::specs::FieldForms::named_default))]
+fn read_named_default(word: &str) -> Result<DefaultSource, FormError>
+    ensures { Reads (λ default. default) (named_default word.now) result }
 {
     match word {
         "trait" => Ok(DefaultSource::FromTrait),
-        _ => Err(FormError::Broken),
+        _ => Err(ReadError::Fault(Broken)),
     }
 }
 
 /// A template of the field's own.
-#[tactic(auto, unfolding(crate::specs::FieldForms::keyed_source))]
-fn read_keyed_source(alloc: Global, key: &str, inner: &Json) -> Result<DefaultSource, FormError>
-    ensures { Reads (λ source. source) (keyed_source key.now (data_of inner.now)) result }
+#[tactic(auto, unfolding(crate::specs::FieldForms::keyed_default))]
+fn read_keyed_default(alloc: Global, key: &str, inner: &Json) -> Result<DefaultSource, FormError>
+    ensures { Reads (λ default. default) (keyed_default key.now (data_of inner.now)) result }
 {
     match key {
         "custom" => Ok(DefaultSource::Custom(Template::new(read_value(alloc, inner)?))),
-        _ => Err(FormError::Broken),
+        _ => Err(ReadError::Fault(Broken)),
     }
 }
 
 /// A default, if one is given.
-#[tactic(auto, unfolding(crate::specs::FieldForms::default_form))]
-fn read_default(alloc: Global, found: Option<&Json>) -> Result<Option<DefaultSource>, FormError>
+#[tactic(auto, unfolding(crate::specs::Keys::given))]
+fn read_given_default(
+    alloc: Global,
+    found: Option<&Json>,
+) -> Result<Option<DefaultSource>, FormError>
     ensures { Reads (λ default. default)
-        (default_form (option_map (λ d. data_of d.now) found.entry)) result }
+        (given default_form (option_map (λ d. data_of d.now) found.entry)) result }
 {
     match found {
-        Some(json) => Ok(Some(read_source(alloc, json)?)),
+        Some(json) => Ok(Some(read_default(alloc, json)?)),
         None => Ok(None),
     }
+}
+
+/// An object that has no other keys than a field's.
+#[tactic(auto, unfolding(crate::specs::FieldForms::field_object))]
+fn field_object(json: &Json) -> Result<&Json, FormError>
+    ensures { Reads (λ field. data_of field.now) (field_object_form (data_of json.now)) result }
+{
+    object_of(
+        json,
+        &[
+            "name",
+            "shape",
+            "rename",
+            "alias",
+            "default",
+            "skip",
+            "flatten",
+            "proxy",
+            "format_proxies",
+            "validators",
+        ],
+    )
+}
+
+#[tactic(auto, unfolding(crate::specs::FieldForms::field_form))]
+fn read_field(alloc: Global, json: &Json) -> Result<Field, FormError>
+    ensures { Reads (λ field. field) (field_form (data_of json.now)) result }
+{
+    let field = field_object(json)?;
+    let name = read_text(alloc, required(field, "name")?)?;
+    let shape = id_of(required(field, "shape")?).ok_or(Broken)?;
+    Ok(Field {
+        name,
+        rename: read_given_text(alloc, field.get("rename"))?,
+        alias: read_given_text(alloc, field.get("alias"))?,
+        shape,
+        default: read_given_default(alloc, field.get("default"))?,
+        skip: read_flag(field.get("skip"), false)?,
+        flatten: read_flag(field.get("flatten"), false)?,
+        proxy: read_given_proxy(field.get("proxy"))?,
+        format_proxies: read_format_proxies(alloc, field.get("format_proxies"))?,
+        validators: read_validators(alloc, field.get("validators"))?,
+    })
 }
 
 /// An array of fields.
@@ -92,59 +117,9 @@ fn read_default(alloc: Global, found: Option<&Json>) -> Result<Option<DefaultSou
 pub fn read_fields(alloc: Global, json: &Json) -> Result<Items<Field>, FormError>
     ensures { Reads (λ fields. fields) (fields_form (data_of json.now)) result }
 {
-    let Json::Array(items) = json else {
-        return Err(FormError::Broken);
-    };
     let mut fields = Items::new(alloc);
-    for item in items {
+    for item in json.as_array().ok_or(Broken)? {
         fields.push(read_field(alloc, item)?)?;
     }
     Ok(fields)
-}
-
-#[tactic(auto, unfolding(crate::specs::FieldForms::field_form))]
-fn read_field(alloc: Global, json: &Json) -> Result<Field, FormError>
-    ensures { Reads (λ field. field) (field_form (data_of json.now)) result }
-{
-    let Json::Object(members) = json else {
-        return Err(FormError::Broken);
-    };
-    if !has_only(members, &["name", "shape", "default", "skip"]) {
-        return Err(FormError::Broken);
-    }
-    let Some(name) = json.get("name").and_then(Json::as_str) else {
-        return Err(FormError::Broken);
-    };
-    let Some(shape) = json.get("shape").and_then(count_of) else {
-        return Err(FormError::Broken);
-    };
-    let default = read_default(alloc, json.get("default"))?;
-    let Some(skip) = flag_of(json.get("skip")) else {
-        return Err(FormError::Broken);
-    };
-    make_field(alloc, name, ShapeId(shape), default, skip)
-}
-
-/// A field of which nothing else is said.
-fn make_field(
-    alloc: Global,
-    name: &str,
-    shape: ShapeId,
-    default: Option<DefaultSource>,
-    skip: bool,
-) -> Result<Field, FormError>
-    ensures { Reads (λ field. field) (Some (described_field name.now shape.0 default skip)) result }
-{
-    Ok(Field {
-        name: Text::new(alloc, name)?,
-        rename: None,
-        alias: None,
-        shape,
-        default,
-        skip,
-        flatten: false,
-        proxy: None,
-        format_proxies: Items::new(alloc),
-        validators: Items::new(alloc),
-    })
 }

@@ -1,8 +1,10 @@
 //! Numbers and characters in a document.
 ghost use Rattle.std.specs.Prelude.{◌≡◌, ◌↔◌, IsTrue, true};
-ghost use Rattle.fr_doc.specs.Numerals.{is_digits, without_minus, digits_nat, digits_int, nat_form, int_form, small_int_form, char_form, one_char, whole_number, byte};
+ghost use Rattle.fr_doc.specs.Numerals.{is_digits, without_minus, digits_nat, digits_int, nat_form, int_form, small_int_form, char_form, one_char, length_form, whole_number, byte};
+ghost use Rattle.fr_doc.specs.ProxyForms.{id_form, hook_form};
 ghost use Rattle.serde_json.specs.View.{view as data_of};
 
+use fr_shape::{HookId, ShapeId};
 use serde_json::Value as Json;
 
 /// Whether a text is one or more of the digits 0 to 9.
@@ -99,6 +101,29 @@ pub fn count_of(json: &Json) -> Option<u32>
     ensures form { result ≡ whole_number (data_of json.now) }
 {
     u32::try_from(json.as_u64()?).ok()
+}
+
+/// The number of a shape.
+#[tactic(auto, unfolding(crate::specs::ProxyForms::id_form))]
+pub fn id_of(json: &Json) -> Option<ShapeId>
+    ensures { result ≡ id_form (data_of json.now) }
+{
+    Some(ShapeId(count_of(json)?))
+}
+
+/// The number of a hook.
+#[tactic(auto, unfolding(crate::specs::ProxyForms::hook_form))]
+pub fn hook_of(json: &Json) -> Option<HookId>
+    ensures { result ≡ hook_form (data_of json.now) }
+{
+    Some(HookId(count_of(json)?))
+}
+
+/// A whole number of 64 bits.
+pub fn length_of(json: &Json) -> Option<u64>
+    ensures { result ≡ length_form (data_of json.now) }
+{
+    json.as_u64()
 }
 
 /// A whole number from 0 to 255.

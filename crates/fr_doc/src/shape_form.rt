@@ -1,17 +1,17 @@
 //! Reading tables of shapes.
-ghost use Rattle.std.specs.Prelude.{◌≡◌, Some, option_map};
+ghost use Rattle.std.specs.Prelude.{◌≡◌};
 ghost use Rattle.serde_json.specs.View.{view as data_of};
-ghost use Rattle.fr_doc.specs.DefForms.{given_def};
 ghost use Rattle.fr_doc.specs.Faults.{Gives};
 ghost use Rattle.fr_doc.specs.Reading.{Reads};
-ghost use Rattle.fr_doc.specs.ShapeForms.{described_shape, shape_form, shape_at, shapes_form};
+ghost use Rattle.fr_doc.specs.ShapeForms.{shape_object as shape_object_form, flags_form, hooks_form, shape_form, shape_at, shapes_form};
 
 use crate::def_form::read_def;
 use crate::fault::{DocFault, DocPlace, ReadError};
-use crate::field_form::{flag_of, read_template};
-use crate::form_error::FormError;
-use crate::members::has_only;
-use fr_shape::{Def, Items, Shape, Template, Text};
+use crate::members::{object_of, required};
+use crate::optional::{read_flag, read_given_hook, read_given_id, read_given_template, read_text};
+use crate::proxy_form::{read_format_proxies, read_given_proxy};
+use crate::read_error::{Broken, FormError};
+use fr_shape::{HookId, Items, Shape};
 use serde_json::Value as Json;
 use std::alloc::Global;
 
@@ -36,71 +36,115 @@ fn read_shape_at(alloc: Global, i: usize, json: &Json) -> Result<Shape, ReadErro
 {
     match read_shape(alloc, json) {
         Ok(shape) => Ok(shape),
-        Err(FormError::Memory) => Err(ReadError::Memory),
-        Err(FormError::Broken) => match u32::try_from(i) {
+        Err(ReadError::Memory) => Err(ReadError::Memory),
+        Err(ReadError::Fault(Broken)) => match u32::try_from(i) {
             Ok(i) => Err(ReadError::Fault(DocFault::BadForm(DocPlace::Shape(i)))),
             Err(_) => Err(ReadError::Memory),
         },
     }
 }
 
+/// An object that has no other keys than a shape's.
+#[tactic(auto, unfolding(crate::specs::ShapeForms::shape_object))]
+fn shape_object(json: &Json) -> Result<&Json, FormError>
+    ensures { Reads (λ shape. data_of shape.now) (shape_object_form (data_of json.now)) result }
+{
+    object_of(
+        json,
+        &[
+            "name",
+            "def",
+            "preset",
+            "default_attr",
+            "metadata",
+            "deny_unknown",
+            "transparent",
+            "bytes_ok",
+            "inner",
+            "builder",
+            "convert",
+            "parse",
+            "parse_bytes",
+            "invariant",
+            "proxy",
+            "format_proxies",
+        ],
+    )
+}
+
+/// What is true of a shape.
+#[derive(Clone, Copy)]
+struct ShapeFlags {
+    default_attr: bool,
+    metadata: bool,
+    deny_unknown: bool,
+    transparent: bool,
+    bytes_ok: bool,
+}
+
+/// The flags of a shape. Each is false where nothing is said.
+#[tactic(auto, unfolding(crate::specs::ShapeForms::flags_form))]
+fn read_flags(shape: &Json) -> Result<ShapeFlags, FormError>
+    ensures { Reads (λ flags. flags) (flags_form (data_of shape.now)) result }
+{
+    Ok(ShapeFlags {
+        default_attr: read_flag(shape.get("default_attr"), false)?,
+        metadata: read_flag(shape.get("metadata"), false)?,
+        deny_unknown: read_flag(shape.get("deny_unknown"), false)?,
+        transparent: read_flag(shape.get("transparent"), false)?,
+        bytes_ok: read_flag(shape.get("bytes_ok"), false)?,
+    })
+}
+
+/// The hooks of a shape.
+#[derive(Clone, Copy)]
+struct ShapeHooks {
+    convert: Option<HookId>,
+    parse: Option<HookId>,
+    parse_bytes: Option<HookId>,
+    invariant: Option<HookId>,
+}
+
+#[tactic(auto, unfolding(crate::specs::ShapeForms::hooks_form))]
+fn read_hooks(shape: &Json) -> Result<ShapeHooks, FormError>
+    ensures { Reads (λ hooks. hooks) (hooks_form (data_of shape.now)) result }
+{
+    Ok(ShapeHooks {
+        convert: read_given_hook(shape.get("convert"))?,
+        parse: read_given_hook(shape.get("parse"))?,
+        parse_bytes: read_given_hook(shape.get("parse_bytes"))?,
+        invariant: read_given_hook(shape.get("invariant"))?,
+    })
+}
+
 #[tactic(auto, unfolding(crate::specs::ShapeForms::shape_form))]
 fn read_shape(alloc: Global, json: &Json) -> Result<Shape, FormError>
     ensures { Reads (λ shape. shape) (shape_form (data_of json.now)) result }
 {
-    let Json::Object(members) = json else {
-        return Err(FormError::Broken);
-    };
-    if !has_only(members, &["name", "def", "preset", "default_attr"]) {
-        return Err(FormError::Broken);
-    }
-    let Some(name) = json.get("name").and_then(Json::as_str) else {
-        return Err(FormError::Broken);
-    };
-    let def = read_def_at(alloc, json.get("def"))?;
-    let preset = read_template(alloc, json.get("preset"))?;
-    let Some(default_attr) = flag_of(json.get("default_attr")) else {
-        return Err(FormError::Broken);
-    };
-    make_shape(alloc, name, def, preset, default_attr)
-}
-
-/// A definition, which has to be there.
-fn read_def_at(alloc: Global, found: Option<&Json>) -> Result<Def, FormError>
-    ensures { Reads (λ def. def) (given_def (option_map (λ d. data_of d.now) found.entry)) result }
-{
-    match found {
-        Some(json) => read_def(alloc, json),
-        None => Err(FormError::Broken),
-    }
-}
-
-/// A shape of which nothing else is said.
-fn make_shape(
-    alloc: Global,
-    name: &str,
-    def: Def,
-    preset: Option<Template>,
-    default_attr: bool,
-) -> Result<Shape, FormError>
-    ensures { Reads (λ shape. shape) (Some (described_shape name.now def preset default_attr)) result }
-{
+    let shape = shape_object(json)?;
+    let name = read_text(alloc, required(shape, "name")?)?;
+    let def = read_def(alloc, required(shape, "def")?)?;
+    let preset = read_given_template(alloc, shape.get("preset"))?;
+    let flags = read_flags(shape)?;
+    let inner = read_given_id(shape.get("inner"))?;
+    let builder = read_given_id(shape.get("builder"))?;
+    let hooks = read_hooks(shape)?;
     Ok(Shape {
-        name: Text::new(alloc, name)?,
+        name,
         def,
         preset,
-        default_attr,
-        inner: None,
-        builder: None,
-        convert: None,
-        parse: None,
-        parse_bytes: None,
-        proxy: None,
-        format_proxies: Items::new(alloc),
-        invariant: None,
-        metadata: false,
-        deny_unknown: false,
-        transparent: false,
-        bytes_ok: false,
+        default_attr: flags.default_attr,
+        inner,
+        builder,
+        convert: hooks.convert,
+        parse: hooks.parse,
+        parse_bytes: hooks.parse_bytes,
+        proxy: read_given_proxy(shape.get("proxy"))?,
+        format_proxies: read_format_proxies(alloc, shape.get("format_proxies"))?,
+        invariant: hooks.invariant,
+        metadata: flags.metadata,
+        deny_unknown: flags.deny_unknown,
+        transparent: flags.transparent,
+        bytes_ok: flags.bytes_ok,
     })
 }

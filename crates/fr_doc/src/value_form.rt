@@ -6,8 +6,9 @@ ghost use Rattle.fr_doc.specs.Reading.{Reads, entry_view};
 ghost use Rattle.fr_doc.specs.ValueForms.{value_form, one_key_form, vals_form, list_form, variant_form, map_form, entry_form};
 
 use crate::dyn_form::read_dyn;
-use crate::form_error::FormError;
+use crate::fault::ReadError;
 use crate::numerals::{char_of, count_of, int_of, nat_of};
+use crate::read_error::{Broken, FormError};
 use crate::tag::{Tag, find_tag};
 use fr_shape::{Items, OutOfMemory, Text, Value};
 use serde_json::{Map, Value as Json};
@@ -19,8 +20,8 @@ pub fn value_of(alloc: Global, json: &Json) -> Result<Option<Value>, OutOfMemory
 {
     match read_value(alloc, json) {
         Ok(value) => Ok(Some(value)),
-        Err(FormError::Broken) => Ok(None),
-        Err(FormError::Memory) => Err(OutOfMemory),
+        Err(ReadError::Fault(Broken)) => Ok(None),
+        Err(ReadError::Memory) => Err(OutOfMemory),
     }
 }
 
@@ -34,7 +35,7 @@ pub fn read_value(alloc: Global, json: &Json) -> Result<Value, FormError>
         Json::Bool(b) => Ok(Value::Bool(*b)),
         Json::Number(number) => match number.as_u128() {
             Some(n) => Ok(Value::Nat(n)),
-            None => Err(FormError::Broken),
+            None => Err(ReadError::Fault(Broken)),
         },
         Json::String(text) => Ok(Value::Text(Text::new(alloc, text.as_str())?)),
         Json::Array(items) => Ok(Value::Product(read_values(alloc, items)?)),
@@ -49,13 +50,13 @@ fn read_tagged(alloc: Global, members: &Map<String, Json>) -> Result<Value, Form
 {
     let mut entries = members.iter();
     let (Some((key, inner)), None) = (entries.next(), entries.next()) else {
-        return Err(FormError::Broken);
+        return Err(ReadError::Fault(Broken));
     };
-    match find_tag(key.as_str()).ok_or(FormError::Broken)? {
-        Tag::Nat => Ok(Value::Nat(nat_of(inner).ok_or(FormError::Broken)?)),
-        Tag::Int => Ok(Value::Int(int_of(inner).ok_or(FormError::Broken)?)),
-        Tag::Char => Ok(Value::Char(char_of(inner).ok_or(FormError::Broken)?)),
-        Tag::Token => Ok(Value::Token(count_of(inner).ok_or(FormError::Broken)?)),
+    match find_tag(key.as_str()).ok_or(Broken)? {
+        Tag::Nat => Ok(Value::Nat(nat_of(inner).ok_or(Broken)?)),
+        Tag::Int => Ok(Value::Int(int_of(inner).ok_or(Broken)?)),
+        Tag::Char => Ok(Value::Char(char_of(inner).ok_or(Broken)?)),
+        Tag::Token => Ok(Value::Token(count_of(inner).ok_or(Broken)?)),
         Tag::Variant => read_variant(alloc, inner),
         Tag::Some => Ok(Value::Some(Box::new(alloc, read_value(alloc, inner)?)?)),
         Tag::Ok => Ok(Value::Ok(Box::new(alloc, read_value(alloc, inner)?)?)),
@@ -86,7 +87,7 @@ fn read_list(alloc: Global, json: &Json) -> Result<Items<Value>, FormError>
 {
     match json {
         Json::Array(items) => read_values(alloc, items),
-        _ => Err(FormError::Broken),
+        _ => Err(ReadError::Fault(Broken)),
     }
 }
 
@@ -96,14 +97,14 @@ fn read_variant(alloc: Global, json: &Json) -> Result<Value, FormError>
     ensures { Reads view (variant_form (data_of json.now)) result }
 {
     let Json::Array(items) = json else {
-        return Err(FormError::Broken);
+        return Err(ReadError::Fault(Broken));
     };
     let mut items = items.iter();
     let (Some(index), Some(fields), None) = (items.next(), items.next(), items.next()) else {
-        return Err(FormError::Broken);
+        return Err(ReadError::Fault(Broken));
     };
     let Some(index) = count_of(index) else {
-        return Err(FormError::Broken);
+        return Err(ReadError::Fault(Broken));
     };
     Ok(Value::Variant(index, read_list(alloc, fields)?))
 }
@@ -114,7 +115,7 @@ fn read_map(alloc: Global, json: &Json) -> Result<Items<(Value, Value)>, FormErr
     ensures { Reads (λ es. entries_of (map entry_view es)) (map_form (data_of json.now)) result }
 {
     let Json::Array(items) = json else {
-        return Err(FormError::Broken);
+        return Err(ReadError::Fault(Broken));
     };
     let mut entries = Items::new(alloc);
     for item in items {
@@ -129,11 +130,11 @@ fn read_entry(alloc: Global, json: &Json) -> Result<(Value, Value), FormError>
     ensures { Reads entry_view (entry_form (data_of json.now)) result }
 {
     let Json::Array(items) = json else {
-        return Err(FormError::Broken);
+        return Err(ReadError::Fault(Broken));
     };
     let mut items = items.iter();
     let (Some(key), Some(inner), None) = (items.next(), items.next(), items.next()) else {
-        return Err(FormError::Broken);
+        return Err(ReadError::Fault(Broken));
     };
     let key = read_value(alloc, key)?;
     Ok((key, read_value(alloc, inner)?))
