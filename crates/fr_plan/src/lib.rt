@@ -1,0 +1,13 @@
+//! Plans: what is known of a type, and of all that it is made of, before a value of it is built.
+#![tactic(auto)]
+
+mod lists;
+mod nodes;
+mod outlines;
+mod plans;
+
+pub use nodes::{DeserStrategy, NodeId, ProxyNodes, TypePlanNode, TypePlanNodeKind};
+pub use plans::{
+    EnumPlan, FieldInitPlan, FieldPlan, FieldRange, StructPlan, ValidatorRange, VariantPlanMeta,
+    VariantRange,
+};
