@@ -15,6 +15,7 @@ use Rattle.fr_plan.specs.declared.nodes.NodeId.{NodeId}
 use Rattle.fr_plan.specs.declared.outlines.Outline.{Outline}
 use Rattle.fr_plan.specs.declared.outlines.Role.{Role}
 use Rattle.fr_plan.specs.declared.outlines.Mark.{Mark}
+use Rattle.fr_plan.specs.declared.outlines.Walk.{Walk}
 
 -- what was built, unless a shape was refused
 abbrev pub Built : Type 0 → Type 0
@@ -27,11 +28,6 @@ and_then (Err refused) go_on = Err refused
 abbrev pub unless : {X : Type 0} → Option AllocError → X → Built X
 unless (Some refused) built = Err refused
 unless None built = Ok built
-
--- the nodes so far, and how far each shape of the table has come
-pub record Walk : Type 0 where
-  pub nodes : List Outline
-  pub marks : List Mark
 
 -- the walk after a shape was built, and the number of the shape's node
 pub record Made : Type 0 where

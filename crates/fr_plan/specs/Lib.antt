@@ -1,3 +1,4 @@
 pub mod Build
 pub mod Nodes
 pub mod Plans
+pub mod Results

@@ -5,6 +5,7 @@ mod lists;
 mod nodes;
 mod outlines;
 mod plans;
+mod walking;
 
 pub use nodes::{DeserStrategy, NodeId, ProxyNodes, TypePlanNode, TypePlanNodeKind};
 pub use plans::{

@@ -1,5 +1,6 @@
 //! What is kept of each node while a plan is built: the outline from which the node is told afterwards.
 use crate::nodes::NodeId;
+use fr_arena::Arena;
 use fr_shape::{FieldRef, Items, ShapeId};
 
 /// Whose node it is: a shape's own, one that refers back to the shape's own, or one that does so for a field with proxies.
@@ -25,4 +26,11 @@ pub enum Mark {
     Unseen,
     Building,
     Done(NodeId),
+}
+
+/// The outlines of the nodes so far, and how far each shape of the table has come.
+#[derive(Drop)]
+pub struct Walk {
+    pub nodes: Arena<Outline>,
+    pub marks: Arena<Mark>,
 }
