@@ -1,6 +1,7 @@
 //! Plans: what is known of a type, and of all that it is made of, before a value of it is built.
 #![tactic(auto)]
 
+mod building;
 mod lists;
 mod nodes;
 mod outlines;
