@@ -1,4 +1,5 @@
 pub mod Build
+pub mod Lists
 pub mod Nodes
 pub mod Plans
 pub mod Results

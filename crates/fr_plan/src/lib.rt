@@ -6,6 +6,7 @@ mod lists;
 mod nodes;
 mod outlines;
 mod plans;
+mod strategies;
 mod walking;
 
 pub use nodes::{DeserStrategy, NodeId, ProxyNodes, TypePlanNode, TypePlanNodeKind};
