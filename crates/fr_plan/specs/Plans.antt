@@ -1,6 +1,6 @@
 -- What the plans of structs and enums say of fields and variants. Where a plan names a range of a list, the list is part of
 -- the statement.
-use Rattle.std.specs.Prelude.{◌≡◌, ℕ, ◌+◌, ◌≤◌, Bool, List, [], ◌∷◌, length, map, take, drop, position, slice_index_or, Some, None}
+use Rattle.std.specs.Prelude.{◌≡◌, ℕ, ◌+◌, ◌≤◌, Bool, List, [], ◌∷◌, length, map, take, drop, position, slice_get, slice_index_or, Option, Some, None}
 use Rattle.std.specs.List.{AllZip, list_any}
 use Rattle.fr_shape.specs.declared.shape.Shape.{Shape}
 use Rattle.fr_shape.specs.declared.shape.ShapeId.{ShapeId}
@@ -11,7 +11,7 @@ use Rattle.fr_shape.specs.declared.shape.StructDef.{StructDef}
 use Rattle.fr_shape.specs.declared.shape.EnumDef.{EnumDef}
 use Rattle.fr_shape.specs.declared.shape.ValidatorDef.{ValidatorDef}
 use Rattle.fr_shape.specs.declared.shape.VariantDef.{VariantDef}
-use Rattle.fr_shape.specs.Look.{Table, def_of}
+use Rattle.fr_shape.specs.Look.{Table, def_of, field_at}
 use Rattle.fr_shape.specs.Fills.{strict_rule_of}
 use Rattle.fr_arena.specs.Ranges.{Range}
 use Rattle.fr_rules.specs.declared.validators.PrecomputedValidator.{PrecomputedValidator}
@@ -70,6 +70,11 @@ pub record IsFieldPlan (table : Table) (lists : PlanLists) (nodes : List NodeId)
   pub field_shape : plan.field_shape ≡ placed.field.shape
   pub fill_rule : plan.fill_rule ≡ told_strict placed.meant placed.field (strict_rule_of table placed.meant placed.field)
   pub validators : Names lists.validators plan.validators (validators_of table placed.field)
+
+-- the table has these fields, in the struct or variant that is named
+abbrev pub AreFieldsOf : Table → ShapeId → (variant : Option ℕ) → List Field → Type 0
+AreFieldsOf table id variant fields =
+    (i : ℕ) → field_at table (record { shape = id; variant = variant; index = i }) ≡ slice_get fields i
 
 -- the range names the plans of these fields, in order
 abbrev pub NamesFields : Table → PlanLists → (nodes : List NodeId) → List Placed → Range → Type 0

@@ -5,7 +5,7 @@ ghost use Rattle.fr_plan.specs.Results.{Gives, GivesAll, GivesMore};
 
 use crate::nodes::NodeId;
 use crate::outlines::{Mark, Outline, Role, Walk};
-use crate::walking::{built_from, finish, has_proxy, sources_of};
+use crate::walking::{Container, built_from, finish, sources_of};
 use fr_shape::{
     Def, Field, FieldRef, Items, PlanError, Shape, ShapeId, ShapeTable, VariantDef,
 };
@@ -148,13 +148,6 @@ fn build_each(
         }
     }
     Ok(nodes)
-}
-
-/// Whose fields are built: those of a struct, or of one variant of an enum.
-#[derive(Clone, Copy)]
-struct Container {
-    shape: ShapeId,
-    variant: Option<u32>,
 }
 
 /// Builds the fields of all variants, one after the other.

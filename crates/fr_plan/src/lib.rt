@@ -2,11 +2,13 @@
 #![tactic(auto)]
 
 mod building;
+mod fields;
 mod lists;
 mod nodes;
 mod outlines;
 mod plans;
 mod strategies;
+mod variants;
 mod walking;
 
 pub use nodes::{DeserStrategy, NodeId, ProxyNodes, TypePlanNode, TypePlanNodeKind};

@@ -16,6 +16,13 @@ use fr_shape::{
 };
 use std::alloc::Global;
 
+/// Whose fields are meant: those of a struct, or of one variant of an enum.
+#[derive(Clone, Copy)]
+pub(crate) struct Container {
+    pub(crate) shape: ShapeId,
+    pub(crate) variant: Option<u32>,
+}
+
 impl Walk {
     /// Puts a node behind the others.
     pub(crate) fn put(&mut self, outline: Outline) -> Result<NodeId, PlanError>
