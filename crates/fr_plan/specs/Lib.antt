@@ -3,3 +3,4 @@ pub mod Lists
 pub mod Nodes
 pub mod Plans
 pub mod Results
+pub mod TypePlan

@@ -8,10 +8,13 @@ mod nodes;
 mod outlines;
 mod plans;
 mod strategies;
+mod telling;
+mod type_plan;
 mod variants;
 mod walking;
 
 pub use nodes::{DeserStrategy, NodeId, ProxyNodes, TypePlanNode, TypePlanNodeKind};
+pub use type_plan::TypePlanCore;
 pub use plans::{
     EnumPlan, FieldInitPlan, FieldPlan, FieldRange, StructPlan, ValidatorRange, VariantPlanMeta,
     VariantRange,

@@ -7,7 +7,7 @@ use fr_shape::{ScalarKind, ShapeId, Text};
 use smallvec::SmallVec;
 
 /// The number of a node in its plan, counted in the order in which nodes are built.
-#[derive(Clone, Copy, PartialEq, Eq, Hash)]
+#[derive(Clone, Copy, PartialEq, Eq, Hash, Default)]
 pub struct NodeId(pub u32);
 
 impl NodeId {
