@@ -1,7 +1,7 @@
 -- The nodes of a plan in the order in which they are built. A finished shape's node is shared. A shape that is being built
 -- gets a node that refers back to its own. Otherwise the sources of the shape's proxies are built, then its children left
 -- to right, and then its own node; so the root's is the last.
-use Rattle.std.specs.Prelude.{ℕ, zero, suc, ◌+◌, List, [], ◌∷◌, ◌++◌, length, replicate, slice_get, slice_set, Option, Some, None, Result, Ok, Err}
+use Rattle.std.specs.Prelude.{ℕ, zero, suc, ◌+◌, false, List, [], ◌∷◌, ◌++◌, length, replicate, slice_get, slice_set, Option, Some, None, Result, Ok, Err}
 use Rattle.fr_shape.specs.declared.shape.Shape.{Shape}
 use Rattle.fr_shape.specs.declared.shape.ShapeId.{ShapeId}
 use Rattle.fr_shape.specs.declared.shape.Def.{Def}
@@ -9,6 +9,7 @@ use Rattle.fr_shape.specs.declared.shape.Field.{Field}
 use Rattle.fr_shape.specs.declared.shape.FieldRef.{FieldRef}
 use Rattle.fr_shape.specs.declared.shape.VariantDef.{VariantDef}
 use Rattle.fr_shape.specs.declared.error.AllocError.{AllocError}
+use Rattle.fr_shape.specs.Checked.{is_present}
 use Rattle.fr_shape.specs.Look.{Table}
 use Rattle.fr_shape.specs.Plannable.{own_sources, field_sources, children_by, refusal_of, own_refusal}
 use Rattle.fr_plan.specs.declared.nodes.NodeId.{NodeId}
@@ -55,7 +56,7 @@ marked walk id mark = record walk { marks = slice_set walk.marks id.0 mark }
 
 -- a node that refers back to the shape's own
 abbrev pub back_reference : ShapeId → Outline
-back_reference id = record { shape = id; role = Role.BackRef; sources = []; children = [] }
+back_reference id = record { shape = id; role = Role.BackRef; sources = []; children = []; converts = false }
 
 -- the shapes of a list, one after the other; `builds` builds one
 abbrev pub each_built : (builds : Walk → ShapeId → Built Made) → MadeAll → List ShapeId → Built MadeAll
@@ -89,6 +90,7 @@ behind_proxies placed (source ∷ sources) own =
       role = Role.FieldProxy placed.meant;
       sources = source ∷ sources;
       children = [];
+      converts = false;
     }))
 
 -- a field: the sources of its proxies, its shape, and the field's own node where it has proxies
@@ -121,6 +123,7 @@ finish id shape sources children =
       role = Role.Own;
       sources = sources;
       children = children.nodes;
+      converts = is_present shape.convert;
     })))
 
 -- a shape that was not met before: the sources of its proxies, its children, and its own node

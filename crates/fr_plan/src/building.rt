@@ -246,5 +246,6 @@ fn build_field(
         role: Role::FieldProxy(meant),
         sources,
         children: Items::new(alloc),
+        converts: false,
     })
 }

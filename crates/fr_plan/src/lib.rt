@@ -4,6 +4,7 @@
 mod building;
 mod fields;
 mod lists;
+mod lookups;
 mod nodes;
 mod outlines;
 mod plans;

@@ -12,12 +12,14 @@ pub enum Role {
 }
 
 /// A node's shape and role, and the nodes that were built for it: those of its proxies' sources, and those of its children.
+/// `converts` says that the shape is converted from its child.
 #[derive(Drop)]
 pub struct Outline {
     pub shape: ShapeId,
     pub role: Role,
     pub sources: Items<NodeId>,
     pub children: Items<NodeId>,
+    pub converts: bool,
 }
 
 /// How far a shape has come: it was not met yet, it is being built, or its own node is there.

@@ -21,10 +21,10 @@ use std::marker::Model;
 /// The plan of a type: the nodes of its shape and of all that this is made of, in the order in which they are built.
 #[derive(Drop)]
 pub struct TypePlanCore {
-    nodes: Arena<TypePlanNode>,
-    root: NodeId,
-    lists: PlanLists,
-    walk: Walk,
+    pub(crate) nodes: Arena<TypePlanNode>,
+    pub(crate) root: NodeId,
+    pub(crate) lists: PlanLists,
+    pub(crate) walk: Walk,
 }
 
 impl Model for TypePlanCore {

@@ -46,6 +46,7 @@ impl Walk {
             role: Role::BackRef,
             sources: Items::new(alloc),
             children: Items::new(alloc),
+            converts: false,
         })
     }
 
@@ -91,6 +92,7 @@ pub(crate) fn finish(
         role: Role::Own,
         sources,
         children,
+        converts: shape.convert.is_some(),
     })?;
     walk.mark(id, Mark::Done(node));
     Ok(node)
