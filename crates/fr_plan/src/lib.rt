@@ -2,6 +2,7 @@
 #![tactic(auto)]
 
 mod building;
+mod children;
 mod fields;
 mod lists;
 mod lookups;

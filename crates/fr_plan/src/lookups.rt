@@ -2,12 +2,12 @@
 ghost use Rattle.std.specs.Prelude.{◌≡◌, slice_get};
 ghost use Rattle.std.specs.Option.{option_copied};
 ghost use Rattle.fr_rules.specs.Pools.{part_of};
-ghost use Rattle.fr_plan.specs.Lookups.{node_at, node_found, own_id, resolved, resolved_id, struct_plan_at, enum_plan_at, field_in_range, struct_field, enum_variant, enum_variant_field, own_outline, child_at, list_item, set_item, map_key, map_value, option_inner, result_ok, result_err, pointer_pointee, inner, result_sides, by_id};
+ghost use Rattle.fr_plan.specs.Lookups.{node_at, node_found, own_id, resolved, resolved_id, struct_plan_at, enum_plan_at, field_in_range, struct_field, enum_variant_field, own_outline, child_at, by_id};
 
 use crate::TypePlanCore;
 use crate::nodes::{NodeId, TypePlanNode, TypePlanNodeKind};
 use crate::outlines::{Mark, Outline};
-use crate::plans::{EnumPlan, FieldRange, StructPlan, VariantPlanMeta};
+use crate::plans::{EnumPlan, FieldRange, StructPlan};
 use fr_arena::{Arena, Idx, SliceRange};
 use fr_shape::ShapeId;
 
@@ -31,14 +31,14 @@ fn entry_of_range<T>(arena: &Arena<T>, range: SliceRange<T>, n: usize) -> Option
 
 impl TypePlanCore {
     /// The node of this number, if there is one.
-    fn find(&self, id: NodeId) -> Option<&TypePlanNode>
+    pub(crate) fn find(&self, id: NodeId) -> Option<&TypePlanNode>
         ensures { option_copied result ≡ node_at self.now id }
     {
         entry(&self.nodes, id.0)
     }
 
     /// The node that was looked up.
-    fn found(&self, id: Option<NodeId>) -> Option<&TypePlanNode>
+    pub(crate) fn found(&self, id: Option<NodeId>) -> Option<&TypePlanNode>
         ensures { option_copied result ≡ node_found self.now id }
     {
         self.find(id?)
@@ -55,14 +55,14 @@ impl TypePlanCore {
     }
 
     /// The outline of a shape's own node.
-    fn own_outline(&self, shape: ShapeId) -> Option<&Outline>
+    pub(crate) fn own_outline(&self, shape: ShapeId) -> Option<&Outline>
         ensures { option_copied result ≡ own_outline self.now shape }
     {
         entry(&self.walk.nodes, self.own_id(shape)?.0)
     }
 
     /// The child at this place, as it was built for the shape's own node.
-    fn child_at(&self, shape: ShapeId, place: usize) -> Option<NodeId>
+    pub(crate) fn child_at(&self, shape: ShapeId, place: usize) -> Option<NodeId>
         ensures { result ≡ child_at self.now shape place }
     {
         match self.own_outline(shape)?.children.get(place) {
@@ -143,14 +143,14 @@ impl TypePlanCore {
     }
 
     /// The node of a struct's field.
-    fn struct_field(&self, parent: &TypePlanNode, idx: usize) -> Option<NodeId>
+    pub(crate) fn struct_field(&self, parent: &TypePlanNode, idx: usize) -> Option<NodeId>
         ensures { result ≡ struct_field self.now parent.now idx }
     {
         self.field_in_range(self.as_struct_plan(parent)?.fields, idx)
     }
 
     /// The node of a field of an enum's variant.
-    fn enum_variant_field(
+    pub(crate) fn enum_variant_field(
         &self,
         parent: &TypePlanNode,
         variant_idx: usize,
