@@ -1,5 +1,8 @@
 //! The nodes of a plan: what is known of each shape before a value of it is built.
-ghost use Rattle.std.specs.Prelude.{◌≡◌};
+
+ghost use Rattle.std.specs.Prelude.{◌≡◌, not};
+ghost use Rattle.std.specs.Option.{option_copied};
+ghost use Rattle.fr_plan.specs.ProxyLookups.{node_for, has_any};
 
 use crate::plans::{EnumPlan, StructPlan};
 use fr_arena::Idx;
@@ -115,4 +118,38 @@ pub enum DeserStrategy {
     BackRef {
         target: ShapeId,
     },
+}
+
+impl ProxyNodes {
+    /// The node for this format: the first of that name, else the one for all formats.
+    pub fn node_for(&self, format: Option<&str>) -> Option<NodeId>
+        ensures node { result ≡ node_for self.now (option_copied format.entry) }
+    {
+        let Some(format) = format else {
+            return self.generic;
+        };
+        for entry in self.format_specific.as_slice() {
+            if entry.0.as_str() == format {
+                return Some(entry.1);
+            }
+        }
+        self.generic
+    }
+
+    /// Whether there is a proxy, of whatever format.
+    pub fn has_any(&self) -> bool
+        ensures any { result ≡ has_any self.now }
+    {
+        match (&self.generic, self.format_specific.as_slice()) {
+            (None, []) => false,
+            (None, [_, ..]) | (Some(_), _) => true,
+        }
+    }
+
+    /// Whether there is none.
+    pub fn is_empty(&self) -> bool
+        ensures empty { result ≡ not (has_any self.now) }
+    {
+        !self.has_any()
+    }
 }

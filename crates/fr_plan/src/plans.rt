@@ -1,4 +1,7 @@
 //! The plans of structs and enums. Their fields and variants lie in lists of the whole plan, and are told by ranges.
+ghost use Rattle.std.specs.Prelude.{◌≡◌, not};
+ghost use Rattle.fr_plan.specs.FillQuestions.{is_defaultable};
+
 use crate::nodes::NodeId;
 use fr_arena::SliceRange;
 use fr_rules::{FieldLookup, FillRule, PrecomputedValidator, VariantLookup};
@@ -36,6 +39,22 @@ pub struct FieldPlan {
     pub field_shape: ShapeId,
     pub fill_rule: FillRule,
     pub validators: ValidatorRange,
+}
+
+impl FieldPlan {
+    /// Whether a hole takes a default. There may be none to take, where the field is marked but its shape has none.
+    pub fn has_default(&self) -> bool
+        ensures default { result ≡ is_defaultable self.now.fill_rule }
+    {
+        matches!(self.fill_rule, FillRule::Defaultable(_))
+    }
+
+    /// Whether a hole has to be filled by the caller.
+    pub fn is_required(&self) -> bool
+        ensures required { result ≡ not (is_defaultable self.now.fill_rule) }
+    {
+        !self.has_default()
+    }
 }
 
 /// An enum: its variants in order, and how they are found by name. The variant that takes unknown names is the first marked

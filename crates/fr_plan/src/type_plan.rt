@@ -1,8 +1,9 @@
 //! The plan of a type.
-ghost use Rattle.std.specs.Prelude.{◌≡◌, ◌<◌, ◌≤◌, ◌+◌, [], length, replicate, slice_index_or, slice_range, IfOk, IfErr};
+ghost use Rattle.std.specs.Prelude.{◌≡◌, ◌<◌, ◌≤◌, ◌+◌, [], length, replicate, slice_get, Some, IfOk, IfErr};
 ghost use Rattle.fr_shape.specs.Checked.{IsChecked};
 ghost use Rattle.fr_shape.specs.Look.{IsIn};
-ghost use Rattle.fr_plan.specs.Build.{planned, start_of};
+ghost use Rattle.fr_rules.specs.Pools.{part_of};
+ghost use Rattle.fr_plan.specs.Build.{planned};
 ghost use Rattle.fr_plan.specs.Results.{IsMeant};
 ghost use Rattle.fr_plan.specs.declared.outlines.Mark.{Mark as TheMark};
 
@@ -33,10 +34,15 @@ impl Model for TypePlanCore {
     ghost Value = { Plan };
 
     ghost view = { λ core. record { nodes = core.nodes; root = core.root; lists = core.lists; walk = core.walk } };
+
+    ghost use Rattle.std.specs.Prelude.{◌<◌, length};
+
+    ghost invariant = { λ core. core.root.0 < length core.nodes };
 }
 
 impl TypePlanCore {
     ghost use Rattle.fr_plan.specs.TypePlan.{IsPlanOf};
+    ghost use Rattle.fr_plan.specs.Lookups.{node_at};
 
     /// The plan of the shape of this number.
     pub fn from_shape(alloc: Global, table: &ShapeTable, id: ShapeId) -> Result<Self, PlanError>
@@ -64,6 +70,83 @@ impl TypePlanCore {
             }),
             Err(OutOfMemory) => Err(PlanError::OutOfMemory),
         }
+    }
+
+    /// The root's node.
+    pub fn root(&self) -> &TypePlanNode
+        ensures root { node_at self.now self.now.root ≡ Some result.now }
+    {
+        self.nodes.get(self.root.idx())
+    }
+
+    /// The number of the root's node, which was built last.
+    pub fn root_id(&self) -> NodeId
+        ensures root { result ≡ self.now.root }
+        ensures inside { result.0 < length self.now.nodes }
+    {
+        self.root
+    }
+
+    /// The node of this number.
+    pub fn node(&self, idx: NodeId) -> &TypePlanNode
+        requires inside { idx.0 < length self.now.nodes }
+        ensures node { node_at self.now idx ≡ Some result.now }
+    {
+        self.nodes.get(idx.idx())
+    }
+
+    /// The field of this number, among the fields of all nodes.
+    pub fn field(&self, idx: Idx<FieldPlan>) -> &FieldPlan
+        requires inside { idx < length self.now.lists.fields }
+        ensures field { slice_get self.now.lists.fields idx ≡ Some result.now }
+    {
+        self.lists.fields.get(idx)
+    }
+
+    /// The variant of this number, among the variants of all nodes.
+    pub fn variant(&self, idx: Idx<VariantPlanMeta>) -> &VariantPlanMeta
+        requires inside { idx < length self.now.lists.variants }
+        ensures variant { slice_get self.now.lists.variants idx ≡ Some result.now }
+    {
+        self.lists.variants.get(idx)
+    }
+
+    /// The fields of a range.
+    pub fn fields(&self, r: FieldRange) -> &[FieldPlan]
+        requires inside { r.start + r.len ≤ length self.now.lists.fields }
+        ensures fields { result.now ≡ part_of self.now.lists.fields r }
+    {
+        self.lists.fields.get_slice(r)
+    }
+
+    /// The variants of a range.
+    pub fn variants(&self, r: VariantRange) -> &[VariantPlanMeta]
+        requires inside { r.start + r.len ≤ length self.now.lists.variants }
+        ensures variants { result.now ≡ part_of self.now.lists.variants r }
+    {
+        self.lists.variants.get_slice(r)
+    }
+
+    /// The validators of a range.
+    pub fn validators(&self, r: ValidatorRange) -> &[PrecomputedValidator]
+        requires inside { r.start + r.len ≤ length self.now.lists.validators }
+        ensures validators { result.now ≡ part_of self.now.lists.validators r }
+    {
+        self.lists.validators.get_slice(r)
+    }
+
+    /// The pool in which the lookups of the plan are found.
+    pub fn lookups(&self) -> &LookupPool
+        ensures pool { result.now ≡ self.now.lists.lookups }
+    {
+        &self.lists.lookups
+    }
+
+    /// How many nodes there are.
+    pub fn node_count(&self) -> usize
+        ensures count { result ≡ length self.now.nodes }
+    {
+        self.nodes.len()
     }
 }
 
