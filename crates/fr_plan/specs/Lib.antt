@@ -1,0 +1,9 @@
+pub mod Build
+pub mod FillQuestions
+pub mod Lists
+pub mod Lookups
+pub mod Nodes
+pub mod Plans
+pub mod ProxyLookups
+pub mod Results
+pub mod TypePlan

@@ -1,0 +1,22 @@
+-- What contracts see of a plan, and when it is the plan of a root.
+use Rattle.std.specs.Prelude.{◌≡◌, List, Ok}
+use Rattle.fr_shape.specs.declared.shape.ShapeId.{ShapeId}
+use Rattle.fr_shape.specs.Look.{Table}
+use Rattle.fr_plan.specs.declared.nodes.NodeId.{NodeId}
+use Rattle.fr_plan.specs.declared.nodes.TypePlanNode.{TypePlanNode}
+use Rattle.fr_plan.specs.declared.outlines.Walk.{Walk}
+use Rattle.fr_plan.specs.declared.lists.PlanLists.{PlanLists}
+use Rattle.fr_plan.specs.Build.{planned}
+use Rattle.fr_plan.specs.Nodes.{AreNodes}
+
+-- the nodes with their outlines, the lists in which the parts of nodes lie, and the number of the root's node
+pub record Plan : Type 0 where
+  pub nodes : List TypePlanNode
+  pub root : NodeId
+  pub lists : PlanLists
+  pub walk : Walk
+
+-- the nodes are those that are built for the root, each told from its outline
+pub record IsPlanOf (table : Table) (id : ShapeId) (plan : Plan) : Type 0 where
+  pub built : planned table id ≡ Ok (record { walk = plan.walk; node = plan.root })
+  pub told : AreNodes table plan.lists plan.walk.nodes plan.nodes

@@ -1,0 +1,23 @@
+//! Plans: what is known of a type, and of all that it is made of, before a value of it is built.
+#![tactic(auto)]
+
+mod building;
+mod children;
+mod fields;
+mod lists;
+mod lookups;
+mod nodes;
+mod outlines;
+mod plans;
+mod strategies;
+mod telling;
+mod type_plan;
+mod variants;
+mod walking;
+
+pub use nodes::{DeserStrategy, NodeId, ProxyNodes, TypePlanNode, TypePlanNodeKind};
+pub use type_plan::TypePlanCore;
+pub use plans::{
+    EnumPlan, FieldInitPlan, FieldPlan, FieldRange, StructPlan, ValidatorRange, VariantPlanMeta,
+    VariantRange,
+};

@@ -1,0 +1,170 @@
+//! The plan of a type.
+ghost use Rattle.std.specs.Prelude.{◌≡◌, ◌<◌, ◌≤◌, ◌+◌, [], length, replicate, slice_get, Some, IfOk, IfErr};
+ghost use Rattle.fr_shape.specs.Checked.{IsChecked};
+ghost use Rattle.fr_shape.specs.Look.{IsIn};
+ghost use Rattle.fr_rules.specs.Pools.{part_of};
+ghost use Rattle.fr_plan.specs.Build.{planned};
+ghost use Rattle.fr_plan.specs.Results.{IsMeant};
+ghost use Rattle.fr_plan.specs.declared.outlines.Mark.{Mark as TheMark};
+
+use crate::building::build_shape;
+use crate::lists::PlanLists;
+use crate::nodes::{NodeId, TypePlanNode};
+use crate::outlines::{Mark, Walk};
+use crate::plans::{FieldPlan, FieldRange, ValidatorRange, VariantPlanMeta, VariantRange};
+use crate::telling::nodes_of;
+use fr_arena::{Arena, Idx};
+use fr_rules::{LookupPool, PrecomputedValidator};
+use fr_shape::{OutOfMemory, PlanError, ShapeId, ShapeTable};
+use std::alloc::Global;
+use std::marker::Model;
+
+/// The plan of a type: the nodes of its shape and of all that this is made of, in the order in which they are built.
+#[derive(Drop)]
+pub struct TypePlanCore {
+    pub(crate) nodes: Arena<TypePlanNode>,
+    pub(crate) root: NodeId,
+    pub(crate) lists: PlanLists,
+    pub(crate) walk: Walk,
+}
+
+impl Model for TypePlanCore {
+    ghost use Rattle.fr_plan.specs.TypePlan.{Plan};
+
+    ghost Value = { Plan };
+
+    ghost view = { λ core. record { nodes = core.nodes; root = core.root; lists = core.lists; walk = core.walk } };
+
+    ghost use Rattle.std.specs.Prelude.{◌<◌, length};
+
+    ghost invariant = { λ core. core.root.0 < length core.nodes };
+}
+
+impl TypePlanCore {
+    ghost use Rattle.fr_plan.specs.TypePlan.{IsPlanOf};
+    ghost use Rattle.fr_plan.specs.Lookups.{node_at};
+
+    /// The plan of the shape of this number.
+    pub fn from_shape(alloc: Global, table: &ShapeTable, id: ShapeId) -> Result<Self, PlanError>
+        requires checked { IsChecked table.now }
+        requires there { IsIn table.now id.0 }
+        ensures plan { IfOk result (IsPlanOf table.now id) }
+        ensures refused { IfErr result (IsMeant (planned table.now id)) }
+    {
+        let mut walk = match start(alloc, table.len()) {
+            Ok(walk) => walk,
+            Err(OutOfMemory) => return Err(PlanError::OutOfMemory),
+        };
+        let depth = walk.marks.len() + 1;
+        let root = match build_shape(alloc, table, &mut walk, depth, id) {
+            Ok(root) => root,
+            Err(refused) => return Err(refused),
+        };
+        let mut lists = PlanLists::new(alloc);
+        match nodes_of(alloc, table, &walk.nodes, &mut lists) {
+            Ok(nodes) => Ok(TypePlanCore {
+                nodes,
+                root,
+                lists,
+                walk,
+            }),
+            Err(OutOfMemory) => Err(PlanError::OutOfMemory),
+        }
+    }
+
+    /// The root's node.
+    pub fn root(&self) -> &TypePlanNode
+        ensures root { node_at self.now self.now.root ≡ Some result.now }
+    {
+        self.nodes.get(self.root.idx())
+    }
+
+    /// The number of the root's node, which was built last.
+    pub fn root_id(&self) -> NodeId
+        ensures root { result ≡ self.now.root }
+        ensures inside { result.0 < length self.now.nodes }
+    {
+        self.root
+    }
+
+    /// The node of this number.
+    pub fn node(&self, idx: NodeId) -> &TypePlanNode
+        requires inside { idx.0 < length self.now.nodes }
+        ensures node { node_at self.now idx ≡ Some result.now }
+    {
+        self.nodes.get(idx.idx())
+    }
+
+    /// The field of this number, among the fields of all nodes.
+    pub fn field(&self, idx: Idx<FieldPlan>) -> &FieldPlan
+        requires inside { idx < length self.now.lists.fields }
+        ensures field { slice_get self.now.lists.fields idx ≡ Some result.now }
+    {
+        self.lists.fields.get(idx)
+    }
+
+    /// The variant of this number, among the variants of all nodes.
+    pub fn variant(&self, idx: Idx<VariantPlanMeta>) -> &VariantPlanMeta
+        requires inside { idx < length self.now.lists.variants }
+        ensures variant { slice_get self.now.lists.variants idx ≡ Some result.now }
+    {
+        self.lists.variants.get(idx)
+    }
+
+    /// The fields of a range.
+    pub fn fields(&self, r: FieldRange) -> &[FieldPlan]
+        requires inside { r.start + r.len ≤ length self.now.lists.fields }
+        ensures fields { result.now ≡ part_of self.now.lists.fields r }
+    {
+        self.lists.fields.get_slice(r)
+    }
+
+    /// The variants of a range.
+    pub fn variants(&self, r: VariantRange) -> &[VariantPlanMeta]
+        requires inside { r.start + r.len ≤ length self.now.lists.variants }
+        ensures variants { result.now ≡ part_of self.now.lists.variants r }
+    {
+        self.lists.variants.get_slice(r)
+    }
+
+    /// The validators of a range.
+    pub fn validators(&self, r: ValidatorRange) -> &[PrecomputedValidator]
+        requires inside { r.start + r.len ≤ length self.now.lists.validators }
+        ensures validators { result.now ≡ part_of self.now.lists.validators r }
+    {
+        self.lists.validators.get_slice(r)
+    }
+
+    /// The pool in which the lookups of the plan are found.
+    pub fn lookups(&self) -> &LookupPool
+        ensures pool { result.now ≡ self.now.lists.lookups }
+    {
+        &self.lists.lookups
+    }
+
+    /// How many nodes there are.
+    pub fn node_count(&self) -> usize
+        ensures count { result ≡ length self.now.nodes }
+    {
+        self.nodes.len()
+    }
+}
+
+/// The walk before it starts: no node is there, and no shape was met.
+fn start(alloc: Global, shapes: usize) -> Result<Walk, OutOfMemory>
+    ensures { IfOk result (λ walk. walk ≡ record { nodes = []; marks = replicate shapes TheMark.Unseen }) }
+{
+    let mut marks = Arena::new(alloc);
+    for _shape in 0..shapes {
+        if marks.len() >= u32::MAX as usize {
+            return Err(OutOfMemory);
+        }
+        let Ok(_) = marks.alloc(Mark::Unseen) else {
+            return Err(OutOfMemory);
+        };
+    }
+    Ok(Walk {
+        nodes: Arena::new(alloc),
+        marks,
+    })
+}
