@@ -4,7 +4,7 @@ use Rattle.std.specs.List.{list_any, list_all}
 use Rattle.std.specs.Str.{bytes_eq}
 use Rattle.fr_shape.specs.declared.value.Value.{Value}
 use Rattle.fr_shape.specs.declared.value.Dyn.{Dyn}
-use Rattle.fr_shape.specs.Val.{Val, Vals, first}
+use Rattle.fr_shape.specs.Val.{Val, first}
 use Rattle.fr_shape.specs.View.{view, vals_of, entries_view, dyn_view, members_view}
 use Rattle.fr_shape.specs.Same.{same, is_among, none_twice, keys}
 use Rattle.fr_shape.specs.Fits.{lacks_key, keys_once, members_keys_once}

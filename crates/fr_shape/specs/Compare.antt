@@ -1,6 +1,6 @@
 -- The order of values: by their form first, in the order in which forms are listed below, then by what they hold. Any two
 -- tokens are equal; what has many parts goes part by part in their order, and the shorter first.
-use Rattle.std.specs.Prelude.{ℕ, Bool, true, false}
+use Rattle.std.specs.Prelude.{ℕ}
 use Rattle.std.specs.declared.cmp.Ordering.{Ordering}
 use Rattle.std.specs.declared.cmp.Ordering.TheVariants.{Less, Equal, Greater}
 use Rattle.std.specs.Ordering.{ordering_then, nat_cmp, int_cmp, bool_cmp}

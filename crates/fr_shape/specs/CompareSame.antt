@@ -1,8 +1,8 @@
 -- Values are equal by their order exactly where they are `same`.
-use Rattle.std.specs.Prelude.{◌≡◌, ℕ, Bool, true, false, ◌&&◌, List, refl, nat_eq}
+use Rattle.std.specs.Prelude.{◌≡◌, Bool, true, false, ◌&&◌, refl, nat_eq}
 use Rattle.std.proofs.Common.{Some, sym, ◌∙◌, subst}
 use Rattle.std.specs.declared.cmp.Ordering.{Ordering}
-use Rattle.std.specs.Ordering.{ordering_then, is_eq, nat_cmp, int_cmp, bool_cmp}
+use Rattle.std.specs.Ordering.{ordering_then, is_eq, nat_cmp, bool_cmp}
 use Rattle.std.specs.Bool.{beq}
 use Rattle.std.specs.Str.{bytes_eq}
 use Rattle.std.specs.Cmp.{IsEquivalence, IsPartialOrder, both_tied, unsigned_ties, eq_by_cmp_equiv, po}

@@ -1,4 +1,4 @@
-use Rattle.std.proofs.Common.{◌≡◌, Bool, true, false, not, is_some, refl, sym, ap, ◌∙◌}
+use Rattle.std.proofs.Common.{◌≡◌, Bool, true, false, not, refl, sym, ap, ◌∙◌}
 use Rattle.fr_shape.proofs.NoneTwice.{found_none}
 use Rattle.fr_shape.proofs.repeated.are_distinct.Goals as goal
 

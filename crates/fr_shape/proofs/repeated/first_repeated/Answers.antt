@@ -1,7 +1,6 @@
-use Rattle.std.proofs.Common.{◌≡◌, Bool, true, false, cond, not, ◌&&◌, ◌||◌, take, refl, sym, ap, ◌∙◌, arith}
+use Rattle.std.proofs.Common.{◌≡◌, Bool, true, false, cond, not, ◌&&◌, take, sym, ap, ◌∙◌, arith}
 use Rattle.std.specs.BTreeSet as sorted
 use Rattle.std.specs.List.{list_any}
-use Rattle.std.specs.Ordering.{is_eq}
 use Rattle.std.proofs.lemmas.Grind.{common_steps}
 use Rattle.fr_shape.proofs.NoneTwice.{distinct_more, first_repeated_at, holds_more}
 use Rattle.fr_shape.proofs.repeated.first_repeated.Goals as goal
