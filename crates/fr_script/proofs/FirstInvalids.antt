@@ -1,15 +1,14 @@
 -- The first command that isn't valid is where a script stops being one that may be handed to the builder.
-use Rattle.std.proofs.Common.{◌≡◌, ℕ, zero, suc, ◌+◌, ◌<◌, ◌≤◌, ◌&&◌, not, nat_lt, nat_eq, cond, Bool, true, false, List, [], ◌∷◌, ◌++◌, length, take, get_or, Option, Some, None, refl, sym, subst, ap, ◌∙◌, zero-add, arith}
+use Rattle.std.proofs.Common.{◌≡◌, ℕ, suc, ◌+◌, ◌<◌, ◌≤◌, not, nat_lt, nat_eq, cond, Bool, true, false, List, [], ◌∷◌, ◌++◌, length, take, get_or, Option, Some, None, refl, subst, ap, ◌∙◌, zero-add, arith}
 use Rattle.std.proofs.lemmas.Bool.{lt-ltb, and_from}
 use Rattle.std.proofs.lemmas.Bool.Decides.{nat_tests}
 use Rattle.std.specs.List.{list_any}
-use Rattle.fr_shape.specs.Fits.{fits}
 use Rattle.fr_shape.specs.Look.{Table}
 use Rattle.fr_shape.specs.Tokens.{tokens, times, occurs}
 use Rattle.fr_shape.specs.TokenLaws.{times_append, occurs_times}
 use Rattle.fr_model.specs.Commands.{Call}
 use Rattle.fr_model.specs.Scripts.{brought, AllFitting, IsValid, tokens_of}
-use Rattle.fr_script.specs.Documents.{is_new, are_new, is_valid_call, first_invalid}
+use Rattle.fr_script.specs.Documents.{are_new, is_valid_call, first_invalid}
 use Rattle.fr_script.specs.FirstInvalid.{IsFirstInvalid}
 use Rattle.fr_script.proofs.ValidScripts.{times_more, valid_where_none_invalid}
 

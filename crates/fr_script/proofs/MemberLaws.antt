@@ -1,9 +1,9 @@
 -- The members of a document, found one after another.
-use Rattle.std.proofs.Common.{◌≡◌, ℕ, Bool, true, false, List, Option, Some, None, codes, refl}
+use Rattle.std.proofs.Common.{◌≡◌, true, false, Option, Some, None, codes, refl}
 use Rattle.serde_json.specs.Data.{Data, Members as Entries}
 use Rattle.serde_json.specs.Find.{get, as_object}
 use Rattle.fr_doc.specs.Keys.{has_no_other}
-use Rattle.fr_script.specs.Members.{Members, document_keys, members_form}
+use Rattle.fr_script.specs.Members.{document_keys, members_form}
 
 pub no_members : (d : Data) (entries : Entries) → as_object d ≡ Some entries → has_no_other entries document_keys ≡ false
     → None ≡ members_form d

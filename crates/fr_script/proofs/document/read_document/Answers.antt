@@ -1,6 +1,6 @@
-use Rattle.std.proofs.Common.{◌≡◌, length, sym, arith}
+use Rattle.std.proofs.Common.{sym, arith}
 use Rattle.std.proofs.lemmas.List.{length-map}
-use Rattle.fr_model.specs.Commands.{call_of, calls_of}
+use Rattle.fr_model.specs.Commands.{call_of}
 use Rattle.fr_script.proofs.Buildable.{sizes_known}
 use Rattle.fr_script.specs.Reading.{document_view}
 use Rattle.fr_script.proofs.document.read_document.Goals as goal

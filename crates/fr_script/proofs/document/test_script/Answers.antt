@@ -1,4 +1,4 @@
-use Rattle.std.proofs.Common.{◌≡◌, ℕ, List, [], Option, None, Some, Bool, false, replicate, sym, ap, ◌∙◌}
+use Rattle.std.proofs.Common.{◌≡◌, [], None, Some, false, replicate, sym, ap, ◌∙◌}
 use Rattle.fr_model.specs.Commands.{calls_of}
 use Rattle.fr_script.specs.Documents.{first_invalid, invalid, script_passes}
 use Rattle.fr_script.proofs.BroughtLaws.{new_verdict}

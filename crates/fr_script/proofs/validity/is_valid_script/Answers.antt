@@ -1,7 +1,5 @@
-use Rattle.std.proofs.Common.{◌≡◌, ℕ, List, [], None, Some, Bool, sym, ap, subst, ◌∙◌}
+use Rattle.std.proofs.Common.{◌≡◌, [], Some, sym, ap, subst, ◌∙◌}
 use Rattle.fr_model.specs.Commands.{calls_of}
-use Rattle.fr_script.specs.Documents.{first_invalid}
-use Rattle.fr_script.specs.FirstInvalid.{IsFirstInvalid}
 use Rattle.fr_script.specs.Marks.{AreMarks}
 use Rattle.fr_script.proofs.BroughtLaws.{unmarked_invalid}
 use Rattle.fr_script.proofs.FirstInvalids.{is_first}
