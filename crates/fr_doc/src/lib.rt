@@ -45,6 +45,6 @@ pub use members::{has_float, has_only};
 pub use memory::{MemSink, MemSource};
 pub use numerals::count_of;
 pub use served::is_served;
-pub use shape_form::shapes_of;
+pub use shape_form::{shape_of, shapes_of};
 pub use value_form::value_of;
 pub use value_json::json_of;

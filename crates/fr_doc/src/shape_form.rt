@@ -25,14 +25,14 @@ pub fn shapes_of(alloc: Global, json: &Json) -> Result<Items<Shape>, ReadError>
     };
     let mut shapes = Items::new(alloc);
     for (i, item) in items.iter().enumerate() {
-        shapes.push(read_shape_at(alloc, i, item)?)?;
+        shapes.push(shape_of(alloc, i, item)?)?;
     }
     Ok(shapes)
 }
 
-/// The shape of this number in the table's array.
-fn read_shape_at(alloc: Global, i: usize, json: &Json) -> Result<Shape, ReadError>
-    ensures { Gives (shape_at i (data_of json.now)) result }
+/// The shape of this number in a table's array.
+pub fn shape_of(alloc: Global, i: usize, json: &Json) -> Result<Shape, ReadError>
+    ensures form { Gives (shape_at i (data_of json.now)) result }
 {
     match read_shape(alloc, json) {
         Ok(shape) => Ok(shape),

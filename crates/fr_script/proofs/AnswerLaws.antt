@@ -32,7 +32,7 @@ module _ (document : Document) (buildable : IsBuildable document) (before after 
   built_outcome v ran settled =
       ap (built v)
       (counted
-      ∙ released_tokens document.shapes document.script document.tokens after (occurs v) buildable.valid
+      ∙ released_tokens document.shapes document.script document.tokens after (occurs v) buildable.in_order.valid
       (settled_new (occurs v) settled))
       ∙ ap (outcome_of_run document) (sym ran)
 
@@ -43,7 +43,7 @@ module _ (document : Document) (buildable : IsBuildable document) (before after 
     fits = fitting;
     tokens =
         subst (StandOnce (brought document.script) (occurs v)) (sym counted)
-        (stand_once document.shapes document.script document.tokens after (occurs v) buildable.valid
+        (stand_once document.shapes document.script document.tokens after (occurs v) buildable.in_order.valid
         (settled_new (occurs v) settled));
   }
 
@@ -53,7 +53,7 @@ module _ (document : Document) (buildable : IsBuildable document) (before after 
   refused_outcome refusal ran settled =
       ap (refused refusal)
       (counted
-      ∙ released_tokens document.shapes document.script document.tokens after none_answered buildable.valid
+      ∙ released_tokens document.shapes document.script document.tokens after none_answered buildable.in_order.valid
       (settled_new none_answered settled))
       ∙ ap (outcome_of_run document) (sym ran)
 
@@ -63,6 +63,6 @@ module _ (document : Document) (buildable : IsBuildable document) (before after 
     journal = journal;
     tokens =
         subst (StandOnce (brought document.script) none_answered) (sym counted)
-        (stand_once document.shapes document.script document.tokens after none_answered buildable.valid
+        (stand_once document.shapes document.script document.tokens after none_answered buildable.in_order.valid
         (settled_new none_answered settled));
   }

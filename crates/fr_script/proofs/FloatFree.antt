@@ -1,10 +1,12 @@
 -- No report holds a float, so its text is its compact text.
-use Rattle.std.proofs.Common.{◌≡◌, ℕ, false, List, [], ◌∷◌, refl}
+use Rattle.std.proofs.Common.{◌≡◌, ℕ, false, List, [], ◌∷◌, map, refl}
 use Rattle.serde_json.specs.Written.{has_float, items_have_float}
 use Rattle.fr_shape.specs.Val.{Val}
 use Rattle.fr_doc.specs.declared.fault.DocFault.{DocFault}
 use Rattle.fr_doc.specs.Printed.{value_data}
-use Rattle.fr_script.specs.Reports.{Outcome, faulty, built, refused, naturals, outcome_data, fault_data}
+use Rattle.fr_script.specs.Reports.{Outcome, faulty, built, refused, planned, unplanned, naturals, outcome_data, fault_data, line_data}
+use Rattle.fr_script.specs.PlanReports.{NodeLine}
+use Rattle.serde_json.specs.View.{items_of}
 
 naturals_free : (ns : List ℕ) → items_have_float (naturals ns) ≡ false
 naturals_free [] = refl
@@ -19,6 +21,15 @@ fault_free (DocFault.TooLarge size) = refl
 fault_free (DocFault.Unchecked broken) = refl
 fault_free (DocFault.Invalid i) = refl
 
+lines_free : (lines : List NodeLine) → items_have_float (items_of (map line_data lines)) ≡ false
+lines_free [] = refl
+lines_free (line ∷ lines) = lines_free lines
+
+pub plan_float_free : (lines : List NodeLine) (root : ℕ) → has_float (outcome_data (planned lines root)) ≡ false
+plan_float_free lines root =
+    let nodes : items_have_float (items_of (map line_data lines)) ≡ false = lines_free lines in
+    rw nodes refl
+
 pub outcome_float_free : ((v : Val) → has_float (value_data v) ≡ false) → (outcome : Outcome)
     → has_float (outcome_data outcome) ≡ false
 outcome_float_free values (faulty fault) = fault_free fault
@@ -29,3 +40,5 @@ outcome_float_free values (built v tokens) =
 outcome_float_free values (refused refusal tokens) =
     let rest : items_have_float (naturals tokens) ≡ false = naturals_free tokens in
     rw rest refl
+outcome_float_free values (planned lines root) = plan_float_free lines root
+outcome_float_free values (unplanned fault) = refl

@@ -6,6 +6,7 @@ pub mod FirstInvalids
 pub mod FloatFree
 pub mod MarkLaws
 pub mod MemberLaws
+pub mod PlanLaws
 pub mod ReleasedLaws
 pub mod RuleLaws
 pub mod SizeLaws

@@ -11,6 +11,7 @@ use Rattle.fr_shape.specs.declared.shape.Shape.{Shape}
 use Rattle.fr_shape.specs.Look.{Table}
 use Rattle.fr_shape.specs.Faults.{rules_of}
 use Rattle.fr_shape.specs.Fits.{fits}
+use Rattle.fr_shape.specs.Served.{serves}
 use Rattle.fr_shape.specs.Tokens.{tokens}
 use Rattle.fr_doc.specs.declared.fault.DocFault.{DocFault}
 use Rattle.fr_doc.specs.declared.fault.DocPlace.{DocPlace}
@@ -18,10 +19,11 @@ use Rattle.fr_doc.specs.declared.fault.DocSize.{DocSize}
 use Rattle.fr_doc.specs.declared.looping.TheConstants.{DOCUMENT_LIMIT}
 use Rattle.fr_doc.specs.FaultSteps.{◌>>=◌, each_at}
 use Rattle.fr_doc.specs.Numerals.{whole_number}
-use Rattle.fr_doc.specs.ShapeForms.{shapes_form}
+use Rattle.fr_doc.specs.ShapeForms.{shape_at}
 use Rattle.fr_model.specs.Commands.{Call}
 use Rattle.fr_model.specs.Scripts.{tokens_of}
 use Rattle.fr_script.specs.declared.sizes.TheConstants.{SHAPE_LIMIT, PART_LIMIT, COMMAND_LIMIT, TOKEN_LIMIT, DEPTH_LIMIT}
+use Rattle.fr_script.specs.declared.word.Word.{Word}
 use Rattle.fr_script.specs.CommandForms.{call_form}
 use Rattle.fr_script.specs.Members.{members_form}
 
@@ -66,10 +68,25 @@ unfoldable pub script_form : Data → Result (List Call) DocFault
 script_form (array ds) = each_at call_at 0 ds
 script_form _ = Err (DocFault.BadForm DocPlace.Commands)
 
-unfoldable pub document_form : Data → Result Document DocFault
-document_form d = do
+-- the shapes that a word takes: `plan` takes all, `build` those that the builder serves so far
+abbrev pub takes : Word → Shape → Bool
+takes Word.Build shape = serves shape
+takes Word.Plan shape = true
+
+unfoldable pub shape_for : Word → ℕ → Data → Result Shape DocFault
+shape_for word i d = do
+  shape ← shape_at i d
+  _ ← asks (takes word shape) (DocFault.BadForm (DocPlace.Shape i))
+  Ok shape
+
+unfoldable pub shapes_for : Word → Data → Result Table DocFault
+shapes_for word (array ds) = each_at (shape_for word) 0 ds
+shapes_for word _ = Err (DocFault.BadForm DocPlace.Shapes)
+
+unfoldable pub document_form : Word → Data → Result Document DocFault
+document_form word d = do
   members ← broken DocPlace.Document (members_form d)
-  shapes ← shapes_form members.shapes
+  shapes ← shapes_for word members.shapes
   root ← root_form (length shapes) members.root
   tokens ← tokens_form members.tokens
   script ← script_form members.commands
@@ -191,13 +208,13 @@ script_passes document =
 abbrev pub tree_of : List ℕ → Option Data
 tree_of bytes = if is_utf8 bytes then read bytes else None
 
--- the document that bytes are, or their first fault
-unfoldable pub document_of : List ℕ → Result Document DocFault
-document_of bytes = do
+-- the document that bytes are to a word, or their first fault
+unfoldable pub document_of : Word → List ℕ → Result Document DocFault
+document_of word bytes = do
   _ ← at_most DOCUMENT_LIMIT (length bytes) DocFault.TooLong
   d ← ok_or (tree_of bytes) DocFault.NotJson
   _ ← asks (not (has_float d)) DocFault.HasFloat
-  document ← document_form d
+  document ← document_form word d
   _ ← sizes_pass document
   _ ← rules_pass document.shapes
   _ ← script_passes document

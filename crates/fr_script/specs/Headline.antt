@@ -7,8 +7,9 @@ use Rattle.fr_doc.specs.declared.fault.DocFault.{DocFault}
 use Rattle.fr_model.specs.Journal.{journal_run}
 use Rattle.fr_model.specs.Scripts.{brought}
 use Rattle.fr_script.specs.declared.answering.Answer.{Answer}
-use Rattle.fr_script.specs.Documents.{Document}
-use Rattle.fr_script.specs.Reports.{Outcome, faulty, built, refused, none_answered}
+use Rattle.fr_script.specs.declared.word.Word.{Word}
+use Rattle.fr_script.specs.Documents.{Document, document_of}
+use Rattle.fr_script.specs.Reports.{Outcome, faulty, built, refused, planned, unplanned, none_answered, outcome_of}
 use Rattle.fr_script.specs.Tokens.{StandOnce}
 
 -- what the journal of a document's script completes to
@@ -32,9 +33,18 @@ abbrev pub KeepsPromise : Result Document DocFault → Outcome → Type 0
 KeepsPromise (Ok document) (built v released) = IsBuiltRightly document v released
 KeepsPromise (Ok document) (refused refusal released) = IsRefusedRightly document released
 KeepsPromise (Ok document) (faulty other) = ⊥
+KeepsPromise (Ok document) (planned lines root) = ⊥
+KeepsPromise (Ok document) (unplanned fault) = ⊥
 KeepsPromise (Err fault) (built v released) = ⊥
 KeepsPromise (Err fault) (refused refusal released) = ⊥
+KeepsPromise (Err fault) (planned lines root) = ⊥
+KeepsPromise (Err fault) (unplanned other) = ⊥
 KeepsPromise (Err fault) (faulty other) = fault ≡ other
+
+-- what is promised of the outcome of some bytes: under `plan` there is nothing to keep
+abbrev pub IsPromised : Word → List ℕ → Type 0
+IsPromised Word.Build bytes = KeepsPromise (document_of Word.Build bytes) (outcome_of Word.Build bytes)
+IsPromised Word.Plan bytes = Unit {0}
 
 -- a built value was made by as many calls as the script has commands
 abbrev pub IsMadeByCalls : Result Document DocFault → Answer → Type 0

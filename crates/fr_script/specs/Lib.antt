@@ -7,6 +7,7 @@ pub mod Headline
 pub mod Marks
 pub mod Members
 pub mod Outcomes
+pub mod PlanReports
 pub mod Reading
 pub mod Reports
 pub mod Runs

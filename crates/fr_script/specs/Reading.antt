@@ -10,7 +10,7 @@ use Rattle.fr_script.specs.declared.document.Document.{Document as ReadDocument}
 use Rattle.fr_script.specs.declared.members.Members.{Members as FoundMembers}
 
 -- what was read stands for what the part is, a fault is the part's fault, and memory may be wanting anywhere
-abbrev pub GivesFor : {A X : Type 0} → (A → X) → Result X DocFault → Result A ReadError → Type 0
+abbrev pub GivesFor : {A X : Type 0} → (A → X) → Result X DocFault → Result A (ReadError DocFault) → Type 0
 GivesFor stands_for part (Ok found) = part ≡ Ok (stands_for found)
 GivesFor stands_for part (Err (ReadError.Fault fault)) = part ≡ Err fault
 GivesFor stands_for part (Err ReadError.Memory) = ⊤

@@ -13,13 +13,22 @@ use Rattle.fr_doc.specs.declared.fault.DocSize.{DocSize}
 use Rattle.fr_doc.specs.Printed.{under, natural, value_data}
 use Rattle.fr_model.specs.Run.{Refusal, full_run}
 use Rattle.fr_model.specs.Scripts.{brought}
+use Rattle.fr_plan.specs.Build.{Built as Planned, Made, planned as the_plan}
+use Rattle.fr_shape.specs.declared.error.PlanFault.{PlanFault}
+use Rattle.fr_shape.specs.Look.{Table}
+use Rattle.fr_shape.specs.Texts.{plan_fault_text}
+use Rattle.fr_script.specs.declared.word.Word.{Word}
 use Rattle.fr_script.specs.Documents.{Document, document_of}
+use Rattle.fr_script.specs.PlanReports.{NodeLine, outline_line}
 
--- What a run comes to: a fault of the document, a value, or a refusal; the latter two with the released tokens.
+-- What a run comes to: a fault of the document; under `build` a value or a refusal, with the released tokens; under
+-- `plan` the nodes of a plan with the number of the root's, or why there is none.
 pub data Outcome : Type 0 where
   faulty : DocFault → Outcome
   built : Val → List ℕ → Outcome
   refused : Refusal → List ℕ → Outcome
+  planned : List NodeLine → ℕ → Outcome
+  unplanned : PlanFault → Outcome
 
 -- The released tokens, ascending, of those from number t on, so many: those whose count is 1 at the end, which are
 -- those that were brought and don't stand in the answer.
@@ -43,18 +52,29 @@ outcome_of_run document (Err refusal) = refused refusal (released document none_
 abbrev pub run_of : Document → Result Val Refusal
 run_of document = full_run no_hooks document.shapes document.root document.script
 
-abbrev pub outcome_of_document : Result Document DocFault → Outcome
-outcome_of_document (Err fault) = faulty fault
-outcome_of_document (Ok document) = outcome_of_run document (run_of document)
+abbrev pub outcome_of_plan : Table → Planned Made → Outcome
+outcome_of_plan table (Ok made) = planned (map (outline_line table) made.walk.nodes) made.node.0
+outcome_of_plan table (Err error) = unplanned error.operation
 
--- what the bytes of an input come to
-abbrev pub outcome_of : List ℕ → Outcome
-outcome_of bytes = outcome_of_document (document_of bytes)
+-- the plan of a document's root
+abbrev pub plan_of : Document → Planned Made
+plan_of document = the_plan document.shapes (record { 0 = document.root })
 
--- 0 for a value, 1 for a refusal, 2 for a faulty document
+abbrev pub outcome_of_document : Word → Result Document DocFault → Outcome
+outcome_of_document word (Err fault) = faulty fault
+outcome_of_document Word.Build (Ok document) = outcome_of_run document (run_of document)
+outcome_of_document Word.Plan (Ok document) = outcome_of_plan document.shapes (plan_of document)
+
+-- what the bytes of an input come to under a word
+abbrev pub outcome_of : Word → List ℕ → Outcome
+outcome_of word bytes = outcome_of_document word (document_of word bytes)
+
+-- 0 for a value or a plan, 1 where there is none, 2 for a faulty document
 abbrev pub status_of : Outcome → ℕ
 status_of (built v tokens) = 0
 status_of (refused refusal tokens) = 1
+status_of (planned lines root) = 0
+status_of (unplanned fault) = 1
 status_of (faulty fault) = 2
 
 -- Names.
@@ -124,6 +144,20 @@ error_data refusal =
     (member (codes "command") (natural refusal.number)
     (member (codes "kind") (string (kind_name refusal.kind)) no_members))
 
+abbrev pub line_data : NodeLine → Data
+line_data line =
+    object
+    (member (codes "kind") (string line.kind)
+    (member (codes "shape") (string line.shape) (member (codes "strategy") (string line.strategy) no_members)))
+
+-- why a root can't be planned: before the first command, at the root
+abbrev pub plan_error_data : PlanFault → Data
+plan_error_data fault =
+    object
+    (member (codes "command") (natural 0)
+    (member (codes "detail") (string (plan_fault_text fault))
+    (member (codes "kind") (string (codes "Alloc")) (member (codes "path") (string []) no_members))))
+
 abbrev pub with_released : List ℕ → Data → List ℕ → Data
 with_released key d tokens = object (member key d (member (codes "released") (array (naturals tokens)) no_members))
 
@@ -131,6 +165,11 @@ abbrev pub outcome_data : Outcome → Data
 outcome_data (faulty fault) = fault_data fault
 outcome_data (built v tokens) = with_released (codes "ok") (value_data v) tokens
 outcome_data (refused refusal tokens) = with_released (codes "error") (error_data refusal) tokens
+outcome_data (planned lines root) =
+    object
+    (member (codes "nodes") (array (items_of (map line_data lines)))
+    (member (codes "root") (natural root) no_members))
+outcome_data (unplanned fault) = with_released (codes "error") (plan_error_data fault) []
 
 -- the report's bytes
 abbrev pub report : Outcome → List ℕ

@@ -1,15 +1,21 @@
 -- What a whole run of the program is asked, and what it says.
-use Rattle.std.specs.Prelude.{◌≡◌, ℕ, Bool, false, List, [], ◌∷◌, Option, String, string_bytes, codes}
+use Rattle.std.specs.Prelude.{◌≡◌, ℕ, List, [], ◌∷◌, Option, Some, None, String, string_bytes, codes, if◌then◌else◌}
 use Rattle.std.specs.declared.alloc.Global.{Global}
 use Rattle.std.specs.Io.KnownBytes.{append_known}
 use Rattle.std.specs.Str.{bytes_eq}
+use Rattle.fr_script.specs.declared.word.Word.{Word}
 use Rattle.fr_script.specs.Reports.{Outcome, status_of, report}
 
--- the words are the one word `build`
-abbrev pub asks_build : List (String Global) → Bool
-asks_build (word ∷ []) = bytes_eq (string_bytes word) (codes "build")
-asks_build [] = false
-asks_build (word ∷ other ∷ words) = false
+abbrev pub word_named : List ℕ → Option Word
+word_named name =
+    if bytes_eq name (codes "build") then Some Word.Build else
+    if bytes_eq name (codes "plan") then Some Word.Plan else None
+
+-- the word that is asked for: the only one there is
+abbrev pub asked : List (String Global) → Option Word
+asked [] = None
+asked (word ∷ []) = word_named (string_bytes word)
+asked (word ∷ other ∷ words) = None
 
 -- the line for any other words
 abbrev pub usage_line : List ℕ

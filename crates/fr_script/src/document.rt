@@ -5,16 +5,19 @@ ghost use Rattle.serde_json.specs.View.{view as data_of};
 ghost use Rattle.fr_shape.specs.Look.{Table};
 ghost use Rattle.fr_doc.specs.Faults.{Gives};
 ghost use Rattle.fr_doc.specs.declared.fault.DocFault.{DocFault};
-ghost use Rattle.fr_script.specs.Documents.{document_form, document_of, root_form, rules_pass, script_passes, tokens_form, tree_of};
+ghost use Rattle.fr_script.specs.Documents.{document_form, document_of, root_form, rules_pass, script_passes, shape_for, shapes_for, takes, tokens_form, tree_of};
 ghost use Rattle.fr_script.specs.Reading.{GivesFor, document_view};
 
 use crate::command_form::script_of;
 use crate::members::members_of;
 use crate::sizes::test_sizes;
 use crate::validity::find_invalid;
-use fr_doc::{DOCUMENT_LIMIT, DocFault, DocPlace, ReadError, count_of, has_float, shapes_of};
+use crate::word::Word;
+use fr_doc::{
+    DOCUMENT_LIMIT, DocFault, DocPlace, ReadError, count_of, has_float, is_served, shape_of,
+};
 use fr_model::Script;
-use fr_shape::{ShapeId, ShapeTable};
+use fr_shape::{Items, Shape, ShapeId, ShapeTable};
 use serde_json::{Category, Value as Json};
 use std::alloc::Global;
 
@@ -27,10 +30,10 @@ pub struct Document {
     pub script: Script,
 }
 
-/// The document that bytes are, or their first fault.
+/// The document that bytes are to a word, or their first fault.
 #[tactic(auto, unfolding(crate::specs::Documents::document_of))]
-pub fn read_document(alloc: Global, bytes: &[u8]) -> Result<Document, ReadError>
-    ensures document { GivesFor document_view (document_of bytes.now) result }
+pub fn read_document(alloc: Global, word: Word, bytes: &[u8]) -> Result<Document, ReadError>
+    ensures document { GivesFor document_view (document_of word bytes.now) result }
 {
     if bytes.len() > DOCUMENT_LIMIT {
         return Err(ReadError::Fault(DocFault::TooLong));
@@ -39,7 +42,7 @@ pub fn read_document(alloc: Global, bytes: &[u8]) -> Result<Document, ReadError>
     if has_float(&json) {
         return Err(ReadError::Fault(DocFault::HasFloat));
     }
-    let document = read_form(alloc, &json)?;
+    let document = read_form(alloc, word, &json)?;
     if let Err(fault) = test_sizes(&document) {
         return Err(ReadError::Fault(fault));
     }
@@ -65,13 +68,13 @@ fn read_tree(alloc: Global, bytes: &[u8]) -> Result<Json, ReadError>
 
 /// Reads the members of a document one after another, up to the first place whose form is broken.
 #[tactic(auto, unfolding(crate::specs::Documents::document_form))]
-fn read_form(alloc: Global, json: &Json) -> Result<Document, ReadError>
-    ensures { GivesFor document_view (document_form (data_of json.now)) result }
+fn read_form(alloc: Global, word: Word, json: &Json) -> Result<Document, ReadError>
+    ensures { GivesFor document_view (document_form word (data_of json.now)) result }
 {
     let Some(members) = members_of(json) else {
         return Err(ReadError::Fault(DocFault::BadForm(DocPlace::Document)));
     };
-    let shapes = shapes_of(alloc, members.shapes)?;
+    let shapes = read_shapes(alloc, word, members.shapes)?;
     let root = read_root(shapes.len(), members.root)?;
     let tokens = read_tokens(members.tokens)?;
     let script = script_of(alloc, members.commands)?;
@@ -81,6 +84,45 @@ fn read_form(alloc: Global, json: &Json) -> Result<Document, ReadError>
         tokens,
         script,
     })
+}
+
+/// Reads the shapes one after another, up to the first whose form is broken or that the word doesn't take.
+#[tactic(auto, unfolding(crate::specs::Documents::shapes_for))]
+fn read_shapes(alloc: Global, word: Word, json: &Json) -> Result<Items<Shape>, ReadError>
+    ensures { Gives (shapes_for word (data_of json.now)) result }
+{
+    let Json::Array(items) = json else {
+        return Err(ReadError::Fault(DocFault::BadForm(DocPlace::Shapes)));
+    };
+    let mut shapes = Items::new(alloc);
+    for (i, item) in items.iter().enumerate() {
+        shapes.push(read_shape(alloc, word, i, item)?)?;
+    }
+    Ok(shapes)
+}
+
+/// The shape of this number in the table's array, if the word takes it.
+#[tactic(auto, unfolding(crate::specs::Documents::shape_for))]
+fn read_shape(alloc: Global, word: Word, i: usize, json: &Json) -> Result<Shape, ReadError>
+    ensures { Gives (shape_for word i (data_of json.now)) result }
+{
+    let shape = shape_of(alloc, i, json)?;
+    if takes(word, &shape) {
+        return Ok(shape);
+    }
+    match u32::try_from(i) {
+        Ok(i) => Err(ReadError::Fault(DocFault::BadForm(DocPlace::Shape(i)))),
+        Err(_) => Err(ReadError::Memory),
+    }
+}
+
+fn takes(word: Word, shape: &Shape) -> bool
+    ensures { result ≡ takes word shape.now }
+{
+    match word {
+        Word::Build => is_served(shape),
+        Word::Plan => true,
+    }
 }
 
 /// The number of one of so many shapes.

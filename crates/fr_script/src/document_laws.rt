@@ -3,7 +3,8 @@ ghost use Rattle.std.specs.Prelude.{◌≡◌, List, [], ℕ, None, Some, Ok};
 ghost use Rattle.fr_model.specs.Commands.{Call};
 ghost use Rattle.fr_model.specs.Scripts.{IsValid};
 ghost use Rattle.fr_shape.specs.Look.{Table};
-ghost use Rattle.fr_script.specs.DocumentFacts.{IsBuildable};
+ghost use Rattle.fr_script.specs.declared.word.Word.{Word};
+ghost use Rattle.fr_script.specs.DocumentFacts.{IsBuildable, IsInOrder};
 ghost use Rattle.fr_script.specs.Documents.{Document, document_of, first_invalid};
 ghost use Rattle.fr_script.specs.FirstInvalid.{IsFirstInvalid};
 
@@ -16,8 +17,10 @@ pub fn law_valid_scripts()
         → first_invalid table ledger [] 0 script ≡ Some n → IsFirstInvalid table script ledger n }
 {}
 
-/// What a document asks for may be built.
-pub fn law_documents_buildable()
+/// A document without faults is in order, and what one asks for under `build` may be built.
+pub fn law_documents_in_order()
+    ensures in_order { (word : Word) (bytes : List ℕ) (document : Document)
+        → document_of word bytes ≡ Ok document → IsInOrder document }
     ensures buildable { (bytes : List ℕ) (document : Document)
-        → document_of bytes ≡ Ok document → IsBuildable document }
+        → document_of Word.Build bytes ≡ Ok document → IsBuildable document }
 {}

@@ -1,6 +1,7 @@
 //! A document that is read, and the test of its script, with ample memory.
 use crate::document::read_document;
 use crate::validity::{ScriptFault, is_valid_script};
+use crate::word::Word;
 use fr_shape::Ledger;
 use std::test::Fail;
 
@@ -10,7 +11,7 @@ const DOCUMENT: &str =
 #[test]
 fn a_document_is_read_and_its_script_is_valid(rt: HostRuntime) -> Result<(), Fail> {
     let alloc = rt.alloc();
-    let document = read_document(alloc, DOCUMENT.as_bytes())
+    let document = read_document(alloc, Word::Build, DOCUMENT.as_bytes())
         .ok()
         .ok_or("a fault")?;
     assert_eq!(rt; document.table.len(), 3);

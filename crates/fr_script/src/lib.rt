@@ -12,6 +12,11 @@ mod document_tests;
 mod limit_tests;
 mod marking;
 mod members;
+mod plan_answer;
+mod plan_report;
+#[cfg(test)]
+mod plan_tests;
+mod planning;
 mod released;
 mod report;
 #[cfg(test)]
@@ -22,17 +27,21 @@ mod sizes;
 #[cfg(test)]
 mod tests;
 mod validity;
+mod word;
 
 pub use answering::Answer;
 pub use building::{ScriptError, build_script};
 pub use document::{Document, read_document};
-pub use document_laws::{law_documents_buildable, law_valid_scripts};
+pub use document_laws::{law_documents_in_order, law_valid_scripts};
 pub use fr_doc::{
     CleanSink, CleanSource, DOCUMENT_LIMIT, DocFault, DocPlace, DocSize, Failed, MemSink,
     MemSource, ReadError, ReaderSource, Sink, Source, TableFault, WriterSink,
 };
 pub use fr_model::{Command, Script};
+pub use plan_answer::PlanAnswer;
+pub use planning::plan_document;
 pub use running::run;
 pub use serving::answer;
 pub use sizes::{COMMAND_LIMIT, DEPTH_LIMIT, PART_LIMIT, SHAPE_LIMIT, TOKEN_LIMIT};
 pub use validity::{ScriptFault, is_valid_script};
+pub use word::Word;

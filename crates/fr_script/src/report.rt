@@ -1,5 +1,5 @@
 //! The report on an answer.
-ghost use Rattle.std.specs.Prelude.{◌≡◌, ◌++◌, ◌∷◌, [], codes, string_bytes, IfOk};
+ghost use Rattle.std.specs.Prelude.{◌≡◌, ◌++◌, ◌∷◌, [], false, codes, string_bytes, IfOk};
 ghost use Rattle.serde_json.specs.Data.{array};
 ghost use Rattle.serde_json.specs.View.{view as data_of};
 ghost use Rattle.serde_json.specs.Written.{compact_text, has_float};
@@ -67,7 +67,7 @@ fn name_of_size(size: DocSize) -> &'static str
 }
 
 /// The JSON of a fault.
-fn json_of_fault(alloc: Global, fault: &DocFault) -> Result<Json, AllocError>
+pub fn json_of_fault(alloc: Global, fault: &DocFault) -> Result<Json, AllocError>
     ensures { IfOk result (λ json. data_of json ≡ fault_data fault.now) }
 {
     match fault {
@@ -140,13 +140,20 @@ fn json_of_answer(alloc: Global, answer: &Answer) -> Result<Json, AllocError>
     }
 }
 
-/// The whole report: one JSON object and a line feed.
-#[tactic(auto, using(crate::proofs::FloatFree::outcome_float_free))]
+/// The report on an answer: one JSON object and a line feed.
 pub fn report_of(alloc: Global, answer: &Answer) -> Result<String, AllocError>
     ensures report { IfOk result (λ text. string_bytes text ≡ report (outcome_view answer.now)) }
 {
     law_printed_float_free();
     let json = json_of_answer(alloc, answer)?;
+    line_of(alloc, &json)
+}
+
+/// A JSON without floats as compact text, and a line feed.
+pub fn line_of(alloc: Global, json: &Json) -> Result<String, AllocError>
+    requires { has_float (data_of json.now) ≡ false }
+    ensures { IfOk result (λ text. string_bytes text ≡ compact_text (data_of json.now) ++ 10 ∷ []) }
+{
     let mut text = json.to_string(alloc)?;
     text.push_str("\n")?;
     Ok(text)

@@ -1,41 +1,44 @@
 //! A whole run of the program, from its words and its input to its report and its status.
-ghost use Rattle.std.specs.Prelude.{◌≡◌, ◌⊎◌, ◌≤◌, true, false, drop, IfSome};
+ghost use Rattle.std.specs.Prelude.{◌≡◌, ◌⊎◌, ◌≤◌, drop, Some, None, IfSome};
 ghost use Rattle.std.specs.Io.KnownBytes.{append_known};
 ghost use Rattle.std.specs.Option.{option_map};
 ghost use Rattle.fr_doc.specs.Causes.{Rose, LosesAtMost, TakesBeginning};
 ghost use Rattle.fr_script.specs.Documents.{document_of};
 ghost use Rattle.fr_script.specs.Headline.{KeepsPromise};
 ghost use Rattle.fr_script.specs.Reports.{outcome_of, report};
-ghost use Rattle.fr_script.specs.Runs.{asks_build, usage_line, Tells};
+ghost use Rattle.fr_script.specs.Runs.{asked, usage_line, Tells};
+ghost use Rattle.fr_script.specs.declared.word.Word.{Word as TheWord};
 
 use crate::serving::respond;
+use crate::word::Word;
 use fr_doc::{INPUT_LIMIT, InputFault, Sink, Source, read_input, write_report};
 use std::alloc::Global;
 
 const USAGE: &str = "usage: build | plan | gen N\n";
 
-/// Does what the words ask: `build` reads a document to its end and reports what it comes to.
+/// Does what the words ask: `build` reads a document to its end and reports what it comes to, `plan` reads one and reports
+/// the plan of its root.
 ///
-/// The status is 0 for a value, 1 for a refusal of the builder, 2 for a faulty document, 3 for other words, 4 where the
+/// The status is 0 for a value or a plan, 1 where there is none, 2 for a faulty document, 3 for other words, 4 where the
 /// source failed, 5 where the sink failed, and 6 where it is out of memory.
 pub fn run<S: Source, K: Sink>(alloc: Global, words: &[String], source: &mut S, sink: &mut K) -> u8
     ensures range { result ≤ 6 }
 
-    // The words `build`, where the source tells what it has left: the outcome of all those bytes is reported.
-    ensures reported { asks_build words.now ≡ true → result ≤ 3
+    // One of the words, where the source tells what it has left: the outcome of all those bytes is reported.
+    ensures reported { (word : TheWord) → asked words.now ≡ Some word → result ≤ 3
         → IfSome (S.left source.old) (λ bytes.
-        Tells (outcome_of bytes) result (K.taken sink.old) (K.taken sink.new)) }
-    ensures promised { asks_build words.now ≡ true → result ≤ 3
+            Tells (outcome_of word bytes) result (K.taken sink.old) (K.taken sink.new)) }
+    ensures promised { asked words.now ≡ Some TheWord.Build → result ≤ 3
         → IfSome (S.left source.old) (λ bytes.
-        KeepsPromise (document_of bytes) (outcome_of bytes)) }
+            KeepsPromise (document_of TheWord.Build bytes) (outcome_of TheWord.Build bytes)) }
     ensures reads { LosesAtMost INPUT_LIMIT (S.left source.old) (S.left source.new) }
 
     // Other words: nothing is read, and the usage line is written.
-    ensures words { asks_build words.now ≡ false → (result ≡ 3) ⊎ (result ≡ 5) }
-    ensures usage { result ≡ 3 → asks_build words.now ≡ false }
+    ensures words { asked words.now ≡ None → (result ≡ 3) ⊎ (result ≡ 5) }
+    ensures usage { result ≡ 3 → asked words.now ≡ None }
     ensures usage_line { result ≡ 3
         → K.taken sink.new ≡ append_known (K.taken sink.old) usage_line }
-    ensures unread { asks_build words.now ≡ false → source.new ≡ source.old }
+    ensures unread { asked words.now ≡ None → source.new ≡ source.old }
 
     // The devices' faults, and out of memory.
     ensures complete { ¬ Rose (S.faults source.old) (S.faults source.new)
@@ -43,24 +46,24 @@ pub fn run<S: Source, K: Sink>(alloc: Global, words: &[String], source: &mut S, 
     ensures read_fault { result ≡ 4 → Rose (S.faults source.old) (S.faults source.new) }
     ensures write_fault { result ≡ 5 → Rose (K.faults sink.old) (K.faults sink.new) }
     ensures unwritten { (result ≡ 4) ⊎ (result ≡ 6) → sink.new ≡ sink.old }
-    ensures beginning { result ≡ 5 → asks_build words.now ≡ true
-        → IfSome (S.left source.old) (λ bytes.
-        TakesBeginning (K.taken sink.old) (K.taken sink.new) (report (outcome_of bytes))) }
-    ensures usage_beginning { result ≡ 5 → asks_build words.now ≡ false
+    ensures beginning { (word : TheWord) → asked words.now ≡ Some word → result ≡ 5
+        → IfSome (S.left source.old) (λ bytes. TakesBeginning (K.taken sink.old)
+            (K.taken sink.new) (report (outcome_of word bytes))) }
+    ensures usage_beginning { result ≡ 5 → asked words.now ≡ None
         → TakesBeginning (K.taken sink.old) (K.taken sink.new) usage_line }
 {
-    if !is_build(words) {
+    let Some(word) = find_word(words) else {
         return match write_report(sink, USAGE.as_bytes()) {
             Ok(()) => 3,
             Err(_) => 5,
         };
-    }
+    };
     let bytes = match read_input(alloc, source) {
         Ok(bytes) => bytes,
         Err(InputFault::Failed) => return 4,
         Err(InputFault::OutOfMemory) => return 6,
     };
-    let Ok((status, text)) = respond(alloc, bytes.as_slice()) else {
+    let Ok((status, text)) = respond(alloc, word, bytes.as_slice()) else {
         return 6;
     };
     match write_report(sink, text.as_bytes()) {
@@ -69,12 +72,16 @@ pub fn run<S: Source, K: Sink>(alloc: Global, words: &[String], source: &mut S, 
     }
 }
 
-/// Whether the words are the one word `build`.
-fn is_build(words: &[String]) -> bool
-    ensures { result ≡ asks_build words.now }
+/// The word that is asked for, if it is the only one and is known.
+fn find_word(words: &[String]) -> Option<Word>
+    ensures { result ≡ asked words.now }
 {
     match words {
-        [word] => word.as_str() == "build",
-        _ => false,
+        [word] => match word.as_str() {
+            "build" => Some(Word::Build),
+            "plan" => Some(Word::Plan),
+            _ => None,
+        },
+        _ => None,
     }
 }

@@ -103,7 +103,7 @@ const SCRIPTS: [(&str, &str, u8, &str); 13] = [
 ];
 
 /// Documents at fault, with what is reported on each.
-const FAULTS: [(&str, &str, &str); 16] = [
+const FAULTS: [(&str, &str, &str); 17] = [
     ("no bytes", "", r#"{"fault":"NotJson"}"#),
     (
         "a float",
@@ -129,6 +129,11 @@ const FAULTS: [(&str, &str, &str); 16] = [
         "a shape that isn't built yet",
         r#"{"shapes":[{"name":"a","def":"u32"},{"name":"b","def":"str"}],"root":0,"commands":[]}"#,
         r#"{"fault":"BadForm","place":"shape 1"}"#,
+    ),
+    (
+        "a shape that isn't built yet, before one that is broken",
+        r#"{"shapes":[{"name":"a","def":"str"},{"name":"b","def":0}],"root":0,"commands":[]}"#,
+        r#"{"fault":"BadForm","place":"shape 0"}"#,
     ),
     (
         "a root past the shapes",
@@ -211,8 +216,20 @@ pub(crate) fn check(
     status: u8,
     want: &str,
 ) -> Result<(), Fail> {
+    check_under(rt, "build", name, input, status, want)
+}
+
+/// The same under a word.
+pub(crate) fn check_under(
+    rt: &(impl Abort + AllocGlobal),
+    word: &str,
+    name: &str,
+    input: &[u8],
+    status: u8,
+    want: &str,
+) -> Result<(), Fail> {
     let alloc = rt.alloc();
-    let (ended, taken) = run_on(alloc, "build", input, PIECE, Items::new(alloc))?;
+    let (ended, taken) = run_on(alloc, word, input, PIECE, Items::new(alloc))?;
     let mut line = String::from_str(alloc, want)?;
     line.push_str("\n")?;
     assert_eq!(rt; ended, status, "{name}");

@@ -1,0 +1,111 @@
+-- What is told of a plan's nodes is what is told of their outlines.
+use Rattle.std.proofs.Common.{◌≡◌, ℕ, ◌+◌, List, [], ◌∷◌, ◌++◌, map, take, length, Option, Some, None, Err, codes, refl, sym, ap, ◌∙◌}
+use Rattle.std.specs.Prelude.{slice_get, IsSomeAnd}
+use Rattle.std.specs.List.{AllZip}
+use Rattle.std.proofs.lemmas.List.{take_more, map-append}
+use Rattle.std.proofs.lemmas.Option.{slice_get_within, get_or_from_slice_get}
+use Rattle.fr_shape.specs.declared.shape.Shape.{Shape}
+use Rattle.fr_shape.specs.declared.shape.ShapeId.{ShapeId}
+use Rattle.fr_shape.specs.declared.shape.Def.{Def}
+use Rattle.fr_shape.specs.Look.{Table}
+use Rattle.fr_plan.specs.declared.nodes.NodeId.{NodeId}
+use Rattle.fr_plan.specs.declared.nodes.TypePlanNode.{TypePlanNode}
+use Rattle.fr_plan.specs.declared.nodes.TypePlanNodeKind.{TypePlanNodeKind}
+use Rattle.fr_plan.specs.declared.outlines.Outline.{Outline}
+use Rattle.fr_plan.specs.declared.outlines.Role.{Role}
+use Rattle.fr_plan.specs.declared.lists.PlanLists.{PlanLists}
+use Rattle.fr_plan.specs.declared.plans.StructPlan.{StructPlan}
+use Rattle.fr_plan.specs.declared.plans.EnumPlan.{EnumPlan}
+use Rattle.fr_plan.specs.Nodes.{struct_plan_of, enum_plan_of, IsKindBy, IsOwnKind, IsKindOf, IsNode, AreNodes}
+use Rattle.fr_script.specs.PlanReports.{NodeLine, node_kind_name, own_kind_name, kind_name_in, kind_name_of, strategy_name, name_in, node_line, outline_line}
+use Rattle.fr_script.specs.Reports.{line_data, planned, unplanned, outcome_of_plan}
+use Rattle.fr_plan.specs.Build.{planned as the_plan}
+use Rattle.fr_plan.specs.TypePlan.{Plan, IsPlanOf}
+use Rattle.fr_shape.specs.declared.error.AllocError.{AllocError}
+
+-- Kinds.
+
+struct_named : (is : TypePlanNodeKind) (P : StructPlan → Type 0) → IsSomeAnd (struct_plan_of is) P → node_kind_name is ≡ codes "Struct"
+struct_named (TypePlanNodeKind.Struct plan) P holds = refl
+struct_named _ P holds = absurd holds
+
+enum_named : (is : TypePlanNodeKind) (P : EnumPlan → Type 0) → IsSomeAnd (enum_plan_of is) P → node_kind_name is ≡ codes "Enum"
+enum_named (TypePlanNodeKind.Enum plan) P holds = refl
+enum_named _ P holds = absurd holds
+
+module _ (table : Table) (lists : PlanLists) where
+  kind_named : (id : ShapeId) (nodes : List NodeId) (shape : Shape) (def : Def) (is : TypePlanNodeKind)
+      → IsKindBy table lists id nodes shape def is → node_kind_name is ≡ own_kind_name shape def
+  kind_named id nodes shape (Def.Scalar kind) is same = ap node_kind_name same
+  kind_named id nodes shape Def.Str is same = ap node_kind_name same
+  kind_named id nodes shape (Def.Option t) is same = ap node_kind_name same
+  kind_named id nodes shape (Def.List t) is same = ap node_kind_name same
+  kind_named id nodes shape (Def.Set t) is same = ap node_kind_name same
+  kind_named id nodes shape (Def.Array t n) is same = ap node_kind_name same
+  kind_named id nodes shape (Def.Slice t) is same = ap node_kind_name same
+  kind_named id nodes shape (Def.Result t e) is same = ap node_kind_name same
+  kind_named id nodes shape (Def.Map k v) is same = ap node_kind_name same
+  kind_named id nodes shape (Def.Pointer pointer) is same = ap node_kind_name same
+  kind_named id nodes shape Def.Dynamic is same = ap node_kind_name same
+  kind_named id nodes shape (Def.Struct struct) is plan = struct_named is _ plan
+  kind_named id nodes shape (Def.Enum enumeration) is plan = enum_named is _ plan
+  kind_named id nodes shape Def.Opaque is same = ap node_kind_name same
+  kind_named id nodes shape Def.Undefined is same = ap node_kind_name same
+  kind_named id nodes shape Def.Other is same = ap node_kind_name same
+
+  own_named : (id : ShapeId) (nodes : List NodeId) (found : Option Shape) (is : TypePlanNodeKind)
+      → IsOwnKind table lists id nodes found is → node_kind_name is ≡ kind_name_in found
+  own_named id nodes (Some shape) is told = kind_named id nodes shape shape.def is told
+  own_named id nodes None is same = ap node_kind_name same
+
+  role_named : (outline : Outline) (role : Role) (is : TypePlanNodeKind) → IsKindOf table lists outline role is
+      → node_kind_name is ≡ kind_name_of table outline role
+  role_named outline Role.Own is told = own_named outline.shape outline.children (slice_get table outline.shape.0) is told
+  role_named outline Role.BackRef is same = ap node_kind_name same
+  role_named outline (Role.FieldProxy field) is same = ap node_kind_name same
+
+  -- Lines.
+
+  abbrev line : (kind shape strategy : List ℕ) → NodeLine
+  line kind shape strategy = record { kind = kind; shape = shape; strategy = strategy }
+
+  line_told : (outline : Outline) (node : TypePlanNode) → IsNode table lists outline node
+      → node_line table node ≡ outline_line table outline
+  line_told outline node is =
+      let kinds = role_named outline outline.role node.kind is.kind in
+      let names : name_in table node.shape.0 ≡ name_in table outline.shape.0 = ap (λ (id : ShapeId). name_in table id.0) is.shape in
+      let strategies = ap strategy_name is.strategy in
+      ap (λ kind. line kind (name_in table node.shape.0) (strategy_name node.strategy)) kinds
+      ∙ (ap (λ shape. line (kind_name_of table outline outline.role) shape (strategy_name node.strategy)) names
+      ∙ ap (λ strategy. line (kind_name_of table outline outline.role) (name_in table outline.shape.0) strategy) strategies)
+
+  pub lines_told : (outlines : List Outline) (nodes : List TypePlanNode) → AreNodes table lists outlines nodes
+      → map (node_line table) nodes ≡ map (outline_line table) outlines
+  lines_told [] [] all = refl
+  lines_told [] (node ∷ nodes) all = absurd all
+  lines_told (outline ∷ outlines) [] all = absurd all
+  lines_told (outline ∷ outlines) (node ∷ nodes) all =
+      ap (λ first. first ∷ map (node_line table) nodes) (line_told outline node all.0)
+      ∙ ap (λ rest. outline_line table outline ∷ rest) (lines_told outlines nodes all.1)
+
+-- one more node
+pub next_line : (table : Table) (nodes : List TypePlanNode) (i : ℕ) (node : TypePlanNode) → slice_get nodes i ≡ Some node
+    → map line_data (map (node_line table) (take (i + 1) nodes))
+    ≡ map line_data (map (node_line table) (take i nodes)) ++ line_data (node_line table node) ∷ []
+next_line table nodes i node is =
+    let here : take (i + 1) nodes ≡ take i nodes ++ node ∷ []
+    = take_more nodes i node (slice_get_within nodes i node is)
+    ∙ ap (λ (n : TypePlanNode). take i nodes ++ n ∷ []) (get_or_from_slice_get nodes i node node is) in
+    rw (here, map-append, map-append) refl
+
+-- a plan comes to what is meant to be planned
+pub planned_told : (table : Table) (root : ShapeId) (plan : Plan) → IsPlanOf table root plan
+    → planned (map (node_line table) plan.nodes) plan.root.0 ≡ outcome_of_plan table (the_plan table root)
+planned_told table root plan is =
+    ap (λ lines. planned lines plan.root.0) (lines_told table plan.lists plan.walk.nodes plan.nodes is.told)
+    ∙ sym (ap (outcome_of_plan table) is.built)
+
+-- so does a refusal
+pub refused_told : (table : Table) (root : ShapeId) (error : AllocError) → the_plan table root ≡ Err error
+    → unplanned error.operation ≡ outcome_of_plan table (the_plan table root)
+refused_told table root error is = sym (ap (outcome_of_plan table) is)

@@ -1,0 +1,8 @@
+//! What a run may be asked to do with a document.
+
+/// `Build` runs a document's script, `Plan` plans the document's root.
+#[derive(Clone, Copy, PartialEq, Eq)]
+pub enum Word {
+    Build,
+    Plan,
+}
