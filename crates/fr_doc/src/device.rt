@@ -3,7 +3,7 @@ ghost use Rattle.std.specs.Prelude.{◌<◌, ◌≡◌, ◌≤◌, ℕ, List, Op
 ghost use Rattle.fr_doc.specs.Causes.{HasCause, MovesAtMost, ReadMoves, EndsOnlyAtEnd};
 ghost use Rattle.fr_doc.specs.Causes.{WriteMoves, TakesSome, Rose, one_more};
 
-/// The device failed, and has counted that as a fault.
+/// The device failed. Its count of faults is higher than before the call, or stands at its last value.
 #[derive(Drop)]
 pub struct Failed;
 
@@ -22,10 +22,12 @@ pub trait Source {
     /// The bytes that are left, where the device tells them.
     ghost left: { Self → Option (List ℕ) };
 
-    /// How often the device has failed, counted in a u64 that stands still at its last value.
+    /// The device's own count of its faults, a u64 that never falls and stands still at its last value. A call that
+    /// fails leaves it higher than before, or at that value. Whether a call that succeeds leaves it as it was, and by
+    /// how much a failure raises it, is the device's to say.
     ghost faults: { Self → ℕ };
 
-    /// Reads the next bytes to the front of a piece, and answers how many. 0 is the end.
+    /// Reads the next bytes to the front of a piece, and returns how many. 0 is the end.
     fn read(&mut self, into: &mut [u8]) -> Result<usize, Failed>
         requires room { 0 < length into.old }
         ensures at_most { MovesAtMost (length into.new) result }
@@ -40,10 +42,12 @@ pub trait Sink {
     /// The bytes that were taken, where the device tells them.
     ghost taken: { Self → Option (List ℕ) };
 
-    /// How often the device has failed, counted in a u64 that stands still at its last value.
+    /// The device's own count of its faults, a u64 that never falls and stands still at its last value. A call that
+    /// fails leaves it higher than before, or at that value. Whether a call that succeeds leaves it as it was, and by
+    /// how much a failure raises it, is the device's to say.
     ghost faults: { Self → ℕ };
 
-    /// Takes bytes from the front of a piece, and answers how many. To take nothing of a piece that
+    /// Takes bytes from the front of a piece, and returns how many. To take nothing of a piece that
     /// isn't empty is a fault.
     fn write(&mut self, piece: &[u8]) -> Result<usize, Failed>
         ensures at_most { MovesAtMost (length piece.now) result }

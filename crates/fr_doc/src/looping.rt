@@ -95,7 +95,7 @@ fn read_up_to<S: Source>(
     Ok(Items::from_vec(bytes))
 }
 
-// Reads one piece, puts it behind the bytes that were read before, and answers how long it is. 0 is
+// Reads one piece, puts it behind the bytes that were read before, and returns how long it is. 0 is
 // the end of the source.
 fn read_piece<S: Source>(
     source: &mut S,

@@ -4,6 +4,7 @@ ghost use Rattle.fr_doc.specs.Names.{scalar_named, repr_named, kind_named, point
 
 use fr_shape::{EnumRepr, KnownPointer, ScalarKind, StructKind};
 
+/// The scalar of a name.
 #[tactic(auto, unfolding(crate::specs::Names::scalar_named))]
 pub fn find_scalar(word: &str) -> Option<ScalarKind>
     ensures { result ≡ scalar_named word.now }
@@ -29,6 +30,7 @@ pub fn find_scalar(word: &str) -> Option<ScalarKind>
     }
 }
 
+/// The representation of an enum that has this name.
 #[tactic(auto, unfolding(crate::specs::Names::repr_named))]
 pub fn find_repr(word: &str) -> Option<EnumRepr>
     ensures { result ≡ repr_named word.now }
@@ -50,6 +52,7 @@ pub fn find_repr(word: &str) -> Option<EnumRepr>
     }
 }
 
+/// How a variant is written whose kind has this name.
 #[tactic(auto, unfolding(crate::specs::Names::kind_named))]
 pub fn find_kind(word: &str) -> Option<StructKind>
     ensures { result ≡ kind_named word.now }
@@ -63,6 +66,7 @@ pub fn find_kind(word: &str) -> Option<StructKind>
     }
 }
 
+/// The pointer type of a name.
 #[tactic(auto, unfolding(crate::specs::Names::pointer_named))]
 pub fn find_pointer(word: &str) -> Option<KnownPointer>
     ensures { result ≡ pointer_named word.now }

@@ -1,5 +1,5 @@
 -- What was told of nodes stays true while the lists grow.
-use Rattle.std.proofs.Common.{◌≡◌, ◌∙◌, ap, sym, refl, ℕ, ◌+◌, ◌-◌, ◌≤◌, List, [], ◌∷◌, ◌++◌, length, take, drop, Option, Some, None, arith, IsSomeAnd, Result, Ok, Err, IfOk}
+use Rattle.std.proofs.Common.{◌≡◌, ◌∙◌, ap, sym, ◌+◌, ◌-◌, ◌≤◌, List, [], ◌∷◌, ◌++◌, length, take, drop, Option, Some, None, arith, IsSomeAnd, Result, Ok, Err, IfOk}
 use Rattle.std.specs.List.{AllZip}
 use Rattle.std.proofs.lemmas.List.{drop-append-le, take-append-le, length-drop, length-append, append-nil, append_assoc}
 use Rattle.fr_arena.specs.Ranges.{Range}
@@ -23,8 +23,8 @@ use Rattle.fr_plan.specs.declared.plans.StructPlan.{StructPlan}
 use Rattle.fr_plan.specs.declared.plans.VariantPlanMeta.{VariantPlanMeta}
 use Rattle.fr_plan.specs.Build.{Placed}
 use Rattle.fr_plan.specs.Lists.{ListsGrow}
-use Rattle.fr_plan.specs.Plans.{Names, IsFieldPlan, NamesFields, IsStructPlan, PlacedVariant, IsVariantPlan, NamesVariants, IsEnumPlan}
-use Rattle.fr_plan.specs.Nodes.{struct_plan_of, enum_plan_of, IsKindBy, IsOwnKind, IsKindOf, IsNode, AreNodes}
+use Rattle.fr_plan.specs.Plans.{Names, IsFieldPlan, NamesFields, IsStructPlan, PlacedVariant, IsVariantPlan, IsEnumPlan}
+use Rattle.fr_plan.specs.Nodes.{struct_plan_of, enum_plan_of, IsKindBy, IsOwnKind, IsKindOf, IsNode}
 
 -- Lists.
 
@@ -68,10 +68,10 @@ pub names_grow : {X : Type 0} (before after : List X) (range : Range) (values : 
 names_grow before after range values grew names =
     let begins : range.start ≤ length before = omega (arith, names.inside) in
     let room : range.start + range.len - range.start ≤ length (drop range.start before) =
-        omega (arith, names.inside, length-drop range.start before) in
+    omega (arith, names.inside, length-drop range.start before) in
     let same : part_of (before ++ grew.0) range ≡ part_of before range =
-        ap (take (range.start + range.len - range.start)) (drop-append-le range.start before grew.0 begins)
-        ∙ take-append-le (range.start + range.len - range.start) (drop range.start before) grew.0 room in
+    ap (take (range.start + range.len - range.start)) (drop-append-le range.start before grew.0 begins)
+    ∙ take-append-le (range.start + range.len - range.start) (drop range.start before) grew.0 room in
     record {
       inside = omega (arith, names.inside, ap length grew.1, length-append before grew.0);
       names = ap (λ l. part_of l range) grew.1 ∙ same ∙ names.names;
@@ -149,10 +149,11 @@ module _ (table : Table) (before after : PlanLists) where
 
   pub fields_grow : ListsGrow before after → (nodes : List NodeId) (fields : List Placed) (range : Range)
       → NamesFields table before nodes fields range → NamesFields table after nodes fields range
-  fields_grow grew nodes fields range told =
-      (told.0,
-      names_grow before.fields after.fields range told.0 grew.fields told.1,
-      zip_weaker (IsFieldPlan table before nodes) (IsFieldPlan table after nodes) (field_grows grew nodes) fields told.0 told.2)
+  fields_grow grew nodes fields range told = (
+    told.0,
+    names_grow before.fields after.fields range told.0 grew.fields told.1,
+    zip_weaker (IsFieldPlan table before nodes) (IsFieldPlan table after nodes) (field_grows grew nodes) fields told.0 told.2,
+  )
 
   module _ (stay : LookupsStay) (grew : ListsGrow before after) where
     pub struct_grows : (id : ShapeId) (nodes : List NodeId) (shape : Shape) (struct : StructDef) (plan : StructPlan)
@@ -177,11 +178,12 @@ module _ (table : Table) (before after : PlanLists) where
     pub enum_grows : (id : ShapeId) (nodes : List NodeId) (enumeration : EnumDef) (plan : EnumPlan)
         → IsEnumPlan table before id nodes enumeration plan → IsEnumPlan table after id nodes enumeration plan
     enum_grows id nodes enumeration plan told = record {
-      variants =
-          (told.variants.0,
-          names_grow before.variants after.variants plan.variants told.variants.0 grew.variants told.variants.1,
-          zip_weaker (IsVariantPlan table before id) (IsVariantPlan table after id) (variant_grows id) _ told.variants.0
-              told.variants.2);
+      variants = (
+        told.variants.0,
+        names_grow before.variants after.variants plan.variants told.variants.0 grew.variants told.variants.1,
+        zip_weaker (IsVariantPlan table before id) (IsVariantPlan table after id) (variant_grows id) _ told.variants.0
+            told.variants.2,
+      );
       variant_lookup = told.variant_lookup;
       num_variants = told.num_variants;
       other_variant_idx = told.other_variant_idx;

@@ -1,5 +1,5 @@
 -- The root's node is one of its plan.
-use Rattle.std.proofs.Common.{◌≡◌, ap, subst, ℕ, zero, suc, ◌<◌, List, length, replicate, slice_get, Option, Some, None, Ok, Err, arith}
+use Rattle.std.proofs.Common.{◌≡◌, subst, ℕ, zero, suc, ◌<◌, List, length, replicate, slice_get, Option, Some, None, Ok, Err, arith}
 use Rattle.std.proofs.lemmas.List.{length_push}
 use Rattle.fr_shape.specs.declared.error.AllocError.{AllocError}
 use Rattle.fr_shape.specs.declared.shape.Shape.{Shape}
@@ -9,9 +9,8 @@ use Rattle.fr_shape.specs.Plannable.{own_refusal, own_sources, refusal_of}
 use Rattle.fr_plan.specs.declared.nodes.NodeId.{NodeId}
 use Rattle.fr_plan.specs.declared.outlines.Mark.{Mark}
 use Rattle.fr_plan.specs.declared.outlines.Outline.{Outline}
-use Rattle.fr_plan.specs.declared.outlines.Role.{Role}
 use Rattle.fr_plan.specs.declared.outlines.Walk.{Walk}
-use Rattle.fr_plan.specs.Build.{Built, Made, MadeAll, and_then, unless, none_yet, marked, with_node, back_reference, each_built, children_built, done, finish, build, build_new, build_by, start_of, planned}
+use Rattle.fr_plan.specs.Build.{Built, Made, MadeAll, and_then, unless, none_yet, marked, with_node, back_reference, each_built, children_built, finish, build_new, build_by, start_of, planned}
 
 -- the node is one of the walk's
 abbrev pub IsInside : Built Made → Type 0
@@ -42,8 +41,8 @@ unfolding build_new
 new_inside builds walk id None = with_node_inside walk (back_reference id)
 new_inside builds walk id (Some shape) =
     and_then_inside (each_built builds (none_yet (marked walk id Mark.Building)) (own_sources shape)) _ (λ sources.
-        and_then_inside (children_built builds sources.walk id shape.def shape) _ (λ children.
-            finish_inside id shape sources.nodes children))
+    and_then_inside (children_built builds sources.walk id shape.def shape) _ (λ children.
+    finish_inside id shape sources.nodes children))
 
 -- no shape is finished at the start
 IsUnfinished : Option Mark → Type 0

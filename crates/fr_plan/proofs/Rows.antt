@@ -1,5 +1,5 @@
 -- One more row of what is told element by element.
-use Rattle.std.proofs.Common.{◌≡◌, ◌∙◌, ap, sym, refl, subst, ℕ, suc, zero, ◌+◌, ◌<◌, List, [], ◌∷◌, ◌++◌, length, take, drop, min, get_or, arith, add-one, Option}
+use Rattle.std.proofs.Common.{◌≡◌, ◌∙◌, ap, sym, refl, ℕ, suc, zero, ◌+◌, ◌<◌, List, [], ◌∷◌, ◌++◌, length, take, drop, min, get_or, arith, add-one, Option}
 use Rattle.std.proofs.lemmas.List.{drop-drop, length-drop, drop_min, get_or-drop, take_min}
 use Rattle.fr_shape.specs.declared.shape.VariantDef.{VariantDef}
 use Rattle.fr_plan.specs.declared.nodes.NodeId.{NodeId}
@@ -27,10 +27,11 @@ zip_more R xs ys i x y inside is all one =
 -- what the head of the rest says of the whole
 pub next_element : {A : Type 0} (xs : List A) (i : ℕ) (x : A) (ys : List A) → drop i xs ≡ x ∷ ys
     → (i < length xs) × (get_or xs i x ≡ x) × (drop (i + 1) xs ≡ ys)
-next_element xs i x ys left =
-    (omega (arith, length-drop i xs, ap length left),
-    ap (λ (n : ℕ). get_or xs n x) (omega arith) ∙ sym (get_or-drop i xs 0 x) ∙ ap (λ (zs : List _). get_or zs 0 x) left,
-    sym (drop-drop 1 i xs) ∙ ap (drop 1) left)
+next_element xs i x ys left = (
+  omega (arith, length-drop i xs, ap length left),
+  ap (λ (n : ℕ). get_or xs n x) (omega arith) ∙ sym (get_or-drop i xs 0 x) ∙ ap (λ (zs : List _). get_or zs 0 x) left,
+  sym (drop-drop 1 i xs) ∙ ap (drop 1) left,
+)
 
 -- the variants that are left, one step on
 pub variants_next : (variants : List VariantDef) (whole : List PlacedVariant) (rest : List NodeId) (i number long : ℕ) (variant : VariantDef)
@@ -38,17 +39,17 @@ pub variants_next : (variants : List VariantDef) (whole : List PlacedVariant) (r
     → number ≡ i → long ≡ min (length variant.fields) (length rest)
     → drop i whole
     ≡ record { number = number; variant = variant; nodes = take long rest }
-      ∷ variants_from (i + 1) (drop long rest) (drop (i + 1) variants)
+    ∷ variants_from (i + 1) (drop long rest) (drop (i + 1) variants)
 variants_next variants whole rest i number long variant left inside is same cut =
     left ∙ ap (variants_from i rest) (left_of variants i variant inside is)
     ∙ ap (λ (n : ℕ). record { number = n; variant = variant; nodes = take (length variant.fields) rest }
-        ∷ variants_from (i + 1) (drop (length variant.fields) rest) (drop (i + 1) variants)) (sym same)
+    ∷ variants_from (i + 1) (drop (length variant.fields) rest) (drop (i + 1) variants)) (sym same)
     ∙ ap (λ (own : List NodeId). record { number = number; variant = variant; nodes = own }
-        ∷ variants_from (i + 1) (drop (length variant.fields) rest) (drop (i + 1) variants))
-      (sym (take_min (length variant.fields) rest) ∙ ap (λ (k : ℕ). take k rest) (sym cut))
+    ∷ variants_from (i + 1) (drop (length variant.fields) rest) (drop (i + 1) variants))
+    (sym (take_min (length variant.fields) rest) ∙ ap (λ (k : ℕ). take k rest) (sym cut))
     ∙ ap (λ (others : List NodeId). record { number = number; variant = variant; nodes = take long rest }
-        ∷ variants_from (i + 1) others (drop (i + 1) variants))
-      (sym (drop_min (length variant.fields) rest) ∙ ap (λ (k : ℕ). drop k rest) (sym cut))
+    ∷ variants_from (i + 1) others (drop (i + 1) variants))
+    (sym (drop_min (length variant.fields) rest) ∙ ap (λ (k : ℕ). drop k rest) (sym cut))
 
 pub length-variants_from : (k : ℕ) (nodes : List NodeId) (variants : List VariantDef)
     → length (variants_from k nodes variants) ≡ length variants
@@ -83,7 +84,7 @@ module _ (id : ShapeId) (variant : Option ℕ) where
   fields_more R fields plans i index field plan inside is same all one =
       let placed : Placed = record { meant = record { shape = id; variant = variant; index = index }; field = field } in
       let there : get_or (fields_from id variant 0 fields) i placed ≡ placed =
-          get_or-fields_from 0 fields i placed field inside
-          ∙ ap (λ (n : ℕ). record { meant = record { shape = id; variant = variant; index = n }; field = get_or fields i field }) (omega (arith, same))
-          ∙ ap (λ (f : Field). record { meant = record { shape = id; variant = variant; index = index }; field = f }) (sym is) in
+      get_or-fields_from 0 fields i placed field inside
+      ∙ ap (λ (n : ℕ). record { meant = record { shape = id; variant = variant; index = n }; field = get_or fields i field }) (omega (arith, same))
+      ∙ ap (λ (f : Field). record { meant = record { shape = id; variant = variant; index = index }; field = f }) (sym is) in
       zip_more R (fields_from id variant 0 fields) plans i placed plan (omega (arith, inside, length-fields_from 0 fields)) there all one

@@ -1,7 +1,6 @@
 -- One step of each part of the walk that builds nodes.
-use Rattle.std.proofs.Common.{◌≡◌, ◌∙◌, ap, sym, subst, refl, ℕ, zero, suc, ◌+◌, ◌-◌, ◌<◌, List, [], ◌∷◌, ◌++◌, length, drop, get_or, slice_get, Some, None, Option, Ok, Err, Result, arith}
+use Rattle.std.proofs.Common.{◌≡◌, ◌∙◌, ap, sym, subst, refl, ℕ, zero, suc, ◌+◌, ◌-◌, ◌<◌, List, [], ◌∷◌, ◌++◌, length, drop, get_or, slice_get, Some, None, Option, Ok, Err, arith}
 use Rattle.std.proofs.lemmas.List.{drop_more}
-use Rattle.fr_shape.specs.declared.error.AllocError.{AllocError}
 use Rattle.fr_shape.specs.declared.error.PlanError.{PlanError}
 use Rattle.fr_shape.specs.declared.shape.Field.{Field}
 use Rattle.fr_shape.specs.declared.shape.Shape.{Shape}
@@ -9,11 +8,10 @@ use Rattle.fr_shape.specs.declared.shape.ShapeId.{ShapeId}
 use Rattle.fr_shape.specs.declared.shape.VariantDef.{VariantDef}
 use Rattle.fr_shape.specs.Look.{Table}
 use Rattle.fr_shape.specs.Plannable.{own_sources}
-use Rattle.fr_plan.specs.declared.nodes.NodeId.{NodeId}
 use Rattle.fr_plan.specs.declared.outlines.Mark.{Mark}
 use Rattle.fr_plan.specs.declared.outlines.Walk.{Walk}
 use Rattle.fr_plan.specs.Build.{Built, Made, MadeAll, Placed, and_then, with_node, with_one, none_yet, marked, back_reference, build, build_new, each_built, children_built, field_built, fields_built, fields_from, variant_fields_from, finish}
-use Rattle.fr_plan.specs.Results.{IsMeant, Gives}
+use Rattle.fr_plan.specs.Results.{IsMeant}
 
 -- a refusal of the first part is one of the whole
 pub meant_first : {X Y : Type 0} (built : Built X) (go_on : X → Built Y) (error : PlanError) → IsMeant built error
@@ -37,11 +35,11 @@ pub fields_left : (id : ShapeId) (variant : Option ℕ) (fields : List Field) (i
     → i < length fields → field ≡ get_or fields i field → index ≡ i
     → fields_from id variant i (drop i fields)
     ≡ record { meant = record { shape = id; variant = variant; index = index }; field = field }
-      ∷ fields_from id variant (i + 1) (drop (i + 1) fields)
+    ∷ fields_from id variant (i + 1) (drop (i + 1) fields)
 fields_left id variant fields i field index inside is same =
     ap (fields_from id variant i) (left_of fields i field inside is)
     ∙ ap (λ (n : ℕ). record { meant = record { shape = id; variant = variant; index = n }; field = field }
-        ∷ fields_from id variant (i + 1) (drop (i + 1) fields)) (sym same)
+    ∷ fields_from id variant (i + 1) (drop (i + 1) fields)) (sym same)
 
 -- the fields of variants that are left, one step on
 pub variants_left : (id : ShapeId) (variants : List VariantDef) (i : ℕ) (variant : VariantDef) (number : ℕ) (fields : List Field)
@@ -53,8 +51,8 @@ variants_left id variants i variant number fields inside is same own =
     ap (variant_fields_from id i) (left_of variants i variant inside is)
     ∙ ap (λ (n : ℕ). fields_from id (Some n) 0 variant.fields ++ variant_fields_from id (i + 1) (drop (i + 1) variants)) (sym same)
     ∙ ap (λ (own_fields : List Field).
-        fields_from id (Some number) 0 own_fields ++ variant_fields_from id (i + 1) (drop (i + 1) variants))
-      (ap (λ (v : VariantDef). v.fields) is ∙ sym own)
+    fields_from id (Some number) 0 own_fields ++ variant_fields_from id (i + 1) (drop (i + 1) variants))
+    (ap (λ (v : VariantDef). v.fields) is ∙ sym own)
 
 module _ (builds : Walk → ShapeId → Built Made) where
   -- fields
@@ -118,8 +116,8 @@ module _ (builds : Walk → ShapeId → Built Made) where
       let P : Option Shape → Type 0 = λ there. IsMeant (build_new builds walk id there) error in
       let Q : Built MadeAll → Type 0 = λ built. IsMeant built error in
       subst P is (meant_first _ (λ (sources : MadeAll).
-          and_then (children_built builds sources.walk id shape.def shape) (λ children. finish id shape sources.nodes children)) error
-          (subst Q (sources_told walk id shape start ids begun sources) meant))
+      and_then (children_built builds sources.walk id shape.def shape) (λ children. finish id shape sources.nodes children)) error
+      (subst Q (sources_told walk id shape start ids begun sources) meant))
 
   pub new_goes_on : (walk : Walk) (id : ShapeId) (found : Option Shape) (shape : Shape) (start : Walk) (ids : List ShapeId) (made : MadeAll)
       → Some shape ≡ found → start ≡ marked walk id Mark.Building → ids ≡ own_sources shape
@@ -129,8 +127,8 @@ module _ (builds : Walk → ShapeId → Built Made) where
   unfolding build_new
   new_goes_on walk id found shape start ids made is begun sources built =
       ap (build_new builds walk id) (sym is) ∙ ap (λ (first : Built MadeAll). and_then first (λ (sources : MadeAll).
-          and_then (children_built builds sources.walk id shape.def shape) (λ children. finish id shape sources.nodes children)))
-          (sym (sources_told walk id shape start ids begun sources) ∙ built)
+      and_then (children_built builds sources.walk id shape.def shape) (λ children. finish id shape sources.nodes children)))
+      (sym (sources_told walk id shape start ids begun sources) ∙ built)
 
 -- a shape, by its mark
 

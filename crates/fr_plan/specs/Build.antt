@@ -1,7 +1,7 @@
 -- The nodes of a plan in the order in which they are built. A finished shape's node is shared. A shape that is being built
 -- gets a node that refers back to its own. Otherwise the sources of the shape's proxies are built, then its children left
 -- to right, and then its own node; so the root's is the last.
-use Rattle.std.specs.Prelude.{ℕ, zero, suc, ◌+◌, false, List, [], ◌∷◌, ◌++◌, length, replicate, slice_get, slice_set, Option, Some, None, Result, Ok, Err}
+use Rattle.std.specs.Prelude.{ℕ, zero, suc, ◌+◌, false, List, [], ◌∷◌, ◌++◌, length, replicate, slice_get, slice_set, Option, Some, None, is_some, Result, Ok, Err}
 use Rattle.fr_shape.specs.declared.shape.Shape.{Shape}
 use Rattle.fr_shape.specs.declared.shape.ShapeId.{ShapeId}
 use Rattle.fr_shape.specs.declared.shape.Def.{Def}
@@ -9,7 +9,6 @@ use Rattle.fr_shape.specs.declared.shape.Field.{Field}
 use Rattle.fr_shape.specs.declared.shape.FieldRef.{FieldRef}
 use Rattle.fr_shape.specs.declared.shape.VariantDef.{VariantDef}
 use Rattle.fr_shape.specs.declared.error.AllocError.{AllocError}
-use Rattle.fr_shape.specs.Checked.{is_present}
 use Rattle.fr_shape.specs.Look.{Table}
 use Rattle.fr_shape.specs.Plannable.{own_sources, field_sources, children_by, refusal_of, own_refusal}
 use Rattle.fr_plan.specs.declared.nodes.NodeId.{NodeId}
@@ -123,7 +122,7 @@ finish id shape sources children =
       role = Role.Own;
       sources = sources;
       children = children.nodes;
-      converts = is_present shape.convert;
+      converts = is_some shape.convert;
     })))
 
 -- a shape that was not met before: the sources of its proxies, its children, and its own node

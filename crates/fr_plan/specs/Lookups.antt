@@ -1,6 +1,6 @@
 -- What is looked up in a plan. A node that refers back stands for the own node of its shape; a child is looked up by the kind
 -- of the node that is stood for, and there is none where that kind has no such child.
-use Rattle.std.specs.Prelude.{ℕ, Bool, true, false, List, slice_get, Option, Some, None, unwrap_or, if◌then◌else◌}
+use Rattle.std.specs.Prelude.{ℕ, Bool, true, false, slice_get, Option, Some, None, unwrap_or, if◌then◌else◌}
 use Rattle.std.specs.Option.{option_map, option_and_then}
 use Rattle.fr_arena.specs.Ranges.{Range}
 use Rattle.fr_rules.specs.Pools.{part_of}

@@ -1,6 +1,6 @@
 -- What a node says, told from its outline and the table: its kind, its strategy, whether there is a default, and the nodes
 -- of its proxies.
-use Rattle.std.specs.Prelude.{◌≡◌, ◌==◌, Bool, true, false, not, ◌&&◌, ◌||◌, List, [], length, map, drop, zip, slice_get, Option, Some, None, option_to_list, IsSomeAnd, if◌then◌else◌}
+use Rattle.std.specs.Prelude.{◌≡◌, ◌==◌, Bool, true, false, not, ◌&&◌, ◌||◌, List, [], length, map, drop, zip, slice_get, Option, Some, None, is_some, option_to_list, IsSomeAnd, if◌then◌else◌}
 use Rattle.std.specs.Option.{option_map}
 use Rattle.std.specs.List.{AllZip}
 use Rattle.fr_shape.specs.declared.shape.Shape.{Shape}
@@ -14,9 +14,9 @@ use Rattle.fr_shape.specs.declared.shape.StructKind.{StructKind}
 use Rattle.fr_shape.specs.declared.shape.StructDef.{StructDef}
 use Rattle.fr_shape.specs.declared.shape.PointerDef.{PointerDef}
 use Rattle.fr_shape.specs.Look.{Table, def_of, field_at}
-use Rattle.fr_shape.specs.Checked.{proxies_of, is_present}
+use Rattle.fr_shape.specs.Checked.{pointees_of, proxies_of}
 use Rattle.fr_shape.specs.Fills.{has_default}
-use Rattle.fr_shape.specs.Served.{is_nil}
+use Rattle.fr_shape.specs.Lists.{is_nil}
 use Rattle.fr_plan.specs.declared.nodes.NodeId.{NodeId}
 use Rattle.fr_plan.specs.declared.nodes.ProxyNodes.{ProxyNodes}
 use Rattle.fr_plan.specs.declared.nodes.TypePlanNode.{TypePlanNode}
@@ -27,7 +27,7 @@ use Rattle.fr_plan.specs.declared.outlines.Role.{Role}
 use Rattle.fr_plan.specs.declared.lists.PlanLists.{PlanLists}
 use Rattle.fr_plan.specs.declared.plans.EnumPlan.{EnumPlan}
 use Rattle.fr_plan.specs.declared.plans.StructPlan.{StructPlan}
-use Rattle.fr_plan.specs.Plans.{nth_node, IsStructPlan, IsEnumPlan}
+use Rattle.fr_plan.specs.Plans.{nth_node, scalar_of, IsStructPlan, IsEnumPlan}
 
 -- Kinds.
 
@@ -41,11 +41,11 @@ enum_plan_of _ = None
 
 abbrev pub pointer_kind : PointerDef → TypePlanNodeKind
 pointer_kind pointer =
-    if is_present pointer.pointee then TypePlanNodeKind.Pointer else TypePlanNodeKind.OpaquePointer
+    if is_some pointer.pointee then TypePlanNodeKind.Pointer else TypePlanNodeKind.OpaquePointer
 
 -- the shape is opaque or undefined, but built from another
 abbrev pub is_built_from : Shape → Bool
-is_built_from shape = is_present shape.builder && is_present shape.convert
+is_built_from shape = is_some shape.builder && is_some shape.convert
 
 abbrev pub opaque_kind : Shape → TypePlanNodeKind
 opaque_kind shape = if is_built_from shape then TypePlanNodeKind.Transparent else TypePlanNodeKind.Opaque
@@ -87,20 +87,32 @@ IsKindOf table lists outline (Role.FieldProxy field) is = is ≡ TypePlanNodeKin
 abbrev pub has_proxy : Shape → Bool
 has_proxy shape = not (is_nil (proxies_of shape.proxy shape.format_proxies))
 
--- the kind is Pointer, or Transparent
+-- the kind is Pointer
 abbrev pub has_pointee : Def → Bool
-has_pointee (Def.Pointer pointer) = is_present pointer.pointee
-has_pointee _ = false
+has_pointee def = not (is_nil (pointees_of def))
 
+-- the kind is Transparent
 abbrev pub is_transparent : Def → Shape → Bool
 is_transparent Def.Opaque shape = is_built_from shape
 is_transparent Def.Undefined shape = is_built_from shape
 is_transparent Def.Other shape = true
-is_transparent _ shape = false
+is_transparent (Def.Scalar kind) shape = false
+is_transparent Def.Str shape = false
+is_transparent (Def.Struct struct) shape = false
+is_transparent (Def.Enum enumeration) shape = false
+is_transparent (Def.Option t) shape = false
+is_transparent (Def.Result t e) shape = false
+is_transparent (Def.List t) shape = false
+is_transparent (Def.Map k v) shape = false
+is_transparent (Def.Set t) shape = false
+is_transparent (Def.Array t n) shape = false
+is_transparent (Def.Pointer pointer) shape = false
+is_transparent (Def.Slice t) shape = false
+is_transparent Def.Dynamic shape = false
 
 -- the shape is converted from what it wraps, or from what it is built from
 abbrev pub is_converted : Shape → Bool
-is_converted shape = is_present shape.convert && (is_present shape.inner || is_transparent shape.def shape)
+is_converted shape = is_some shape.convert && (is_some shape.inner || is_transparent shape.def shape)
 
 abbrev pub struct_strategy : StructDef → StructKind → (transparent : Bool) → DeserStrategy
 struct_strategy struct StructKind.Struct transparent = DeserStrategy.Struct
@@ -110,8 +122,8 @@ struct_strategy struct StructKind.Tuple transparent =
 struct_strategy struct StructKind.TupleStruct transparent =
     DeserStrategy.Tuple (length struct.fields) ((length struct.fields == 1) && transparent)
 
-abbrev pub is_byte : Def → Bool
-is_byte (Def.Scalar ScalarKind.U8) = true
+abbrev pub is_byte : Option ScalarKind → Bool
+is_byte (Some ScalarKind.U8) = true
 is_byte _ = false
 
 -- By kind alone. (An `Other` that comes to here is converted: one that isn't, and has no proxy and no metadata, is refused.)
@@ -124,7 +136,7 @@ strategy_by_kind table nodes shape (Def.Struct struct) = struct_strategy struct 
 strategy_by_kind table nodes shape (Def.Enum enumeration) = DeserStrategy.Enum
 strategy_by_kind table nodes shape (Def.Option t) = DeserStrategy.Option (nth_node nodes 0)
 strategy_by_kind table nodes shape (Def.Result t e) = DeserStrategy.Result (nth_node nodes 0) (nth_node nodes 1)
-strategy_by_kind table nodes shape (Def.List t) = DeserStrategy.List (nth_node nodes 0) (is_byte (def_of table t.0))
+strategy_by_kind table nodes shape (Def.List t) = DeserStrategy.List (nth_node nodes 0) (is_byte (scalar_of (def_of table t.0)))
 strategy_by_kind table nodes shape (Def.Map k v) = DeserStrategy.Map (nth_node nodes 0) (nth_node nodes 1)
 strategy_by_kind table nodes shape (Def.Set t) = DeserStrategy.Set (nth_node nodes 0)
 strategy_by_kind table nodes shape (Def.Array t n) = DeserStrategy.Array n (nth_node nodes 0)

@@ -1,6 +1,6 @@
 -- What the plans of structs and enums say of fields and variants. Where a plan names a range of a list, the list is part of
 -- the statement.
-use Rattle.std.specs.Prelude.{◌≡◌, ℕ, ◌+◌, ◌≤◌, Bool, List, [], ◌∷◌, length, map, take, drop, position, slice_get, slice_index_or, Option, Some, None}
+use Rattle.std.specs.Prelude.{◌≡◌, ℕ, ◌+◌, ◌≤◌, Bool, List, [], ◌∷◌, length, map, take, drop, position, slice_get, slice_index_or, Option, Some, None, unwrap_or}
 use Rattle.std.specs.List.{AllZip, list_any}
 use Rattle.fr_shape.specs.declared.shape.Shape.{Shape}
 use Rattle.fr_shape.specs.declared.shape.ShapeId.{ShapeId}
@@ -38,10 +38,28 @@ pub record Names {X : Type 0} (list : List X) (range : Range) (values : List X) 
   pub inside : range.start + range.len ≤ length list
   pub names : part_of list range ≡ values
 
--- the kind of a scalar; any serves for another shape, on whose fields only hooks test
+-- the kind of a scalar
+abbrev pub scalar_of : Def → Option ScalarKind
+scalar_of (Def.Scalar kind) = Some kind
+scalar_of Def.Str = None
+scalar_of Def.Opaque = None
+scalar_of (Def.Struct struct) = None
+scalar_of (Def.Enum enumeration) = None
+scalar_of (Def.Option t) = None
+scalar_of (Def.Result t e) = None
+scalar_of (Def.List t) = None
+scalar_of (Def.Map k v) = None
+scalar_of (Def.Set t) = None
+scalar_of (Def.Array t n) = None
+scalar_of (Def.Pointer pointer) = None
+scalar_of (Def.Slice t) = None
+scalar_of Def.Dynamic = None
+scalar_of Def.Undefined = None
+scalar_of Def.Other = None
+
+-- the same; any kind serves for another shape, on whose fields only hooks test
 abbrev pub kind_of : Def → ScalarKind
-kind_of (Def.Scalar kind) = kind
-kind_of _ = ScalarKind.String
+kind_of def = unwrap_or (scalar_of def) ScalarKind.String
 
 -- a validator with the kind of the scalar that it tests
 abbrev pub with_kind : ScalarKind → ValidatorDef → ValidatorKind

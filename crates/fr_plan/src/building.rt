@@ -6,9 +6,7 @@ ghost use Rattle.fr_plan.specs.Results.{Gives, GivesAll, GivesMore};
 use crate::nodes::NodeId;
 use crate::outlines::{Mark, Outline, Role, Walk};
 use crate::walking::{Container, built_from, finish, sources_of};
-use fr_shape::{
-    Def, Field, FieldRef, Items, PlanError, Shape, ShapeId, ShapeTable, VariantDef,
-};
+use fr_shape::{Def, Field, FieldRef, Items, PlanError, Shape, ShapeId, ShapeTable, VariantDef};
 use std::alloc::Global;
 
 /// Builds a shape: its node is made, or was made before, or refers back to one that is being made.

@@ -9,23 +9,18 @@ ghost use Rattle.fr_plan.specs.Plans.{Names, NamesFields, AreFieldsOf, IsFieldPl
 use crate::lists::PlanLists;
 use crate::nodes::NodeId;
 use crate::plans::{FieldPlan, FieldRange, ValidatorRange};
-use crate::strategies::nth_node;
+use crate::strategies::{nth_node, scalar_of};
 use crate::walking::Container;
 use fr_rules::{PrecomputedValidator, ValidatorKind, determine_fill_rule};
-use fr_shape::{
-    Def, Field, FieldRef, OutOfMemory, ScalarKind, ShapeId, ShapeTable, Text, ValidatorDef,
-};
+use fr_shape::{Field, FieldRef, OutOfMemory, ScalarKind, ShapeId, ShapeTable, Text, ValidatorDef};
 use std::alloc::Global;
 
 /// The kind of the scalar; any serves for another shape.
 fn kind_of(table: &ShapeTable, id: ShapeId) -> ScalarKind
     ensures { result ≡ kind_of (def_of table.now id.0) }
 {
-    match table.get(id) {
-        Some(shape) => match &shape.def {
-            Def::Scalar(kind) => *kind,
-            _ => ScalarKind::String,
-        },
+    match scalar_of(table, id) {
+        Some(kind) => kind,
         None => ScalarKind::String,
     }
 }

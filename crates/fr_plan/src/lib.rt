@@ -16,8 +16,8 @@ mod variants;
 mod walking;
 
 pub use nodes::{DeserStrategy, NodeId, ProxyNodes, TypePlanNode, TypePlanNodeKind};
-pub use type_plan::TypePlanCore;
 pub use plans::{
     EnumPlan, FieldInitPlan, FieldPlan, FieldRange, StructPlan, ValidatorRange, VariantPlanMeta,
     VariantRange,
 };
+pub use type_plan::TypePlanCore;

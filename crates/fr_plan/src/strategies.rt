@@ -2,7 +2,7 @@
 ghost use Rattle.std.specs.Prelude.{◌≡◌, IfOk};
 ghost use Rattle.fr_shape.specs.Look.{def_of};
 ghost use Rattle.fr_plan.specs.Nodes.{has_pointee, is_transparent, is_converted, is_built_from, struct_strategy, is_byte, strategy_by_kind, own_strategy, strategy_of};
-ghost use Rattle.fr_plan.specs.Plans.{nth_node};
+ghost use Rattle.fr_plan.specs.Plans.{nth_node, scalar_of};
 
 use crate::nodes::{DeserStrategy, NodeId};
 use crate::outlines::{Outline, Role};
@@ -53,11 +53,18 @@ fn is_converted(shape: &Shape) -> bool
 }
 
 fn is_byte(table: &ShapeTable, id: ShapeId) -> bool
-    ensures { result ≡ is_byte (def_of table.now id.0) }
+    ensures { result ≡ is_byte (scalar_of (def_of table.now id.0)) }
 {
-    match table.get(id) {
-        Some(shape) => matches!(shape.def, Def::Scalar(ScalarKind::U8)),
-        None => false,
+    matches!(scalar_of(table, id), Some(ScalarKind::U8))
+}
+
+/// The kind of a scalar.
+pub(crate) fn scalar_of(table: &ShapeTable, id: ShapeId) -> Option<ScalarKind>
+    ensures { result ≡ scalar_of (def_of table.now id.0) }
+{
+    match &table.get(id)?.def {
+        Def::Scalar(kind) => Some(*kind),
+        _ => None,
     }
 }
 

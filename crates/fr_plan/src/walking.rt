@@ -2,7 +2,7 @@
 ghost use Rattle.std.specs.Prelude.{◌≡◌, ◌<◌, length, map, not, slice_get, option_to_list, IfOk, Ok};
 ghost use Rattle.fr_shape.specs.declared.shape.ProxyDef.{ProxyDef as Proxy};
 ghost use Rattle.fr_shape.specs.Plannable.{built_from, refusal_of};
-ghost use Rattle.fr_shape.specs.Served.{is_nil};
+ghost use Rattle.fr_shape.specs.Lists.{is_nil};
 ghost use Rattle.fr_shape.specs.Checked.{proxies_of};
 ghost use Rattle.fr_plan.specs.Build.{with_node, marked, back_reference, finish};
 ghost use Rattle.fr_plan.specs.Results.{Gives};
@@ -11,8 +11,8 @@ use crate::nodes::NodeId;
 use crate::outlines::{Mark, Outline, Role, Walk};
 use fr_arena::{Arena, Idx};
 use fr_shape::{
-    AllocError, Def, FormatProxy, Items, OutOfMemory, PlanError, PlanFault, ProxyDef, Shape, ShapeId,
-    ShapeTable,
+    AllocError, Def, FormatProxy, Items, OutOfMemory, PlanError, PlanFault, ProxyDef, Shape,
+    ShapeId, ShapeTable,
 };
 use std::alloc::Global;
 

@@ -1,5 +1,5 @@
 -- The order of values: by their form first, in the order in which forms are listed below, then by what they hold. Any two
--- tokens are equal; what has many parts goes part by part in their order, and the shorter first.
+-- tokens are equal; what has many parts goes part by part in their order, and a beginning of it before the whole.
 use Rattle.std.specs.Prelude.{ℕ}
 use Rattle.std.specs.declared.cmp.Ordering.{Ordering}
 use Rattle.std.specs.declared.cmp.Ordering.TheVariants.{Less, Equal, Greater}

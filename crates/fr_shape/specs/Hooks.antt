@@ -22,7 +22,7 @@ pub record Meanings : Type 0 where
   pub parse : Table → (hook target : ℕ) → (text : List ℕ) → Meaning
   pub parse_bytes : Table → (hook target : ℕ) → (bytes : List ℕ) → Meaning
 
--- a call answers what its hook means, or finds no memory
+-- a call returns what its hook means, or is out of memory
 abbrev pub Answers : Meaning → Result Value HookFault → Type 0
 Answers meaning (Ok v) = meaning ≡ gives (view v)
 Answers meaning (Err (HookFault.Refused message)) = meaning ≡ refuses message

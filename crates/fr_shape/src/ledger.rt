@@ -50,7 +50,7 @@ impl Ledger {
     /// Records one release of token `t`.
     pub fn release(&mut self, t: u32)
         requires known { t < length self.old }
-        requires room { slice_index self.old t < 4294967295 }
+        requires room { slice_index self.old t < u32.MAX }
         ensures one_more { self.new ≡ slice_set self.old t (slice_index self.old t + 1) }
     {
         self.counts[t as usize] += 1;

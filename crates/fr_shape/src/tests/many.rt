@@ -8,8 +8,8 @@ use std::process::Abort;
 /// The numbers below 307, and one of them again where this is asked for.
 fn scattered(alloc: Global, again: bool) -> Result<Vec<u128>, OutOfMemory> {
     let mut numbers = Vec::new(alloc);
-    for i in 0..307u128 {
-        numbers.push(i * 101 % 307)?;
+    for i in 0..307u64 {
+        numbers.push((i * 101 % 307) as u128)?;
     }
     if again {
         numbers.push(202)?;

@@ -1,4 +1,4 @@
-use Rattle.std.proofs.Common.{Some, None, ◌≡◌, ℕ, ◌+◌, ◌*◌, drop}
+use Rattle.std.proofs.Common.{◌≡◌, ◌+◌, ◌*◌, drop}
 use Rattle.fr_plan.specs.Build.{build, each_built, fields_built, fields_from, variant_fields_from, none_yet}
 use Rattle.fr_plan.proofs.building.+building.Given as goal
 
@@ -35,13 +35,13 @@ invariant-build_each-loop-id l =
 abbrev pub invariant-build_fields-loop-i : goal.invariant-build_fields-loop-i
 invariant-build_fields-loop-i l =
     fields_built (λ then next. build l.table l.depth then next) (record { walk = l.walk; nodes = l.nodes })
-        (fields_from l.of.shape l.of.variant l.i (drop l.i l.fields))
+    (fields_from l.of.shape l.of.variant l.i (drop l.i l.fields))
     ≡ fields_built (λ then next. build l.table l.depth then next) (record { walk = l.fn.walk; nodes = l.fn.nodes })
-        (fields_from l.of.shape l.of.variant 0 l.fields)
+    (fields_from l.of.shape l.of.variant 0 l.fields)
 
 abbrev pub invariant-build_variants-loop-i : goal.invariant-build_variants-loop-i
 invariant-build_variants-loop-i l =
     fields_built (λ then next. build l.table l.depth then next) (record { walk = l.walk; nodes = l.nodes })
-        (variant_fields_from l.id l.i (drop l.i l.variants))
+    (variant_fields_from l.id l.i (drop l.i l.variants))
     ≡ fields_built (λ then next. build l.table l.depth then next) (none_yet l.fn.walk)
-        (variant_fields_from l.id 0 l.variants)
+    (variant_fields_from l.id 0 l.variants)

@@ -3,7 +3,6 @@ use Rattle.std.specs.List.{zip}
 use Rattle.std.proofs.lemmas.Bool.{cases_lt}
 use Rattle.std.proofs.lemmas.List.{append-nil, drop_all}
 use Rattle.fr_shape.specs.declared.shape.FormatProxy.{FormatProxy}
-use Rattle.fr_plan.specs.declared.nodes.NodeId.{NodeId}
 use Rattle.fr_plan.proofs.telling.nodes_by_format.Goals as goal
 
 zip-nil : {A B : Type 0} (xs : List A) → zip {K = A} {X = B} xs [] ≡ []
@@ -25,7 +24,7 @@ zip_past {B = B} {C = C} f xs ys i past = elim (cases_lt i (length xs)) [
 pub returns : goal.returns
 returns c =
     let past : min (length c.as_slice-formats.result.now) (length c.args.nodes.now) ≤ c.loop-i.i =
-        omega (arith, c.min-i-end.ensures, c.loop-i-test.false) in
+    omega (arith, c.min-i-end.ensures, c.loop-i-test.false) in
     sym (append-nil c.loop-i.by_format.items)
     ∙ ap (λ l. c.loop-i.by_format.items ++ l) (sym (zip_past (λ (formatted : FormatProxy). formatted.format) _ c.args.nodes.now c.loop-i.i past))
     ∙ c.loop-i.invariant

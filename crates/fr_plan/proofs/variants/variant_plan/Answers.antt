@@ -1,4 +1,4 @@
-use Rattle.std.proofs.Common.{◌≡◌, ap, ◌∙◌, subst, refl, List, Some, None}
+use Rattle.std.proofs.Common.{ap, ◌∙◌, subst, refl, List, Some}
 use Rattle.fr_shape.specs.declared.shape.Field.{Field}
 use Rattle.fr_plan.specs.Build.{fields_from}
 use Rattle.fr_plan.specs.Plans.{NamesFields, has_flatten}
@@ -8,7 +8,7 @@ use Rattle.fr_plan.proofs.variants.variant_plan.Goals as goal
 pub returns-clause-told : goal.returns-clause-told
 returns-clause-told c =
     let P : List Field → Type 0 = λ fields.
-        NamesFields c.args.table.now c.field_plans.new.lists c.args.nodes.now (fields_from c.args.id (Some c.args.number) 0 fields) c.in_ok-fields.fields in
+    NamesFields c.args.table.now c.field_plans.new.lists c.args.nodes.now (fields_from c.args.id (Some c.args.number) 0 fields) c.in_ok-fields.fields in
     record {
       shape = refl;
       variant = refl;

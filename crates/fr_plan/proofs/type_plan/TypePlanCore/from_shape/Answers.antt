@@ -15,12 +15,12 @@ planned_from : (table : Table) (id : ShapeId) (walk : Walk) (shapes marks : ℕ)
     → build table (marks + 1) walk id ≡ planned table id
 planned_from table id walk shapes marks begun all long =
     let deep : marks + 1 ≡ suc (length table) =
-        ap (λ (n : ℕ). n + 1)
-        (long ∙ ap (λ (w : Walk). length w.marks) begun ∙ length-replicate shapes Mark.Unseen ∙ all)
-        ∙ add-one (length table) in
+    ap (λ (n : ℕ). n + 1)
+    (long ∙ ap (λ (w : Walk). length w.marks) begun ∙ length-replicate shapes Mark.Unseen ∙ all)
+    ∙ add-one (length table) in
     ap (λ (depth : ℕ). build table depth walk id) deep
     ∙ ap (λ (at : Walk). build table (suc (length table)) at id)
-      (begun ∙ ap (λ (n : ℕ). record { nodes = []; marks = replicate n Mark.Unseen }) all)
+    (begun ∙ ap (λ (n : ℕ). record { nodes = []; marks = replicate n Mark.Unseen }) all)
 
 pub returns-in-Ok-nodes_of-clause-plan : goal.returns-in-Ok-nodes_of-clause-plan
 returns-in-Ok-nodes_of-clause-plan c = record {
@@ -40,6 +40,6 @@ length-zip R (x ∷ xs) (y ∷ ys) all = ap suc (length-zip R xs ys all.1)
 pub invariant_of-result : goal.invariant_of-result
 invariant_of-result c =
     let built = sym (planned_from c.args.table.now c.args.id c.in-Ok.walk c.len.result c.len-depth.result c.in-Ok.ensures c.len.ensures.count c.len-depth.ensures.count)
-        ∙ c.in-Ok-build_shape.ensures in
+    ∙ c.in-Ok-build_shape.ensures in
     let inside : c.in-Ok-build_shape.root.0 < length c.build_shape.new.walk.nodes = root_inside c.args.table.now c.args.id _ built in
     omega (arith, inside, length-zip _ _ _ c.in-Ok-nodes_of.ensures.told)
