@@ -1,0 +1,9 @@
+pub mod Adding
+pub mod Finishing
+pub mod Kept
+pub mod Led
+pub mod Marks
+pub mod Ranges
+pub mod ShapesKept
+pub mod Sound
+pub mod Whole
