@@ -4,6 +4,9 @@ pub mod Kept
 pub mod Led
 pub mod Marks
 pub mod Ranges
+pub mod Reaching
 pub mod ShapesKept
 pub mod Sound
+pub mod Turns
+pub mod Visits
 pub mod Whole

@@ -6,5 +6,6 @@ pub mod Nodes
 pub mod PlanLaws
 pub mod Plans
 pub mod ProxyLookups
+pub mod RefusalLaws
 pub mod Results
 pub mod TypePlan
