@@ -3,6 +3,7 @@ pub mod Finishing
 pub mod Kept
 pub mod Led
 pub mod Marks
+pub mod Paths
 pub mod Ranges
 pub mod Reaching
 pub mod ShapesKept

@@ -3,6 +3,7 @@ pub mod FillQuestions
 pub mod Lists
 pub mod Lookups
 pub mod Nodes
+pub mod PathLaws
 pub mod PlanLaws
 pub mod Plans
 pub mod ProxyLookups

@@ -1,4 +1,5 @@
 //! Laws of plans: each is the contract of a function that does nothing.
+ghost use Rattle.fr_plan.specs.PathLaws.{PathsAgree};
 ghost use Rattle.fr_plan.specs.PlanLaws.{PlansAreComplete};
 ghost use Rattle.fr_plan.specs.RefusalLaws.{RefusesFirst, PlansPlannable};
 
@@ -13,4 +14,10 @@ pub fn law_plan_complete()
 pub fn law_first_refusal()
     ensures first { RefusesFirst }
     ensures plannable { PlansPlannable }
+{}
+
+/// For every path of child numbers from the root of a plan over a checked table, the node that it leads to has the shape
+/// that the table gives for it, and there is none exactly where the table gives none.
+pub fn law_plan_paths()
+    ensures agree { PathsAgree }
 {}
