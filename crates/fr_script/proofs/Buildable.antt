@@ -1,5 +1,5 @@
 -- What was read of a document meets what the builder asks.
-use Rattle.std.proofs.Common.{◌≡◌, ℕ, zero, suc, ◌+◌, ◌<◌, ◌≤◌, nat_lt, cond, Bool, true, false, List, [], ◌∷◌, length, replicate, not, Option, Some, None, Ok, Err, codes, refl, ap, subst, sum_by, arith}
+use Rattle.std.proofs.Common.{◌≡◌, ℕ, zero, suc, ◌+◌, ◌<◌, ◌≤◌, nat_lt, cond, Bool, true, false, List, [], ◌∷◌, length, replicate, not, Option, Some, None, Ok, Err, refl, ap, subst, sum_by, arith}
 use Rattle.std.specs.Prelude.{Result, nat_le, slice_get}
 use Rattle.std.specs.List.{list_all}
 use Rattle.std.specs.Option.{ok_or}

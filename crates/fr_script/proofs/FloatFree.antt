@@ -5,7 +5,9 @@ use Rattle.fr_shape.specs.Val.{Val}
 use Rattle.fr_doc.specs.declared.fault.DocFault.{DocFault}
 use Rattle.fr_doc.specs.Printed.{value_data}
 use Rattle.fr_script.specs.Reports.{Outcome, faulty, built, refused, planned, unplanned, naturals, outcome_data, fault_data, line_data}
-use Rattle.fr_script.specs.PlanReports.{NodeLine}
+use Rattle.fr_script.specs.declared.plan_answer.PlanAnswer.{PlanAnswer}
+use Rattle.fr_script.specs.Answers.{plan_outcome}
+use Rattle.fr_script.specs.PlanReports.{NodeLine, node_line}
 use Rattle.serde_json.specs.View.{items_of}
 
 naturals_free : (ns : List ℕ) → items_have_float (naturals ns) ≡ false
@@ -42,3 +44,8 @@ outcome_float_free values (refused refusal tokens) =
     rw rest refl
 outcome_float_free values (planned lines root) = plan_float_free lines root
 outcome_float_free values (unplanned fault) = refl
+
+pub plan_answer_float_free : (answer : PlanAnswer) → has_float (outcome_data (plan_outcome answer)) ≡ false
+plan_answer_float_free (PlanAnswer.Fault fault) = fault_free fault
+plan_answer_float_free (PlanAnswer.Planned table plan) = plan_float_free (map (node_line table) plan.nodes) plan.root.0
+plan_answer_float_free (PlanAnswer.Refused error) = refl

@@ -1,13 +1,15 @@
 -- What is told of a plan's nodes is what is told of their outlines.
-use Rattle.std.proofs.Common.{◌≡◌, ℕ, ◌+◌, List, [], ◌∷◌, ◌++◌, map, take, length, Option, Some, None, Err, codes, refl, sym, ap, ◌∙◌}
-use Rattle.std.specs.Prelude.{slice_get, IsSomeAnd}
-use Rattle.std.specs.List.{AllZip}
+use Rattle.std.proofs.Common.{◌≡◌, ℕ, ◌+◌, List, [], ◌∷◌, ◌++◌, map, take, Option, Some, None, Ok, Err, codes, refl, sym, ap, subst, ◌∙◌}
+use Rattle.std.specs.Prelude.{slice_get, IsSomeAnd, Result, IsOk}
 use Rattle.std.proofs.lemmas.List.{take_more, map-append}
 use Rattle.std.proofs.lemmas.Option.{slice_get_within, get_or_from_slice_get}
+use Rattle.serde_json.specs.Data.{Data}
 use Rattle.fr_shape.specs.declared.shape.Shape.{Shape}
 use Rattle.fr_shape.specs.declared.shape.ShapeId.{ShapeId}
 use Rattle.fr_shape.specs.declared.shape.Def.{Def}
 use Rattle.fr_shape.specs.Look.{Table}
+use Rattle.fr_shape.specs.Val.{Val}
+use Rattle.fr_model.specs.Run.{Refusal}
 use Rattle.fr_plan.specs.declared.nodes.NodeId.{NodeId}
 use Rattle.fr_plan.specs.declared.nodes.TypePlanNode.{TypePlanNode}
 use Rattle.fr_plan.specs.declared.nodes.TypePlanNodeKind.{TypePlanNodeKind}
@@ -18,10 +20,19 @@ use Rattle.fr_plan.specs.declared.plans.StructPlan.{StructPlan}
 use Rattle.fr_plan.specs.declared.plans.EnumPlan.{EnumPlan}
 use Rattle.fr_plan.specs.Nodes.{struct_plan_of, enum_plan_of, IsKindBy, IsOwnKind, IsKindOf, IsNode, AreNodes}
 use Rattle.fr_script.specs.PlanReports.{NodeLine, node_kind_name, own_kind_name, kind_name_in, kind_name_of, strategy_name, name_in, node_line, outline_line}
-use Rattle.fr_script.specs.Reports.{line_data, planned, unplanned, outcome_of_plan}
-use Rattle.fr_plan.specs.Build.{planned as the_plan}
+use Rattle.fr_script.specs.Reports.{line_data, planned, unplanned, status_of, plan_of, run_of, outcome_of_run, outcome_of_plan, outcome_of_document, outcome_of}
+use Rattle.fr_script.specs.DocumentFacts.{IsInOrder, Succeeds}
+use Rattle.fr_script.specs.Documents.{Document, document_of}
+use Rattle.fr_script.specs.declared.word.Word.{Word}
+use Rattle.fr_doc.specs.declared.fault.DocFault.{DocFault}
+use Rattle.fr_shape.specs.Plannable.{IsPlannable}
+use Rattle.fr_plan.specs.RefusalLaws.{refusal_in, RefusesFirst, PlansPlannable}
+use Rattle.fr_script.proofs.Buildable.{document_in_order}
+use Rattle.fr_plan.specs.Build.{Built, Made, planned as the_plan}
 use Rattle.fr_plan.specs.TypePlan.{Plan, IsPlanOf}
 use Rattle.fr_shape.specs.declared.error.AllocError.{AllocError}
+use Rattle.fr_shape.specs.declared.error.PlanError.{PlanError}
+use Rattle.fr_plan.specs.Results.{IsMeant}
 
 -- Kinds.
 
@@ -88,6 +99,15 @@ module _ (table : Table) (lists : PlanLists) where
       ap (λ first. first ∷ map (node_line table) nodes) (line_told outline node all.0)
       ∙ ap (λ rest. outline_line table outline ∷ rest) (lines_told outlines nodes all.1)
 
+-- one more item
+pub next_told : {J : Type 0} (seen : J → Data) (items more : List J) (json : J) (before after : List Data) (line : Data)
+    → more ≡ items ++ json ∷ [] → seen json ≡ line → map seen items ≡ before → after ≡ before ++ line ∷ []
+    → map seen more ≡ after
+next_told seen items more json before after line pushed told so_far next =
+    ap (map seen) pushed
+    ∙ (map-append seen items (json ∷ [])
+    ∙ (ap (λ ds. ds ++ seen json ∷ []) so_far ∙ (ap (λ d. before ++ d ∷ []) told ∙ sym next)))
+
 -- one more node
 pub next_line : (table : Table) (nodes : List TypePlanNode) (i : ℕ) (node : TypePlanNode) → slice_get nodes i ≡ Some node
     → map line_data (map (node_line table) (take (i + 1) nodes))
@@ -106,6 +126,38 @@ planned_told table root plan is =
     ∙ sym (ap (outcome_of_plan table) is.built)
 
 -- so does a refusal
-pub refused_told : (table : Table) (root : ShapeId) (error : AllocError) → the_plan table root ≡ Err error
-    → unplanned error.operation ≡ outcome_of_plan table (the_plan table root)
-refused_told table root error is = sym (ap (outcome_of_plan table) is)
+pub refused_told : (table : Table) (root : ShapeId) (told : PlanError) (error : AllocError) → told ≡ PlanError.Alloc error
+    → IsMeant (the_plan table root) told → unplanned error.operation ≡ outcome_of_plan table (the_plan table root)
+refused_told table root told error same meant =
+    let is : the_plan table root ≡ Err error = subst (IsMeant (the_plan table root)) same meant in
+    sym (ap (outcome_of_plan table) is)
+
+-- a plan that isn't refused has the status of a plan
+not_refused : (table : Table) (made : Built Made) → refusal_in made ≡ None → status_of (outcome_of_plan table made) ≡ 0
+not_refused table (Ok made) none = refl
+not_refused table (Err error) none = cc
+
+value_status : (document : Document) (ran : Result Val Refusal) → IsOk ran → status_of (outcome_of_run document ran) ≡ 0
+value_status document (Ok v) completes = refl
+value_status document (Err refusal) completes = cc
+
+module _ (refuses : RefusesFirst) (plans : PlansPlannable) where
+  known_planned : (document : Document) → IsInOrder document → IsPlannable document.shapes document.root
+      → status_of (outcome_of_plan document.shapes (plan_of document)) ≡ 0
+  known_planned document in_order plannable =
+      let root : ShapeId = record { 0 = document.root } in
+      not_refused document.shapes (plan_of document)
+      (refuses document.shapes root ∙ (plans document.shapes root in_order.checked in_order.rooted).1 plannable)
+
+  in_any_case : (word : Word) (found : Result Document DocFault)
+      → ((document : Document) → found ≡ Ok document → IsInOrder document) → Succeeds word found
+      → status_of (outcome_of_document word found) ≡ 0
+  in_any_case Word.Build (Ok document) known completes = value_status document (run_of document) completes
+  in_any_case Word.Plan (Ok document) known plannable = known_planned document (known document refl) plannable
+  in_any_case Word.Build (Err fault) known none = absurd none
+  in_any_case Word.Plan (Err fault) known none = absurd none
+
+  pub succeeds : (word : Word) (bytes : List ℕ) → Succeeds word (document_of word bytes)
+      → status_of (outcome_of word bytes) ≡ 0
+  succeeds word bytes =
+      in_any_case word (document_of word bytes) (λ document is. (document_in_order word bytes document is).0)

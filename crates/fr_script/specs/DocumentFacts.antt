@@ -1,12 +1,16 @@
 -- What the builder may count on in a document that was read.
-use Rattle.std.specs.Prelude.{◌≤◌, length, replicate}
+use Rattle.std.specs.Prelude.{◌≤◌, length, replicate, Result, Ok, Err, IsOk}
 use Rattle.fr_shape.specs.Checked.{IsChecked}
 use Rattle.fr_shape.specs.Look.{IsIn}
+use Rattle.fr_shape.specs.Plannable.{IsPlannable}
+use Rattle.fr_doc.specs.declared.fault.DocFault.{DocFault}
 use Rattle.fr_shape.specs.Numbered.{IsNumbered}
 use Rattle.fr_shape.specs.Served.{IsServed}
 use Rattle.fr_model.specs.Scripts.{IsValid}
 use Rattle.fr_script.specs.declared.sizes.TheConstants.{COMMAND_LIMIT, TOKEN_LIMIT}
+use Rattle.fr_script.specs.declared.word.Word.{Word}
 use Rattle.fr_script.specs.Documents.{Document}
+use Rattle.fr_script.specs.Reports.{run_of}
 
 -- The document's table is checked and its root is in it, its script is valid, and their sizes are within the limits.
 pub record IsInOrder (document : Document) : Type 0 where
@@ -21,3 +25,10 @@ pub record IsInOrder (document : Document) : Type 0 where
 pub record IsBuildable (document : Document) : Type 0 where
   pub in_order : IsInOrder document
   pub served : IsServed document.shapes
+
+-- The document has no fault, and what the word asks of it can be done: its script runs to a value, or its root can be
+-- planned.
+abbrev pub Succeeds : Word → Result Document DocFault → Type 0
+Succeeds Word.Build (Ok document) = IsOk (run_of document)
+Succeeds Word.Plan (Ok document) = IsPlannable document.shapes document.root
+Succeeds word (Err fault) = ⊥

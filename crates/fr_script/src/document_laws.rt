@@ -4,9 +4,12 @@ ghost use Rattle.fr_model.specs.Commands.{Call};
 ghost use Rattle.fr_model.specs.Scripts.{IsValid};
 ghost use Rattle.fr_shape.specs.Look.{Table};
 ghost use Rattle.fr_script.specs.declared.word.Word.{Word};
-ghost use Rattle.fr_script.specs.DocumentFacts.{IsBuildable, IsInOrder};
+ghost use Rattle.fr_script.specs.DocumentFacts.{IsBuildable, IsInOrder, Succeeds};
 ghost use Rattle.fr_script.specs.Documents.{Document, document_of, first_invalid};
 ghost use Rattle.fr_script.specs.FirstInvalid.{IsFirstInvalid};
+ghost use Rattle.fr_script.specs.Reports.{outcome_of, status_of};
+
+use fr_plan::law_first_refusal;
 
 /// The first command that isn't valid: where there is none the script may be handed to the builder, and else it may up
 /// to that command.
@@ -24,3 +27,11 @@ pub fn law_documents_in_order()
     ensures buildable { (bytes : List ℕ) (document : Document)
         → document_of Word.Build bytes ≡ Ok document → IsBuildable document }
 {}
+
+/// A document whose script runs to a value, or whose root can be planned, has the status 0.
+pub fn law_successes()
+    ensures succeeds { (word : Word) (bytes : List ℕ) → Succeeds word (document_of word bytes)
+        → status_of (outcome_of word bytes) ≡ 0 }
+{
+    law_first_refusal();
+}

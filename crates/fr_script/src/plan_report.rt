@@ -123,6 +123,7 @@ fn json_of_plan_answer(alloc: Global, answer: &PlanAnswer) -> Result<Json, Alloc
 }
 
 /// The report on a plan: one JSON object and a line feed.
+#[tactic(auto, using(crate::proofs::FloatFree::plan_answer_float_free))]
 pub fn plan_report_of(alloc: Global, answer: &PlanAnswer) -> Result<String, AllocError>
     ensures report { IfOk result (λ text. string_bytes text ≡ report (plan_outcome answer.now)) }
 {

@@ -141,6 +141,7 @@ fn json_of_answer(alloc: Global, answer: &Answer) -> Result<Json, AllocError>
 }
 
 /// The report on an answer: one JSON object and a line feed.
+#[tactic(auto, using(crate::proofs::FloatFree::outcome_float_free))]
 pub fn report_of(alloc: Global, answer: &Answer) -> Result<String, AllocError>
     ensures report { IfOk result (λ text. string_bytes text ≡ report (outcome_view answer.now)) }
 {

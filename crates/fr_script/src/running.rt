@@ -3,12 +3,14 @@ ghost use Rattle.std.specs.Prelude.{◌≡◌, ◌⊎◌, ◌≤◌, drop, Some,
 ghost use Rattle.std.specs.Io.KnownBytes.{append_known};
 ghost use Rattle.std.specs.Option.{option_map};
 ghost use Rattle.fr_doc.specs.Causes.{Rose, LosesAtMost, TakesBeginning};
+ghost use Rattle.fr_script.specs.DocumentFacts.{Succeeds};
 ghost use Rattle.fr_script.specs.Documents.{document_of};
 ghost use Rattle.fr_script.specs.Headline.{KeepsPromise};
 ghost use Rattle.fr_script.specs.Reports.{outcome_of, report};
 ghost use Rattle.fr_script.specs.Runs.{asked, usage_line, Tells};
 ghost use Rattle.fr_script.specs.declared.word.Word.{Word as TheWord};
 
+use crate::document_laws::law_successes;
 use crate::serving::respond;
 use crate::word::Word;
 use fr_doc::{INPUT_LIMIT, InputFault, Sink, Source, read_input, write_report};
@@ -27,10 +29,10 @@ pub fn run<S: Source, K: Sink>(alloc: Global, words: &[String], source: &mut S, 
     // One of the words, where the source tells what it has left: the outcome of all those bytes is reported.
     ensures reported { (word : TheWord) → asked words.now ≡ Some word → result ≤ 3
         → IfSome (S.left source.old) (λ bytes.
-            Tells (outcome_of word bytes) result (K.taken sink.old) (K.taken sink.new)) }
+        Tells (outcome_of word bytes) result (K.taken sink.old) (K.taken sink.new)) }
     ensures promised { asked words.now ≡ Some TheWord.Build → result ≤ 3
         → IfSome (S.left source.old) (λ bytes.
-            KeepsPromise (document_of TheWord.Build bytes) (outcome_of TheWord.Build bytes)) }
+        KeepsPromise (document_of TheWord.Build bytes) (outcome_of TheWord.Build bytes)) }
     ensures reads { LosesAtMost INPUT_LIMIT (S.left source.old) (S.left source.new) }
 
     // Other words: nothing is read, and the usage line is written.
@@ -43,15 +45,21 @@ pub fn run<S: Source, K: Sink>(alloc: Global, words: &[String], source: &mut S, 
     // The devices' faults, and out of memory.
     ensures complete { ¬ Rose (S.faults source.old) (S.faults source.new)
         → ¬ Rose (K.faults sink.old) (K.faults sink.new) → (result ≤ 3) ⊎ (result ≡ 6) }
+    ensures succeeds { (word : TheWord) → asked words.now ≡ Some word
+        → ¬ Rose (S.faults source.old) (S.faults source.new)
+        → ¬ Rose (K.faults sink.old) (K.faults sink.new)
+        → IfSome (S.left source.old) (λ bytes. Succeeds word (document_of word bytes)
+        → (result ≡ 0) ⊎ (result ≡ 6)) }
     ensures read_fault { result ≡ 4 → Rose (S.faults source.old) (S.faults source.new) }
     ensures write_fault { result ≡ 5 → Rose (K.faults sink.old) (K.faults sink.new) }
     ensures unwritten { (result ≡ 4) ⊎ (result ≡ 6) → sink.new ≡ sink.old }
     ensures beginning { (word : TheWord) → asked words.now ≡ Some word → result ≡ 5
         → IfSome (S.left source.old) (λ bytes. TakesBeginning (K.taken sink.old)
-            (K.taken sink.new) (report (outcome_of word bytes))) }
+        (K.taken sink.new) (report (outcome_of word bytes))) }
     ensures usage_beginning { result ≡ 5 → asked words.now ≡ None
         → TakesBeginning (K.taken sink.old) (K.taken sink.new) usage_line }
 {
+    law_successes();
     let Some(word) = find_word(words) else {
         return match write_report(sink, USAGE.as_bytes()) {
             Ok(()) => 3,

@@ -1,4 +1,4 @@
-use Rattle.std.proofs.Common.{◌≡◌, ℕ, List, Option, Some, Result, take, refl, sym, ap, ◌∙◌, subst}
+use Rattle.std.proofs.Common.{◌≡◌, ℕ, List, Option, Some, Result, take, refl, sym, ap, inl, ◌∙◌, subst}
 use Rattle.std.specs.Io.KnownBytes.{append_known}
 use Rattle.fr_doc.specs.declared.looping.TheConstants.{INPUT_LIMIT}
 use Rattle.fr_doc.specs.Causes.{TakesBeginning}
@@ -11,8 +11,8 @@ use Rattle.fr_script.specs.declared.word.Word.{Word}
 use Rattle.fr_script.proofs.TakeLaws.{at_limit, outcome_at_limit, loses, over_told}
 use Rattle.fr_script.proofs.running.run.Goals as goal
 
-pub returns-in_default-clause-reads : goal.returns-in_default-clause-reads
-returns-in_default-clause-reads g c = loses INPUT_LIMIT _ _ c.in-Ok-read_input.ensures.rest
+pub returns-in_default-respond-clause-reads : goal.returns-in_default-respond-clause-reads
+returns-in_default-respond-clause-reads g c = loses INPUT_LIMIT _ _ c.in-Ok-read_input.ensures.rest
 
 pub returns-in-Ok-write_report-clause-reads : goal.returns-in-Ok-write_report-clause-reads
 returns-in-Ok-write_report-clause-reads g c = loses INPUT_LIMIT _ _ c.in-Ok-read_input.ensures.rest
@@ -65,4 +65,14 @@ returns-in-Ok-write_report-clause-promised g c asks low =
     subst (λ (document : Result Document DocFault). KeepsPromise document (outcome_of_document Word.Build document))
     (ap (document_of Word.Build) (c.as_slice.ensures.items ∙ cut) ∙ at_limit Word.Build INPUT_LIMIT bytes refl)
     (subst (λ (word : Word). IsPromised word c.as_slice.result.now) same c.in-Ok-respond.ensures.promise))
+    c.in-Ok-read_input.ensures.bytes
+
+pub returns-in-Ok-write_report-clause-succeeds : goal.returns-in-Ok-write_report-clause-succeeds
+returns-in-Ok-write_report-clause-succeeds g c word asks calm quiet =
+    over_told (g.S.Source.left c.args.source.now) (λ bytes. c.in-Ok-read_input.bytes ≡ take INPUT_LIMIT bytes) _
+    (λ bytes cut succeeds.
+    let same : outcome_of c.in-Some.word c.as_slice.result.now ≡ outcome_of word bytes
+    = same_outcome c.in-Some.word word c.in-Ok-read_input.bytes bytes c.as_slice.result.now
+    (only_word (asked c.args.words.now) c.in-Some.word word (sym c.in-Some.ensures) asks) c.as_slice.ensures.items cut in
+    inl (c.in-Ok-respond.ensures.status ∙ ap status_of same ∙ c.law_successes.ensures.succeeds word bytes succeeds))
     c.in-Ok-read_input.ensures.bytes
