@@ -3,7 +3,10 @@ pub mod FillQuestions
 pub mod Lists
 pub mod Lookups
 pub mod Nodes
+pub mod PathLaws
+pub mod PlanLaws
 pub mod Plans
 pub mod ProxyLookups
+pub mod RefusalLaws
 pub mod Results
 pub mod TypePlan

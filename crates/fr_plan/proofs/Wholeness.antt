@@ -1,0 +1,13 @@
+pub mod Adding
+pub mod Finishing
+pub mod Kept
+pub mod Led
+pub mod Marks
+pub mod Paths
+pub mod Ranges
+pub mod Reaching
+pub mod ShapesKept
+pub mod Sound
+pub mod Turns
+pub mod Visits
+pub mod Whole
