@@ -1,4 +1,5 @@
 pub mod Adding
+pub mod Adds
 pub mod Finishing
 pub mod Kept
 pub mod Led
@@ -7,7 +8,10 @@ pub mod Paths
 pub mod Ranges
 pub mod Reaching
 pub mod ShapesKept
+pub mod Sizes
+pub mod Small
 pub mod Sound
 pub mod Turns
 pub mod Visits
+pub mod Weights
 pub mod Whole

@@ -9,4 +9,5 @@ pub mod Plans
 pub mod ProxyLookups
 pub mod RefusalLaws
 pub mod Results
+pub mod SizeLaws
 pub mod TypePlan
