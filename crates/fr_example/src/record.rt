@@ -27,7 +27,8 @@ pub struct Pair {
 /// `String` field and every other field has a fill: each field that was named holds the last text given for it.
 /// Otherwise it returns the first refusal: `FieldError` for a name that no field has, `WrongShape` for a field that is
 /// no `String`, and last of all `UninitializedField` for a field that was not named and has no fill. Where there is no
-/// pair at all, the struct's own default comes first. `string` is the shape of the texts.
+/// pair at all, the struct's own default comes first. `root` is the shape of the struct, `string` that of the texts.
+/// Out of memory is `OutOfMemory`, at any pair or at the end.
 pub fn record_of(
     alloc: Global,
     table: &ShapeTable,
