@@ -1,8 +1,10 @@
 pub mod Adding
 pub mod Adds
+pub mod Asked
 pub mod Finishing
 pub mod Kept
 pub mod Led
+pub mod Looks
 pub mod Marks
 pub mod Paths
 pub mod Ranges
@@ -10,7 +12,9 @@ pub mod Reaching
 pub mod ShapesKept
 pub mod Sizes
 pub mod Small
+pub mod Sorts
 pub mod Sound
+pub mod Standing
 pub mod Turns
 pub mod Visits
 pub mod Weights

@@ -1,6 +1,7 @@
 pub mod Build
 pub mod FillQuestions
 pub mod Lists
+pub mod LookupLaws
 pub mod Lookups
 pub mod Nodes
 pub mod PathLaws

@@ -1,4 +1,5 @@
 //! Laws of plans: each is the contract of a function that does nothing.
+ghost use Rattle.fr_plan.specs.LookupLaws.{BackReferencesResolve, LookupPathsAgree, LookupsAgree};
 ghost use Rattle.fr_plan.specs.PathLaws.{PathsAgree};
 ghost use Rattle.fr_plan.specs.PlanLaws.{PlansAreComplete};
 ghost use Rattle.fr_plan.specs.RefusalLaws.{RefusesFirst, PlansPlannable};
@@ -28,4 +29,12 @@ pub fn law_plan_paths()
 pub fn law_plan_size()
     ensures small { PlansAreSmall }
     ensures plain { PlainPlansAreSmall }
+{}
+
+/// Over a checked table each node of a plan stands for one of the same shape that doesn't refer back, and each lookup gives a
+/// node of the shape that the table has there, and none exactly where the table has none.
+pub fn law_plan_lookups()
+    ensures resolve { BackReferencesResolve }
+    ensures agree { LookupsAgree }
+    ensures paths { LookupPathsAgree }
 {}

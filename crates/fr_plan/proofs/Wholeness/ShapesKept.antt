@@ -54,6 +54,7 @@ module _ (table : Table) (root : ShapeId) where
                 here = here;
                 sources = sources_there;
                 children = second.nodes;
+                converts = refl;
                 plannable = is;
               };
           children = children_there children.walk.nodes id shape shape.def children.nodes second.nodes;
