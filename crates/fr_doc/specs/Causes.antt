@@ -31,7 +31,7 @@ MovesAtMost len result = IfOk result (λ n. n ≤ len)
 abbrev pub ReadMoves : {E : Type 0} → (before after : Option (List ℕ)) → Result ℕ E → List ℕ → Type 0
 ReadMoves before after result piece = MatchResult result (λ n. before ≡ prepend_known (take n piece) after) (λ _. after ≡ before)
 
--- 0 is answered only where none of the told bytes is left
+-- 0 is returned only where none of the told bytes is left
 abbrev pub EndsOnlyAtEnd : {E : Type 0} → (left : Option (List ℕ)) → Result ℕ E → Type 0
 EndsOnlyAtEnd left result = IfOk result (λ n. n ≡ 0 → IsAtEnd left)
 

@@ -1,7 +1,7 @@
 -- The numbers of shapes and hooks, and the proxies that JSON stands for.
-use Rattle.std.specs.Prelude.{ℕ, List, [], ◌∷◌, Option, Some, None, option_map, codes}
+use Rattle.std.specs.Prelude.{List, [], ◌∷◌, Option, Some, None, option_map, codes}
 use Rattle.serde_json.specs.Data.{Data}
-use Rattle.serde_json.specs.Find.{get, as_array, as_str}
+use Rattle.serde_json.specs.Find.{as_array, as_str}
 use Rattle.fr_shape.specs.declared.shape.FormatProxy.{FormatProxy}
 use Rattle.fr_shape.specs.declared.shape.HookId.{HookId}
 use Rattle.fr_shape.specs.declared.shape.ProxyDef.{ProxyDef}

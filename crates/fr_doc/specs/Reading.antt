@@ -7,7 +7,7 @@ use Rattle.fr_shape.specs.View.{view, dyn_view}
 use Rattle.fr_doc.specs.declared.fault.ReadError.{ReadError}
 use Rattle.fr_doc.specs.declared.read_error.Broken.{Broken}
 
--- what was read is seen as what the form holds; broken only where there is no form, and memory may be wanting anywhere
+-- what was read is seen as what the form holds; broken only where there is no form, and any part may be out of memory
 abbrev pub Reads : {A X : Type 0} → (A → X) → Option X → Result A (ReadError Broken) → Type 0
 Reads seen form (Ok found) = form ≡ Some (seen found)
 Reads seen form (Err (ReadError.Fault broken)) = form ≡ None

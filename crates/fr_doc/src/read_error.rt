@@ -1,4 +1,4 @@
-//! What becomes a reading's error: want of memory, and a broken form.
+//! What becomes a reading's error: that it is out of memory, and a broken form.
 ghost use Rattle.std.specs.Prelude.{◌≡◌};
 ghost use Rattle.fr_doc.specs.declared.fault.ReadError.{ReadError};
 

@@ -280,115 +280,111 @@ fn tell_shape(alloc: Global, out: &mut String, shape: &Shape) -> Result<(), Fail
     )
 }
 
+/// What a shape is read as whose definition, and what stands behind it, is this text.
+fn told(alloc: Global, rest: &str) -> Result<String, Fail> {
+    let text = format!(in alloc; "{{\"name\":\"S\",\"def\":{rest}}}")?;
+    let shape = read_shape(alloc, text.as_str())?;
+    let mut out = String::new(alloc);
+    tell_shape(alloc, &mut out, &shape)?;
+    Ok(out)
+}
+
 #[test]
-fn each_form_is_read(rt: HostRuntime) -> Result<(), Fail> {
+fn definitions_of_a_name_are_read(rt: HostRuntime) -> Result<(), Fail> {
     for (rest, want) in [
-        (r#""bool""#, " Bool"),
-        (r#""char""#, " Char"),
-        (r#""i8""#, " I8"),
-        (r#""i16""#, " I16"),
-        (r#""i32""#, " I32"),
-        (r#""i64""#, " I64"),
-        (r#""i128""#, " I128"),
-        (r#""isize""#, " ISize"),
-        (r#""u8""#, " U8"),
-        (r#""u16""#, " U16"),
-        (r#""u32""#, " U32"),
-        (r#""u64""#, " U64"),
-        (r#""u128""#, " U128"),
-        (r#""usize""#, " USize"),
-        (r#""String""#, " String"),
-        (r#""CowStr""#, " CowStr"),
         (r#""str""#, " str"),
         (r#""opaque""#, " opaque"),
         (r#""dynamic""#, " dynamic"),
         (r#""undefined""#, " undefined"),
         (r#""other""#, " other"),
-        (
-            r#"{"struct":[{"name":"x","shape":4294967295}]}"#,
-            " Struct x 4294967295",
-        ),
-        (
-            r#"{"tuple":[{"name":"0","shape":1},{"name":"1","shape":2}]}"#,
-            " Tuple 0 1 1 2",
-        ),
-        (r#"{"tuple_struct":[]}"#, " TupleStruct"),
-        (r#"{"unit":[]}"#, " Unit"),
         (r#"{"option":1}"#, " option 1"),
         (r#"{"list":2}"#, " list 2"),
         (r#"{"set":3}"#, " set 3"),
-        (r#"{"slice":4}"#, " slice 4"),
+        (r#"{"slice":4294967295}"#, " slice 4294967295"),
         (r#"{"result":[5,6]}"#, " result 5 6"),
         (r#"{"map":[7,8]}"#, " map 7 8"),
         (r#"{"array":[9,10]}"#, " array 9 10"),
-        (r#"{"pointer":{}}"#, " unknown constructible"),
-        (
-            r#"{"pointer":{"known":"Box","pointee":1}}"#,
-            " Box to 1 constructible",
-        ),
-        (
-            r#"{"pointer":{"known":"Arc","constructible":false}}"#,
-            " Arc",
-        ),
-        (
-            r#"{"pointer":{"known":"Rc","constructible":true}}"#,
-            " Rc constructible",
-        ),
-        (
-            r#"{"pointer":{"known":"SharedReference"}}"#,
-            " SharedReference constructible",
-        ),
-        (
-            r#"{"enum":{"repr":"U8","variants":[{"name":"A","fields":[]},{"name":"B","fields":
-                [{"name":"0","shape":1}],"rename":"b","kind":"tuple","discriminant":-3,"other":true}]}}"#,
-            " U8 A Struct B rename b is -3 other Tuple 0 1",
-        ),
-        (
-            r#"{"struct":[{"name":"x","shape":1,"rename":"y","alias":"z","default":"trait","skip":true,
-                "flatten":true,"proxy":{"source":2,"convert":3},"format_proxies":[{"format":"json",
-                "source":4,"convert":5}],"validators":[{"min":-1},{"max":2},{"min_length":3},
-                {"max_length":18446744073709551615},"url",{"regex":"r"},{"contains":"c"},{"custom":4}]}]}"#,
-            " Struct x 1 rename y alias z trait skip flatten source 2 convert 3 json source 4 convert 5 \
-             min -1 max 2 min length 3 max length 18446744073709551615 url regex r contains c custom 4",
-        ),
-        (
-            r#"{"struct":[{"name":"x","shape":1,"default":{"custom":null}}]}"#,
-            " Struct x 1 default null",
-        ),
-        (r#"{"option":1},"preset":null"#, " option 1 preset null"),
-        (
-            r#""u8","preset":7,"default_attr":true,"metadata":true,"deny_unknown":true,"transparent":true,
-                "bytes_ok":true,"inner":1,"builder":2,"convert":3,"parse":4,"parse_bytes":5,"invariant":6,
-                "proxy":{"source":7,"convert":8},"format_proxies":[]"#,
-            " U8 preset 7 default_attr metadata deny_unknown transparent bytes_ok inner 1 builder 2 \
-             convert 3 parse 4 parse_bytes 5 invariant 6 source 7 convert 8",
-        ),
     ] {
-        let alloc = rt.alloc();
-        let text = format!(in alloc; "{{\"name\":\"S\",\"def\":{rest}}}")?;
-        let shape = read_shape(alloc, text.as_str())?;
-        assert_eq!(rt; shape.name.as_str(), "S");
-        let mut told = String::new(alloc);
-        tell_shape(alloc, &mut told, &shape)?;
-        assert_eq!(rt; told.as_str(), want);
+        let read = told(rt.alloc(), rest)?;
+        assert_eq!(rt; read.as_str(), want);
     }
     Ok(())
 }
 
 #[test]
-fn each_representation_has_its_name(rt: HostRuntime) -> Result<(), Fail> {
-    for name in [
-        "Rust", "RustNPO", "U8", "U16", "U32", "U64", "USize", "I8", "I16", "I32", "I64", "ISize",
+fn definitions_of_parts_are_read(rt: HostRuntime) -> Result<(), Fail> {
+    for (rest, want) in [
+        (r#"{"struct":[{"name":"x","shape":7}]}"#, " Struct x 7"),
+        (r#"{"tuple":[{"name":"0","shape":1}]}"#, " Tuple 0 1"),
+        (r#"{"tuple_struct":[]}"#, " TupleStruct"),
+        (r#"{"unit":[]}"#, " Unit"),
+        (r#"{"pointer":{"known":"Box"}}"#, " Box constructible"),
+        (
+            r#"{"pointer":{"pointee":1,"constructible":false}}"#,
+            " unknown to 1",
+        ),
+        (
+            r#"{"enum":{"repr":"U8","variants":[{"name":"A","fields":[]}]}}"#,
+            " U8 A Struct",
+        ),
     ] {
-        let alloc = rt.alloc();
-        let text = format!(in alloc;
-            "{{\"name\":\"S\",\"def\":{{\"enum\":{{\"repr\":\"{name}\",\"variants\":[]}}}}}}"
-        )?;
-        let shape = read_shape(alloc, text.as_str())?;
-        assert!(rt;
-            matches!(&shape.def, Def::Enum(made) if word_of_repr(made.repr) == name),
-            "{name}"
-        );
+        let read = told(rt.alloc(), rest)?;
+        assert_eq!(rt; read.as_str(), want);
+    }
+    Ok(())
+}
+
+#[test]
+fn all_keys_are_read(rt: HostRuntime) -> Result<(), Fail> {
+    for (rest, want) in [
+        (
+            r#"{"enum":{"repr":"I64","variants":[{"name":"B","fields":[],"rename":"b",
+                "kind":"tuple","discriminant":-3,"other":true}]}}"#,
+            " I64 B rename b is -3 other Tuple",
+        ),
+        (
+            r#"{"struct":[{"name":"x","shape":1,"rename":"y","alias":"z","default":"trait",
+                "skip":true,"flatten":true,"proxy":{"source":2,"convert":3},
+                "format_proxies":[{"format":"json","source":4,"convert":5}]}]}"#,
+            " Struct x 1 rename y alias z trait skip flatten source 2 convert 3 json source 4 convert 5",
+        ),
+        (
+            r#"{"struct":[{"name":"x","shape":1,"default":{"custom":null},"validators":[{"min":-1},
+                {"max":2},{"min_length":3},{"max_length":18446744073709551615},"url",{"regex":"r"},
+                {"contains":"c"},{"custom":4}]}]}"#,
+            " Struct x 1 default null min -1 max 2 min length 3 max length 18446744073709551615 url regex r contains c custom 4",
+        ),
+        (
+            r#""u8","preset":null,"default_attr":true,"metadata":true,"deny_unknown":true,
+                "transparent":true,"bytes_ok":true,"inner":1,"builder":2,"convert":3,"parse":4,
+                "parse_bytes":5,"invariant":6,"proxy":{"source":7,"convert":8},"format_proxies":[]"#,
+            " U8 preset null default_attr metadata deny_unknown transparent bytes_ok inner 1 builder 2 convert 3 parse 4 parse_bytes 5 invariant 6 source 7 convert 8",
+        ),
+    ] {
+        let read = told(rt.alloc(), rest)?;
+        assert_eq!(rt; read.as_str(), want);
+    }
+    Ok(())
+}
+
+#[test]
+fn words_name_what_they_say(rt: HostRuntime) -> Result<(), Fail> {
+    for (rest, want) in [
+        (r#""bool""#, " Bool"),
+        (r#""char""#, " Char"),
+        (r#""i8""#, " I8"),
+        (r#""i128""#, " I128"),
+        (r#""isize""#, " ISize"),
+        (r#""u64""#, " U64"),
+        (r#""usize""#, " USize"),
+        (r#""String""#, " String"),
+        (r#""CowStr""#, " CowStr"),
+        (r#"{"enum":{"repr":"Rust","variants":[]}}"#, " Rust"),
+        (r#"{"enum":{"repr":"RustNPO","variants":[]}}"#, " RustNPO"),
+        (r#"{"enum":{"repr":"USize","variants":[]}}"#, " USize"),
+    ] {
+        let read = told(rt.alloc(), rest)?;
+        assert_eq!(rt; read.as_str(), want);
     }
     Ok(())
 }
@@ -407,12 +403,7 @@ fn broken_at(alloc: Global, text: &str) -> Result<Option<u32>, Fail> {
 fn a_tables_fault_is_its_first(rt: HostRuntime) -> Result<(), Fail> {
     for (text, place) in [
         ("{}", None),
-        ("null", None),
         (r#"[{"name":"u32","def":"u32"},1,2]"#, Some(1)),
-        (
-            r#"[{"name":"u32","def":"u32"},{"name":7,"def":"u8"},2]"#,
-            Some(1),
-        ),
         (r#"[{"name":"S"}]"#, Some(0)),
         (r#"[{"def":"u8"}]"#, Some(0)),
     ] {
@@ -432,24 +423,15 @@ fn is_broken(alloc: Global, front: &str, rest: &str, back: &str) -> Result<bool,
 fn broken_shapes_are_refused(rt: HostRuntime) -> Result<(), Fail> {
     for rest in [
         r#""preset":{}"#,
-        r#""default_attr":null"#,
         r#""metadata":1"#,
-        r#""deny_unknown":"true""#,
-        r#""transparent":[]"#,
         r#""bytes_ok":null"#,
         r#""inner":4294967296"#,
-        r#""builder":-1"#,
         r#""convert":null"#,
-        r#""parse":"0""#,
-        r#""parse_bytes":true"#,
         r#""invariant":{}"#,
         r#""proxy":null"#,
-        r#""proxy":{"source":0}"#,
         r#""proxy":{"source":0,"convert":0,"format":"json"}"#,
         r#""format_proxies":null"#,
-        r#""format_proxies":{}"#,
         r#""format_proxies":[{"source":0,"convert":0}]"#,
-        r#""format_proxies":[{"format":0,"source":0,"convert":0}]"#,
         r#""Preset":0"#,
     ] {
         let broken = is_broken(rt.alloc(), "\"u8\",", rest, "")?;
@@ -461,34 +443,18 @@ fn broken_shapes_are_refused(rt: HostRuntime) -> Result<(), Fail> {
 #[test]
 fn broken_definitions_are_refused(rt: HostRuntime) -> Result<(), Fail> {
     for rest in [
-        "null",
-        "\"U8\"",
-        "\"struct\"",
-        "{}",
-        r#"{"struct":{}}"#,
+        r#"null"#,
+        r#""U8""#,
+        r#"{}"#,
         r#"{"struct":[],"tuple":[]}"#,
-        r#"{"tuple":[1]}"#,
-        r#"{"tuple_struct":null}"#,
         r#"{"unit":[{"name":"x","shape":0}]}"#,
-        r#"{"unit":{}}"#,
-        r#"{"option":[0]}"#,
-        r#"{"list":4294967296}"#,
         r#"{"set":-1}"#,
-        r#"{"slice":null}"#,
         r#"{"result":[0]}"#,
         r#"{"map":[0,1,2]}"#,
-        r#"{"array":[0,"1"]}"#,
-        r#"{"pointer":0}"#,
         r#"{"pointer":{"known":null}}"#,
-        r#"{"pointer":{"known":"Weak"}}"#,
-        r#"{"pointer":{"pointee":"0"}}"#,
-        r#"{"pointer":{"constructible":0}}"#,
         r#"{"pointer":{"to":0}}"#,
-        r#"{"enum":{"variants":[]}}"#,
         r#"{"enum":{"repr":"U8"}}"#,
         r#"{"enum":{"repr":"u8","variants":[]}}"#,
-        r#"{"enum":{"repr":"U8","variants":{}}}"#,
-        r#"{"enum":{"repr":"U8","variants":[],"tag":0}}"#,
     ] {
         let broken = is_broken(rt.alloc(), "", rest, "")?;
         assert!(rt; broken, "{rest}");
@@ -501,12 +467,8 @@ fn broken_variants_are_refused(rt: HostRuntime) -> Result<(), Fail> {
     for rest in [
         r#""name":"A""#,
         r#""fields":[]"#,
-        r#""name":"A","fields":{}"#,
-        r#""name":"A","fields":[],"rename":null"#,
         r#""name":"A","fields":[],"kind":"Struct""#,
-        r#""name":"A","fields":[],"kind":null"#,
         r#""name":"A","fields":[],"discriminant":9223372036854775808"#,
-        r#""name":"A","fields":[],"discriminant":"0""#,
         r#""name":"A","fields":[],"other":null"#,
         r#""name":"A","fields":[],"alias":"a""#,
     ] {
@@ -526,28 +488,13 @@ fn broken_fields_are_refused(rt: HostRuntime) -> Result<(), Fail> {
     for rest in [
         r#""name":"x""#,
         r#""shape":0"#,
-        r#""name":null,"shape":0"#,
-        r#""name":"x","shape":4294967296"#,
-        r#""name":"x","shape":0,"rename":null"#,
-        r#""name":"x","shape":0,"alias":0"#,
+        r#""name":"x","shape":0,"alias":null"#,
         r#""name":"x","shape":0,"default":null"#,
-        r#""name":"x","shape":0,"default":"Trait""#,
-        r#""name":"x","shape":0,"default":{"value":1}"#,
-        r#""name":"x","shape":0,"default":{"custom":-1}"#,
         r#""name":"x","shape":0,"default":{"custom":1,"trait":1}"#,
-        r#""name":"x","shape":0,"skip":null"#,
         r#""name":"x","shape":0,"flatten":0"#,
-        r#""name":"x","shape":0,"proxy":{}"#,
         r#""name":"x","shape":0,"format_proxies":[0]"#,
-        r#""name":"x","shape":0,"validators":null"#,
         r#""name":"x","shape":0,"validators":["Url"]"#,
-        r#""name":"x","shape":0,"validators":[{"min":9223372036854775808}]"#,
-        r#""name":"x","shape":0,"validators":[{"max":null}]"#,
         r#""name":"x","shape":0,"validators":[{"min_length":-1}]"#,
-        r#""name":"x","shape":0,"validators":[{"max_length":"0"}]"#,
-        r#""name":"x","shape":0,"validators":[{"regex":0}]"#,
-        r#""name":"x","shape":0,"validators":[{"contains":null}]"#,
-        r#""name":"x","shape":0,"validators":[{"custom":4294967296}]"#,
         r#""name":"x","shape":0,"validators":[{"min":1,"max":2}]"#,
         r#""name":"x","shape":0,"validator":0"#,
     ] {

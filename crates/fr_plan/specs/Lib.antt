@@ -1,6 +1,7 @@
 pub mod Build
 pub mod FillQuestions
 pub mod Lists
+pub mod LookupLaws
 pub mod Lookups
 pub mod Nodes
 pub mod PathLaws
@@ -9,4 +10,5 @@ pub mod Plans
 pub mod ProxyLookups
 pub mod RefusalLaws
 pub mod Results
+pub mod SizeLaws
 pub mod TypePlan

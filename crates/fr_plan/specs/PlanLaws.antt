@@ -1,5 +1,5 @@
 -- What holds of every whole plan: its back references resolve, and its nodes are linked as the table says.
-use Rattle.std.specs.Prelude.{◌≡◌, ◌≢◌, ℕ, ◌+◌, ◌<◌, List, [], length, slice_get, Some, None, Ok}
+use Rattle.std.specs.Prelude.{◌≡◌, ◌≢◌, ℕ, ◌+◌, ◌<◌, List, [], length, slice_get, Some, None, is_some, Ok}
 use Rattle.std.specs.List.{All, AllZip}
 use Rattle.fr_shape.specs.declared.shape.Shape.{Shape}
 use Rattle.fr_shape.specs.declared.shape.ShapeId.{ShapeId}
@@ -57,6 +57,7 @@ pub record IsLinked (table : Table) (nodes : List Outline) (outline : Outline) :
   pub here : slice_get table outline.shape.0 ≡ Some shape
   pub sources : AllZip (IsNodeOf nodes) outline.sources (own_sources shape)
   pub children : AreChildrenBy nodes outline.shape shape shape.def outline.children
+  pub converts : outline.converts ≡ is_some shape.convert
   pub plannable : refusal_of shape ≡ None
 
 -- all these nodes are there

@@ -1,7 +1,9 @@
 //! Laws of plans: each is the contract of a function that does nothing.
+ghost use Rattle.fr_plan.specs.LookupLaws.{BackReferencesResolve, LookupPathsAgree, LookupsAgree};
 ghost use Rattle.fr_plan.specs.PathLaws.{PathsAgree};
 ghost use Rattle.fr_plan.specs.PlanLaws.{PlansAreComplete};
 ghost use Rattle.fr_plan.specs.RefusalLaws.{RefusesFirst, PlansPlannable};
+ghost use Rattle.fr_plan.specs.SizeLaws.{PlansAreSmall, PlainPlansAreSmall};
 
 /// What is planned over a checked table is whole: each back reference leads to its shape's own node, and nodes are linked
 /// as the table says.
@@ -20,4 +22,19 @@ pub fn law_first_refusal()
 /// that the table gives for it, and there is none exactly where the table gives none.
 pub fn law_plan_paths()
     ensures agree { PathsAgree }
+{}
+
+/// Over a checked table a plan has at most as many nodes as reachable shapes, their references, and their fields with proxies
+/// together.
+pub fn law_plan_size()
+    ensures small { PlansAreSmall }
+    ensures plain { PlainPlansAreSmall }
+{}
+
+/// Over a checked table each node of a plan stands for one of the same shape that doesn't refer back, and each lookup gives a
+/// node of the shape that the table has there, and none exactly where the table has none.
+pub fn law_plan_lookups()
+    ensures resolve { BackReferencesResolve }
+    ensures agree { LookupsAgree }
+    ensures paths { LookupPathsAgree }
 {}

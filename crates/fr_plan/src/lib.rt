@@ -16,7 +16,9 @@ mod type_plan;
 mod variants;
 mod walking;
 
-pub use laws::{law_first_refusal, law_plan_complete, law_plan_paths};
+pub use laws::{
+    law_first_refusal, law_plan_complete, law_plan_lookups, law_plan_paths, law_plan_size,
+};
 pub use nodes::{DeserStrategy, NodeId, ProxyNodes, TypePlanNode, TypePlanNodeKind};
 pub use plans::{
     EnumPlan, FieldInitPlan, FieldPlan, FieldRange, StructPlan, ValidatorRange, VariantPlanMeta,

@@ -34,7 +34,7 @@ begun_set (m ∷ marks) zero mark seen (suc j) begun = record { mark = begun.mar
 begun_set (m ∷ marks) (suc i) mark seen zero begun = record { mark = begun.mark; here = begun.here; seen = begun.seen }
 begun_set (m ∷ marks) (suc i) mark seen (suc j) begun =
     let rest : IsBegun (set marks i mark) j =
-        begun_set marks i mark seen j (record { mark = begun.mark; here = begun.here; seen = begun.seen }) in
+    begun_set marks i mark seen j (record { mark = begun.mark; here = begun.here; seen = begun.seen }) in
     record { mark = rest.mark; here = rest.here; seen = rest.seen }
 
 -- a mark that was written is there
@@ -46,10 +46,10 @@ pub building_before : (marks : List Mark) (i : ℕ) (mark : Mark) → mark ≢ M
     → slice_get (set marks i mark) j ≡ Some Mark.Building → (j ≢ i) × (slice_get marks j ≡ Some Mark.Building)
 building_before marks i mark other begun j at =
     elim (same_or_other i j) [
-      inl same ↦
+      | inl same ↦
           absurd (other (same_Some mark Mark.Building
           (sym (written marks i mark begun) ∙ ap (slice_get (set marks i mark)) (sym same) ∙ at)))
-    | inr apart ↦ (apart, sym (slice_get-set_other marks i j mark apart) ∙ at)
+      | inr apart ↦ (apart, sym (slice_get-set_other marks i j mark apart) ∙ at)
     ]
 
 pub added_stays : (nodes : List Outline) (outline : Outline) → Stays nodes (nodes ++ outline ∷ [])
@@ -62,8 +62,8 @@ pub begun_added : (nodes : List Outline) (outline : Outline) (marks : List Mark)
 begun_added nodes outline marks before begun i there at =
     let P : Outline → Type 0 = λ o. IsBegun marks o.shape.0 in
     elim (slice_get_either nodes outline i there at) [
-      inl old ↦ before i there old
-    | inr same ↦ subst P same begun
+      | inl old ↦ before i there old
+      | inr same ↦ subst P same begun
     ]
 
 module _ (table : Table) (root : ShapeId) where
@@ -74,10 +74,10 @@ module _ (table : Table) (root : ShapeId) where
   right_added nodes outline before right i there at =
       let P : Outline → Type 0 = λ o. IsRight table root (nodes ++ outline ∷ []) o in
       elim (slice_get_either nodes outline i there at) [
-        inl old ↦ right_stays nodes (nodes ++ outline ∷ []) (added_stays nodes outline) table root there (before i there old)
-      | inr same ↦
-          subst P same
-          (right_stays nodes (nodes ++ outline ∷ []) (added_stays nodes outline) table root outline right)
+        | inl old ↦ right_stays nodes (nodes ++ outline ∷ []) (added_stays nodes outline) table root there (before i there old)
+        | inr same ↦
+            subst P same
+            (right_stays nodes (nodes ++ outline ∷ []) (added_stays nodes outline) table root outline right)
       ]
 
   -- a node that refers back is put behind the others
@@ -87,7 +87,7 @@ module _ (table : Table) (root : ShapeId) where
       → IsKept table root walk outline.shape (with_node walk outline)
   put_kept walk outline other sound begun children sources reached =
       let right : IsRight table root walk.nodes outline =
-          record { linked = λ own. absurd (other own); children = children; sources = sources; reached = reached } in
+      record { linked = λ own. absurd (other own); children = children; sources = sources; reached = reached } in
       record {
         sound = record {
           marks = sound.marks;
@@ -120,13 +120,13 @@ module _ (table : Table) (root : ShapeId) where
     done =
         λ other node mark.
         elim (same_or_other id.0 other.0) [
-          inl same ↦
+          | inl same ↦
               let is : Mark.Building ≡ Mark.Done node =
-                  same_Some Mark.Building (Mark.Done node)
-                  (sym (slice_get-set_same walk.marks id.0 Mark.Building Mark.Unseen unseen)
-                  ∙ ap (slice_get (set walk.marks id.0 Mark.Building)) (sym same) ∙ mark) in
+              same_Some Mark.Building (Mark.Done node)
+              (sym (slice_get-set_same walk.marks id.0 Mark.Building Mark.Unseen unseen)
+              ∙ ap (slice_get (set walk.marks id.0 Mark.Building)) (sym same) ∙ mark) in
               absurd (cc)
-        | inr apart ↦ sound.done other node (sym (slice_get-set_other walk.marks id.0 other.0 Mark.Building apart) ∙ mark)
+          | inr apart ↦ sound.done other node (sym (slice_get-set_other walk.marks id.0 other.0 Mark.Building apart) ∙ mark)
         ];
     begun = λ i there at. begun_set walk.marks id.0 Mark.Building refl there.shape.0 (sound.begun i there at);
     nodes = sound.nodes;

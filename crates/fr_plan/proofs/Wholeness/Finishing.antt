@@ -16,10 +16,9 @@ use Rattle.fr_plan.proofs.Wholeness.Sound.{IsRight, IsSound, Keeps, own_stays}
 use Rattle.fr_plan.proofs.Wholeness.Adding.{same_or_other, same_id, begun_set, written, building_before, added_stays, begun_added, right_added, IsFinished}
 
 module _ (table : Table) (root : ShapeId) (start walk : Walk) (id : ShapeId) (outline : Outline)
-  (unseen : slice_get start.marks id.0 ≡ Some Mark.Unseen) (keeps : Keeps (marked start id Mark.Building) walk)
-  (sound : IsSound table root walk) (right : IsRight table root walk.nodes outline) (shape : outline.shape ≡ id)
-  (role : outline.role ≡ Role.Own) where
-
+    (unseen : slice_get start.marks id.0 ≡ Some Mark.Unseen) (keeps : Keeps (marked start id Mark.Building) walk)
+    (sound : IsSound table root walk) (right : IsRight table root walk.nodes outline) (shape : outline.shape ≡ id)
+    (role : outline.role ≡ Role.Own) where
   begun_there : IsBegun walk.marks id.0
   begun_there =
       keeps.begun id.0 (record {
@@ -33,12 +32,12 @@ module _ (table : Table) (root : ShapeId) (start walk : Walk) (id : ShapeId) (ou
       → IsOwnNode (walk.nodes ++ outline ∷ []) number other
   done_after other number mark =
       elim (same_or_other id.0 other.0) [
-        inl same ↦
+        | inl same ↦
             let own : NodeId = record { 0 = length walk.nodes } in
             let is : Mark.Done own ≡ Mark.Done number =
-                same_Some (Mark.Done own) (Mark.Done number)
-                (sym (written walk.marks id.0 (Mark.Done own) begun_there)
-                ∙ ap (slice_get (set walk.marks id.0 (Mark.Done own))) (sym same) ∙ mark) in
+            same_Some (Mark.Done own) (Mark.Done number)
+            (sym (written walk.marks id.0 (Mark.Done own) begun_there)
+            ∙ ap (slice_get (set walk.marks id.0 (Mark.Done own))) (sym same) ∙ mark) in
             let named : own ≡ number = cc in
             let P : NodeId → Type 0 = λ n. IsOwnNode (walk.nodes ++ outline ∷ []) n other in
             subst P named (record {
@@ -47,7 +46,7 @@ module _ (table : Table) (root : ShapeId) (start walk : Walk) (id : ShapeId) (ou
               shape = shape ∙ same_id id other same;
               role = role;
             })
-      | inr apart ↦
+        | inr apart ↦
             own_stays walk.nodes (walk.nodes ++ outline ∷ []) (added_stays walk.nodes outline) number other
             (sound.done other number (sym (slice_get-set_other walk.marks id.0 other.0 _ apart) ∙ mark))
       ]
@@ -89,8 +88,12 @@ module _ (table : Table) (root : ShapeId) (start walk : Walk) (id : ShapeId) (ou
             λ i begun.
             begun_set walk.marks id.0 _ refl i (keeps.begun i (begun_set start.marks id.0 Mark.Building refl i begun));
         unseen =
-            omega (arith, unseen_finished walk.marks id.0 (record { 0 = length walk.nodes }), keeps.unseen,
-            unseen_fewer start.marks id.0 unseen);
+            omega (
+              arith,
+              unseen_finished walk.marks id.0 (record { 0 = length walk.nodes }),
+              keeps.unseen,
+              unseen_fewer start.marks id.0 unseen,
+            );
       };
       node = record { outline = outline; here = slice_get_last walk.nodes outline; shape = shape };
     };

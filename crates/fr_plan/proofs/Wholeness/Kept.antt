@@ -77,8 +77,7 @@ record IsFieldKept (table : Table) (root : ShapeId) (before : Walk) (placed : Pl
   node : IsFieldNode made.walk.nodes made.node placed
 
 module _ (table : Table) (root : ShapeId) (depth : ℕ) (builds : Walk → ShapeId → Built Made)
-  (well : BuildsWell table root depth builds) where
-
+    (well : BuildsWell table root depth builds) where
   abbrev IsReached : ShapeId → Type 0
   IsReached id = Reached table root.0 id.0
 
@@ -91,7 +90,7 @@ module _ (table : Table) (root : ShapeId) (depth : ℕ) (builds : Walk → Shape
   pub each_kept : (made : MadeAll) (ids more : List ShapeId) → IsSound table root made.walk
       → unseen_in made.walk.marks < depth → AreReached table root more → AllZip (IsNodeOf made.walk.nodes) made.nodes ids
       → MatchResult (each_built builds made more) (λ all. AreKept table root made.walk all (AreNodesOf (ids ++ more)))
-          (IsBlamed table root)
+      (IsBlamed table root)
   each_kept made ids [] sound few reached so_far =
       let P : List ShapeId → Type 0 = λ l. AllZip (IsNodeOf made.walk.nodes) made.nodes l in
       record { sound = sound; keeps = keeps_itself made.walk; nodes = subst P (sym (append-nil ids)) so_far }
@@ -134,18 +133,18 @@ module _ (table : Table) (root : ShapeId) (depth : ℕ) (builds : Walk → Shape
   }
   behind_kept before placed (source ∷ sources) own sound keeps node all reached =
       let outline : Outline =
-          record {
-            shape = placed.field.shape;
-            role = Role.FieldProxy placed.meant;
-            sources = source ∷ sources;
-            children = [];
-            converts = false;
-          } in
+      record {
+        shape = placed.field.shape;
+        role = Role.FieldProxy placed.meant;
+        sources = source ∷ sources;
+        children = [];
+        converts = false;
+      } in
       let P : ShapeId → Type 0 = λ id. IsBegun own.walk.marks id.0 in
       let kept : IsKept table root own.walk placed.field.shape (with_node own.walk outline) =
-          put_kept table root own.walk outline (λ (same : Role.FieldProxy placed.meant ≡ Role.Own). absurd (cc)) sound
-          (subst P node.shape (sound.begun own.node.0 node.outline node.here)) (All-nil (IsThere own.walk.nodes))
-          (nodes_there own.walk.nodes (source ∷ sources) (field_sources placed.field) all) reached in
+      put_kept table root own.walk outline (λ (same : Role.FieldProxy placed.meant ≡ Role.Own). absurd (cc)) sound
+      (subst P node.shape (sound.begun own.node.0 node.outline node.here)) (All-nil (IsThere own.walk.nodes))
+      (nodes_there own.walk.nodes (source ∷ sources) (field_sources placed.field) all) reached in
       record {
         sound = kept.sound;
         keeps = keeps_twice before own.walk (with_node own.walk outline).walk keeps kept.keeps;
@@ -154,10 +153,11 @@ module _ (table : Table) (root : ShapeId) (depth : ℕ) (builds : Walk → Shape
           here = slice_get_last own.walk.nodes outline;
           shape = refl;
           proxied =
-              λ some.
-              (refl,
-              nodes_stay own.walk.nodes (own.walk.nodes ++ outline ∷ []) (added_stays own.walk.nodes outline)
-                  (source ∷ sources) (field_sources placed.field) all);
+              λ some. (
+                refl,
+                nodes_stay own.walk.nodes (own.walk.nodes ++ outline ∷ []) (added_stays own.walk.nodes outline)
+                    (source ∷ sources) (field_sources placed.field) all,
+              );
         };
       }
 
@@ -184,7 +184,7 @@ module _ (table : Table) (root : ShapeId) (depth : ℕ) (builds : Walk → Shape
       → unseen_in made.walk.marks < depth → All (λ (placed : Placed). IsFieldReached table root placed.field) more
       → AllZip (IsFieldNode made.walk.nodes) made.nodes fields
       → MatchResult (fields_built builds made more) (λ all. AreKept table root made.walk all (AreFieldNodes (fields ++ more)))
-          (IsBlamed table root)
+      (IsBlamed table root)
   fields_kept made fields [] sound few reached so_far =
       let P : List Placed → Type 0 = λ l. AllZip (IsFieldNode made.walk.nodes) made.nodes l in
       record { sound = sound; keeps = keeps_itself made.walk; nodes = subst P (sym (append-nil fields)) so_far }
@@ -217,8 +217,8 @@ module _ (table : Table) (root : ShapeId) (depth : ℕ) (builds : Walk → Shape
       → unseen_in walk.marks < depth → All (IsFieldReached table root) (fields_of def)
       → AreReached table root (children_by def shape)
       → MatchResult (children_built builds walk id def shape)
-          (λ all. AreKept table root walk all (λ nodes listed. AreChildrenBy nodes id shape def listed))
-          (IsBlamed table root)
+      (λ all. AreKept table root walk all (λ nodes listed. AreChildrenBy nodes id shape def listed))
+      (IsBlamed table root)
   unfolding children_built
   children_kept walk id (Def.Struct struct) shape sound few fields children =
       fields_kept (none_yet walk) [] (fields_from id None 0 struct.fields) sound few

@@ -41,7 +41,7 @@ abbrev shape_of : TypePlanNode → ShapeId
 shape_of node = node.shape
 
 module _ (table : Table) (root : ShapeId) (plan : Plan) (is_plan : IsPlanOf table root plan)
-  (complete : IsComplete table root (record { walk = plan.walk; node = plan.root })) where
+    (complete : IsComplete table root (record { walk = plan.walk; node = plan.root })) where
   -- a node that was built is told
   pub told_at : (id : NodeId) (shape : ShapeId) → IsNodeOf plan.walk.nodes id shape
       → (node : TypePlanNode) × (node_at plan id ≡ Some node) × (node.shape ≡ shape)
@@ -87,15 +87,15 @@ module _ (table : Table) (root : ShapeId) (plan : Plan) (is_plan : IsPlanOf tabl
         → (id : ShapeId) × (child_shape table shape i ≡ Some id) × IsNodeOf plan.walk.nodes next id
     child_is i next at =
         let found =
-            zip_get (IsNodeOf plan.walk.nodes) own.own.outline.children (children_of linked.shape) i next children
-            (sym (child_at_is i) ∙ at) in
+        zip_get (IsNodeOf plan.walk.nodes) own.own.outline.children (children_of linked.shape) i next children
+        (sym (child_at_is i) ∙ at) in
         (found.0, child_shape_is i ∙ found.1, found.2)
 
     pub child_none : (i : ℕ) → child_at plan shape i ≡ None → child_shape table shape i ≡ None
     child_none i at =
         child_shape_is i
         ∙ zip_none (IsNodeOf plan.walk.nodes) own.own.outline.children (children_of linked.shape) i children
-            (sym (child_at_is i) ∙ at)
+        (sym (child_at_is i) ∙ at)
 
   abbrev AgreesAlong : List ℕ → Type 0
   AgreesAlong path =
@@ -120,9 +120,9 @@ module _ (table : Table) (root : ShapeId) (plan : Plan) (is_plan : IsPlanOf tabl
   along (i ∷ path) id shape is =
       let told = told_at id shape is in
       let steps : ShapeId → Option TypePlanNode =
-          λ s. option_and_then (λ (next : NodeId). node_along plan next path) (child_at plan s i) in
+      λ s. option_and_then (λ (next : NodeId). node_along plan next path) (child_at plan s i) in
       ap (λ (found : Option TypePlanNode).
-          option_map shape_of (option_and_then (λ (node : TypePlanNode). steps node.shape) found)) told.1
+      option_map shape_of (option_and_then (λ (node : TypePlanNode). steps node.shape) found)) told.1
       ∙ ap (λ (s : ShapeId). option_map shape_of (steps s)) told.2
       ∙ step_agrees i path shape (own_of id shape is) (along path) (child_at plan shape i) refl
 

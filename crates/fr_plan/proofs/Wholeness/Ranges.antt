@@ -68,7 +68,7 @@ module _ (shape : Shape) (next : ShapeId) where
   own_source_named has =
       let own : List ProxyDef = proxies_of shape.proxy shape.format_proxies in
       let rest : List ProxyDef =
-          flat_map (λ (field : Field). proxies_of field.proxy field.format_proxies) (fields_of shape.def) in
+      flat_map (λ (field : Field). proxies_of field.proxy field.format_proxies) (fields_of shape.def) in
       let P : List ShapeId → Type 0 = λ l. Contains l next in
       source_named (subst P (sym (map-append source_of own rest)) (Contains-append_left _ (map source_of rest) next has))
 
@@ -90,11 +90,11 @@ module _ (shape : Shape) (next : ShapeId) where
       → Contains (named shape) next
   plain_child_named has =
       elim (Contains-append_cases (field_shapes ++ contents_of shape.def) (pointees_of shape.def) next has) [
-        inr pointee ↦ pointee_named pointee
-      | inl other ↦
+        | inr pointee ↦ pointee_named pointee
+        | inl other ↦
             elim (Contains-append_cases field_shapes (contents_of shape.def) next other) [
-              inl field ↦ field_named field
-            | inr content ↦ content_named content
+              | inl field ↦ field_named field
+              | inr content ↦ content_named content
             ]
       ]
 
@@ -106,17 +106,17 @@ module _ (shape : Shape) (next : ShapeId) where
   child_named Def.Undefined is has = built_from_named (is_some shape.convert) has
   child_named def is has =
       let P : Def → Type 0 =
-          λ d. Contains (map (λ (field : Field). field.shape) (fields_of d) ++ contents_of d ++ pointees_of d) next in
+      λ d. Contains (map (λ (field : Field). field.shape) (fields_of d) ++ contents_of d ++ pointees_of d) next in
       plain_child_named (subst P (sym is) has)
 
   led_named : Contains (leads_to shape) next → Contains (named shape) next
   led_named has =
       elim (Contains-append_cases (own_sources shape ++ children_of shape) (flat_map field_sources (fields_of shape.def)) next has) [
-        inr source ↦ field_source_named source
-      | inl other ↦
+        | inr source ↦ field_source_named source
+        | inl other ↦
             elim (Contains-append_cases (own_sources shape) (children_of shape) next other) [
-              inl source ↦ own_source_named source
-            | inr child ↦ child_named shape.def refl child
+              | inl source ↦ own_source_named source
+              | inr child ↦ child_named shape.def refl child
             ]
       ]
 

@@ -69,7 +69,7 @@ module _ (id : ShapeId) where
       let rest : List Field = flat_map (λ (variant : VariantDef). variant.fields) variants in
       map-append shape_of_placed (fields_from id (Some i) 0 variant.fields) (variant_fields_from id (i + 1) variants)
       ∙ ap (λ (l : List ShapeId). l ++ map shape_of_placed (variant_fields_from id (i + 1) variants))
-          (shapes_from (Some i) 0 variant.fields)
+      (shapes_from (Some i) 0 variant.fields)
       ∙ ap (λ (l : List ShapeId). map shape_of_field variant.fields ++ l) (variant_shapes_from (i + 1) variants)
       ∙ sym (map-append shape_of_field variant.fields rest)
 
@@ -185,7 +185,7 @@ module _ (table : Table) (root : ShapeId) (made : Made) (complete : IsComplete t
       let linked = own_linked (record { 0 = id }) shape here own in
       let P : Shape → Type 0 = λ s. All (IsBuilt made.walk.nodes) (leads_to s) in
       let all : All (IsBuilt made.walk.nodes) (leads_to shape) =
-          subst P linked.1 (leads_built made.walk.nodes table own.own.outline linked.0) in
+      subst P linked.1 (leads_built made.walk.nodes table own.own.outline linked.0) in
       let built = All-contains (IsBuilt made.walk.nodes) (leads_to shape) next all has in
       let Q : ShapeId → Type 0 = λ i. HasOwn made.walk i in
       subst Q built.is.shape (complete.nodes built.node.0 built.is.outline built.is.here).resolved
@@ -210,7 +210,7 @@ plans_plannable table root checked inside = (to_plannable (planned table root) r
     to_none (Ok made) is plannable = sym (refuses_first table root) ∙ ap refusal_in is
     to_none (Err refused) is plannable =
         let blamed =
-            MatchResult-at_err (IsFinished table root (start_of table) root) (IsBlamed table root) refused is
-            (root_finished table root checked inside) in
+        MatchResult-at_err (IsFinished table root (start_of table) root) (IsBlamed table root) refused is
+        (root_finished table root checked inside) in
         absurd (none-some refused.operation
         (sym (plannable refused.shape.0 blamed.shape blamed.reached blamed.here) ∙ blamed.fault))

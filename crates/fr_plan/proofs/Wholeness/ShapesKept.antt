@@ -24,25 +24,24 @@ module _ (table : Table) (root : ShapeId) where
   -- a shape that was not met before
 
   module _ (walk : Walk) (id : ShapeId) (shape : Shape) (sources : MadeAll) (children : MadeAll)
-    (unseen : slice_get walk.marks id.0 ≡ Some Mark.Unseen) (here : slice_get table id.0 ≡ Some shape)
-    (reached : Reached table root.0 id.0)
-    (first : AreKept table root (marked walk id Mark.Building) sources (λ nodes listed. AllZip (IsNodeOf nodes) listed (own_sources shape)))
-    (second : AreKept table root sources.walk children (λ nodes listed. AreChildrenBy nodes id shape shape.def listed)) where
-
+      (unseen : slice_get walk.marks id.0 ≡ Some Mark.Unseen) (here : slice_get table id.0 ≡ Some shape)
+      (reached : Reached table root.0 id.0)
+      (first : AreKept table root (marked walk id Mark.Building) sources (λ nodes listed. AllZip (IsNodeOf nodes) listed (own_sources shape)))
+      (second : AreKept table root sources.walk children (λ nodes listed. AreChildrenBy nodes id shape shape.def listed)) where
     sources_there : AllZip (IsNodeOf children.walk.nodes) sources.nodes (own_sources shape)
     sources_there =
         nodes_stay sources.walk.nodes children.walk.nodes second.keeps.nodes sources.nodes (own_sources shape) first.nodes
 
     finished_by : (fault : Option PlanFault) → refusal_of shape ≡ fault
         → MatchResult
-            (unless (own_refusal id.0 fault) (done id (with_node children.walk (record {
-              shape = id;
-              role = Role.Own;
-              sources = sources.nodes;
-              children = children.nodes;
-              converts = is_some shape.convert;
-            }))))
-            (IsFinished table root walk id) (IsBlamed table root)
+        (unless (own_refusal id.0 fault) (done id (with_node children.walk (record {
+          shape = id;
+          role = Role.Own;
+          sources = sources.nodes;
+          children = children.nodes;
+          converts = is_some shape.convert;
+        }))))
+        (IsFinished table root walk id) (IsBlamed table root)
     finished_by (Some fault) is = record { shape = shape; here = here; reached = reached; fault = is }
     finished_by None is =
         finished table root walk children.walk id _ unseen
@@ -55,6 +54,7 @@ module _ (table : Table) (root : ShapeId) where
                 here = here;
                 sources = sources_there;
                 children = second.nodes;
+                converts = refl;
                 plannable = is;
               };
           children = children_there children.walk.nodes id shape shape.def children.nodes second.nodes;
@@ -71,21 +71,21 @@ module _ (table : Table) (root : ShapeId) where
     unfolding build_new finish
     new_kept walk id None here sound few unseen reached =
         let inside : id.0 < length table =
-            omega (arith, slice_get_within walk.marks id.0 Mark.Unseen unseen, sound.marks) in
+        omega (arith, slice_get_within walk.marks id.0 Mark.Unseen unseen, sound.marks) in
         absurd (get_not_none table id.0 inside here)
     new_kept walk id (Some shape) here sound few unseen reached =
         let start : Walk = marked walk id Mark.Building in
         let begun : IsSound table root start = begun_sound table root walk id sound unseen in
         let fewer : unseen_in start.marks < depth = omega (arith, few, unseen_fewer walk.marks id.0 unseen) in
         let Sources : MadeAll → Type 0 =
-            λ all. AreKept table root start all (λ nodes listed. AllZip (IsNodeOf nodes) listed (own_sources shape)) in
+        λ all. AreKept table root start all (λ nodes listed. AllZip (IsNodeOf nodes) listed (own_sources shape)) in
         match_then Sources (IsFinished table root walk id) (IsBlamed table root)
         (each_built builds (none_yet start) (own_sources shape)) _
         (each_kept table root depth builds well (none_yet start) [] (own_sources shape) begun fewer
         (sources_led table root id shape reached here) tt)
         (λ sources first.
         let Children : MadeAll → Type 0 =
-            λ all. AreKept table root sources.walk all (λ nodes listed. AreChildrenBy nodes id shape shape.def listed) in
+        λ all. AreKept table root sources.walk all (λ nodes listed. AreChildrenBy nodes id shape shape.def listed) in
         match_then Children (IsFinished table root walk id) (IsBlamed table root)
         (children_built builds sources.walk id shape.def shape) _
         (children_kept table root depth builds well sources.walk id shape.def shape first.sound
@@ -100,7 +100,7 @@ module _ (table : Table) (root : ShapeId) where
     by_kept : (mark : Option Mark) (fresh : Walk → ShapeId → Built Made) (walk : Walk) (id : ShapeId)
         → slice_get walk.marks id.0 ≡ mark → IsSound table root walk → Reached table root.0 id.0
         → (slice_get walk.marks id.0 ≡ Some Mark.Unseen
-          → MatchResult (fresh walk id) (IsKept table root walk id) (IsBlamed table root))
+        → MatchResult (fresh walk id) (IsKept table root walk id) (IsBlamed table root))
         → MatchResult (build_by mark fresh walk id) (IsKept table root walk id) (IsBlamed table root)
     by_kept (Some (Mark.Done node)) fresh walk id is sound reached new =
         let own = sound.done id node is in

@@ -135,6 +135,7 @@ module _ (before after : List Outline) (stays : Stays before after) where
     here = linked.here;
     sources = nodes_stay outline.sources (own_sources linked.shape) linked.sources;
     children = children_stay outline.shape linked.shape linked.shape.def outline.children linked.children;
+    converts = linked.converts;
     plannable = linked.plannable;
   }
 

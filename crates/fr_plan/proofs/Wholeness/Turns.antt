@@ -64,7 +64,7 @@ Meets table before walk_of (Ok x) visited = (visited.refused ≡ None) × Agrees
 Meets table before walk_of (Err refused) visited = visited.refused ≡ Some refused
 
 module _ (table : Table) (first second : List Mark) (kept : (i : ℕ) → IsBegun first i → IsBegun second i)
-  {X : Type 0} (walk_of : X → Walk) where
+    {X : Type 0} (walk_of : X → Walk) where
   pub meets_since : (built : Built X) (visited : Visited) → Meets table second walk_of built visited
       → Meets table first walk_of built visited
   meets_since (Ok x) visited meets = (meets.0, agrees_since table first second (walk_of x).marks visited.begun kept meets.1)
@@ -74,7 +74,7 @@ module _ (table : Table) (before : List Mark) {X Y : Type 0} (walk_of : X → Wa
   pub meets_then : (built : Built X) (visited : Visited) (go_on : X → Built Y) (then : List ℕ → Visited)
       → Meets table before walk_of built visited
       → ((x : X) (after : List ℕ) → Agrees table before (walk_of x).marks after
-        → Meets table (walk_of x).marks walk_then (go_on x) (then after))
+      → Meets table (walk_of x).marks walk_then (go_on x) (then after))
       → Meets table before walk_then (and_then built go_on) (unless_refused visited then)
   meets_then (Ok x) visited go_on then meets more =
       let P : Visited → Type 0 = λ v. Meets table before walk_then (go_on x) v in
@@ -97,7 +97,7 @@ abbrev pub walk_all : MadeAll → Walk
 walk_all all = all.walk
 
 module _ (table : Table) (builds : Walk → ShapeId → Built Made) (visits : List ℕ → ℕ → Visited)
-  (simulates : Simulates table builds visits) where
+    (simulates : Simulates table builds visits) where
   pub each_meets : (before : List Mark) (made : MadeAll) (begun : List ℕ) (ids : List ShapeId)
       → Agrees table before made.walk.marks begun
       → Meets table made.walk.marks walk_all (each_built builds made ids) (each_in_turn visits begun ids)
@@ -151,9 +151,9 @@ agrees_begun table before marks begun id unseen agrees = record {
         → list_any (nat_eq i) (id ∷ begun) ≡ false
     unseen_by i at (inl same) =
         let is : Mark.Building ≡ Mark.Unseen =
-            same_Some Mark.Building Mark.Unseen
-            (sym (slice_get-set_same marks id Mark.Building Mark.Unseen unseen)
-            ∙ ap (slice_get (set marks id Mark.Building)) (sym same) ∙ at) in
+        same_Some Mark.Building Mark.Unseen
+        (sym (slice_get-set_same marks id Mark.Building Mark.Unseen unseen)
+        ∙ ap (slice_get (set marks id Mark.Building)) (sym same) ∙ at) in
         absurd (cc)
     unseen_by i at (inr apart) =
         rw (apart_test i id apart) (agrees.unseen i (sym (slice_get-set_other marks id i Mark.Building apart) ∙ at))
@@ -184,8 +184,8 @@ agrees_finished table before marks begun id mark seen there agrees = record {
         → list_any (nat_eq i) begun ≡ false
     unseen_by i at (inl same) =
         let is : mark ≡ Mark.Unseen =
-            same_Some mark Mark.Unseen
-            (sym (slice_get-set_same marks id mark there.mark there.here) ∙ ap (slice_get (set marks id mark)) (sym same) ∙ at) in
+        same_Some mark Mark.Unseen
+        (sym (slice_get-set_same marks id mark there.mark there.here) ∙ ap (slice_get (set marks id mark)) (sym same) ∙ at) in
         let both : true ≡ false = sym (ap is_unseen is) ∙ seen in
         absurd (cc)
     unseen_by i at (inr apart) = agrees.unseen i (sym (slice_get-set_other marks id i mark apart) ∙ at)

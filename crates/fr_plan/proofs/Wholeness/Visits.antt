@@ -41,12 +41,12 @@ variant_parts_from id i (variant ∷ variants) =
     let rest : List Field = flat_map (λ (variant : VariantDef). variant.fields) variants in
     flat_map-append parts_of_placed (fields_from id (Some i) 0 variant.fields) (variant_fields_from id (i + 1) variants)
     ∙ ap (λ (l : List ShapeId). l ++ flat_map parts_of_placed (variant_fields_from id (i + 1) variants))
-        (parts_from id (Some i) 0 variant.fields)
+    (parts_from id (Some i) 0 variant.fields)
     ∙ ap (λ (l : List ShapeId). flat_map field_parts variant.fields ++ l) (variant_parts_from id (i + 1) variants)
     ∙ sym (flat_map-append field_parts variant.fields rest)
 
 module _ (table : Table) (builds : Walk → ShapeId → Built Made) (visits : List ℕ → ℕ → Visited)
-  (simulates : Simulates table builds visits) where
+    (simulates : Simulates table builds visits) where
   behind_meets : (before : List Mark) (placed : Placed) (sources : List NodeId) (own : Made) (begun : List ℕ)
       → Agrees table before own.walk.marks begun
       → Meets table own.walk.marks walk_one (behind_proxies placed sources own) (record { begun = begun; refused = None })
@@ -72,7 +72,7 @@ module _ (table : Table) (builds : Walk → ShapeId → Built Made) (visits : Li
   fields_meet : (before : List Mark) (made : MadeAll) (begun : List ℕ) (fields : List Placed)
       → Agrees table before made.walk.marks begun
       → Meets table made.walk.marks walk_all (fields_built builds made fields)
-          (each_in_turn visits begun (flat_map parts_of_placed fields))
+      (each_in_turn visits begun (flat_map parts_of_placed fields))
   fields_meet before made begun [] agrees = (refl, agrees_itself table before made.walk.marks begun agrees)
   fields_meet before made begun (placed ∷ fields) agrees =
       let P : Visited → Type 0 = λ v. Meets table made.walk.marks walk_all (fields_built builds made (placed ∷ fields)) v in
@@ -86,18 +86,18 @@ module _ (table : Table) (builds : Walk → ShapeId → Built Made) (visits : Li
   children_meet : (before : List Mark) (walk : Walk) (begun : List ℕ) (id : ShapeId) (def : Def) (shape : Shape)
       → Agrees table before walk.marks begun
       → Meets table walk.marks walk_all (children_built builds walk id def shape)
-          (each_in_turn visits begun (parts_by def shape))
+      (each_in_turn visits begun (parts_by def shape))
   unfolding children_built
   children_meet before walk begun id (Def.Struct struct) shape agrees =
       let P : List ShapeId → Type 0 =
-          λ l. Meets table walk.marks walk_all (fields_built builds (none_yet walk) (fields_from id None 0 struct.fields))
-          (each_in_turn visits begun l) in
+      λ l. Meets table walk.marks walk_all (fields_built builds (none_yet walk) (fields_from id None 0 struct.fields))
+      (each_in_turn visits begun l) in
       subst P (parts_from id None 0 struct.fields)
       (fields_meet before (none_yet walk) begun (fields_from id None 0 struct.fields) agrees)
   children_meet before walk begun id (Def.Enum enumeration) shape agrees =
       let P : List ShapeId → Type 0 =
-          λ l. Meets table walk.marks walk_all
-          (fields_built builds (none_yet walk) (variant_fields_from id 0 enumeration.variants)) (each_in_turn visits begun l) in
+      λ l. Meets table walk.marks walk_all
+      (fields_built builds (none_yet walk) (variant_fields_from id 0 enumeration.variants)) (each_in_turn visits begun l) in
       subst P (variant_parts_from id 0 enumeration.variants)
       (fields_meet before (none_yet walk) begun (variant_fields_from id 0 enumeration.variants) agrees)
   children_meet before walk begun id def shape agrees =
@@ -108,7 +108,7 @@ module _ (table : Table) (builds : Walk → ShapeId → Built Made) (visits : Li
   finish_meets : (before : List Mark) (walk : Walk) (begun : List ℕ) (id : ShapeId) (outline : Outline)
       (refused : Option AllocError) → IsBegun walk.marks id.0 → Agrees table before walk.marks begun
       → Meets table before walk_one (unless refused (done id (with_node walk outline)))
-          (record { begun = begun; refused = refused })
+      (record { begun = begun; refused = refused })
   finish_meets before walk begun id outline None there agrees =
       (refl, agrees_finished table before walk.marks begun id.0 (Mark.Done (record { 0 = length walk.nodes })) refl there agrees)
   finish_meets before walk begun id outline (Some error) there agrees = refl
@@ -119,28 +119,28 @@ module _ (table : Table) (builds : Walk → ShapeId → Built Made) (visits : Li
   unfolding build_new finish
   new_meets before walk begun id None here unseen agrees =
       let inside : id.0 < length table =
-          omega (arith, slice_get_within walk.marks id.0 Mark.Unseen unseen, agrees.marks_length) in
+      omega (arith, slice_get_within walk.marks id.0 Mark.Unseen unseen, agrees.marks_length) in
       absurd (get_not_none table id.0 inside here)
   new_meets before walk begun id (Some shape) here unseen agrees =
       let start : Walk = marked walk id Mark.Building in
       let last : List ℕ → Visited =
-          λ after. record { begun = after; refused = own_refusal id.0 (refusal_of shape) } in
+      λ after. record { begun = after; refused = own_refusal id.0 (refusal_of shape) } in
       let started : Agrees table walk.marks start.marks (id.0 ∷ begun) =
-          agrees_begun table before walk.marks begun id.0 unseen agrees in
+      agrees_begun table before walk.marks begun id.0 unseen agrees in
       let begins : IsBegun start.marks id.0 =
-          record {
-            mark = Mark.Building;
-            here = slice_get-set_same walk.marks id.0 Mark.Building Mark.Unseen unseen;
-            seen = refl;
-          } in
+      record {
+        mark = Mark.Building;
+        here = slice_get-set_same walk.marks id.0 Mark.Building Mark.Unseen unseen;
+        seen = refl;
+      } in
       let P : Visited → Type 0 = λ v. Meets table walk.marks walk_one (build_new builds walk id (Some shape)) v in
       let parted : unless_refused (each_in_turn visits (id.0 ∷ begun) (own_sources shape))
-          (λ after. unless_refused (each_in_turn visits after (parts_by shape.def shape)) last)
-          ≡ unless_refused (each_in_turn visits (id.0 ∷ begun) (own_sources shape ++ parts_by shape.def shape)) last =
-          refused_twice (each_in_turn visits (id.0 ∷ begun) (own_sources shape)) _
-          (λ after. each_in_turn visits after (parts_by shape.def shape)) last (λ after. refl)
-          ∙ ap (λ (v : Visited). unless_refused v last)
-              (sym (turn-append visits (id.0 ∷ begun) (own_sources shape) (parts_by shape.def shape))) in
+      (λ after. unless_refused (each_in_turn visits after (parts_by shape.def shape)) last)
+      ≡ unless_refused (each_in_turn visits (id.0 ∷ begun) (own_sources shape ++ parts_by shape.def shape)) last =
+      refused_twice (each_in_turn visits (id.0 ∷ begun) (own_sources shape)) _
+      (λ after. each_in_turn visits after (parts_by shape.def shape)) last (λ after. refl)
+      ∙ ap (λ (v : Visited). unless_refused v last)
+      (sym (turn-append visits (id.0 ∷ begun) (own_sources shape) (parts_by shape.def shape))) in
       subst P parted
       (meets_since table walk.marks start.marks started.kept walk_one _ _
       (meets_then table start.marks walk_all walk_one (each_built builds (none_yet start) (own_sources shape))
@@ -157,7 +157,7 @@ module _ (table : Table) (builds : Walk → ShapeId → Built Made) (visits : Li
 -- a shape, by how far it has come
 
 module _ (table : Table) (depth : ℕ)
-  (simulates : Simulates table (λ at next. build table depth at next) (λ seen next. visit table depth seen next)) where
+    (simulates : Simulates table (λ at next. build table depth at next) (λ seen next. visit table depth seen next)) where
   abbrev fresh : Walk → ShapeId → Built Made
   fresh at new = build_new (λ at next. build table depth at next) at new (slice_get table new.0)
 
@@ -184,18 +184,20 @@ module _ (table : Table) (depth : ℕ)
       where
         by_shape : (found : Option Shape) → slice_get table id.0 ≡ found
             → Meets table walk.marks walk_one (Ok made)
-                (visit_shape (λ seen next. visit table depth seen next) (id.0 ∷ begun) id.0 found)
+            (visit_shape (λ seen next. visit table depth seen next) (id.0 ∷ begun) id.0 found)
         by_shape None is =
-            let Q : List Mark → Type 0 = λ m. Agrees table walk.marks m (id.0 ∷ begun) in
-            (refl, subst Q (sym same)
-            (agrees_itself table before walk.marks (id.0 ∷ begun)
-            (agrees_added table before walk.marks begun id.0 (λ unseen. none_some_mark unseen) agrees)))
+            let Q : List Mark → Type 0 = λ m. Agrees table walk.marks m (id.0 ∷ begun) in (
+              refl,
+              subst Q (sym same)
+                  (agrees_itself table before walk.marks (id.0 ∷ begun)
+                  (agrees_added table before walk.marks begun id.0 (λ unseen. none_some_mark unseen) agrees)),
+            )
           where
             none_some_mark : slice_get walk.marks id.0 ≡ Some Mark.Unseen → ⊥
             none_some_mark unseen = none-some Mark.Unseen (sym at ∙ unseen)
         by_shape (Some shape) is =
             let inside : id.0 < length walk.marks =
-                omega (arith, slice_get_within table id.0 shape is, agrees.marks_length) in
+            omega (arith, slice_get_within table id.0 shape is, agrees.marks_length) in
             absurd (get_not_none walk.marks id.0 inside at)
 
     by_meets : (mark : Option Mark) → slice_get walk.marks id.0 ≡ mark

@@ -20,7 +20,7 @@ use Rattle.fr_plan.proofs.Wholeness.Adding.{IsFinished}
 use Rattle.fr_plan.proofs.Wholeness.ShapesKept.{new_kept, build_kept}
 use Rattle.fr_plan.proofs.Wholeness.Ranges.{reached_in_range}
 
-slice_get-replicate_in : {X : Type 0} (n i : ℕ) (x : X) → i < n → slice_get (replicate n x) i ≡ Some x
+pub slice_get-replicate_in : {X : Type 0} (n i : ℕ) (x : X) → i < n → slice_get (replicate n x) i ≡ Some x
 slice_get-replicate_in zero i x inside = absurd (omega (arith, inside))
 slice_get-replicate_in (suc n) zero x inside = refl
 slice_get-replicate_in (suc n) (suc i) x inside = slice_get-replicate_in n i x (omega (arith, inside))
@@ -32,7 +32,7 @@ module _ (table : Table) (root : ShapeId) where
     done =
         λ id node at.
         let is : Mark.Unseen ≡ Mark.Done node =
-            slice_get-replicate (length table) id.0 Mark.Unseen (Mark.Done node) at in
+        slice_get-replicate (length table) id.0 Mark.Unseen (Mark.Done node) at in
         absurd (cc);
     begun = λ i outline at. absurd (none-some outline at);
     nodes = λ i outline at. absurd (none-some outline at);
@@ -54,7 +54,7 @@ module _ (table : Table) (root : ShapeId) where
     pub root_finished : MatchResult (planned table root) (IsFinished table root (start_of table) root) (IsBlamed table root)
     root_finished =
         let unseen : slice_get (start_of table).marks root.0 ≡ Some Mark.Unseen =
-            slice_get-replicate_in (length table) root.0 Mark.Unseen inside in
+        slice_get-replicate_in (length table) root.0 Mark.Unseen inside in
         unseen_by (slice_get (start_of table).marks root.0) _ (start_of table) _ unseen
         (new_kept table root (length table) (λ then next. build table (length table) then next)
         (build_kept table root (λ id reached. reached_in_range table checked inside reached) (length table)) (start_of table) root
@@ -64,7 +64,7 @@ module _ (table : Table) (root : ShapeId) where
     none_building : (i : ℕ) → slice_get made.walk.marks i ≢ Some Mark.Building
     none_building i at =
         let is : Mark.Unseen ≡ Mark.Building =
-            slice_get-replicate (length table) i Mark.Unseen Mark.Building (fin.kept.keeps.building i at) in
+        slice_get-replicate (length table) i Mark.Unseen Mark.Building (fin.kept.keeps.building i at) in
         absurd (cc)
 
     resolved : (id : ShapeId) (mark : Mark) → slice_get made.walk.marks id.0 ≡ Some mark → is_unseen mark ≡ false

@@ -1,0 +1,6 @@
+pub mod Loop
+pub mod Making
+pub mod Pairs
+pub mod Putting
+pub mod Slots
+pub mod Tokens

@@ -1,0 +1,141 @@
+-- The loop over the pairs, and what is built in the end.
+use Rattle.std.proofs.Common.{◌≡◌, inl, inr, ℕ, ◌*◌, min, true, List, [], ◌∷◌, ◌++◌, length, append_assoc, length-append, Option, Some, None, Result, Ok, Err, refl, sym, ◌∙◌, ap, arith}
+use Rattle.std.specs.Option.{option_or}
+use Rattle.fr_shape.specs.declared.error.ReflectErrorKind.{ReflectErrorKind}
+use Rattle.fr_shape.specs.declared.shape.Def.{Def}
+use Rattle.fr_shape.specs.declared.shape.StructDef.{StructDef}
+use Rattle.fr_shape.specs.Hooks.{no_hooks}
+use Rattle.fr_shape.specs.Look.{Table, def_of}
+use Rattle.fr_shape.specs.Served.{IsServed}
+use Rattle.fr_shape.specs.Val.{Val}
+use Rattle.fr_model.specs.Step.{unless_refused, build}
+use Rattle.fr_model.specs.Tree.{State, one_more_call, most_calls}
+use Rattle.fr_partial.specs.Builder.{Builder, IsStepTo, IsBuilt, meaning_of_build}
+use Rattle.fr_partial.specs.BuiltValue.{BuiltValue}
+use Rattle.fr_example.specs.declared.record.Pair.{Pair}
+use Rattle.fr_example.specs.Meant.{is_struct, refusal_of, first_refusal, unrefused, refused_or, record_meant, IsMeant}
+use Rattle.fr_example.specs.Putting.{puts_pair}
+use Rattle.fr_example.proofs.Making.{makes}
+use Rattle.fr_example.proofs.Pairs.{first_refusal_later}
+use Rattle.fr_example.proofs.Putting.{filling, puts_pair_is}
+
+struct_of : (def : Def) → is_struct def ≡ true → (struct : StructDef) × (def ≡ Def.Struct struct)
+struct_of (Def.Struct struct) e = (struct, refl)
+struct_of _ e = cc
+
+-- the builder works at a struct that is filled with these pairs, none of which was refused
+pub record IsFilled (table : Table) (root string : ℕ) (pairs : List Pair) (here : State) : Type 0 where
+  pub is : here ≡ filling table root pairs (min (3 * length pairs) most_calls)
+  pub unrefused : first_refusal table root string pairs ≡ None
+
+calls_more : (pairs : List Pair) (pair : Pair)
+    → one_more_call (one_more_call (one_more_call (min (3 * length pairs) most_calls)))
+    ≡ min (3 * length (pairs ++ pair ∷ [])) most_calls
+calls_more pairs pair = omega (arith, length-append pairs (pair ∷ []))
+
+-- a pair more
+put_means : (table : Table) (root string : ℕ) (pairs : List Pair) (pair : Pair) (here : State)
+    → is_struct (def_of table root) ≡ true → IsFilled table root string pairs here
+    → puts_pair table root string here pair
+    ≡ unless_refused (refusal_of table root string pair)
+    (filling table root (pairs ++ pair ∷ []) (min (3 * length (pairs ++ pair ∷ [])) most_calls))
+put_means table root string pairs pair here struct at =
+    let known : (s : StructDef) × (def_of table root ≡ Def.Struct s) = struct_of (def_of table root) struct in
+    ap (λ (s : State). puts_pair table root string s pair) at.is
+    ∙ puts_pair_is table root string known.0 pairs pair (min (3 * length pairs) most_calls) known.1
+    ∙ ap
+    (λ (calls : ℕ). unless_refused (refusal_of table root string pair) (filling table root (pairs ++ pair ∷ []) calls))
+    (calls_more pairs pair)
+
+-- it was put
+pub filled_more : (table : Table) (root string : ℕ) (pairs : List Pair) (pair : Pair) (here after : State)
+    → is_struct (def_of table root) ≡ true → IsFilled table root string pairs here
+    → puts_pair table root string here pair ≡ Ok after → IsFilled table root string (pairs ++ pair ∷ []) after
+filled_more table root string pairs pair here after struct at e =
+    go (refusal_of table root string pair) refl (sym (put_means table root string pairs pair here struct at) ∙ e)
+  where
+    go : (refusal : Option ReflectErrorKind) → refusal_of table root string pair ≡ refusal
+        → unless_refused refusal
+        (filling table root (pairs ++ pair ∷ []) (min (3 * length (pairs ++ pair ∷ [])) most_calls))
+        ≡ Ok after
+        → IsFilled table root string (pairs ++ pair ∷ []) after
+    go (Some kind) is e = cc
+    go None none e = record {
+      is = cc;
+      unrefused =
+          first_refusal_later table root string pairs (pair ∷ []) at.unrefused
+          ∙ ap (λ (o : Option ReflectErrorKind). option_or o None) none;
+    }
+
+-- it was refused, and that is what is meant
+pub put_refused : (table : Table) (root string : ℕ) (pairs : List Pair) (pair : Pair) (others : List Pair) (here : State)
+    (kind : ReflectErrorKind) → is_struct (def_of table root) ≡ true → IsFilled table root string pairs here
+    → puts_pair table root string here pair ≡ Err kind
+    → record_meant table root string (pairs ++ pair ∷ others) ≡ Err kind
+put_refused table root string pairs pair others here kind struct at e =
+    ap
+    (λ (o : Option ReflectErrorKind). refused_or o (unrefused table root (pairs ++ pair ∷ others)))
+    (first_refusal_later table root string pairs (pair ∷ others) at.unrefused
+    ∙ ap (λ (o : Option ReflectErrorKind). option_or o (first_refusal table root string others))
+    (go (refusal_of table root string pair) (sym (put_means table root string pairs pair here struct at) ∙ e)))
+  where
+    go : (refusal : Option ReflectErrorKind)
+        → unless_refused refusal
+        (filling table root (pairs ++ pair ∷ []) (min (3 * length (pairs ++ pair ∷ [])) most_calls))
+        ≡ Err kind
+        → refusal ≡ Some kind
+    go (Some other) e = cc
+    go None e = cc
+
+-- what the whole loop meets where a pair isn't put
+pub loop_refused : (table : Table) (root string : ℕ) (pairs : List Pair) (pair : Pair) (others all : List Pair)
+    (before : Builder) (kind : ReflectErrorKind) → is_struct (def_of table root) ≡ true → before.root ≡ root
+    → IsFilled table root string pairs before.state → all ≡ pairs ++ pair ∷ others
+    → IsStepTo before (puts_pair table before.root string before.state pair) (Err kind)
+    → IsMeant (record_meant table root string all) (Err kind)
+loop_refused table root string pairs pair others all before kind struct at_root filled are (inl memory) = inl memory
+loop_refused table root string pairs pair others all before kind struct at_root filled are (inr e) =
+    inr (
+    ap (λ (ps : List Pair). record_meant table root string ps) are
+    ∙ put_refused table root string pairs pair others before.state kind struct filled
+    (ap (λ (r : ℕ). puts_pair table r string before.state pair) (sym at_root) ∙ e)
+    )
+
+-- what is built
+built_means : (before : Builder) (meant : Result Val ReflectErrorKind) (result : Result BuiltValue ReflectErrorKind)
+    → meaning_of_build before ≡ meant → IsBuilt before result → IsMeant meant result
+built_means before meant (Ok built) e so = sym e ∙ so.0
+built_means before meant (Err kind) e (inl memory) = inl memory
+built_means before meant (Err kind) e (inr so) = inr (sym e ∙ so)
+
+pub loop_built : (table : Table) (root string : ℕ) (pairs all : List Pair) (before : Builder)
+    (result : Result BuiltValue ReflectErrorKind) → is_struct (def_of table root) ≡ true → IsServed table
+    → before.shapes ≡ table → before.root ≡ root → IsFilled table root string pairs before.state → all ≡ pairs
+    → IsBuilt before result → IsMeant (record_meant table root string all) result
+loop_built table root string pairs all before result struct served same at_root filled are so =
+    built_means before (record_meant table root string all) result
+    (ap (λ (t : Table). build no_hooks t before.root before.state) same
+    ∙ ap (λ (r : ℕ). build no_hooks table r before.state) at_root
+    ∙ ap (λ (s : State). build no_hooks table root s) filled.is
+    ∙ makes table root known.0 pairs (min (3 * length pairs) most_calls) served known.1
+    ∙ ap (λ (o : Option ReflectErrorKind). refused_or o (unrefused table root pairs)) (sym filled.unrefused)
+    ∙ ap (λ (ps : List Pair). record_meant table root string ps) (sym are))
+    so
+  where
+    known : (s : StructDef) × (def_of table root ≡ Def.Struct s)
+    known = struct_of (def_of table root) struct
+
+-- the list of what is left, and of what was taken
+
+pub all_taken : (pairs left all : List Pair) → all ≡ pairs ++ left → length left ≡ 0 → all ≡ pairs
+all_taken pairs [] all e none = e ∙ nothing_more pairs
+  where
+    nothing_more : (pairs : List Pair) → pairs ++ [] ≡ pairs
+    nothing_more [] = refl
+    nothing_more (pair ∷ pairs) = ap (λ (ps : List Pair). pair ∷ ps) (nothing_more pairs)
+all_taken pairs (pair ∷ left) all e none = absurd (omega (arith, none))
+
+pub one_taken : (pairs left rest all : List Pair) (pair : Pair) → all ≡ pairs ++ left → left ≡ pair ∷ rest
+    → all ≡ (pairs ++ pair ∷ []) ++ rest
+one_taken pairs left rest all pair e taken =
+    e ∙ ap (λ (ps : List Pair). pairs ++ ps) taken ∙ sym (append_assoc pairs (pair ∷ []) rest)

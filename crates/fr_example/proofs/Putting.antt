@@ -1,0 +1,193 @@
+-- What one pair makes of a struct that was filled with others.
+use Rattle.std.proofs.Common.{◌≡◌, ◌==◌, ℕ, ◌+◌, ◌<◌, Bool, true, false, List, [], ◌∷◌, ◌++◌, length, Option, Some, None, Result, Ok, if◌then◌else◌, refl, sym, ◌∙◌, ap, arith}
+use Rattle.std.proofs.lemmas.Bool.Decides.{nat_tests}
+use Rattle.std.specs.Option.{option_or}
+use Rattle.fr_shape.specs.declared.error.ReflectErrorKind.{ReflectErrorKind}
+use Rattle.fr_shape.specs.declared.shape.Def.{Def}
+use Rattle.fr_shape.specs.declared.shape.Field.{Field}
+use Rattle.fr_shape.specs.declared.shape.StructDef.{StructDef}
+use Rattle.fr_shape.specs.Hooks.{no_hooks}
+use Rattle.fr_shape.specs.Lists.{is_nil}
+use Rattle.fr_shape.specs.Look.{Table, def_of}
+use Rattle.fr_shape.specs.Named.{field_named}
+use Rattle.fr_shape.specs.Val.{Val, text, product, no_vals}
+use Rattle.fr_model.specs.Commands.{Call}
+use Rattle.fr_model.specs.Complete.{complete}
+use Rattle.fr_model.specs.Places.{child_count, child_shape}
+use Rattle.fr_model.specs.Step.{unless_refused, opened_as, opened, enter, enters_named, puts, ended, step}
+use Rattle.fr_model.specs.Tree.{as_struct, Tree, entered, whole, begun, Trees, change_nth, change_child, fresh, State, one_more_call}
+use Rattle.fr_example.specs.declared.record.Pair.{Pair}
+use Rattle.fr_example.specs.Meant.{refusal_at, refusal_of, is_found, given, last_given}
+use Rattle.fr_example.specs.Putting.{then_call, puts_pair}
+use Rattle.fr_example.proofs.Pairs.{last_given_more, found_within}
+use Rattle.fr_example.proofs.Slots.{slots, slots_holes, put_slot, put_again, put_there}
+
+-- the struct once these pairs were put, and the builder at it
+abbrev pub tree_of : Table → ℕ → List Pair → Tree
+tree_of table root [] = fresh (def_of table root)
+tree_of table root (pair ∷ pairs) =
+    begun as_struct (slots (last_given (def_of table root) (pair ∷ pairs)) (child_count table root) 0)
+
+abbrev pub filling : Table → ℕ → List Pair → ℕ → State
+filling table root pairs calls = record { tree = tree_of table root pairs; cursor = []; calls = calls }
+
+-- the builder at field i of a struct with these children
+abbrev at_field : ℕ → Trees → ℕ → State
+at_field i ts calls = record { tree = begun as_struct ts; cursor = i ∷ []; calls = calls }
+
+opened_fresh : (fields : List Field) (i count : ℕ) → i < length fields
+    → opened_as as_struct count (if is_nil fields then whole (product no_vals) else entered)
+    ≡ begun as_struct (slots (λ k. None) count 0)
+opened_fresh [] i count below = absurd (omega arith)
+opened_fresh (field ∷ fields) i count below = ap (λ (ts : Trees). begun as_struct ts) (slots_holes count 0)
+
+-- the struct as its fields see it
+opened_tree : (table : Table) (root : ℕ) (struct : StructDef) (i : ℕ) (pairs : List Pair)
+    → def_of table root ≡ Def.Struct struct → i < length struct.fields
+    → opened (def_of table root) (tree_of table root pairs)
+    ≡ begun as_struct (slots (last_given (def_of table root) pairs) (child_count table root) 0)
+opened_tree table root struct i [] is below = rw is (opened_fresh struct.fields i (length struct.fields) below)
+opened_tree table root struct i (pair ∷ pairs) is below = refl
+
+tree_more : (table : Table) (root : ℕ) (pairs : List Pair) (pair : Pair)
+    → begun as_struct (slots (last_given (def_of table root) (pairs ++ pair ∷ [])) (child_count table root) 0)
+    ≡ tree_of table root (pairs ++ pair ∷ [])
+tree_more table root [] pair = refl
+tree_more table root (p ∷ pairs) pair = refl
+
+-- what the pair gives
+
+given_here : (def : Def) (pair : Pair) (i : ℕ) → field_named pair.name def ≡ Some i
+    → given def pair i ≡ Some (text pair.text)
+given_here def pair i e =
+    ap (λ (found : Option ℕ). if is_found i found then Some (text pair.text) else None) e
+    ∙ ap (λ (b : Bool). if b then Some (text pair.text) else None) (same i)
+  where
+    same : (i : ℕ) → (i == i) ≡ true
+    same i = grind (arith, nat_tests)
+
+given_elsewhere : (def : Def) (pair : Pair) (i m : ℕ) → field_named pair.name def ≡ Some i → ¬ (m ≡ i)
+    → given def pair m ≡ None
+given_elsewhere def pair i m e apart =
+    ap (λ (found : Option ℕ). if is_found m found then Some (text pair.text) else None) e
+    ∙ ap (λ (b : Bool). if b then Some (text pair.text) else None) (other m i apart)
+  where
+    other : (m i : ℕ) → ¬ (m ≡ i) → (m == i) ≡ false
+    other m i apart = grind (arith, nat_tests)
+
+-- the children once the pair is put
+put_given : (def : Def) (pairs : List Pair) (pair : Pair) (i count : ℕ) → field_named pair.name def ≡ Some i
+    → change_nth i (λ old. whole (text pair.text)) (slots (last_given def pairs) count 0)
+    ≡ slots (last_given def (pairs ++ pair ∷ [])) count 0
+put_given def pairs pair i count e =
+    put_slot (last_given def pairs) (last_given def (pairs ++ pair ∷ [])) (text pair.text) count 0 i i (omega arith)
+    (last_given_more def pairs pair i
+    ∙ ap (λ (o : Option Val). option_or o (last_given def pairs i)) (given_here def pair i e))
+    (λ m apart. sym (last_given_more def pairs pair m
+    ∙ ap (λ (o : Option Val). option_or o (last_given def pairs m)) (given_elsewhere def pair i m e apart)))
+
+-- the three calls
+
+begins : (table : Table) (root : ℕ) (struct : StructDef) (name : List ℕ) (pairs : List Pair) (calls : ℕ)
+    → def_of table root ≡ Def.Struct struct
+    → step no_hooks table root (filling table root pairs calls) (Call.BeginField name)
+    ≡ enters_named table root (filling table root pairs calls) (field_named name (def_of table root))
+begins table root struct name pairs calls is = rw is refl
+
+-- the children with field i entered
+abbrev with_entered : Table → ℕ → List Pair → ℕ → Trees
+with_entered table root pairs i =
+    change_nth i (enter (def_of table (child_shape table root i)))
+    (slots (last_given (def_of table root) pairs) (child_count table root) 0)
+
+entered_field : (table : Table) (root : ℕ) (struct : StructDef) (i : ℕ) (pairs : List Pair) (calls : ℕ)
+    → def_of table root ≡ Def.Struct struct → i < length struct.fields
+    → enters_named table root (filling table root pairs calls) (Some i)
+    ≡ Ok (at_field i (with_entered table root pairs i) (one_more_call calls))
+entered_field table root struct i pairs calls is below =
+    ap
+    (λ (t : Tree).
+    Ok (record {
+      tree = change_child i (enter (def_of table (child_shape table root i))) t;
+      cursor = i ∷ [];
+      calls = one_more_call calls;
+    }))
+    (opened_tree table root struct i pairs is below)
+
+ends : (table : Table) (root : ℕ) (i : ℕ) (pairs : List Pair) (pair : Pair) (calls : ℕ)
+    → field_named pair.name (def_of table root) ≡ Some i → i < child_count table root
+    → step no_hooks table root (puts (at_field i (with_entered table root pairs i) calls) (text pair.text)) Call.End
+    ≡ Ok (filling table root (pairs ++ pair ∷ []) (one_more_call (one_more_call calls)))
+ends table root i pairs pair calls e below =
+    ap
+    (λ (t : Tree).
+    ended no_hooks table (child_shape table root i)
+    (puts (at_field i (with_entered table root pairs i) calls) (text pair.text))
+    (complete no_hooks table (child_shape table root i) t))
+    (put_there i (text pair.text) (last_given (def_of table root) pairs) (child_count table root) 0
+    (enter (def_of table (child_shape table root i))) below)
+    ∙ ap
+    (λ (ts : Trees).
+    Ok (record { tree = begun as_struct ts; cursor = []; calls = one_more_call (one_more_call calls) }))
+    (put_again i (text pair.text) (λ old. whole (text pair.text)) (with_entered table root pairs i)
+    ∙ put_again i (text pair.text) (enter (def_of table (child_shape table root i)))
+    (slots (last_given (def_of table root) pairs) (child_count table root) 0)
+    ∙ put_given (def_of table root) pairs pair i (child_count table root) e)
+    ∙ ap
+    (λ (t : Tree). Ok (record { tree = t; cursor = []; calls = one_more_call (one_more_call calls) }))
+    (tree_more table root pairs pair)
+
+-- what stands at the root after the field was entered, or not
+entered_or_not : (table : Table) (root string : ℕ) (struct : StructDef) (pairs : List Pair) (pair : Pair)
+    (calls : ℕ) (found : Option ℕ) → def_of table root ≡ Def.Struct struct
+    → field_named pair.name (def_of table root) ≡ found
+    → puts_pair table root string (filling table root pairs calls) pair
+    ≡ then_call table root
+    (then_call table root (enters_named table root (filling table root pairs calls) found)
+    (Call.Set string (text pair.text)))
+    Call.End
+entered_or_not table root string struct pairs pair calls found is e =
+    ap
+    (λ (r : Result State ReflectErrorKind).
+    then_call table root (then_call table root r (Call.Set string (text pair.text))) Call.End)
+    (begins table root struct pair.name pairs calls is
+    ∙ ap (λ (o : Option ℕ). enters_named table root (filling table root pairs calls) o) e)
+
+within : (table : Table) (root : ℕ) (struct : StructDef) (name : List ℕ) (i : ℕ) → def_of table root ≡ Def.Struct struct
+    → field_named name (def_of table root) ≡ Some i → i < length struct.fields
+within table root struct name i is e =
+    let below : i < 0 + length struct.fields = found_within name 0 i struct.fields (rw is at e) in omega arith
+
+set_or_not : (table : Table) (root : ℕ) (here after : State) (kind : ReflectErrorKind) (b : Bool)
+    → step no_hooks table root here Call.End ≡ Ok after
+    → then_call table root (unless_refused (if b then None else Some kind) here) Call.End
+    ≡ unless_refused (if b then None else Some kind) after
+set_or_not table root here after kind true e = e
+set_or_not table root here after kind false e = refl
+
+-- the pair is refused, or the struct is filled with it too
+pub puts_pair_is : (table : Table) (root string : ℕ) (struct : StructDef) (pairs : List Pair) (pair : Pair) (calls : ℕ)
+    → def_of table root ≡ Def.Struct struct
+    → puts_pair table root string (filling table root pairs calls) pair
+    ≡ unless_refused (refusal_of table root string pair)
+    (filling table root (pairs ++ pair ∷ []) (one_more_call (one_more_call (one_more_call calls))))
+puts_pair_is table root string struct pairs pair calls is = go (field_named pair.name (def_of table root)) refl
+  where
+    go : (found : Option ℕ) → field_named pair.name (def_of table root) ≡ found
+        → puts_pair table root string (filling table root pairs calls) pair
+        ≡ unless_refused (refusal_at table root string found)
+        (filling table root (pairs ++ pair ∷ []) (one_more_call (one_more_call (one_more_call calls))))
+    go None e = entered_or_not table root string struct pairs pair calls None is e
+    go (Some i) e =
+        let below : i < length struct.fields = within table root struct pair.name i is e in
+        let child : i < child_count table root = rw is below in
+        entered_or_not table root string struct pairs pair calls (Some i) is e
+        ∙ ap
+        (λ (r : Result State ReflectErrorKind).
+        then_call table root (then_call table root r (Call.Set string (text pair.text))) Call.End)
+        (entered_field table root struct i pairs calls is below)
+        ∙ set_or_not table root
+        (puts (at_field i (with_entered table root pairs i) (one_more_call calls)) (text pair.text))
+        (filling table root (pairs ++ pair ∷ []) (one_more_call (one_more_call (one_more_call calls))))
+        (ReflectErrorKind.WrongShape (record { 0 = child_shape table root i }) (record { 0 = string }))
+        (child_shape table root i == string) (ends table root i pairs pair (one_more_call calls) e child)

@@ -1,0 +1,52 @@
+use Rattle.std.proofs.Common.{◌++◌, length, Err, sym, ◌∙◌, ap, arith, rules}
+use Rattle.std.specs.Vec.Iter.{into_iter_items}
+use Rattle.fr_example.specs.Meant.{record_meant, IsMeant}
+use Rattle.fr_example.proofs.Loop.{filled_more, loop_refused, loop_built, all_taken, one_taken}
+use Rattle.fr_example.proofs.Tokens.{stays}
+use Rattle.fr_example.proofs.record.record_of.Goals as goal
+
+pub returns-in_err-partial-clause-meant : goal.returns-in_err-partial-clause-meant
+returns-in_err-partial-clause-meant c =
+    let told : IsMeant (record_meant c.args.table.now c.args.root.0 c.args.string.0 c.args.pairs)
+    (Err c.in_err-partial.field-0.0)
+    = loop_refused c.args.table.now c.args.root.0 c.args.string.0 c.loop-pair.yielded c.in-Some.pair
+    (into_iter_items c.next.new.self) c.args.pairs c.loop-pair.partial c.in_err-partial.field-0.0 c.requires.root
+    c.loop-pair.invariant.root c.loop-pair.invariant.filled
+    (c.loop-pair.invariant.pairs
+    ∙ ap (λ left. c.loop-pair.yielded ++ left) c.in-Some.ensures.steps.0)
+    c.in_err-partial.ensures.put
+    in search rules
+
+pub loop-pair-preserved : goal.loop-pair-preserved
+loop-pair-preserved c = record {
+  pairs =
+      one_taken c.loop-pair.yielded (into_iter_items c.loop-pair.pair-iterator) (into_iter_items c.next.new.self)
+      c.args.pairs c.in-Some.pair c.loop-pair.invariant.pairs c.in-Some.ensures.steps.0;
+  left =
+      omega (
+        arith,
+        c.loop-pair.invariant.left,
+        ap (λ items. length items) c.in-Some.ensures.steps.0,
+        c.in-Some.ensures.steps.1,
+      );
+  shapes = c.in_ok-partial.ensures.put.1 ∙ c.loop-pair.invariant.shapes;
+  root = c.in_ok-partial.ensures.put.2 ∙ c.loop-pair.invariant.root;
+  filled =
+      filled_more c.args.table.now c.args.root.0 c.args.string.0 c.loop-pair.yielded c.in-Some.pair
+      c.loop-pair.partial.state c.in_ok-partial.partial.state c.requires.root c.loop-pair.invariant.filled
+      (rw (← c.loop-pair.invariant.root) c.in_ok-partial.ensures.put.0);
+  tokens = c.in_ok-partial.ensures.tokens;
+  ledger = c.put.ensures.released ∙ c.loop-pair.invariant.ledger;
+}
+
+pub returns-clause-meant : goal.returns-clause-meant
+returns-clause-meant c =
+    loop_built c.args.table.now c.args.root.0 c.args.string.0 c.loop-pair.yielded c.args.pairs c.loop-pair.partial
+    c.build.result c.requires.root c.requires.served c.loop-pair.invariant.shapes c.loop-pair.invariant.root
+    c.loop-pair.invariant.filled
+    (all_taken c.loop-pair.yielded (into_iter_items c.loop-pair.pair-iterator) c.args.pairs
+    c.loop-pair.invariant.pairs (sym c.loop-pair.invariant.left ∙ c.in-None.ensures.steps.0))
+    c.build.ensures.built
+
+pub returns-clause-released : goal.returns-clause-released
+returns-clause-released c = stays _ _ _ _ c.build.ensures.tokens c.loop-pair.invariant.tokens ∙ c.loop-pair.invariant.ledger

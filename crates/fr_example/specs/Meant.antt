@@ -1,0 +1,116 @@
+-- What pairs of a field's name and a text make of a struct.
+use Rattle.std.specs.Prelude.{◌≡◌, ◌⊎◌, ◌==◌, ℕ, zero, suc, Bool, true, false, List, [], ◌∷◌, Option, Some, None, Result, Ok, Err, if◌then◌else◌}
+use Rattle.std.specs.Option.{option_or}
+use Rattle.fr_shape.specs.declared.error.ReflectErrorKind.{ReflectErrorKind}
+use Rattle.fr_shape.specs.declared.shape.Def.{Def}
+use Rattle.fr_shape.specs.Fills.{is_empty_struct, preset_of}
+use Rattle.fr_shape.specs.Look.{Table, def_of}
+use Rattle.fr_shape.specs.Named.{field_named}
+use Rattle.fr_shape.specs.Val.{Val, Vals, text, product, no_vals, first}
+use Rattle.fr_model.specs.Complete.{missing_field}
+use Rattle.fr_model.specs.Places.{child_count, child_shape, fill_at}
+use Rattle.fr_partial.specs.BuiltValue.{BuiltValue}
+use Rattle.fr_example.specs.declared.record.Pair.{Pair}
+
+abbrev pub is_struct : Def → Bool
+is_struct (Def.Struct struct) = true
+is_struct (Def.Scalar kind) = false
+is_struct Def.Str = false
+is_struct Def.Opaque = false
+is_struct (Def.Enum enumeration) = false
+is_struct (Def.Option t) = false
+is_struct (Def.Result t e) = false
+is_struct (Def.List t) = false
+is_struct (Def.Map key item) = false
+is_struct (Def.Set t) = false
+is_struct (Def.Array t n) = false
+is_struct (Def.Pointer pointer) = false
+is_struct (Def.Slice t) = false
+is_struct Def.Dynamic = false
+is_struct Def.Undefined = false
+is_struct Def.Other = false
+
+-- Refusals
+
+-- why a text, whose shape is `string`, can't be put into the field found under a name: there is none, or it has another
+-- shape
+abbrev pub refusal_at : Table → (root string : ℕ) → (found : Option ℕ) → Option ReflectErrorKind
+refusal_at table root string None = Some (ReflectErrorKind.FieldError (record { 0 = root }))
+refusal_at table root string (Some i) =
+    if child_shape table root i == string then None
+    else Some (ReflectErrorKind.WrongShape (record { 0 = child_shape table root i }) (record { 0 = string }))
+
+-- a name means the first field that is declared under it
+abbrev pub refusal_of : Table → (root string : ℕ) → Pair → Option ReflectErrorKind
+refusal_of table root string pair = refusal_at table root string (field_named pair.name (def_of table root))
+
+-- the refusal of the first pair that is refused
+abbrev pub first_refusal : Table → (root string : ℕ) → List Pair → Option ReflectErrorKind
+first_refusal table root string [] = None
+first_refusal table root string (pair ∷ pairs) =
+    option_or (refusal_of table root string pair) (first_refusal table root string pairs)
+
+-- Values
+
+abbrev pub is_found : ℕ → (found : Option ℕ) → Bool
+is_found i (Some found) = i == found
+is_found i None = false
+
+-- what a pair gives to field i of a struct of this definition: its text, where its name means that field
+abbrev pub given : Def → Pair → ℕ → Option Val
+given def pair i = if is_found i (field_named pair.name def) then Some (text pair.text) else None
+
+-- what the last of the pairs that gives something to field i gives it
+abbrev pub last_given : Def → List Pair → ℕ → Option Val
+last_given def [] i = None
+last_given def (pair ∷ pairs) i = option_or (last_given def pairs i) (given def pair i)
+
+-- the value of field i: the last text given to it, else its fill
+abbrev pub value_of_field : Table → (root : ℕ) → List Pair → ℕ → Option Val
+value_of_field table root pairs i = option_or (last_given (def_of table root) pairs i) (fill_at table root i)
+
+abbrev pub one_more_field : (missing : ReflectErrorKind) → Option Val → Result Vals ReflectErrorKind → Result Vals ReflectErrorKind
+one_more_field missing (Some v) (Ok vs) = Ok (first v vs)
+one_more_field missing (Some v) (Err kind) = Err kind
+one_more_field missing None others = Err missing
+
+-- the values of so many fields, number i first; or that the first field without one is missing
+abbrev pub fields_from : (root : ℕ) → (value : ℕ → Option Val) → (count i : ℕ) → Result Vals ReflectErrorKind
+fields_from root value zero i = Ok no_vals
+fields_from root value (suc count) i =
+    one_more_field (missing_field root i) (value i) (fields_from root value count (suc i))
+
+abbrev pub product_of_fields : Result Vals ReflectErrorKind → Result Val ReflectErrorKind
+product_of_fields (Ok vs) = Ok (product vs)
+product_of_fields (Err kind) = Err kind
+
+-- the product of all fields' values
+abbrev pub of_fields : Table → (root : ℕ) → List Pair → Result Val ReflectErrorKind
+of_fields table root pairs =
+    product_of_fields (fields_from root (value_of_field table root pairs) (child_count table root) 0)
+
+abbrev pub preset_or : Option Val → Result Val ReflectErrorKind → Result Val ReflectErrorKind
+preset_or (Some v) other = Ok v
+preset_or None other = other
+
+-- What pairs make of which none is refused. Where there is none at all, a struct without fields is empty, and one with a
+-- default is that.
+abbrev pub unrefused : Table → (root : ℕ) → List Pair → Result Val ReflectErrorKind
+unrefused table root [] =
+    if is_empty_struct (def_of table root) then Ok (product no_vals)
+    else preset_or (preset_of table root) (of_fields table root [])
+unrefused table root (pair ∷ pairs) = of_fields table root (pair ∷ pairs)
+
+abbrev pub refused_or : Option ReflectErrorKind → Result Val ReflectErrorKind → Result Val ReflectErrorKind
+refused_or (Some kind) value = Err kind
+refused_or None value = value
+
+-- what pairs make of the struct of shape `root`: the first refusal of a pair, or else the value or the first missing field
+abbrev pub record_meant : Table → (root string : ℕ) → List Pair → Result Val ReflectErrorKind
+record_meant table root string pairs =
+    refused_or (first_refusal table root string pairs) (unrefused table root pairs)
+
+-- what is meant was built; or that is the refusal; or memory ran out
+abbrev pub IsMeant : (meant : Result Val ReflectErrorKind) → Result BuiltValue ReflectErrorKind → Type 0
+IsMeant meant (Ok built) = meant ≡ Ok built.value
+IsMeant meant (Err kind) = (kind ≡ ReflectErrorKind.OutOfMemory) ⊎ (meant ≡ Err kind)

@@ -1,0 +1,8 @@
+//! The builder called from own code: a record of texts out of pairs of a field's name and a text.
+#![tactic(auto)]
+
+mod record;
+#[cfg(test)]
+mod tests;
+
+pub use record::{Pair, record_of};

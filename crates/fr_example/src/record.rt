@@ -1,0 +1,79 @@
+//! A record of texts.
+ghost use Rattle.std.specs.Prelude.{◌≡◌, ℕ, ◌*◌, min, true, length, IfOk};
+ghost use Rattle.fr_shape.specs.declared.shape.Def.{Def};
+ghost use Rattle.fr_shape.specs.declared.shape.ScalarKind.{ScalarKind};
+ghost use Rattle.fr_shape.specs.Checked.{IsChecked};
+ghost use Rattle.fr_shape.specs.Fits.{fits};
+ghost use Rattle.fr_shape.specs.Look.{def_of};
+ghost use Rattle.fr_shape.specs.Numbered.{IsNumbered};
+ghost use Rattle.fr_shape.specs.Served.{IsServed};
+ghost use Rattle.fr_model.specs.Tree.{most_calls};
+ghost use Rattle.fr_partial.specs.Builder.{holds, IsStepTo};
+ghost use Rattle.fr_example.specs.Meant.{is_struct, record_meant, IsMeant};
+ghost use Rattle.fr_example.specs.Putting.{puts_pair};
+
+use fr_partial::{Built, Partial};
+use fr_shape::{Items, Ledger, ReflectErrorKind, ShapeId, ShapeTable, Shaped, Text, Value};
+use std::alloc::Global;
+
+/// A field's name, and the text that is to stand in it.
+#[derive(Drop)]
+pub struct Pair {
+    pub name: Text,
+    pub text: Text,
+}
+
+/// Builds a struct from texts, in whatever order they come. It returns the value exactly where each name is that of a
+/// `String` field and every other field has a fill: each field that was named holds the last text given for it.
+/// Otherwise it returns the first refusal: `FieldError` for a name that no field has, `WrongShape` for a field that is
+/// no `String`, and last of all `UninitializedField` for a field that was not named and has no fill. Where there is no
+/// pair at all, the struct's own default comes first. `root` is the shape of the struct, `string` that of the texts.
+/// Out of memory is `OutOfMemory`, at any pair or at the end.
+pub fn record_of(
+    alloc: Global,
+    table: &ShapeTable,
+    root: ShapeId,
+    string: ShapeId,
+    pairs: Items<Pair>,
+    ledger: &mut Ledger,
+) -> Result<Built, ReflectErrorKind>
+    requires root { is_struct (def_of table.now root.0) ≡ true }
+    requires string { def_of table.now string.0 ≡ Def.Scalar ScalarKind.String }
+    requires numbered { IsNumbered table.now }
+    requires checked { IsChecked table.now }
+    requires served { IsServed table.now }
+    ensures meant { IsMeant (record_meant table.now root.0 string.0 pairs) result }
+    ensures fits { IfOk result (λ built. fits table.now root.0 built.value ≡ true) }
+    ensures calls { IfOk result (λ built. built.calls ≡ min (3 * length pairs) most_calls) }
+    ensures released { ledger.new ≡ ledger.old }
+{
+    let Ok(mut partial) = Partial::alloc_shape(alloc, table, root) else {
+        return Err(ReflectErrorKind::OutOfMemory);
+    };
+    for pair in pairs.into_vec() {
+        partial = put(partial, table, string, pair, ledger)?;
+    }
+    partial.build(ledger)
+}
+
+/// Puts a text into the field of its name. The builder works at a struct, and does so again afterwards.
+fn put<'t>(
+    partial: Partial<'t>,
+    table: &'t ShapeTable,
+    string: ShapeId,
+    pair: Pair,
+    ledger: &mut Ledger,
+) -> Result<Partial<'t>, ReflectErrorKind>
+    requires same { partial.shapes ≡ table.now }
+    requires string { def_of table.now string.0 ≡ Def.Scalar ScalarKind.String }
+    requires tokens { (t : ℕ) → holds partial t ≡ 0 }
+    ensures put { IsStepTo partial.entry
+        (puts_pair table.now partial.entry.root string.0 partial.entry.state pair) result }
+    ensures released { ledger.new ≡ ledger.old }
+    ensures tokens { IfOk result (λ after. (t : ℕ) → holds after t ≡ 0) }
+{
+    let Pair { name, text } = pair;
+    let entered = partial.begin_field(name.as_str(), ledger)?;
+    let value = Shaped::new(table, string, Value::Text(text));
+    entered.set_shape(value, ledger)?.end(ledger)
+}
