@@ -12,6 +12,8 @@ mod outlines;
 mod plans;
 mod strategies;
 mod telling;
+#[cfg(test)]
+mod tests;
 mod type_plan;
 mod variants;
 mod walking;

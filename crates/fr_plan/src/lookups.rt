@@ -12,7 +12,7 @@ use fr_arena::{Arena, Idx, SliceRange};
 use fr_shape::ShapeId;
 
 /// The entry of this number, if there is one.
-fn entry<T>(arena: &Arena<T>, i: u32) -> Option<&T>
+pub(crate) fn entry<T>(arena: &Arena<T>, i: u32) -> Option<&T>
     ensures { option_copied result ≡ slice_get arena.now i }
 {
     if (i as usize) < arena.len() {
