@@ -1,9 +1,9 @@
 //! Which shapes the builder serves so far. The module goes when it serves all.
 ghost use Rattle.std.specs.Prelude.{◌≡◌};
 ghost use Rattle.std.specs.List.{list_all};
-ghost use Rattle.fr_shape.specs.Served.{serves, serves_def, serves_field};
+ghost use Rattle.fr_shape.specs.Served.{serves, serves_def, serves_field, serves_variant};
 
-use fr_shape::{Def, Field, Shape};
+use fr_shape::{Def, Field, Shape, VariantDef};
 
 /// Whether the builder serves a shape.
 pub fn is_served(shape: &Shape) -> bool
@@ -18,10 +18,6 @@ pub fn is_served(shape: &Shape) -> bool
         && shape.proxy.is_none()
         && shape.format_proxies.is_empty()
         && shape.invariant.is_none()
-        && !shape.metadata
-        && !shape.deny_unknown
-        && !shape.transparent
-        && !shape.bytes_ok
 }
 
 fn is_served_def(def: &Def) -> bool
@@ -29,18 +25,32 @@ fn is_served_def(def: &Def) -> bool
 {
     match def {
         Def::Struct(described) => are_served_fields(described.fields.as_slice()),
-        Def::Scalar(_) | Def::Opaque | Def::Option(_) | Def::List(_) | Def::Array(_, _) => true,
-        Def::Str
-        | Def::Enum(_)
+        Def::Enum(described) => are_served_variants(described.variants.as_slice()),
+        Def::Scalar(_)
+        | Def::Str
+        | Def::Opaque
+        | Def::Option(_)
         | Def::Result(_, _)
+        | Def::List(_)
         | Def::Map(_, _)
         | Def::Set(_)
+        | Def::Array(_, _)
         | Def::Pointer(_)
-        | Def::Slice(_)
-        | Def::Dynamic
         | Def::Undefined
-        | Def::Other => false,
+        | Def::Other => true,
+        Def::Slice(_) | Def::Dynamic => false,
     }
+}
+
+fn are_served_variants(variants: &[VariantDef]) -> bool
+    ensures { result ≡ list_all serves_variant variants.now }
+{
+    for variant in variants {
+        if !are_served_fields(variant.fields.as_slice()) {
+            return false;
+        }
+    }
+    true
 }
 
 fn are_served_fields(fields: &[Field]) -> bool
@@ -57,10 +67,5 @@ fn are_served_fields(fields: &[Field]) -> bool
 fn is_served_field(field: &Field) -> bool
     ensures { result ≡ serves_field field.now }
 {
-    field.rename.is_none()
-        && field.alias.is_none()
-        && !field.flatten
-        && field.proxy.is_none()
-        && field.format_proxies.is_empty()
-        && field.validators.is_empty()
+    field.proxy.is_none() && field.format_proxies.is_empty() && field.validators.is_empty()
 }
