@@ -1,0 +1,26 @@
+-- The typed path of a place: the steps that lead to it from the root.
+use Rattle.std.specs.Prelude.{ℕ, List, [], ◌∷◌}
+use Rattle.fr_path.specs.declared.path_steps.PathStep.{PathStep}
+use Rattle.fr_model.specs.Places.{Place}
+use Rattle.fr_model.specs.Tree.{Form, as_struct, as_array, Tree, hole, entered, whole, begun, Trees, child_tree, State}
+
+-- the step to child i of a place that is begun so: to a field of a struct, to an element of an array
+abbrev pub step_as : Form → ℕ → PathStep
+step_as as_struct i = PathStep.Field i
+step_as as_array i = PathStep.Index i
+
+-- the step to child i of what stands at a place (only a begun place has one)
+abbrev pub step_below : ℕ → Tree → PathStep
+step_below i hole = PathStep.Field i
+step_below i entered = PathStep.Field i
+step_below i (whole v) = PathStep.Field i
+step_below i (begun form ts) = step_as form i
+
+-- the steps to the place that lies so in a tree
+abbrev pub steps_in : Place → Tree → List PathStep
+steps_in [] t = []
+steps_in (i ∷ place) t = step_below i t ∷ steps_in place (child_tree i t)
+
+-- the path of the place at which a builder works
+abbrev pub path_of : State → List PathStep
+path_of state = steps_in state.cursor state.tree
