@@ -122,131 +122,165 @@ const fn field_of_point(index: u32) -> FieldRef {
     }
 }
 
-fn check_details<const N: usize>(
-    rt: &(impl Abort + AllocGlobal),
-    cases: [(ReflectErrorKind, &str); N],
-) -> Result<(), Fail> {
-    let json = Json::from_str(rt.alloc(), SHAPES)?;
-    let Ok(shapes) = shapes_of(rt.alloc(), &json) else {
-        return Err(Fail::from("not read"));
-    };
-    let table = ShapeTable::new(rt.alloc(), shapes);
-    for (kind, want) in cases {
-        let detail = detail_of(rt.alloc(), &table, &kind)?;
-        assert_eq!(rt; detail.as_str(), want);
+/// The table of these shapes.
+fn read_table(alloc: Global) -> Result<ShapeTable, Fail> {
+    let json = Json::from_str(alloc, SHAPES)?;
+    match shapes_of(alloc, &json) {
+        Ok(shapes) => Ok(ShapeTable::new(alloc, shapes)),
+        Err(_) => Err(Fail::from("not read")),
     }
+}
+
+/// Compares the detail of an error of this kind, over that table.
+fn check_detail(
+    rt: &(impl Abort + AllocGlobal),
+    table: &ShapeTable,
+    kind: ReflectErrorKind,
+    want: &str,
+) -> Result<(), Fail> {
+    let detail = detail_of(rt.alloc(), table, &kind)?;
+    assert_eq!(rt; detail.as_str(), want);
     Ok(())
 }
 
 #[test]
 fn details_name_what_the_place_is(rt: HostRuntime) -> Result<(), Fail> {
-    check_details(
+    let table = read_table(rt.alloc())?;
+    check_detail(
         &rt,
-        [
-            (
-                ReflectErrorKind::WasNotA {
-                    expected: Expected::Enum,
-                    actual: U32,
-                },
-                "expected enum, got u32",
-            ),
-            (
-                ReflectErrorKind::WasNotA {
-                    expected: Expected::Option,
-                    actual: POINT,
-                },
-                "expected Option, got Point",
-            ),
-            (
-                ReflectErrorKind::WasNotA {
-                    expected: Expected::Result,
-                    actual: NO_SHAPE,
-                },
-                "expected Result, got ",
-            ),
-            (
-                ReflectErrorKind::WrongShape {
-                    expected: U32,
-                    actual: STRING,
-                },
-                "expected u32, got String",
-            ),
-            (
-                ReflectErrorKind::FieldError { shape: POINT },
-                "no such field",
-            ),
-            (
-                ReflectErrorKind::UninitializedField {
-                    field: field_of_point(0),
-                },
-                "x",
-            ),
-            (
-                ReflectErrorKind::UninitializedField {
-                    field: field_of_point(1),
-                },
-                "",
-            ),
-            (
-                ReflectErrorKind::UninitializedValue { shape: STRING },
-                "String",
-            ),
-            (
-                ReflectErrorKind::DefaultAttrButNoDefaultImpl { shape: U32 },
-                "u32",
-            ),
-            (ReflectErrorKind::ParseFailed { shape: U32 }, "u32"),
-        ],
-    )
+        &table,
+        ReflectErrorKind::WasNotA {
+            expected: Expected::Enum,
+            actual: U32,
+        },
+        "expected enum, got u32",
+    )?;
+    check_detail(
+        &rt,
+        &table,
+        ReflectErrorKind::WasNotA {
+            expected: Expected::Option,
+            actual: POINT,
+        },
+        "expected Option, got Point",
+    )?;
+    check_detail(
+        &rt,
+        &table,
+        ReflectErrorKind::WasNotA {
+            expected: Expected::Result,
+            actual: NO_SHAPE,
+        },
+        "expected Result, got ",
+    )?;
+    check_detail(
+        &rt,
+        &table,
+        ReflectErrorKind::WrongShape {
+            expected: U32,
+            actual: STRING,
+        },
+        "expected u32, got String",
+    )?;
+    check_detail(
+        &rt,
+        &table,
+        ReflectErrorKind::FieldError { shape: POINT },
+        "no such field",
+    )?;
+    check_detail(
+        &rt,
+        &table,
+        ReflectErrorKind::UninitializedField {
+            field: field_of_point(0),
+        },
+        "x",
+    )?;
+    check_detail(
+        &rt,
+        &table,
+        ReflectErrorKind::UninitializedField {
+            field: field_of_point(1),
+        },
+        "",
+    )?;
+    check_detail(
+        &rt,
+        &table,
+        ReflectErrorKind::UninitializedValue { shape: STRING },
+        "String",
+    )?;
+    check_detail(
+        &rt,
+        &table,
+        ReflectErrorKind::DefaultAttrButNoDefaultImpl { shape: U32 },
+        "u32",
+    )?;
+    check_detail(
+        &rt,
+        &table,
+        ReflectErrorKind::ParseFailed { shape: U32 },
+        "u32",
+    )?;
+    Ok(())
 }
 
 #[test]
 fn details_tell_what_was_wrong(rt: HostRuntime) -> Result<(), Fail> {
-    check_details(
+    let table = read_table(rt.alloc())?;
+    check_detail(
         &rt,
-        [
-            (
-                ReflectErrorKind::Alloc(AllocError {
-                    shape: POINT,
-                    operation: PlanFault::NotSized,
-                }),
-                "type is not sized",
-            ),
-            (
-                ReflectErrorKind::OperationFailed {
-                    shape: U32,
-                    operation: Operation::NoDefault,
-                },
-                "type does not implement Default",
-            ),
-            (
-                ReflectErrorKind::UnexpectedTracker {
-                    call: InitCall::Set,
-                    current: TrackerKind::Map,
-                },
-                "init_set called but tracker isn't something set-like",
-            ),
-            (
-                ReflectErrorKind::InvariantViolation {
-                    invariant: Invariant::BuildDeferred,
-                },
-                "build() called but deferred mode is enabled",
-            ),
-            (
-                ReflectErrorKind::InvalidOperation {
-                    reason: Reason::NoSuchField,
-                },
-                "no such field",
-            ),
-            (
-                ReflectErrorKind::InvalidOperation {
-                    reason: Reason::NotAProduct,
-                },
-                "not a struct, enum, option or result",
-            ),
-            (ReflectErrorKind::OutOfMemory, "out of memory"),
-        ],
-    )
+        &table,
+        ReflectErrorKind::Alloc(AllocError {
+            shape: POINT,
+            operation: PlanFault::NotSized,
+        }),
+        "type is not sized",
+    )?;
+    check_detail(
+        &rt,
+        &table,
+        ReflectErrorKind::OperationFailed {
+            shape: U32,
+            operation: Operation::NoDefault,
+        },
+        "type does not implement Default",
+    )?;
+    check_detail(
+        &rt,
+        &table,
+        ReflectErrorKind::UnexpectedTracker {
+            call: InitCall::Set,
+            current: TrackerKind::Map,
+        },
+        "init_set called but tracker isn't something set-like",
+    )?;
+    check_detail(
+        &rt,
+        &table,
+        ReflectErrorKind::InvariantViolation {
+            invariant: Invariant::BuildDeferred,
+        },
+        "build() called but deferred mode is enabled",
+    )?;
+    check_detail(
+        &rt,
+        &table,
+        ReflectErrorKind::InvalidOperation {
+            reason: Reason::NoSuchField,
+        },
+        "no such field",
+    )?;
+    check_detail(
+        &rt,
+        &table,
+        ReflectErrorKind::InvalidOperation {
+            reason: Reason::NotAProduct,
+        },
+        "not a struct, enum, option or result",
+    )?;
+    check_detail(&rt, &table, ReflectErrorKind::OutOfMemory, "out of memory")?;
+    Ok(())
 }
 
 /// A copy of a message.
@@ -259,40 +293,45 @@ fn message(rt: &impl AllocGlobal, text: &str) -> Result<Text, Fail> {
 
 #[test]
 fn details_repeat_messages(rt: HostRuntime) -> Result<(), Fail> {
-    check_details(
+    let table = read_table(rt.alloc())?;
+    check_detail(
         &rt,
-        [
-            (
-                ReflectErrorKind::ValidationFailed {
-                    field: field_of_point(0),
-                    message: message(&rt, "must be >= 5, got 3")?,
-                },
-                "must be >= 5, got 3",
-            ),
-            (
-                ReflectErrorKind::CustomDeserializationError {
-                    message: message(&rt, "refused")?,
-                    src_shape: U32,
-                    dst_shape: POINT,
-                },
-                "refused",
-            ),
-            (
-                ReflectErrorKind::TryFromError {
-                    src_shape: U32,
-                    dst_shape: POINT,
-                    inner: TryFromFault::Generic(message(&rt, "must not be zero")?),
-                },
-                "must not be zero",
-            ),
-            (
-                ReflectErrorKind::TryFromError {
-                    src_shape: U32,
-                    dst_shape: POINT,
-                    inner: TryFromFault::UnsupportedSourceType,
-                },
-                "",
-            ),
-        ],
-    )
+        &table,
+        ReflectErrorKind::ValidationFailed {
+            field: field_of_point(0),
+            message: message(&rt, "must be >= 5, got 3")?,
+        },
+        "must be >= 5, got 3",
+    )?;
+    check_detail(
+        &rt,
+        &table,
+        ReflectErrorKind::CustomDeserializationError {
+            message: message(&rt, "refused")?,
+            src_shape: U32,
+            dst_shape: POINT,
+        },
+        "refused",
+    )?;
+    check_detail(
+        &rt,
+        &table,
+        ReflectErrorKind::TryFromError {
+            src_shape: U32,
+            dst_shape: POINT,
+            inner: TryFromFault::Generic(message(&rt, "must not be zero")?),
+        },
+        "must not be zero",
+    )?;
+    check_detail(
+        &rt,
+        &table,
+        ReflectErrorKind::TryFromError {
+            src_shape: U32,
+            dst_shape: POINT,
+            inner: TryFromFault::UnsupportedSourceType,
+        },
+        "",
+    )?;
+    Ok(())
 }
