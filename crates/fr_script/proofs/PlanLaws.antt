@@ -19,12 +19,13 @@ use Rattle.fr_plan.specs.declared.lists.PlanLists.{PlanLists}
 use Rattle.fr_plan.specs.declared.plans.StructPlan.{StructPlan}
 use Rattle.fr_plan.specs.declared.plans.EnumPlan.{EnumPlan}
 use Rattle.fr_plan.specs.Nodes.{struct_plan_of, enum_plan_of, IsKindBy, IsOwnKind, IsKindOf, IsNode, AreNodes}
-use Rattle.fr_script.specs.PlanReports.{NodeLine, node_kind_name, own_kind_name, kind_name_in, kind_name_of, strategy_name, name_in, node_line, outline_line}
+use Rattle.fr_script.specs.PlanReports.{NodeLine, node_kind_name, own_kind_name, kind_name_in, kind_name_of, strategy_name, node_line, outline_line}
 use Rattle.fr_script.specs.Reports.{line_data, planned, unplanned, status_of, plan_of, run_of, outcome_of_run, outcome_of_plan, outcome_of_document, outcome_of}
 use Rattle.fr_script.specs.DocumentFacts.{IsInOrder, Succeeds}
 use Rattle.fr_script.specs.Documents.{Document, document_of}
 use Rattle.fr_script.specs.declared.word.Word.{Word}
 use Rattle.fr_doc.specs.declared.fault.DocFault.{DocFault}
+use Rattle.fr_doc.specs.Details.{name_in}
 use Rattle.fr_shape.specs.Plannable.{IsPlannable}
 use Rattle.fr_plan.specs.RefusalLaws.{refusal_in, RefusesFirst, PlansPlannable}
 use Rattle.fr_script.proofs.Buildable.{document_in_order}

@@ -11,7 +11,7 @@ use Rattle.fr_doc.specs.declared.looping.TheConstants.{DOCUMENT_LIMIT}
 use Rattle.fr_doc.specs.Causes.{LosesAtMost}
 use Rattle.fr_script.specs.declared.word.Word.{Word}
 use Rattle.fr_script.specs.Documents.{document_of}
-use Rattle.fr_script.specs.Reports.{outcome_of, outcome_of_document}
+use Rattle.fr_script.specs.Reports.{outcome_of, outcome_of_document, report_of, report_of_document}
 
 -- n stands for the most that is read, which is too large to compute with
 pub at_limit : (word : Word) (n : ℕ) (bytes : List ℕ) → n ≡ DOCUMENT_LIMIT + 1
@@ -34,6 +34,10 @@ at_limit word n bytes e = go (nat_lt (length bytes) n) refl
 pub outcome_at_limit : (word : Word) (n : ℕ) (bytes : List ℕ) → n ≡ DOCUMENT_LIMIT + 1
     → outcome_of word (take n bytes) ≡ outcome_of word bytes
 outcome_at_limit word n bytes e = ap (outcome_of_document word) (at_limit word n bytes e)
+
+pub report_at_limit : (word : Word) (n : ℕ) (bytes : List ℕ) → n ≡ DOCUMENT_LIMIT + 1
+    → report_of word (take n bytes) ≡ report_of word bytes
+report_at_limit word n bytes e = ap (report_of_document word) (at_limit word n bytes e)
 
 -- what was read of a source is what it doesn't have any more
 pub loses : (n : ℕ) (before after : Option (List ℕ)) → after ≡ option_map (drop n) before → LosesAtMost n before after

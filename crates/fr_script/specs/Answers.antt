@@ -8,7 +8,7 @@ use Rattle.fr_script.specs.PlanReports.{node_line}
 use Rattle.fr_script.specs.Reports.{Outcome, faulty, built, refused, planned, unplanned}
 
 abbrev pub refusal_view : ScriptError → Refusal
-refusal_view error = record { number = error.number; kind = error.kind }
+refusal_view error = record { number = error.number; kind = error.kind; path = error.path }
 
 abbrev pub outcome_view : Answer → Outcome
 outcome_view (Answer.Fault fault) = faulty fault

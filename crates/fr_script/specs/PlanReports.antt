@@ -1,8 +1,9 @@
 -- What is told of a plan: of each node its shape, its kind and its strategy, by their names.
-use Rattle.std.specs.Prelude.{ℕ, List, [], Option, Some, None, slice_get, codes}
+use Rattle.std.specs.Prelude.{ℕ, List, Option, Some, None, slice_get, codes}
 use Rattle.fr_shape.specs.declared.shape.Shape.{Shape}
 use Rattle.fr_shape.specs.declared.shape.Def.{Def}
 use Rattle.fr_shape.specs.Look.{Table}
+use Rattle.fr_doc.specs.Details.{name_in}
 use Rattle.fr_plan.specs.declared.nodes.TypePlanNode.{TypePlanNode}
 use Rattle.fr_plan.specs.declared.nodes.TypePlanNodeKind.{TypePlanNodeKind}
 use Rattle.fr_plan.specs.declared.nodes.DeserStrategy.{DeserStrategy}
@@ -54,13 +55,6 @@ pub record NodeLine : Type 0 where
   pub kind : List ℕ
   pub shape : List ℕ
   pub strategy : List ℕ
-
-abbrev pub shape_name : Option Shape → List ℕ
-shape_name (Some shape) = shape.name
-shape_name None = []
-
-abbrev pub name_in : Table → ℕ → List ℕ
-name_in table id = shape_name (slice_get table id)
 
 abbrev pub node_line : Table → TypePlanNode → NodeLine
 node_line table node = record {

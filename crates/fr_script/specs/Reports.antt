@@ -10,9 +10,11 @@ use Rattle.fr_shape.specs.Val.{Val}
 use Rattle.fr_doc.specs.declared.fault.DocFault.{DocFault}
 use Rattle.fr_doc.specs.declared.fault.DocPlace.{DocPlace}
 use Rattle.fr_doc.specs.declared.fault.DocSize.{DocSize}
+use Rattle.fr_doc.specs.Details.{detail_text}
 use Rattle.fr_doc.specs.Printed.{under, natural, value_data}
 use Rattle.fr_model.specs.Run.{Refusal, full_run}
 use Rattle.fr_model.specs.Scripts.{brought}
+use Rattle.fr_path.specs.PathText.{path_text}
 use Rattle.fr_plan.specs.Build.{Built as Planned, Made, planned as the_plan}
 use Rattle.fr_shape.specs.declared.error.PlanFault.{PlanFault}
 use Rattle.fr_shape.specs.Look.{Table}
@@ -138,11 +140,18 @@ fault_data (DocFault.Invalid i) =
     object
     (member (codes "command") (natural i) (member (codes "fault") (string (codes "Invalid")) no_members))
 
-abbrev pub error_data : Refusal → Data
-error_data refusal =
+abbrev pub error_object : (number : ℕ) → (detail kind path : List ℕ) → Data
+error_object number detail kind path =
     object
-    (member (codes "command") (natural refusal.number)
-    (member (codes "kind") (string (kind_name refusal.kind)) no_members))
+    (member (codes "command") (natural number)
+    (member (codes "detail") (string detail)
+    (member (codes "kind") (string kind) (member (codes "path") (string path) no_members))))
+
+-- a refusal, its names and its path told by the table and the root that were built on
+abbrev pub error_data : Table → (root : ℕ) → Refusal → Data
+error_data table root refusal =
+    error_object refusal.number (detail_text table refusal.kind) (kind_name refusal.kind)
+    (path_text table (record { 0 = root }) refusal.path)
 
 abbrev pub line_data : NodeLine → Data
 line_data line =
@@ -152,25 +161,38 @@ line_data line =
 
 -- why a root can't be planned: before the first command, at the root
 abbrev pub plan_error_data : PlanFault → Data
-plan_error_data fault =
-    object
-    (member (codes "command") (natural 0)
-    (member (codes "detail") (string (plan_fault_text fault))
-    (member (codes "kind") (string (codes "Alloc")) (member (codes "path") (string []) no_members))))
+plan_error_data fault = error_object 0 (plan_fault_text fault) (codes "Alloc") []
 
 abbrev pub with_released : List ℕ → Data → List ℕ → Data
 with_released key d tokens = object (member key d (member (codes "released") (array (naturals tokens)) no_members))
 
-abbrev pub outcome_data : Outcome → Data
-outcome_data (faulty fault) = fault_data fault
-outcome_data (built v tokens) = with_released (codes "ok") (value_data v) tokens
-outcome_data (refused refusal tokens) = with_released (codes "error") (error_data refusal) tokens
-outcome_data (planned lines root) =
+-- an outcome over a table and a root of it
+abbrev pub outcome_data : Table → (root : ℕ) → Outcome → Data
+outcome_data table root (faulty fault) = fault_data fault
+outcome_data table root (built v tokens) = with_released (codes "ok") (value_data v) tokens
+outcome_data table root (refused refusal tokens) =
+    with_released (codes "error") (error_data table root refusal) tokens
+outcome_data table root (planned lines node) =
     object
     (member (codes "nodes") (array (items_of (map line_data lines)))
-    (member (codes "root") (natural root) no_members))
-outcome_data (unplanned fault) = with_released (codes "error") (plan_error_data fault) []
+    (member (codes "root") (natural node) no_members))
+outcome_data table root (unplanned fault) = with_released (codes "error") (plan_error_data fault) []
 
--- the report's bytes
-abbrev pub report : Outcome → List ℕ
-report outcome = compact_text (outcome_data outcome) ++ 10 ∷ []
+-- The report's bytes.
+
+abbrev pub line_of : Data → List ℕ
+line_of d = compact_text d ++ 10 ∷ []
+
+-- of an outcome over a table and a root of it
+abbrev pub report : Table → (root : ℕ) → Outcome → List ℕ
+report table root outcome = line_of (outcome_data table root outcome)
+
+-- of a document: its own table and root tell the names, and a fault has none
+abbrev pub report_of_document : Word → Result Document DocFault → List ℕ
+report_of_document word (Ok document) =
+    report document.shapes document.root (outcome_of_document word (Ok document))
+report_of_document word (Err fault) = line_of (fault_data fault)
+
+-- of the bytes of an input under a word
+abbrev pub report_of : Word → List ℕ → List ℕ
+report_of word bytes = report_of_document word (document_of word bytes)

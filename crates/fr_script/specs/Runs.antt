@@ -4,7 +4,7 @@ use Rattle.std.specs.declared.alloc.Global.{Global}
 use Rattle.std.specs.Io.KnownBytes.{append_known}
 use Rattle.std.specs.Str.{bytes_eq}
 use Rattle.fr_script.specs.declared.word.Word.{Word}
-use Rattle.fr_script.specs.Reports.{Outcome, status_of, report}
+use Rattle.fr_script.specs.Reports.{outcome_of, status_of, report_of}
 
 abbrev pub word_named : List ℕ → Option Word
 word_named name =
@@ -21,7 +21,8 @@ asked (word ∷ other ∷ words) = None
 abbrev pub usage_line : List ℕ
 usage_line = codes "usage: build | plan | gen N\n"
 
--- The status is the outcome's, and its report stands behind what the sink had taken before, where that is told.
-pub record Tells (outcome : Outcome) (ended : ℕ) (before after : Option (List ℕ)) : Type 0 where
-  pub status : ended ≡ status_of outcome
-  pub written : after ≡ append_known before (report outcome)
+-- The status is that of what the bytes come to under the word, and their report stands behind what the sink had taken
+-- before, where that is told.
+pub record Tells (word : Word) (bytes : List ℕ) (ended : ℕ) (before after : Option (List ℕ)) : Type 0 where
+  pub status : ended ≡ status_of (outcome_of word bytes)
+  pub written : after ≡ append_known before (report_of word bytes)

@@ -2,9 +2,9 @@
 ghost use Rattle.std.specs.Prelude.{◌≡◌, ◌+◌, ◌<◌, ◌^◌, true, length, IfOk};
 ghost use Rattle.fr_shape.specs.Checked.{IsChecked};
 ghost use Rattle.fr_shape.specs.Fits.{fits};
-ghost use Rattle.fr_shape.specs.Hooks.{no_hooks};
 ghost use Rattle.fr_shape.specs.Look.{IsIn};
 ghost use Rattle.fr_shape.specs.Numbered.{IsNumbered};
+ghost use Rattle.fr_shape.specs.Plannable.{IsPlain};
 ghost use Rattle.fr_shape.specs.Released.{Room, RoseBy, Conserved};
 ghost use Rattle.fr_shape.specs.Served.{IsServed};
 ghost use Rattle.fr_model.specs.Commands.{call_of, calls_of};
@@ -12,28 +12,34 @@ ghost use Rattle.fr_model.specs.Journal.{journal_run};
 ghost use Rattle.fr_model.specs.Run.{full_run};
 ghost use Rattle.fr_model.specs.Scripts.{IsFitting, IsValid, brings, brought};
 ghost use Rattle.fr_model.specs.Settled.{IsSettled};
-ghost use Rattle.fr_partial.specs.Builder.{holds, IsStep, left};
-ghost use Rattle.fr_script.specs.Outcomes.{IsRun, IsJournals, answered};
+ghost use Rattle.fr_partial.specs.Builder.{holds, IsStep, left, TellsPlaceBefore};
+ghost use Rattle.fr_script.specs.Outcomes.{IsRun, IsJournals, answered, kind_without_plan};
 
 use fr_model::{Command, Script, law_agree};
-use fr_partial::{Built, Partial};
-use fr_shape::{Ledger, ReflectErrorKind, ShapeId, ShapeTable, Shaped, release};
+use fr_partial::{Built, Partial, ReflectError};
+use fr_path::Path;
+use fr_shape::{
+    Hooks, Ledger, PlanError, ReflectErrorKind, ShapeId, ShapeTable, Shaped, release,
+};
 use std::alloc::Global;
 use std::collections::VecDeque;
 
-/// The command that was refused, counted from 0, or the script's length where `build` was refused; and why.
+/// The command that was refused, counted from 0, or the script's length where `build` was refused; why; and the path of
+/// the place at which the builder worked before. A root without a plan is refused before the first command.
 #[derive(Drop)]
 pub struct ScriptError {
     pub number: u32,
     pub kind: ReflectErrorKind,
+    pub path: Path,
 }
 
 /// Runs the commands of a script on a new builder, one call a command, and builds. An error has released every token
 /// of the script, those of commands that were not run among them.
-pub fn build_script(
+pub fn build_script<H: Hooks>(
     alloc: Global,
     table: &ShapeTable,
     root: ShapeId,
+    hooks: &H,
     script: Script,
     ledger: &mut Ledger,
 ) -> Result<Built, ScriptError>
@@ -43,8 +49,9 @@ pub fn build_script(
     requires served { IsServed table.now }
     requires valid { IsValid table.now (calls_of script) ledger.old }
     requires few { length script < 2 ^ 32 }
-    ensures run { IsRun (full_run no_hooks table.now root.0 (calls_of script)) result }
-    ensures journal { IsJournals (journal_run table.now root.0 (calls_of script)) result }
+    ensures run { IsRun (full_run (H.means hooks.now) table.now root.0 (calls_of script)) result }
+    ensures journal { IsPlain table.now root.0
+        → IsJournals (journal_run table.now root.0 (calls_of script)) result }
     ensures calls { IfOk result (λ built. built.calls ≡ length script) }
     ensures fits { IfOk result (λ built. fits table.now root.0 built.value ≡ true) }
     ensures settled { IsSettled (brought (calls_of script)) ledger.old
@@ -52,14 +59,17 @@ pub fn build_script(
 {
     law_agree();
     let mut commands = VecDeque::from(script.into_vec());
-    let Ok(first) = Partial::alloc_shape(alloc, table, root) else {
-        release_commands(commands, ledger);
-        return Err(ScriptError {
-            number: 0,
-            kind: ReflectErrorKind::OutOfMemory,
-        });
+    let mut partial = match Partial::alloc_shape(alloc, table, root, hooks) {
+        Ok(first) => first,
+        Err(refused) => {
+            release_commands(commands, ledger);
+            return Err(ScriptError {
+                number: 0,
+                kind: kind_without_plan(refused),
+                path: Path::new(alloc),
+            });
+        }
     };
-    let mut partial = first;
     let mut number = 0u32;
     while let Some(command) = commands.pop_front() {
         match call(partial, table, command, ledger) {
@@ -67,29 +77,40 @@ pub fn build_script(
                 partial = next;
                 number += 1;
             }
-            Err(kind) => {
+            Err(ReflectError { kind, path }) => {
                 release_commands(commands, ledger);
-                return Err(ScriptError { number, kind });
+                return Err(ScriptError { number, kind, path });
             }
         }
     }
     match partial.build(ledger) {
         Ok(built) => Ok(built),
-        Err(kind) => Err(ScriptError { number, kind }),
+        Err(ReflectError { kind, path }) => Err(ScriptError { number, kind, path }),
+    }
+}
+
+/// The refusal of a script whose root has no plan.
+fn kind_without_plan(refused: PlanError) -> ReflectErrorKind
+    ensures { result ≡ kind_without_plan refused }
+{
+    match refused {
+        PlanError::Alloc(error) => ReflectErrorKind::Alloc(error),
+        PlanError::OutOfMemory => ReflectErrorKind::OutOfMemory,
     }
 }
 
 /// Makes the call that a command stands for.
-fn call<'t>(
-    partial: Partial<'t>,
+fn call<'t, H: Hooks>(
+    partial: Partial<'t, H>,
     table: &'t ShapeTable,
     command: Command,
     ledger: &mut Ledger,
-) -> Result<Partial<'t>, ReflectErrorKind>
+) -> Result<Partial<'t, H>, ReflectError>
     requires same { partial.shapes ≡ table.now }
     requires fitting { IsFitting table.now (call_of command) }
     requires room { Room (λ t. holds partial t + brings (call_of command) t) ledger.old }
-    ensures step { IsStep partial.entry (call_of command) result }
+    ensures step { IsStep (H.means partial.entry.hooks) partial.entry (call_of command) result }
+    ensures path { TellsPlaceBefore partial.entry result }
     ensures tokens { Conserved (λ t. holds partial.entry t + brings (call_of command) t) ledger.old
         (left result) ledger.new }
 {

@@ -8,7 +8,7 @@ use std::process::Abort;
 use std::test::Fail;
 
 /// What is reported of a builder at which nothing was set.
-const NOTHING_SET: &str = r#"{"error":{"command":0,"kind":"UninitializedValue"},"released":[]}"#;
+const NOTHING_SET: &str = r#"{"error":{"command":0,"detail":"b","kind":"UninitializedValue","path":""},"released":[]}"#;
 
 /// `front`, then `part` so many times with commas between, then `back`.
 pub(crate) fn joined(
@@ -105,7 +105,7 @@ fn a_document_has_at_most_200_000_commands(rt: HostRuntime) -> Result<(), Fail> 
         200_000,
         (
             1,
-            r#"{"error":{"command":0,"kind":"InvariantViolation"},"released":[]}"#,
+            r#"{"error":{"command":0,"detail":"Partial::end() called with only one frame on the stack","kind":"InvariantViolation","path":""},"released":[]}"#,
         ),
         r#"{"fault":"TooLarge","what":"commands"}"#,
     )
@@ -123,7 +123,7 @@ fn a_script_is_at_most_1_000_deep(rt: HostRuntime) -> Result<(), Fail> {
         1_000,
         (
             1,
-            r#"{"error":{"command":0,"kind":"OperationFailed"},"released":[]}"#,
+            r#"{"error":{"command":0,"detail":"cannot select a field from this type","kind":"OperationFailed","path":""},"released":[]}"#,
         ),
         r#"{"fault":"TooLarge","what":"depth"}"#,
     )
@@ -132,7 +132,7 @@ fn a_script_is_at_most_1_000_deep(rt: HostRuntime) -> Result<(), Fail> {
 #[test]
 fn a_document_has_at_most_1_000_000_tokens(rt: HostRuntime) -> Result<(), Fail> {
     let alloc = rt.alloc();
-    let front = r#"{"shapes":[{"name":"a","def":"u32"}],"root":0,"tokens":"#;
+    let front = r#"{"shapes":[{"name":"b","def":"u32"}],"root":0,"tokens":"#;
     let back = r#","commands":[]}"#;
     let most = joined(alloc, front, "1000000", 1, back)?;
     check(&rt, "at the limit", most.as_bytes(), 1, NOTHING_SET)?;

@@ -1,15 +1,17 @@
 //! The report on a plan.
-ghost use Rattle.std.specs.Prelude.{◌≡◌, map, string_bytes, IfOk};
+ghost use Rattle.std.specs.Prelude.{◌≡◌, ℕ, map, string_bytes, IfOk};
 ghost use Rattle.serde_json.specs.Data.{array};
 ghost use Rattle.serde_json.specs.View.{view as data_of, items_of};
+ghost use Rattle.fr_shape.specs.Look.{Table};
 ghost use Rattle.fr_script.specs.Answers.{plan_outcome};
-ghost use Rattle.fr_script.specs.PlanReports.{name_in, node_kind_name, node_line, strategy_name};
+ghost use Rattle.fr_script.specs.PlanReports.{node_kind_name, node_line, strategy_name};
 ghost use Rattle.fr_script.specs.Reports.{line_data, outcome_data, plan_error_data, report};
 
 use crate::plan_answer::PlanAnswer;
-use crate::report::{json_of_fault, line_of};
+use crate::report::{json_of_error, json_of_fault, line_of};
+use fr_doc::name_of_shape;
 use fr_plan::{DeserStrategy, NodeId, TypePlanCore, TypePlanNode, TypePlanNodeKind};
-use fr_shape::{PlanFault, ShapeId, ShapeTable};
+use fr_shape::{PlanFault, ShapeTable};
 use serde_json::{Value as Json, json};
 use std::alloc::{AllocError, Global};
 
@@ -62,16 +64,6 @@ fn name_of_strategy(strategy: &DeserStrategy) -> &'static str
     }
 }
 
-/// The name of a shape of the table.
-fn name_of_shape(table: &ShapeTable, id: ShapeId) -> &str
-    ensures { result.now ≡ name_in table.now id.0 }
-{
-    match table.get(id) {
-        Some(shape) => shape.name.as_str(),
-        None => "",
-    }
-}
-
 /// The JSON of a node.
 fn json_of_node(alloc: Global, table: &ShapeTable, node: &TypePlanNode) -> Result<Json, AllocError>
     ensures { IfOk result (λ json. data_of json ≡ line_data (node_line table.now node.now)) }
@@ -101,12 +93,12 @@ fn json_of_nodes(alloc: Global, table: &ShapeTable, plan: &TypePlanCore) -> Resu
 fn json_of_plan_fault(alloc: Global, fault: &PlanFault) -> Result<Json, AllocError>
     ensures { IfOk result (λ json. data_of json ≡ plan_error_data fault.now) }
 {
-    let detail = fault.text();
-    json!(in alloc; { "command": 0, "detail": detail, "kind": "Alloc", "path": "" })
+    json_of_error(alloc, 0, fault.text(), "Alloc", "")
 }
 
 fn json_of_plan_answer(alloc: Global, answer: &PlanAnswer) -> Result<Json, AllocError>
-    ensures { IfOk result (λ json. data_of json ≡ outcome_data (plan_outcome answer.now)) }
+    ensures { IfOk result (λ json. (table : Table) (root : ℕ)
+        → data_of json ≡ outcome_data table root (plan_outcome answer.now)) }
 {
     match answer {
         PlanAnswer::Fault(fault) => json_of_fault(alloc, fault),
@@ -122,10 +114,11 @@ fn json_of_plan_answer(alloc: Global, answer: &PlanAnswer) -> Result<Json, Alloc
     }
 }
 
-/// The report on a plan: one JSON object and a line feed.
+/// The report on a plan: one JSON object and a line feed. No table tells more names in it.
 #[tactic(auto, using(crate::proofs::FloatFree::plan_answer_float_free))]
 pub fn plan_report_of(alloc: Global, answer: &PlanAnswer) -> Result<String, AllocError>
-    ensures report { IfOk result (λ text. string_bytes text ≡ report (plan_outcome answer.now)) }
+    ensures report { IfOk result (λ text. (table : Table) (root : ℕ)
+        → string_bytes text ≡ report table root (plan_outcome answer.now)) }
 {
     let json = json_of_plan_answer(alloc, answer)?;
     line_of(alloc, &json)

@@ -31,7 +31,7 @@ pub fn plan_document(alloc: Global, bytes: &[u8]) -> Result<PlanAnswer, OutOfMem
 }
 
 /// Plans a document's root.
-fn plan_root(alloc: Global, document: Document) -> Result<PlanAnswer, OutOfMemory>
+pub(crate) fn plan_root(alloc: Global, document: Document) -> Result<PlanAnswer, OutOfMemory>
     requires { IsInOrder (document_view document) }
     ensures { IfOk result (λ answer. plan_outcome answer
         ≡ outcome_of_plan document.table (plan_of (document_view document))) }

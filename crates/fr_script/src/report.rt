@@ -1,17 +1,17 @@
 //! The report on an answer.
-ghost use Rattle.std.specs.Prelude.{◌≡◌, ◌++◌, ◌∷◌, [], false, codes, string_bytes, IfOk};
+ghost use Rattle.std.specs.Prelude.{◌≡◌, false, codes, string_bytes, IfOk};
 ghost use Rattle.serde_json.specs.Data.{array};
 ghost use Rattle.serde_json.specs.View.{view as data_of};
-ghost use Rattle.serde_json.specs.Written.{compact_text, has_float};
+ghost use Rattle.serde_json.specs.Written.{has_float};
 ghost use Rattle.fr_script.specs.Answers.{outcome_view, refusal_view};
-ghost use Rattle.fr_script.specs.Reports.{outcome_data, report, kind_name, place_name, size_name, naturals, fault_data, error_data, with_released};
+ghost use Rattle.fr_script.specs.Reports.{outcome_data, report, line_of, kind_name, place_name, size_name, naturals, fault_data, error_object, error_data, with_released};
 ghost use Rattle.fr_shape.specs.View.{view};
 ghost use Rattle.fr_doc.specs.Printed.{value_data};
 
 use crate::answering::Answer;
 use crate::building::ScriptError;
-use fr_doc::{DocFault, DocPlace, DocSize, json_of, law_printed_float_free};
-use fr_shape::{OutOfMemory, ReflectErrorKind, Value};
+use fr_doc::{DocFault, DocPlace, DocSize, detail_of, json_of, law_printed_float_free};
+use fr_shape::{ReflectErrorKind, ShapeId, ShapeTable, Value};
 use serde_json::{Value as Json, json};
 use std::alloc::{AllocError, Global};
 
@@ -116,44 +116,104 @@ fn json_of_built(alloc: Global, value: &Value, released: &[u32]) -> Result<Json,
     json!(in alloc; { "ok": ok, "released": tokens })
 }
 
-/// The JSON of a refusal and the tokens that were released.
-fn json_of_refused(alloc: Global, error: &ScriptError, released: &[u32]) -> Result<Json, AllocError>
+/// The JSON of an error.
+pub fn json_of_error(
+    alloc: Global,
+    command: u32,
+    detail: &str,
+    kind: &str,
+    path: &str,
+) -> Result<Json, AllocError>
     ensures { IfOk result (λ json. data_of json
-        ≡ with_released (codes "error") (error_data (refusal_view error.now)) released.now) }
+        ≡ error_object command detail.now kind.now path.now) }
 {
-    let command = error.number;
+    json!(in alloc; { "command": command, "detail": detail, "kind": kind, "path": path })
+}
+
+/// The JSON of a refusal, its path as the text from this root.
+fn json_of_refusal(
+    alloc: Global,
+    table: &ShapeTable,
+    root: ShapeId,
+    error: &ScriptError,
+) -> Result<Json, AllocError>
+    ensures { IfOk result (λ json. data_of json
+        ≡ error_data table.now root.0 (refusal_view error.now)) }
+{
+    let detail = detail_of(alloc, table, &error.kind)?;
+    let Ok(path) = error.path.format_with_shape(alloc, table, root) else {
+        return Err(AllocError);
+    };
     let kind = name_of_kind(&error.kind);
+    json_of_error(alloc, error.number, detail.as_str(), kind, path.as_str())
+}
+
+/// The JSON of a refusal and the tokens that were released.
+fn json_of_refused(
+    alloc: Global,
+    table: &ShapeTable,
+    root: ShapeId,
+    error: &ScriptError,
+    released: &[u32],
+) -> Result<Json, AllocError>
+    ensures { IfOk result (λ json. data_of json ≡ with_released (codes "error")
+        (error_data table.now root.0 (refusal_view error.now)) released.now) }
+{
+    let error = json_of_refusal(alloc, table, root, error)?;
     let tokens = json_of_numbers(alloc, released)?;
-    json!(in alloc; { "error": { "command": command, "kind": kind }, "released": tokens })
+    json!(in alloc; { "error": error, "released": tokens })
 }
 
 /// The JSON of an answer.
-fn json_of_answer(alloc: Global, answer: &Answer) -> Result<Json, AllocError>
-    ensures { IfOk result (λ json. data_of json ≡ outcome_data (outcome_view answer.now)) }
+fn json_of_answer(
+    alloc: Global,
+    table: &ShapeTable,
+    root: ShapeId,
+    answer: &Answer,
+) -> Result<Json, AllocError>
+    ensures { IfOk result (λ json. data_of json
+        ≡ outcome_data table.now root.0 (outcome_view answer.now)) }
 {
     match answer {
         Answer::Fault(fault) => json_of_fault(alloc, fault),
         Answer::Built(built, released) => {
             json_of_built(alloc, built.value(), released.as_slice())
         }
-        Answer::Refused(error, released) => json_of_refused(alloc, error, released.as_slice()),
+        Answer::Refused(error, released) => {
+            json_of_refused(alloc, table, root, error, released.as_slice())
+        }
     }
 }
 
-/// The report on an answer: one JSON object and a line feed.
+/// The report on an answer to a script over this table and root: one JSON object and a line feed.
 #[tactic(auto, using(crate::proofs::FloatFree::outcome_float_free))]
-pub fn report_of(alloc: Global, answer: &Answer) -> Result<String, AllocError>
-    ensures report { IfOk result (λ text. string_bytes text ≡ report (outcome_view answer.now)) }
+pub fn report_of(
+    alloc: Global,
+    table: &ShapeTable,
+    root: ShapeId,
+    answer: &Answer,
+) -> Result<String, AllocError>
+    ensures report { IfOk result (λ text.
+        string_bytes text ≡ report table.now root.0 (outcome_view answer.now)) }
 {
     law_printed_float_free();
-    let json = json_of_answer(alloc, answer)?;
+    let json = json_of_answer(alloc, table, root, answer)?;
+    line_of(alloc, &json)
+}
+
+/// The report on a faulty document.
+#[tactic(auto, using(crate::proofs::FloatFree::fault_free))]
+pub fn report_of_fault(alloc: Global, fault: &DocFault) -> Result<String, AllocError>
+    ensures report { IfOk result (λ text. string_bytes text ≡ line_of (fault_data fault.now)) }
+{
+    let json = json_of_fault(alloc, fault)?;
     line_of(alloc, &json)
 }
 
 /// A JSON without floats as compact text, and a line feed.
 pub fn line_of(alloc: Global, json: &Json) -> Result<String, AllocError>
     requires { has_float (data_of json.now) ≡ false }
-    ensures { IfOk result (λ text. string_bytes text ≡ compact_text (data_of json.now) ++ 10 ∷ []) }
+    ensures { IfOk result (λ text. string_bytes text ≡ line_of (data_of json.now)) }
 {
     let mut text = json.to_string(alloc)?;
     text.push_str("\n")?;

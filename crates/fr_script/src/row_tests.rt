@@ -14,7 +14,7 @@ const DEFAULTS_TAKEN: [(&str, &str, u8, &str); 3] = [
         "a list isn't filled though its shape has a default",
         r#""root":3,"commands":[]}"#,
         1,
-        r#"{"error":{"command":0,"kind":"UninitializedField"},"released":[]}"#,
+        r#"{"error":{"command":0,"detail":"l","kind":"UninitializedField","path":""},"released":[]}"#,
     ),
     (
         "a struct without fields that has a default is filled",
@@ -39,37 +39,37 @@ const ARRAYS_BUILT: [(&str, &str, u8, &str); 8] = [
         "an element past the end of an array",
         r#""root":1,"commands":[["begin_nth_field",64]]}"#,
         1,
-        r#"{"error":{"command":0,"kind":"OperationFailed"},"released":[]}"#,
+        r#"{"error":{"command":0,"detail":"array index out of bounds","kind":"OperationFailed","path":""},"released":[]}"#,
     ),
     (
         "an array that is left open",
         r#""root":1,"commands":[["begin_nth_field",0]]}"#,
         1,
-        r#"{"error":{"command":1,"kind":"InvariantViolation"},"released":[]}"#,
+        r#"{"error":{"command":1,"detail":"build() called but more than one frame is on the stack","kind":"InvariantViolation","path":"[0]"},"released":[]}"#,
     ),
     (
         "an element past the end of a large array",
         r#""root":3,"commands":[["begin_nth_field",5000]]}"#,
         1,
-        r#"{"error":{"command":0,"kind":"OperationFailed"},"released":[]}"#,
+        r#"{"error":{"command":0,"detail":"array index out of bounds","kind":"OperationFailed","path":""},"released":[]}"#,
     ),
     (
         "an array that is too large to be entered",
         r#""root":3,"commands":[["begin_nth_field",0]]}"#,
         1,
-        r#"{"error":{"command":0,"kind":"OperationFailed"},"released":[]}"#,
+        r#"{"error":{"command":0,"detail":"arrays larger than 4096 elements are not yet supported","kind":"OperationFailed","path":""},"released":[]}"#,
     ),
     (
         "an array of which only the last element is there",
         r#""root":1,"commands":[["begin_nth_field",63],["set",0,7],["end"]]}"#,
         1,
-        r#"{"error":{"command":3,"kind":"UninitializedValue"},"released":[]}"#,
+        r#"{"error":{"command":3,"detail":"A64","kind":"UninitializedValue","path":""},"released":[]}"#,
     ),
     (
         "an element of an array has no name",
         r#""root":2,"commands":[["begin_field","x"]]}"#,
         1,
-        r#"{"error":{"command":0,"kind":"OperationFailed"},"released":[]}"#,
+        r#"{"error":{"command":0,"detail":"cannot select a field from a sequence type","kind":"OperationFailed","path":""},"released":[]}"#,
     ),
     (
         "an array that is set whole",
@@ -81,7 +81,7 @@ const ARRAYS_BUILT: [(&str, &str, u8, &str); 8] = [
         "a shape without a default",
         r#""root":2,"commands":[["set_default"]]}"#,
         1,
-        r#"{"error":{"command":0,"kind":"OperationFailed"},"released":[]}"#,
+        r#"{"error":{"command":0,"detail":"type does not implement Default","kind":"OperationFailed","path":""},"released":[]}"#,
     ),
 ];
 
@@ -95,7 +95,7 @@ const MARKS_TAKEN: [(&str, &str, u8, &str); 7] = [
         "a field that was only entered takes no default",
         r#""root":1,"commands":[["begin_nth_field",0],["end"]]}"#,
         1,
-        r#"{"error":{"command":1,"kind":"UninitializedValue"},"released":[]}"#,
+        r#"{"error":{"command":1,"detail":"u32","kind":"UninitializedValue","path":"a"},"released":[]}"#,
     ),
     (
         "a field takes the value that it is marked with",
@@ -125,13 +125,69 @@ const MARKS_TAKEN: [(&str, &str, u8, &str); 7] = [
         "no field has the name",
         r#""root":2,"commands":[["begin_field","z"]]}"#,
         1,
-        r#"{"error":{"command":0,"kind":"FieldError"},"released":[]}"#,
+        r#"{"error":{"command":0,"detail":"no such field","kind":"FieldError","path":""},"released":[]}"#,
     ),
     (
         "a default takes the place of what was set",
         r#""root":2,"commands":[["set",2,[3,4]],["set_default"]]}"#,
         0,
         r#"{"ok":[1,2],"released":[]}"#,
+    ),
+];
+
+/// The shapes Odd (which stands for nothing), Res, Bad (of both), str and Opt (an option of a Res), before the root.
+const UNPLANNED: &str =
+    r#"{"shapes":[{"name":"Odd","def":"other"},{"name":"Res","def":"opaque"},{"name":"Bad","def":{"struct":[{"name":"o","shape":0},{"name":"r","shape":1}]}},{"name":"str","def":"str"},{"name":"Opt","def":{"option":1}}],"#;
+
+const WITHOUT_BUILDER: [(&str, &str, u8, &str); 3] = [
+    (
+        "a root that reaches a shape without a plan is refused before the first command",
+        r#""root":2,"tokens":1,"commands":[["begin_nth_field",1],["set",1,{"t":0}]]}"#,
+        1,
+        r#"{"error":{"command":0,"detail":"unsupported type for deserialization","kind":"Alloc","path":""},"released":[0]}"#,
+    ),
+    (
+        "a root without a size is refused",
+        r#""root":3,"commands":[]}"#,
+        1,
+        r#"{"error":{"command":0,"detail":"type is not sized","kind":"Alloc","path":""},"released":[]}"#,
+    ),
+    (
+        "a root of the same table that reaches neither is built",
+        r#""root":4,"tokens":1,"commands":[["set",4,{"s":{"t":0}}]]}"#,
+        0,
+        r#"{"ok":{"s":{"t":0}},"released":[]}"#,
+    ),
+];
+
+/// The shapes u32, Kind (an enum), Count (a map), Link (a pointer to a Kind) and All (a struct of these), before the root.
+const WHOLES: &str =
+    r#"{"shapes":[{"name":"u32","def":"u32"},{"name":"Kind","def":{"enum":{"repr":"U8","variants":[{"name":"A","fields":[],"discriminant":0},{"name":"B","fields":[{"name":"x","shape":0}],"discriminant":1}]}}},{"name":"Count","def":{"map":[0,0]}},{"name":"Link","def":{"pointer":{"known":"Box","pointee":1}}},{"name":"All","def":{"struct":[{"name":"kind","shape":1},{"name":"count","shape":2},{"name":"link","shape":3}]}}],"#;
+
+const WHOLES_SET: [(&str, &str, u8, &str); 4] = [
+    (
+        "values of all definitions are set whole",
+        r#""root":4,"commands":[["begin_field","kind"],["set",1,{"v":[1,[7]]}],["end"],["begin_field","count"],["set",2,{"m":[[1,2]]}],["end"],["begin_field","link"],["set",3,{"p":{"v":[0,[]]}}],["end"]]}"#,
+        0,
+        r#"{"ok":[{"v":[1,[7]]},{"m":[[1,2]]},{"p":{"v":[0,[]]}}],"released":[]}"#,
+    ),
+    (
+        "a field of an enum whose variant isn't selected",
+        r#""root":4,"commands":[["begin_field","kind"],["begin_nth_field",0]]}"#,
+        1,
+        r#"{"error":{"command":1,"detail":"must call select_variant before selecting enum fields","kind":"OperationFailed","path":"kind"},"released":[]}"#,
+    ),
+    (
+        "a field of such an enum by its name",
+        r#""root":4,"commands":[["begin_field","kind"],["begin_field","x"]]}"#,
+        1,
+        r#"{"error":{"command":1,"detail":"must select variant before selecting enum fields","kind":"OperationFailed","path":"kind"},"released":[]}"#,
+    ),
+    (
+        "a field of a pointer by its name",
+        r#""root":4,"commands":[["begin_nth_field",2],["begin_field","x"]]}"#,
+        1,
+        r#"{"error":{"command":1,"detail":"cannot select a field from a pointer type","kind":"OperationFailed","path":"link"},"released":[]}"#,
     ),
 ];
 
@@ -161,6 +217,16 @@ fn arrays_are_built_element_by_element(rt: HostRuntime) -> Result<(), Fail> {
 }
 
 #[test]
+fn a_root_without_a_plan_or_a_size_has_no_builder(rt: HostRuntime) -> Result<(), Fail> {
+    check_each(&rt, UNPLANNED, &WITHOUT_BUILDER)
+}
+
+#[test]
+fn places_of_all_definitions_are_set_whole(rt: HostRuntime) -> Result<(), Fail> {
+    check_each(&rt, WHOLES, &WHOLES_SET)
+}
+
+#[test]
 fn elements_may_come_in_any_order(rt: HostRuntime) -> Result<(), Fail> {
     let alloc = rt.alloc();
     let mut document = String::from_str(alloc, ARRAYS)?;
@@ -186,7 +252,7 @@ fn a_script_may_begin_a_thousand_places(rt: HostRuntime) -> Result<(), Fail> {
         r#"{"shapes":[{"name":"u32","def":"u32"},{"name":"String","def":"String"},{"name":"Inner","def":{"struct":[{"name":"x","shape":0},{"name":"b","shape":0}]}},{"name":"Outer","def":{"struct":[{"name":"name","shape":1},{"name":"inner","shape":2}]}}],"root":3,"commands":["#;
     let begin = r#"["begin_nth_field",1]"#;
     let most = joined(alloc, front, begin, 1_000, "]}")?;
-    let refused = r#"{"error":{"command":2,"kind":"OperationFailed"},"released":[]}"#;
+    let refused = r#"{"error":{"command":2,"detail":"cannot select a field from this type","kind":"OperationFailed","path":"inner.b"},"released":[]}"#;
     check(&rt, "at the limit", most.as_bytes(), 1, refused)?;
     let past = joined(alloc, front, begin, 1_001, "]}")?;
     check(

@@ -6,7 +6,7 @@ ghost use Rattle.fr_doc.specs.Causes.{Rose, LosesAtMost, TakesBeginning};
 ghost use Rattle.fr_script.specs.DocumentFacts.{Succeeds};
 ghost use Rattle.fr_script.specs.Documents.{document_of};
 ghost use Rattle.fr_script.specs.Headline.{KeepsPromise};
-ghost use Rattle.fr_script.specs.Reports.{outcome_of, report};
+ghost use Rattle.fr_script.specs.Reports.{outcome_of, report_of};
 ghost use Rattle.fr_script.specs.Runs.{asked, usage_line, Tells};
 ghost use Rattle.fr_script.specs.declared.word.Word.{Word as TheWord};
 
@@ -29,7 +29,7 @@ pub fn run<S: Source, K: Sink>(alloc: Global, words: &[String], source: &mut S, 
     // One of the words, where the source tells what it has left: the outcome of all those bytes is reported.
     ensures reported { (word : TheWord) → asked words.now ≡ Some word → result ≤ 3
         → IfSome (S.left source.old) (λ bytes.
-        Tells (outcome_of word bytes) result (K.taken sink.old) (K.taken sink.new)) }
+        Tells word bytes result (K.taken sink.old) (K.taken sink.new)) }
     ensures promised { asked words.now ≡ Some TheWord.Build → result ≤ 3
         → IfSome (S.left source.old) (λ bytes.
         KeepsPromise (document_of TheWord.Build bytes) (outcome_of TheWord.Build bytes)) }
@@ -55,7 +55,7 @@ pub fn run<S: Source, K: Sink>(alloc: Global, words: &[String], source: &mut S, 
     ensures unwritten { (result ≡ 4) ⊎ (result ≡ 6) → sink.new ≡ sink.old }
     ensures beginning { (word : TheWord) → asked words.now ≡ Some word → result ≡ 5
         → IfSome (S.left source.old) (λ bytes. TakesBeginning (K.taken sink.old)
-        (K.taken sink.new) (report (outcome_of word bytes))) }
+        (K.taken sink.new) (report_of word bytes)) }
     ensures usage_beginning { result ≡ 5 → asked words.now ≡ None
         → TakesBeginning (K.taken sink.old) (K.taken sink.new) usage_line }
 {

@@ -1,25 +1,25 @@
 //! A document from its bytes to what it comes to.
 ghost use Rattle.std.specs.Prelude.{◌≡◌, Ok, string_bytes, IfOk, OnOk};
 ghost use Rattle.fr_script.specs.Answers.{outcome_view};
-ghost use Rattle.fr_script.specs.DocumentFacts.{IsBuildable};
+ghost use Rattle.fr_script.specs.DocumentFacts.{IsBuildable, IsInOrder};
 ghost use Rattle.fr_script.specs.Documents.{document_of};
 ghost use Rattle.fr_script.specs.Headline.{KeepsPromise, IsMadeByCalls, IsPromised};
 ghost use Rattle.fr_script.specs.Outcomes.{is_want_of_memory};
 ghost use Rattle.fr_script.specs.Reading.{document_view};
 ghost use Rattle.fr_script.specs.declared.word.Word.{Word as TheWord};
-ghost use Rattle.fr_script.specs.Reports.{outcome_of, outcome_of_run, run_of, status_of, report};
+ghost use Rattle.fr_script.specs.Reports.{outcome_of, outcome_of_document, outcome_of_run, report_of, report_of_document, run_of, status_of};
 
 use crate::answering::Answer;
 use crate::building::{ScriptError, build_script};
 use crate::document::{Document, read_document};
 use crate::document_laws::law_documents_in_order;
 use crate::plan_report::plan_report_of;
-use crate::planning::plan_document;
+use crate::planning::plan_root;
 use crate::released::released_tokens;
-use crate::report::report_of;
+use crate::report::{report_of, report_of_fault};
 use crate::word::Word;
 use fr_doc::ReadError;
-use fr_shape::{Ledger, OutOfMemory, ReflectErrorKind};
+use fr_shape::{Ledger, NoHooks, OutOfMemory, ReflectErrorKind, ShapeTable};
 use std::alloc::Global;
 
 /// Reads a document, runs its script over a new ledger, and returns what came of it.
@@ -32,21 +32,24 @@ pub fn answer(alloc: Global, bytes: &[u8]) -> Result<Answer, OutOfMemory>
     match read_document(alloc, Word::Build, bytes) {
         Ok(document) => {
             law_documents_in_order();
-            answer_document(alloc, document)
+            let (_, answer) = answer_document(alloc, document)?;
+            Ok(answer)
         }
         Err(ReadError::Fault(fault)) => Ok(Answer::Fault(fault)),
         Err(ReadError::Memory) => Err(OutOfMemory),
     }
 }
 
-/// Runs a document's script over a new ledger.
-fn answer_document(alloc: Global, document: Document) -> Result<Answer, OutOfMemory>
+/// Runs a document's script over a new ledger. Its table comes back with the answer.
+fn answer_document(alloc: Global, document: Document) -> Result<(ShapeTable, Answer), OutOfMemory>
     requires { IsBuildable (document_view document) }
-    ensures outcome { IfOk result (λ answer. outcome_view answer
+    ensures table { IfOk result (λ answered. answered.0 ≡ document.table) }
+    ensures outcome { IfOk result (λ answered. outcome_view answered.1
         ≡ outcome_of_run (document_view document) (run_of (document_view document))) }
-    ensures promise { IfOk result (λ answer.
-        KeepsPromise (Ok (document_view document)) (outcome_view answer)) }
-    ensures calls { IfOk result (λ answer. IsMadeByCalls (Ok (document_view document)) answer) }
+    ensures promise { IfOk result (λ answered.
+        KeepsPromise (Ok (document_view document)) (outcome_view answered.1)) }
+    ensures calls { IfOk result (λ answered.
+        IsMadeByCalls (Ok (document_view document)) answered.1) }
 {
     let Document {
         table,
@@ -57,9 +60,9 @@ fn answer_document(alloc: Global, document: Document) -> Result<Answer, OutOfMem
     let Ok(mut ledger) = Ledger::new(alloc, tokens) else {
         return Err(OutOfMemory);
     };
-    match build_script(alloc, &table, root, script, &mut ledger) {
+    match build_script(alloc, &table, root, &NoHooks, script, &mut ledger) {
         Ok(built) => match released_tokens(alloc, &ledger) {
-            Ok(released) => Ok(Answer::Built(built, released)),
+            Ok(released) => Ok((table, Answer::Built(built, released))),
             Err(refused) => Err(refused),
         },
         Err(error) => {
@@ -67,7 +70,7 @@ fn answer_document(alloc: Global, document: Document) -> Result<Answer, OutOfMem
                 return Err(OutOfMemory);
             }
             match released_tokens(alloc, &ledger) {
-                Ok(released) => Ok(Answer::Refused(error, released)),
+                Ok(released) => Ok((table, Answer::Refused(error, released))),
                 Err(refused) => Err(refused),
             }
         }
@@ -83,39 +86,52 @@ fn is_want_of_memory(kind: &ReflectErrorKind) -> bool
 /// The status and the whole report on a document, under a word.
 pub fn respond(alloc: Global, word: Word, bytes: &[u8]) -> Result<(u8, String), OutOfMemory>
     ensures status { IfOk result (λ response. response.0 ≡ status_of (outcome_of word bytes.now)) }
-    ensures text { IfOk result (λ response.
-        string_bytes response.1 ≡ report (outcome_of word bytes.now)) }
+    ensures text { IfOk result (λ response. string_bytes response.1 ≡ report_of word bytes.now) }
     ensures promise { OnOk result (IsPromised word bytes.now) }
 {
-    match word {
-        Word::Build => respond_to_build(alloc, bytes),
-        Word::Plan => respond_to_plan(alloc, bytes),
+    match read_document(alloc, word, bytes) {
+        Ok(document) => {
+            law_documents_in_order();
+            match word {
+                Word::Build => respond_to_build(alloc, document),
+                Word::Plan => respond_to_plan(alloc, document),
+            }
+        }
+        Err(ReadError::Fault(fault)) => match report_of_fault(alloc, &fault) {
+            Ok(text) => Ok((2, text)),
+            Err(_) => Err(OutOfMemory),
+        },
+        Err(ReadError::Memory) => Err(OutOfMemory),
     }
 }
 
-/// The same under `build`.
-fn respond_to_build(alloc: Global, bytes: &[u8]) -> Result<(u8, String), OutOfMemory>
-    ensures status { IfOk result (λ response.
-        response.0 ≡ status_of (outcome_of TheWord.Build bytes.now)) }
-    ensures text { IfOk result (λ response.
-        string_bytes response.1 ≡ report (outcome_of TheWord.Build bytes.now)) }
-    ensures promise { OnOk result (IsPromised TheWord.Build bytes.now) }
+/// The same on one without faults, under `build`.
+fn respond_to_build(alloc: Global, document: Document) -> Result<(u8, String), OutOfMemory>
+    requires { IsBuildable (document_view document) }
+    ensures status { IfOk result (λ response. response.0
+        ≡ status_of (outcome_of_document TheWord.Build (Ok (document_view document)))) }
+    ensures text { IfOk result (λ response. string_bytes response.1
+        ≡ report_of_document TheWord.Build (Ok (document_view document))) }
+    ensures promise { OnOk result (KeepsPromise (Ok (document_view document))
+        (outcome_of_document TheWord.Build (Ok (document_view document)))) }
 {
-    let answer = answer(alloc, bytes)?;
-    match report_of(alloc, &answer) {
+    let root = document.root;
+    let (table, answer) = answer_document(alloc, document)?;
+    match report_of(alloc, &table, root, &answer) {
         Ok(text) => Ok((answer.status(), text)),
         Err(_) => Err(OutOfMemory),
     }
 }
 
 /// The same under `plan`.
-fn respond_to_plan(alloc: Global, bytes: &[u8]) -> Result<(u8, String), OutOfMemory>
-    ensures status { IfOk result (λ response.
-        response.0 ≡ status_of (outcome_of TheWord.Plan bytes.now)) }
-    ensures text { IfOk result (λ response.
-        string_bytes response.1 ≡ report (outcome_of TheWord.Plan bytes.now)) }
+fn respond_to_plan(alloc: Global, document: Document) -> Result<(u8, String), OutOfMemory>
+    requires { IsInOrder (document_view document) }
+    ensures status { IfOk result (λ response. response.0
+        ≡ status_of (outcome_of_document TheWord.Plan (Ok (document_view document)))) }
+    ensures text { IfOk result (λ response. string_bytes response.1
+        ≡ report_of_document TheWord.Plan (Ok (document_view document))) }
 {
-    let answer = plan_document(alloc, bytes)?;
+    let answer = plan_root(alloc, document)?;
     match plan_report_of(alloc, &answer) {
         Ok(text) => Ok((answer.status(), text)),
         Err(_) => Err(OutOfMemory),

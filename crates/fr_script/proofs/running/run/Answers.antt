@@ -2,13 +2,13 @@ use Rattle.std.proofs.Common.{◌≡◌, ℕ, List, Option, Some, Result, take, 
 use Rattle.std.specs.Io.KnownBytes.{append_known}
 use Rattle.fr_doc.specs.declared.looping.TheConstants.{INPUT_LIMIT}
 use Rattle.fr_doc.specs.Causes.{TakesBeginning}
-use Rattle.fr_script.specs.Reports.{outcome_of, outcome_of_document, status_of, report}
+use Rattle.fr_script.specs.Reports.{outcome_of, outcome_of_document, status_of, report_of}
 use Rattle.fr_doc.specs.declared.fault.DocFault.{DocFault}
 use Rattle.fr_script.specs.Documents.{Document, document_of}
 use Rattle.fr_script.specs.Headline.{KeepsPromise, IsPromised}
 use Rattle.fr_script.specs.Runs.{asked}
 use Rattle.fr_script.specs.declared.word.Word.{Word}
-use Rattle.fr_script.proofs.TakeLaws.{at_limit, outcome_at_limit, loses, over_told}
+use Rattle.fr_script.proofs.TakeLaws.{at_limit, outcome_at_limit, report_at_limit, loses, over_told}
 use Rattle.fr_script.proofs.running.run.Goals as goal
 
 pub returns-in_default-respond-clause-reads : goal.returns-in_default-respond-clause-reads
@@ -26,6 +26,12 @@ same_outcome : (word asked : Word) (read bytes slice : List ℕ) → word ≡ as
 same_outcome word asked read bytes slice same whole cut =
     ap (outcome_of word) (whole ∙ cut) ∙ outcome_at_limit word INPUT_LIMIT bytes refl ∙ ap (λ w. outcome_of w bytes) same
 
+-- and their report
+same_report : (word asked : Word) (read bytes slice : List ℕ) → word ≡ asked → slice ≡ read → read ≡ take INPUT_LIMIT bytes
+    → report_of word slice ≡ report_of asked bytes
+same_report word asked read bytes slice same whole cut =
+    ap (report_of word) (whole ∙ cut) ∙ report_at_limit word INPUT_LIMIT bytes refl ∙ ap (λ w. report_of w bytes) same
+
 only_word : (found : Option Word) (word asked : Word) → found ≡ Some word → found ≡ Some asked → word ≡ asked
 only_word found word asked is same = cc
 
@@ -33,15 +39,17 @@ pub returns-in-Ok-write_report-clause-reported : goal.returns-in-Ok-write_report
 returns-in-Ok-write_report-clause-reported g c word asks low =
     over_told (g.S.Source.left c.args.source.now) (λ bytes. c.in-Ok-read_input.bytes ≡ take INPUT_LIMIT bytes) _
     (λ bytes cut.
+    let is : c.in-Some.word ≡ word = only_word (asked c.args.words.now) c.in-Some.word word (sym c.in-Some.ensures) asks in
     let same : outcome_of c.in-Some.word c.as_slice.result.now ≡ outcome_of word bytes
-    = same_outcome c.in-Some.word word c.in-Ok-read_input.bytes bytes c.as_slice.result.now
-    (only_word (asked c.args.words.now) c.in-Some.word word (sym c.in-Some.ensures) asks) c.as_slice.ensures.items cut in
+    = same_outcome c.in-Some.word word c.in-Ok-read_input.bytes bytes c.as_slice.result.now is c.as_slice.ensures.items cut in
+    let told : report_of c.in-Some.word c.as_slice.result.now ≡ report_of word bytes
+    = same_report c.in-Some.word word c.in-Ok-read_input.bytes bytes c.as_slice.result.now is c.as_slice.ensures.items cut in
     record {
       status = c.in-Ok-respond.ensures.status ∙ ap status_of same;
       written =
           c.in-Ok-write_report.ensures.ok
           ∙ ap (append_known (g.K.Sink.taken c.args.sink.now))
-          (c.as_bytes-2.ensures.value ∙ c.in-Ok-respond.ensures.text ∙ ap report same);
+          (c.as_bytes-2.ensures.value ∙ c.in-Ok-respond.ensures.text ∙ told);
     })
     c.in-Ok-read_input.ensures.bytes
 
@@ -49,11 +57,11 @@ pub returns-clause-beginning : goal.returns-clause-beginning
 returns-clause-beginning g c word asks five =
     over_told (g.S.Source.left c.args.source.now) (λ bytes. c.in-Ok-read_input.bytes ≡ take INPUT_LIMIT bytes) _
     (λ bytes cut.
-    let same : outcome_of c.in-Some.word c.as_slice.result.now ≡ outcome_of word bytes
-    = same_outcome c.in-Some.word word c.in-Ok-read_input.bytes bytes c.as_slice.result.now
+    let told : report_of c.in-Some.word c.as_slice.result.now ≡ report_of word bytes
+    = same_report c.in-Some.word word c.in-Ok-read_input.bytes bytes c.as_slice.result.now
     (only_word (asked c.args.words.now) c.in-Some.word word (sym c.in-Some.ensures) asks) c.as_slice.ensures.items cut in
     subst (λ (text : List ℕ). TakesBeginning (g.K.Sink.taken c.args.sink.now) (g.K.Sink.taken c.write_report-2.new.sink) text)
-    (c.as_bytes-2.ensures.value ∙ c.in-Ok-respond.ensures.text ∙ ap report same)
+    (c.as_bytes-2.ensures.value ∙ c.in-Ok-respond.ensures.text ∙ told)
     c.in-Err-write_report.ensures.err)
     c.in-Ok-read_input.ensures.bytes
 

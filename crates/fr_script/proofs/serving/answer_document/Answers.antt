@@ -19,7 +19,7 @@ pub returns-in-Ok-released_tokens-2-clause-outcome : goal.returns-in-Ok-released
 returns-in-Ok-released_tokens-2-clause-outcome c =
     refused_outcome (document_view c.args.document) c.requires c.in-Ok.ledger c.build_script.new.ledger
     c.in-Ok-released_tokens-2.released c.in-Ok.ensures.zeros c.in-Ok-released_tokens-2.ensures
-    (record { number = c.in-Err.error.number; kind = c.in-Err.error.kind })
+    (record { number = c.in-Err.error.number; kind = c.in-Err.error.kind; path = c.in-Err.error.path })
     (⊎_elim
     (λ memory. absurd (not_memory c.in-Err.error.kind (sym c.is_want_of_memory.ensures ∙ c.if-is_want_of_memory.false) memory))
     (λ ran. ran) c.in-Err.ensures.run)
@@ -29,7 +29,8 @@ pub returns-in-Ok-released_tokens-2-clause-promise : goal.returns-in-Ok-released
 returns-in-Ok-released_tokens-2-clause-promise c =
     refused_promise (document_view c.args.document) c.requires c.in-Ok.ledger c.build_script.new.ledger
     c.in-Ok-released_tokens-2.released c.in-Ok.ensures.zeros c.in-Ok-released_tokens-2.ensures
-    (⊎_elim
+    (λ plain.
+    ⊎_elim
     (λ memory. absurd (not_memory c.in-Err.error.kind (sym c.is_want_of_memory.ensures ∙ c.if-is_want_of_memory.false) memory))
-    (λ completes. completes) c.in-Err.ensures.journal)
+    (λ completes. completes) (c.in-Err.ensures.journal plain))
     c.in-Err.ensures.settled
