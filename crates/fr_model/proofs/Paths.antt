@@ -43,7 +43,8 @@ steps_on (i ∷ here) way _ change leads = absurd leads
 
 pub put_keeps : (state : State) (v : Val) → Leads state.cursor state.tree → path_of (puts state v) ≡ path_of state
 put_keeps state v leads =
-    ap (λ (place : Place). steps_in place (change_at state.cursor (λ old. whole v) state.tree)) (sym (append-nil state.cursor))
+    ap (λ (place : Place). steps_in place (change_at state.cursor (λ old. whole v) state.tree))
+    (sym (append-nil state.cursor))
     ∙ steps_on state.cursor [] state.tree (λ old. whole v) leads
     ∙ append-nil (path_of state)
 

@@ -1,6 +1,6 @@
 -- Where each shape that is reached is plain no field has a validator, so each value is valid.
-use Rattle.std.proofs.Common.{◌≡◌, ℕ, zero, suc, ◌<◌, true, List, [], ◌∷◌, ◌++◌, map, length, slice_get, Option, Some, None, refl, sym, ap, arith}
-use Rattle.std.specs.List.{Contains, list_all, flat_map}
+use Rattle.std.proofs.Common.{◌≡◌, ℕ, zero, suc, ◌<◌, true, List, [], ◌∷◌, ◌++◌, map, length, slice_get, Option, Some, None, refl, ap, arith}
+use Rattle.std.specs.List.{Contains, list_all}
 use Rattle.std.proofs.lemmas.List.Elements.{Contains-append_left, Contains-append_right}
 use Rattle.fr_shape.specs.declared.shape.Shape.{Shape}
 use Rattle.fr_shape.specs.declared.shape.ShapeId.{ShapeId}
@@ -8,11 +8,11 @@ use Rattle.fr_shape.specs.declared.shape.Def.{Def}
 use Rattle.fr_shape.specs.declared.shape.StructDef.{StructDef}
 use Rattle.fr_shape.specs.declared.shape.Field.{Field}
 use Rattle.fr_shape.specs.declared.error.ReflectErrorKind.{ReflectErrorKind}
-use Rattle.fr_shape.specs.Checked.{fields_of, contents_of, pointees_of}
+use Rattle.fr_shape.specs.Checked.{fields_of}
 use Rattle.fr_shape.specs.Hooks.{Meanings}
 use Rattle.fr_shape.specs.Lists.{is_nil}
 use Rattle.fr_shape.specs.Look.{Table, def_or_other, def_of, field_in}
-use Rattle.fr_shape.specs.Plannable.{Reached, at_root, further, children_of, own_sources, field_sources, leads_to, is_plain_field, is_plain_shape}
+use Rattle.fr_shape.specs.Plannable.{Reached, at_root, further, children_of, own_sources, leads_to, is_plain_field, is_plain_shape}
 use Rattle.fr_shape.specs.Val.{Val}
 use Rattle.fr_model.specs.Complete.{first_failing, failing_field, unless_failing, valid_child}
 use Rattle.fr_model.specs.Places.{count_children, child_count, shape_of_field, shape_of_child, child_shape}
@@ -34,7 +34,8 @@ field_among : (fields : List Field) (i : ℕ) → i < length fields
 field_among [] i below = absurd (omega arith)
 field_among (field ∷ fields) zero below = (zero, omega arith, refl)
 field_among (field ∷ fields) (suc i) below =
-    let rest : Contains (map (λ (field : Field). field.shape) fields) (record { 0 = shape_of_field (slice_get fields i) })
+    let rest
+    : Contains (map (λ (field : Field). field.shape) fields) (record { 0 = shape_of_field (slice_get fields i) })
     = field_among fields i (omega arith) in
     (suc rest.0, omega (arith, rest.1), rest.2)
 

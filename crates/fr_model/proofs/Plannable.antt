@@ -1,5 +1,5 @@
 -- A root of which no reached shape is refused has no first refusal, and so a plain root is never refused.
-use Rattle.std.proofs.Common.{◌≡◌, ◌⊎◌, inl, inr, ℕ, zero, suc, Bool, true, false, if◌then◌else◌, List, [], ◌∷◌, ◌++◌, map, length, nat_eq, slice_get, Option, Some, None, refl, ap, subst, ◌∙◌, arith}
+use Rattle.std.proofs.Common.{◌≡◌, ◌⊎◌, inl, inr, ℕ, zero, suc, Bool, true, false, if◌then◌else◌, List, [], ◌∷◌, ◌++◌, map, length, nat_eq, slice_get, Option, Some, None, refl, ap, ◌∙◌, arith}
 use Rattle.std.specs.List.{Contains, list_any, flat_map}
 use Rattle.std.specs.Option.{option_or}
 use Rattle.std.proofs.lemmas.List.Elements.{Contains-append_left, Contains-append_right, Contains-append_cases}
@@ -9,9 +9,9 @@ use Rattle.fr_shape.specs.declared.shape.Def.{Def}
 use Rattle.fr_shape.specs.declared.shape.Field.{Field}
 use Rattle.fr_shape.specs.declared.error.AllocError.{AllocError}
 use Rattle.fr_shape.specs.declared.error.PlanFault.{PlanFault}
-use Rattle.fr_shape.specs.Checked.{fields_of, contents_of, pointees_of, is_sized}
-use Rattle.fr_shape.specs.Look.{Table, def_of}
-use Rattle.fr_shape.specs.Plannable.{children_of, made_of, own_sources, field_sources, leads_to, Reached, at_root, further, refusal_of, IsPlannable, Walk, field_parts, parts_by, parts_before, own_refusal, refused_or, unless_refused, each_in_turn, visit_shape, visit, first_refusal, IsPlain}
+use Rattle.fr_shape.specs.Checked.{fields_of}
+use Rattle.fr_shape.specs.Look.{Table}
+use Rattle.fr_shape.specs.Plannable.{children_of, made_of, own_sources, field_sources, leads_to, Reached, at_root, further, refusal_of, IsPlannable, Walk, field_parts, parts_by, parts_before, own_refusal, unless_refused, each_in_turn, visit_shape, visit, first_refusal, IsPlain}
 use Rattle.fr_model.specs.Run.{unsized_refusal, alloc_refusal}
 
 -- what is built before a shape is among what it leads to

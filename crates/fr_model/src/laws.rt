@@ -27,9 +27,9 @@ pub fn law_completes()
     ensures tokens { CompletingKeepsTokens }
 {}
 
-/// The path of the place at which a builder works, from state to state: entering a child, from a state that is in order,
-/// adds the step to that child, and putting a value keeps the path, unless the cursor goes up, which takes the last step
-/// away. It has as many steps as the place lies deep.
+/// The path of the place at which a builder works, from state to state. Entering a child, from a state that is in order,
+/// adds the step to that child. Putting a value keeps the path, or takes its last step away where the cursor goes up.
+/// There are as many steps as the place lies deep, so that only the root has none.
 pub fn law_paths()
     ensures enter { EnteringAddsAStep }
     ensures put { PuttingKeepsThePath }
