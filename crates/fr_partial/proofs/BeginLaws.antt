@@ -87,14 +87,14 @@ admitted_within _ t i e = cc
 
 -- the builder
 
-module _ (table : Table) (root : ℕ) (parents : List Parent) (frame : Frame) (calls : ℕ)
-    (chain : IsChain table root parents frame) (builder : Builder)
-    (is : builder_of table root parents frame.piece calls ≡ builder) (i : ℕ) where
+module _ {H : Type 0} {h : H} (table : Table) (root : ℕ) (parents : List Parent) (frame : Frame) (calls : ℕ)
+    (chain : IsChain table root parents frame) (builder : Builder H)
+    (is : builder_of h table root parents frame.piece calls ≡ builder) (i : ℕ) where
   refusal_is : field_refusal (def_of builder.shapes (here builder)) (tree_at builder.state.cursor builder.state.tree) i
       ≡ field_refusal (def_of table frame.shape.0) (node frame.piece) i
   refusal_is =
       ap (λ (t : Table). field_refusal (def_of t (here builder)) (tree_at builder.state.cursor builder.state.tree) i)
-      (ap (λ (b : Builder). b.shapes) (sym is))
+      (ap (λ (b : Builder H). b.shapes) (sym is))
       ∙ ap (λ (s : ℕ). field_refusal (def_of table s) (tree_at builder.state.cursor builder.state.tree) i)
       (here_of table root parents frame calls chain builder is)
       ∙ ap (λ (t : Tree). field_refusal (def_of table frame.shape.0) t i)
@@ -110,7 +110,7 @@ module _ (table : Table) (root : ℕ) (parents : List Parent) (frame : Frame) (c
 
   enters_here : enters builder.shapes (here builder) builder.state i ≡ enters table frame.shape.0 builder.state i
   enters_here =
-      ap (λ (t : Table). enters t (here builder) builder.state i) (ap (λ (b : Builder). b.shapes) (sym is))
+      ap (λ (t : Table). enters t (here builder) builder.state i) (ap (λ (b : Builder H). b.shapes) (sym is))
       ∙ ap (λ (s : ℕ). enters table s builder.state i) (here_of table root parents frame calls chain builder is)
 
   pub entered_state : (next : ℕ) (above : Parent) (below : Tree) (pushed : List Parent)
@@ -149,13 +149,13 @@ module _ (table : Table) (root : ℕ) (parents : List Parent) (frame : Frame) (c
 
 -- by name
 
-module _ (table : Table) (root : ℕ) (parents : List Parent) (frame : Frame) (calls : ℕ)
-    (chain : IsChain table root parents frame) (builder : Builder)
-    (is : builder_of table root parents frame.piece calls ≡ builder) (name : List ℕ) where
+module _ {H : Type 0} {h : H} (table : Table) (root : ℕ) (parents : List Parent) (frame : Frame) (calls : ℕ)
+    (chain : IsChain table root parents frame) (builder : Builder H)
+    (is : builder_of h table root parents frame.piece calls ≡ builder) (name : List ℕ) where
   named_here : begin_field builder.shapes (here builder) builder.state name
       ≡ begin_field table frame.shape.0 builder.state name
   named_here =
-      ap (λ (t : Table). begin_field t (here builder) builder.state name) (ap (λ (b : Builder). b.shapes) (sym is))
+      ap (λ (t : Table). begin_field t (here builder) builder.state name) (ap (λ (b : Builder H). b.shapes) (sym is))
       ∙ ap (λ (s : ℕ). begin_field table s builder.state name)
       (here_of table root parents frame calls chain builder is)
 

@@ -11,30 +11,28 @@ use Rattle.fr_partial.specs.declared.frame.Piece.{Piece}
 use Rattle.fr_partial.specs.declared.frame.Frame.{Frame}
 use Rattle.fr_partial.specs.declared.frame.Parent.{Parent}
 use Rattle.fr_partial.specs.Builder.{Builder, here, holds}
-use Rattle.fr_partial.specs.Stack.{node, rebuild, opens, IsChain, parents_hold}
+use Rattle.fr_partial.specs.Stack.{node, rebuild, opens, state_of, IsChain, parents_hold}
 use Rattle.fr_partial.proofs.StackLaws.{tree_at_rebuild, change_at_rebuild, shape_in_rebuild, occurs_rebuild}
 
-abbrev pub state_of : List Parent → Piece → ℕ → State
-state_of parents piece calls = record { tree = rebuild parents (node piece); cursor = opens parents; calls = calls }
-
-abbrev pub builder_of : Table → ℕ → List Parent → Piece → ℕ → Builder
-builder_of table root parents piece calls = record { shapes = table; root = root; state = state_of parents piece calls }
+abbrev pub builder_of : {H : Type 0} → H → Table → ℕ → List Parent → Piece → ℕ → Builder H
+builder_of h table root parents piece calls =
+    record { shapes = table; hooks = h; root = root; state = state_of parents piece calls }
 
 -- what the open places hold together
 abbrev pub places_hold : List Parent → Piece → ℕ → ℕ
 places_hold parents piece t = parents_hold parents t + tree_occurs (node piece) t
 
-module _ (table : Table) (root : ℕ) (parents : List Parent) (frame : Frame) (calls : ℕ)
-    (chain : IsChain table root parents frame) (builder : Builder)
-    (is : builder_of table root parents frame.piece calls ≡ builder) where
+module _ {H : Type 0} {h : H} (table : Table) (root : ℕ) (parents : List Parent) (frame : Frame) (calls : ℕ)
+    (chain : IsChain table root parents frame) (builder : Builder H)
+    (is : builder_of h table root parents frame.piece calls ≡ builder) where
   pub here_of : here builder ≡ frame.shape.0
   here_of =
-      subst (λ (b : Builder). here b ≡ frame.shape.0) is
+      subst (λ (b : Builder H). here b ≡ frame.shape.0) is
       (shape_in_rebuild table root parents frame (node frame.piece) chain)
 
   pub holds_of : (t : ℕ) → holds builder t ≡ places_hold parents frame.piece t
   holds_of t =
-      subst (λ (b : Builder). holds b t ≡ places_hold parents frame.piece t) is
+      subst (λ (b : Builder H). holds b t ≡ places_hold parents frame.piece t) is
       (occurs_rebuild table root parents frame (node frame.piece) t chain)
 
   pub room_of : (ledger : List ℕ) → Room (holds builder) ledger → Room (places_hold parents frame.piece) ledger
@@ -48,7 +46,7 @@ module _ (table : Table) (root : ℕ) (parents : List Parent) (frame : Frame) (c
       omega arith)
 
   state_is : state_of parents frame.piece calls ≡ builder.state
-  state_is = ap (λ (b : Builder). b.state) is
+  state_is = ap (λ (b : Builder H). b.state) is
 
   -- a change of the last place alone
   pub changed_to : (t : Tree) (g : Tree → Tree) → g (node frame.piece) ≡ t
@@ -58,7 +56,7 @@ module _ (table : Table) (root : ℕ) (parents : List Parent) (frame : Frame) (c
       (change_at_rebuild table root parents frame g (node frame.piece) chain ∙ ap (rebuild parents) e)
 
   pub cursor_is : builder.state.cursor ≡ opens parents
-  cursor_is = ap (λ (b : Builder). b.state.cursor) (sym is)
+  cursor_is = ap (λ (b : Builder H). b.state.cursor) (sym is)
 
   pub tree_here : tree_at builder.state.cursor builder.state.tree ≡ node frame.piece
   tree_here =
@@ -66,7 +64,7 @@ module _ (table : Table) (root : ℕ) (parents : List Parent) (frame : Frame) (c
       (tree_at_rebuild table root parents frame (node frame.piece) chain)
 
   pub counted : (next : ℕ) → next ≡ one_more_call calls → one_more_call builder.state.calls ≡ next
-  counted next e = ap (λ (b : Builder). one_more_call b.state.calls) (sym is) ∙ sym e
+  counted next e = ap (λ (b : Builder H). one_more_call b.state.calls) (sym is) ∙ sym e
 
   -- a value in the stead of what stood at the place
   pub puts_is : (v : Val) (next : ℕ) → next ≡ one_more_call calls

@@ -284,6 +284,27 @@ piece_agrees hooks table s (Piece.Whole v) served suits = agree_some (view v)
 piece_agrees hooks table s (Piece.Begun form children) served suits =
     begun_agree hooks table s served (as_form form) (length children.items) suits.0 children.items
 
+-- Whatever the hooks are, a place of a served table makes the same value and lacks the same, for no field has a validator.
+
+pub completes_alike : (hooks : Meanings) (table : Table) (s : ℕ) (piece : Piece) → IsServed table → IsPiece table s piece
+    → complete hooks table s (node piece) ≡ complete no_hooks table s (node piece)
+completes_alike hooks table s Piece.Entered served suits =
+    ap (made_by (def_of table s) (preset_of table s)) (made_is hooks table s served ∙ sym (made_is no_hooks table s served))
+completes_alike hooks table s (Piece.Whole v) served suits = refl
+completes_alike hooks table s (Piece.Begun form children) served suits =
+    begun_complete hooks table s served (as_form form) (length children.items) suits.0 children.items
+    ∙ sym (begun_complete no_hooks table s served (as_form form) (length children.items) suits.0 children.items)
+
+pub lacks_alike : (hooks : Meanings) (table : Table) (s : ℕ) (piece : Piece) → IsServed table → IsPiece table s piece
+    → lack hooks table s (node piece) ≡ lack no_hooks table s (node piece)
+lacks_alike hooks table s Piece.Entered served suits =
+    ap (λ (holes : Option ReflectErrorKind). lack_by (def_of table s) (preset_of table s) holes (missing_value s))
+    (holes_lack hooks table s served (child_count table s) 0 ∙ sym (holes_lack no_hooks table s served (child_count table s) 0))
+lacks_alike hooks table s (Piece.Whole v) served suits = refl
+lacks_alike hooks table s (Piece.Begun form children) served suits =
+    slots_lack hooks table s served (as_form form) (length children.items) suits.0 0 children.items
+    ∙ sym (slots_lack no_hooks table s served (as_form form) (length children.items) suits.0 0 children.items)
+
 -- a place that isn't completed because memory ran out makes a value and takes a template
 pub only_wants : (table : Table) (s : ℕ) (piece : Piece) (kind : ReflectErrorKind) → IsServed table → IsPiece table s piece
     → WhyNot table s (node piece) kind → kind ≡ ReflectErrorKind.OutOfMemory → NeedsMemory table s (node piece) kind

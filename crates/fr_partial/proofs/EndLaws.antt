@@ -1,9 +1,9 @@
 -- Going up from a place: the state that `end` leaves, and what it is refused for.
-use Rattle.std.proofs.Common.{◌≡◌, ℕ, ◌+◌, true, false, List, [], ◌∷◌, ◌++◌, length, Option, Some, None, IsSome, Ok, Err, IsErr, set, length-set, refl, sym, ◌∙◌, ap, subst, arith}
+use Rattle.std.proofs.Common.{◌≡◌, ℕ, ◌+◌, true, false, List, [], ◌∷◌, ◌++◌, length, Option, Some, None, IsSome, Result, Ok, Err, IsErr, set, length-set, refl, sym, ◌∙◌, ap, subst, arith}
 use Rattle.fr_shape.specs.declared.value.Value.{Value}
 use Rattle.fr_shape.specs.declared.error.ReflectErrorKind.{ReflectErrorKind}
 use Rattle.fr_shape.specs.Checked.{IsChecked}
-use Rattle.fr_shape.specs.Hooks.{no_hooks}
+use Rattle.fr_shape.specs.Hooks.{Meanings, no_hooks}
 use Rattle.fr_shape.specs.Served.{IsServed}
 use Rattle.fr_shape.specs.Val.{Val}
 use Rattle.fr_shape.specs.Look.{Table, def_of}
@@ -14,16 +14,16 @@ use Rattle.fr_model.specs.Places.{Place, is_root, up, child_shape}
 use Rattle.fr_model.specs.Tree.{Tree, whole, begun, tree_at, tree_occurs, trees_occur, one_more_call}
 use Rattle.fr_model.specs.Complete.{complete}
 use Rattle.fr_model.specs.Well.{IsBegunAs}
-use Rattle.fr_model.specs.Step.{end, build, cause, or_missing}
+use Rattle.fr_model.specs.Step.{end, build, built, cause, or_missing}
 use Rattle.fr_partial.specs.declared.frame.Piece.{Piece}
 use Rattle.fr_partial.specs.declared.frame.Frame.{Frame}
 use Rattle.fr_partial.specs.declared.frame.Parent.{Parent}
 use Rattle.fr_partial.specs.Builder.{Builder, here, holds}
 use Rattle.fr_partial.specs.Completing.{IsLacking}
-use Rattle.fr_partial.specs.Stack.{as_form, slot, slots, node, around, rebuild, opens, AreChildren, IsChain, parents_hold}
-use Rattle.fr_partial.proofs.BuilderLaws.{builder_of, state_of, here_of, holds_of, changed_to, cursor_is, tree_here, counted}
+use Rattle.fr_partial.specs.Stack.{as_form, slot, slots, node, around, rebuild, opens, state_of, AreChildren, IsPiece, IsChain, parents_hold}
+use Rattle.fr_partial.proofs.BuilderLaws.{builder_of, here_of, holds_of, changed_to, cursor_is, tree_here, counted}
 use Rattle.fr_partial.proofs.ChildrenLaws.{slots_set, absent_within, vals_occur_set, children_set}
-use Rattle.fr_partial.proofs.CompleteLaws.{Made, piece_made}
+use Rattle.fr_partial.proofs.CompleteLaws.{Made, piece_made, completes_alike, lacks_alike}
 use Rattle.fr_partial.proofs.FillingLaws.{is_there, fits_there, fits_child}
 use Rattle.fr_partial.proofs.StackLaws.{rebuild_last, opens_last, up_last, parents_hold_last, slots_occur, occurs_rebuild, chain_frame, Popped, chain_pop}
 
@@ -31,9 +31,9 @@ not_root : (place : Place) (i : ℕ) → is_root (place ++ i ∷ []) ≡ false
 not_root [] i = refl
 not_root (j ∷ place) i = refl
 
-module _ (table : Table) (root : ℕ) (above : List Parent) (parent : Parent) (frame : Frame) (calls : ℕ)
+module _ {H : Type 0} {h : H} (table : Table) (root : ℕ) (above : List Parent) (parent : Parent) (frame : Frame) (calls : ℕ)
     (parents : List Parent) (last : parents ≡ above ++ parent ∷ []) (chain : IsChain table root parents frame)
-    (builder : Builder) (is : builder_of table root parents frame.piece calls ≡ builder)
+    (builder : Builder H) (is : builder_of h table root parents frame.piece calls ≡ builder)
     (checked : IsChecked table) (served : IsServed table) where
   pub popped : Popped table root above parent frame
   popped = chain_pop table root above parent frame (subst (λ (ps : List Parent). IsChain table root ps frame) last chain)
@@ -56,7 +56,7 @@ module _ (table : Table) (root : ℕ) (above : List Parent) (parent : Parent) (f
   below_root = ap is_root cursor_popped ∙ not_root (opens above) parent.child
 
   shapes_is : builder.shapes ≡ table
-  shapes_is = ap (λ (b : Builder). b.shapes) (sym is)
+  shapes_is = ap (λ (b : Builder H). b.shapes) (sym is)
 
   -- the value that the place makes
   made : (v : Value) → complete no_hooks table frame.shape.0 (node frame.piece) ≡ Some (view v)
@@ -83,59 +83,66 @@ module _ (table : Table) (root : ℕ) (above : List Parent) (parent : Parent) (f
       ∙ ap (λ ts. rebuild above (begun (as_form parent.form) ts))
       (sym (slots_set parent.children.items parent.child v (absent_within parent.children.items parent.child popped.above.absent)))
 
-  pub complete_here : complete no_hooks builder.shapes (here builder) (tree_at builder.state.cursor builder.state.tree)
-      ≡ complete no_hooks table frame.shape.0 (node frame.piece)
-  complete_here =
-      ap (λ (t : Table). complete no_hooks t (here builder) (tree_at builder.state.cursor builder.state.tree)) shapes_is
-      ∙ ap (λ (s : ℕ). complete no_hooks table s (tree_at builder.state.cursor builder.state.tree))
-      (here_of table root parents frame calls chain builder is)
-      ∙ ap (complete no_hooks table frame.shape.0) (tree_here table root parents frame calls chain builder is)
+  suits : IsPiece table frame.shape.0 frame.piece
+  suits = (chain_frame table root parents frame chain).piece
 
-  pub end_completes : (v : Value) (next : ℕ) (children : List Value) → complete no_hooks table frame.shape.0 (node frame.piece) ≡ Some (view v)
-      → next ≡ one_more_call calls → children ≡ set parent.children.items parent.child v
-      → end no_hooks builder.shapes (here builder) builder.state
-      ≡ Ok (record { tree = rebuild above (begun (as_form parent.form) (slots children)); cursor = opens above; calls = next })
-  end_completes v next children e count wrote =
-      let makes : complete no_hooks builder.shapes (here builder) (tree_at builder.state.cursor builder.state.tree) ≡ Some (view v)
-      = complete_here ∙ e in
-      let gone_up : up builder.state.cursor ≡ opens above = ap up cursor_popped ∙ up_last (opens above) parent.child in
-      rw (
-        below_root,
-        makes,
-        changed_to table root parents frame calls chain builder is (whole (view v)) (λ old. whole (view v)) refl,
-        gone_up,
-        counted table root parents frame calls chain builder is next count,
-        written v e,
-        wrote,
-      ) refl
+  -- no field of a served table has a validator, so whatever the hooks are the place completes alike
+  module _ (hooks : Meanings) where
+    complete_here : complete hooks builder.shapes (here builder) (tree_at builder.state.cursor builder.state.tree)
+        ≡ complete no_hooks table frame.shape.0 (node frame.piece)
+    complete_here =
+        ap (λ (t : Table). complete hooks t (here builder) (tree_at builder.state.cursor builder.state.tree)) shapes_is
+        ∙ ap (λ (s : ℕ). complete hooks table s (tree_at builder.state.cursor builder.state.tree))
+        (here_of table root parents frame calls chain builder is)
+        ∙ ap (complete hooks table frame.shape.0) (tree_here table root parents frame calls chain builder is)
+        ∙ completes_alike hooks table frame.shape.0 frame.piece served suits
 
-  pub end_refused : (kind : ReflectErrorKind) → IsLacking table frame.shape.0 (node frame.piece) kind
-      → end no_hooks builder.shapes (here builder) builder.state ≡ Err kind
-  end_refused kind lacking =
-      let at : tree_at builder.state.cursor builder.state.tree ≡ node frame.piece
-      = tree_here table root parents frame calls chain builder is in
-      let none : complete no_hooks builder.shapes (here builder) (tree_at builder.state.cursor builder.state.tree) ≡ None
-      = complete_here ∙ lacking.incomplete in
-      let why : cause no_hooks builder.shapes (here builder) (tree_at builder.state.cursor builder.state.tree) ≡ kind
-      = ap (λ (t : Table). cause no_hooks t (here builder) (tree_at builder.state.cursor builder.state.tree)) shapes_is
-      ∙ ap (λ (s : ℕ). cause no_hooks table s (tree_at builder.state.cursor builder.state.tree))
-      (here_of table root parents frame calls chain builder is)
-      ∙ ap (cause no_hooks table frame.shape.0) at
-      ∙ ap (or_missing frame.shape.0) lacking.lacks in
-      rw (below_root, none) (ap Err why)
+    pub end_completes : (v : Value) (next : ℕ) (children : List Value) → complete no_hooks table frame.shape.0 (node frame.piece) ≡ Some (view v)
+        → next ≡ one_more_call calls → children ≡ set parent.children.items parent.child v
+        → end hooks builder.shapes (here builder) builder.state
+        ≡ Ok (record { tree = rebuild above (begun (as_form parent.form) (slots children)); cursor = opens above; calls = next })
+    end_completes v next children e count wrote =
+        let makes : complete hooks builder.shapes (here builder) (tree_at builder.state.cursor builder.state.tree) ≡ Some (view v)
+        = complete_here ∙ e in
+        let gone_up : up builder.state.cursor ≡ opens above = ap up cursor_popped ∙ up_last (opens above) parent.child in
+        rw (
+          below_root,
+          makes,
+          changed_to table root parents frame calls chain builder is (whole (view v)) (λ old. whole (view v)) refl,
+          gone_up,
+          counted table root parents frame calls chain builder is next count,
+          written v e,
+          wrote,
+        ) refl
 
-  -- where a value is made, nothing is refused
-  pub end_not_refused : IsSome (complete no_hooks table frame.shape.0 (node frame.piece))
-      → IsErr (end no_hooks builder.shapes (here builder) builder.state) → ⊥
-  end_not_refused some refused = go (complete no_hooks table frame.shape.0 (node frame.piece)) refl some
-    where
-      go : (made : Option Val) → complete no_hooks table frame.shape.0 (node frame.piece) ≡ made → IsSome made → ⊥
-      go (Some v) e h =
-          let makes : complete no_hooks builder.shapes (here builder) (tree_at builder.state.cursor builder.state.tree) ≡ Some v
-          = complete_here ∙ e in
-          let no : false ≡ true = rw (below_root, makes) at refused in
-          cc
-      go None e h = cc
+    pub end_refused : (kind : ReflectErrorKind) → IsLacking table frame.shape.0 (node frame.piece) kind
+        → end hooks builder.shapes (here builder) builder.state ≡ Err kind
+    end_refused kind lacking =
+        let at : tree_at builder.state.cursor builder.state.tree ≡ node frame.piece
+        = tree_here table root parents frame calls chain builder is in
+        let none : complete hooks builder.shapes (here builder) (tree_at builder.state.cursor builder.state.tree) ≡ None
+        = complete_here ∙ lacking.incomplete in
+        let why : cause hooks builder.shapes (here builder) (tree_at builder.state.cursor builder.state.tree) ≡ kind
+        = ap (λ (t : Table). cause hooks t (here builder) (tree_at builder.state.cursor builder.state.tree)) shapes_is
+        ∙ ap (λ (s : ℕ). cause hooks table s (tree_at builder.state.cursor builder.state.tree))
+        (here_of table root parents frame calls chain builder is)
+        ∙ ap (cause hooks table frame.shape.0) at
+        ∙ ap (or_missing frame.shape.0)
+        (lacks_alike hooks table frame.shape.0 frame.piece served suits ∙ lacking.lacks) in
+        rw (below_root, none) (ap Err why)
+
+    -- where a value is made, nothing is refused
+    pub end_not_refused : IsSome (complete no_hooks table frame.shape.0 (node frame.piece))
+        → IsErr (end hooks builder.shapes (here builder) builder.state) → ⊥
+    end_not_refused some refused = go (complete no_hooks table frame.shape.0 (node frame.piece)) refl some
+      where
+        go : (made : Option Val) → complete no_hooks table frame.shape.0 (node frame.piece) ≡ made → IsSome made → ⊥
+        go (Some v) e h =
+            let makes : complete hooks builder.shapes (here builder) (tree_at builder.state.cursor builder.state.tree) ≡ Some v
+            = complete_here ∙ e in
+            let no : false ≡ true = rw (below_root, makes) at refused in
+            cc
+        go None e h = cc
 
   -- the place that is worked at then
 
@@ -175,20 +182,40 @@ module _ (table : Table) (root : ℕ) (above : List Parent) (parent : Parent) (f
       as_it_was : Frame
       as_it_was = record { shape = parent.shape; piece = Piece.Begun parent.form parent.children }
 
--- where the root makes a value, `build` isn't refused
-pub build_not_refused : (table : Table) (root : ℕ) (parents : List Parent) (frame : Frame) (calls : ℕ) (builder : Builder)
-    → builder_of table root parents frame.piece calls ≡ builder → parents ≡ [] → root ≡ frame.shape.0
-    → IsSome (complete no_hooks table frame.shape.0 (node frame.piece))
-    → IsErr (build no_hooks builder.shapes builder.root builder.state) → ⊥
-build_not_refused table root parents frame calls builder is none shape some refused =
-    go (complete no_hooks table root (node frame.piece)) refl
-    (subst (λ (s : ℕ). IsSome (complete no_hooks table s (node frame.piece))) (sym shape) some)
-  where
-    inside : IsErr (build no_hooks table root (state_of [] frame.piece calls))
-    inside =
-        subst (λ (ps : List Parent). IsErr (build no_hooks table root (state_of ps frame.piece calls))) none
-        (subst (λ (b : Builder). IsErr (build no_hooks b.shapes b.root b.state)) (sym is) refused)
+-- building: the place at which it works is the root
 
-    go : (made : Option Val) → complete no_hooks table root (node frame.piece) ≡ made → IsSome made → ⊥
-    go (Some v) e h = let no : false ≡ true = rw e at inside in cc
-    go None e h = cc
+abbrev built_at : Meanings → Table → ℕ → List Parent → Frame → ℕ → Result Val ReflectErrorKind
+built_at hooks table root parents frame calls = build hooks table root (state_of parents frame.piece calls)
+
+pub build_is : {H : Type 0} {h : H} (hooks : Meanings) (table : Table) (root : ℕ) (parents : List Parent) (frame : Frame) (calls : ℕ)
+    (builder : Builder H) → builder_of h table root parents frame.piece calls ≡ builder → parents ≡ [] → root ≡ frame.shape.0
+    → IsServed table → IsPiece table frame.shape.0 frame.piece
+    → build hooks builder.shapes builder.root builder.state
+    ≡ built no_hooks table frame.shape.0 (node frame.piece) (complete no_hooks table frame.shape.0 (node frame.piece))
+build_is {H} hooks table root parents frame calls builder is none shape served suits =
+    ap (λ (b : Builder H). build hooks b.shapes b.root b.state) (sym is)
+    ∙ ap (λ (ps : List Parent). built_at hooks table root ps frame calls) none
+    ∙ ap (λ (s : ℕ). built_at hooks table s [] frame calls) shape
+    ∙ go (complete no_hooks table frame.shape.0 (node frame.piece)) (completes_alike hooks table frame.shape.0 frame.piece served suits)
+  where
+    go : (made : Option Val) → complete hooks table frame.shape.0 (node frame.piece) ≡ made
+        → built_at hooks table frame.shape.0 [] frame calls ≡ built no_hooks table frame.shape.0 (node frame.piece) made
+    go (Some v) e = rw e refl
+    go None e =
+        rw e
+        (ap (λ (lacking : Option ReflectErrorKind). Err (or_missing frame.shape.0 lacking))
+        (lacks_alike hooks table frame.shape.0 frame.piece served suits))
+
+-- where the root makes a value, `build` isn't refused
+pub build_not_refused : {H : Type 0} {h : H} (hooks : Meanings) (table : Table) (root : ℕ) (parents : List Parent) (frame : Frame) (calls : ℕ)
+    (builder : Builder H) → builder_of h table root parents frame.piece calls ≡ builder → parents ≡ [] → root ≡ frame.shape.0
+    → IsServed table → IsPiece table frame.shape.0 frame.piece
+    → IsSome (complete no_hooks table frame.shape.0 (node frame.piece))
+    → IsErr (build hooks builder.shapes builder.root builder.state) → ⊥
+build_not_refused hooks table root parents frame calls builder is none shape served suits some refused =
+    go (complete no_hooks table frame.shape.0 (node frame.piece)) some
+    (subst IsErr (build_is hooks table root parents frame calls builder is none shape served suits) refused)
+  where
+    go : (made : Option Val) → IsSome made → IsErr (built no_hooks table frame.shape.0 (node frame.piece) made) → ⊥
+    go (Some v) h e = cc
+    go None h e = cc

@@ -15,9 +15,9 @@ use Rattle.fr_partial.specs.Builder.{Builder, here}
 use Rattle.fr_partial.specs.Stack.{IsChain}
 use Rattle.fr_partial.proofs.BuilderLaws.{builder_of, here_of}
 
-module _ (table : Table) (root : ℕ) (parents : List Parent) (frame : Frame) (calls : ℕ)
-    (chain : IsChain table root parents frame) (builder : Builder)
-    (is : builder_of table root parents frame.piece calls ≡ builder) where
+module _ {H : Type 0} {h : H} (table : Table) (root : ℕ) (parents : List Parent) (frame : Frame) (calls : ℕ)
+    (chain : IsChain table root parents frame) (builder : Builder H)
+    (is : builder_of h table root parents frame.piece calls ≡ builder) where
   here_is : here builder ≡ frame.shape.0
   here_is = here_of table root parents frame calls chain builder is
 
@@ -27,7 +27,7 @@ module _ (table : Table) (root : ℕ) (parents : List Parent) (frame : Frame) (c
   -- what fits the place's shape fits as the builder tells it
   pub fits_here : (s : ℕ) (v : Val) → s ≡ frame.shape.0 → fits table s v ≡ true → fits builder.shapes (here builder) v ≡ true
   fits_here s v same h =
-      subst (λ (b : Builder). fits b.shapes (here builder) v ≡ true) is
+      subst (λ (b : Builder H). fits b.shapes (here builder) v ≡ true) is
       (subst (λ (n : ℕ). fits table n v ≡ true) (same ∙ sym here_is) h)
 
   pub set_admitted : (given : ℕ) (v : Val) → given ≡ frame.shape.0
@@ -45,7 +45,7 @@ module _ (table : Table) (root : ℕ) (parents : List Parent) (frame : Frame) (c
 
   preset_is : preset_of builder.shapes (here builder) ≡ preset_of table frame.shape.0
   preset_is =
-      ap (λ (b : Builder). preset_of b.shapes (here builder)) (sym is) ∙ ap (preset_of table) here_is
+      ap (λ (b : Builder H). preset_of b.shapes (here builder)) (sym is) ∙ ap (preset_of table) here_is
 
   pub default_there : (v : Val) → preset_of table frame.shape.0 ≡ Some v
       → set_default builder.shapes (here builder) builder.state ≡ Ok (puts builder.state v)

@@ -3,8 +3,12 @@
 use Rattle.std.proofs.Common.{◌≡◌, ℕ, ◌+◌, List, Result, Ok, Err, inl, inr, refl, ◌∙◌, ap, subst, arith}
 use Rattle.fr_shape.specs.declared.error.ReflectErrorKind.{ReflectErrorKind}
 use Rattle.fr_shape.specs.Checked.{IsChecked}
-use Rattle.fr_shape.specs.Hooks.{no_hooks}
+use Rattle.fr_shape.specs.Hooks.{Meanings}
+use Rattle.fr_shape.specs.declared.shape.ShapeId.{ShapeId}
 use Rattle.fr_shape.specs.Look.{Table}
+use Rattle.fr_path.specs.declared.path_steps.PathStep.{PathStep}
+use Rattle.fr_plan.specs.TypePlan.{Plan}
+use Rattle.fr_model.specs.Paths.{path_of}
 use Rattle.fr_shape.specs.Released.{Conserved, RoseBy}
 use Rattle.fr_shape.specs.Val.{Val}
 use Rattle.fr_model.specs.Commands.{Call}
@@ -16,67 +20,75 @@ use Rattle.fr_model.specs.Well.{IsInOrder}
 use Rattle.fr_partial.specs.declared.frame.Frame.{Frame}
 use Rattle.fr_partial.specs.declared.frame.Parent.{Parent}
 use Rattle.fr_partial.specs.BuiltValue.{BuiltValue}
-use Rattle.fr_partial.specs.Builder.{Builder, holds, meaning, meaning_of_build, IsStep, IsBuilt, left, dropped, RisesByRemoved, left_built, dropped_at_build, RisesByRemovedAtBuild}
+use Rattle.fr_partial.specs.declared.reflect_error.ReflectError.{ReflectError}
+use Rattle.fr_partial.specs.Builder.{Builder, holds, meaning, meaning_of_build, IsStep, IsBuilt, left, dropped, dropped_refused, RisesByRemoved, left_built, dropped_at_build, dropped_unbuilt, RisesByRemovedAtBuild}
 use Rattle.fr_partial.specs.Stack.{IsOpen}
 use Rattle.fr_partial.proofs.BuilderLaws.{builder_of}
 use Rattle.fr_partial.proofs.OrderLaws.{suit_rebuild, leads_rebuild}
 
 -- A builder in order: its table is checked, and its state is in order.
-pub record IsBuilderInOrder (builder : Builder) : Type 0 where
+pub record IsBuilderInOrder {H : Type 0} (builder : Builder H) : Type 0 where
   pub checked : IsChecked builder.shapes
   pub state : IsInOrder builder.shapes builder.root builder.state
 
-pub in_order : (table : Table) (root : ℕ) (parents : List Parent) (frame : Frame) (calls : ℕ) (builder : Builder)
-    → IsOpen table root parents frame → builder_of table root parents frame.piece calls ≡ builder
-    → IsBuilderInOrder builder
-in_order table root parents frame calls builder is_open is =
+pub in_order : {H : Type 0} {h : H} (table : Table) (root : ShapeId) (plan : Plan) (path : List PathStep) (parents : List Parent)
+    (frame : Frame) (calls : ℕ) (builder : Builder H) → IsOpen table root plan path parents frame calls
+    → builder_of h table root.0 parents frame.piece calls ≡ builder → IsBuilderInOrder builder
+in_order table root plan path parents frame calls builder is_open is =
     subst IsBuilderInOrder is
     (record {
       checked = is_open.checked;
       state = record {
-        suits = suit_rebuild table root parents frame is_open.chain;
-        leads = leads_rebuild table root parents frame is_open.chain;
+        suits = suit_rebuild table root.0 parents frame is_open.chain;
+        leads = leads_rebuild table root.0 parents frame is_open.chain;
       };
     })
 
+-- the path that a builder keeps is that of its place
+pub path_is : {H : Type 0} {h : H} (table : Table) (root : ShapeId) (plan : Plan) (path : List PathStep) (parents : List Parent)
+    (frame : Frame) (calls : ℕ) (builder : Builder H) → IsOpen table root plan path parents frame calls
+    → builder_of h table root.0 parents frame.piece calls ≡ builder → path ≡ path_of builder.state
+path_is {H} table root plan path parents frame calls builder is_open is =
+    is_open.path ∙ ap (λ (b : Builder H). path_of b.state) is
+
 -- a refused call
 
-refused_drops : (before : Builder) (call : Call) (kind : ReflectErrorKind) (t : ℕ) → meaning before call ≡ Err kind
-    → dropped before call (Err kind) t ≡ holds before t + brings call t
-refused_drops before call ReflectErrorKind.OutOfMemory t e = refl
-refused_drops before call _ t e = rw e refl
+refused_drops : {H : Type 0} (hooks : Meanings) (before : Builder H) (call : Call) (kind : ReflectErrorKind) (t : ℕ)
+    → meaning hooks before call ≡ Err kind → dropped_refused hooks before call kind t ≡ holds before t + brings call t
+refused_drops hooks before call ReflectErrorKind.OutOfMemory t e = refl
+refused_drops hooks before call _ t e = rw e refl
 
-drops_all : (before : Builder) (call : Call) (kind : ReflectErrorKind) (t : ℕ)
-    → IsStep before call (Err kind) → dropped before call (Err kind) t ≡ holds before t + brings call t
-drops_all before call kind t (inl memory) =
-    ap (λ (k : ReflectErrorKind). dropped before call (Err k) t) memory
-drops_all before call kind t (inr meant) = refused_drops before call kind t meant
+drops_all : {H : Type 0} (hooks : Meanings) (before : Builder H) (call : Call) (error : ReflectError) (t : ℕ)
+    → IsStep hooks before call (Err error) → dropped hooks before call (Err error) t ≡ holds before t + brings call t
+drops_all hooks before call error t (inl memory) =
+    ap (λ (k : ReflectErrorKind). dropped_refused hooks before call k t) memory
+drops_all hooks before call error t (inr meant) = refused_drops hooks before call error.kind t meant
 
-refused_build_drops : (before : Builder) (kind : ReflectErrorKind) (t : ℕ) → meaning_of_build before ≡ Err kind
-    → dropped_at_build before (Err kind) t ≡ holds before t
-refused_build_drops before ReflectErrorKind.OutOfMemory t e = refl
-refused_build_drops before _ t e = rw e refl
+refused_build_drops : {H : Type 0} (hooks : Meanings) (before : Builder H) (kind : ReflectErrorKind) (t : ℕ)
+    → meaning_of_build hooks before ≡ Err kind → dropped_unbuilt hooks before kind t ≡ holds before t
+refused_build_drops hooks before ReflectErrorKind.OutOfMemory t e = refl
+refused_build_drops hooks before _ t e = rw e refl
 
-build_drops_all : (before : Builder) (kind : ReflectErrorKind) (t : ℕ)
-    → IsBuilt before (Err kind) → dropped_at_build before (Err kind) t ≡ holds before t
-build_drops_all before kind t (inl memory) =
-    ap (λ (k : ReflectErrorKind). dropped_at_build before (Err k) t) memory
-build_drops_all before kind t (inr meant) = refused_build_drops before kind t meant
+build_drops_all : {H : Type 0} (hooks : Meanings) (before : Builder H) (error : ReflectError) (t : ℕ)
+    → IsBuilt hooks before (Err error) → dropped_at_build hooks before (Err error) t ≡ holds before t
+build_drops_all hooks before error t (inl memory) =
+    ap (λ (k : ReflectErrorKind). dropped_unbuilt hooks before k t) memory
+build_drops_all hooks before error t (inr meant) = refused_build_drops hooks before error.kind t meant
 
 -- all that a refused call released
 
-pub all_released : (held : ℕ → ℕ) (kind : ReflectErrorKind) (old new : List ℕ) → RoseBy held old new
-    → Conserved held old (left (Err kind)) new
-all_released held kind old new rose = record {
+pub all_released : {H : Type 0} (held : ℕ → ℕ) (error : ReflectError) (old new : List ℕ) → RoseBy held old new
+    → Conserved held old (left {H} (Err error)) new
+all_released held error old new rose = record {
   same_length = rose.same_length;
   kept_or_released = λ t. omega (arith, rose.each t);
   none_falls = λ t. omega (arith, rose.each t);
 }
 
-pub both_released : (first second : ℕ → ℕ) (kind : ReflectErrorKind) (old between new : List ℕ)
+pub both_released : {H : Type 0} (first second : ℕ → ℕ) (error : ReflectError) (old between new : List ℕ)
     → RoseBy first old between → RoseBy second between new
-    → Conserved (λ t. second t + first t) old (left (Err kind)) new
-both_released first second kind old between new rose rose_again = record {
+    → Conserved (λ t. second t + first t) old (left {H} (Err error)) new
+both_released first second error old between new rose rose_again = record {
   same_length = rose_again.same_length ∙ rose.same_length;
   kept_or_released = λ t. omega (arith, rose.each t, rose_again.each t);
   none_falls = λ t. omega (arith, rose.each t, rose_again.each t);
@@ -84,44 +96,46 @@ both_released first second kind old between new rose rose_again = record {
 
 -- any call that is one step and conserves what was held and brought
 
-pub rises_by_removed : StepKeepsTokens → (before : Builder) → IsBuilderInOrder before → (call : Call) (held : ℕ → ℕ)
-    → ((t : ℕ) → held t ≡ holds before t + brings call t) → (result : Result Builder ReflectErrorKind)
-    → (old new : List ℕ) → IsStep before call result → Conserved held old (left result) new
-    → RisesByRemoved before call result old new
-rises_by_removed law before ordered call held brought (Ok after) old new is_step conserved = record {
+pub rises_by_removed : {H : Type 0} (hooks : Meanings) → StepKeepsTokens → (before : Builder H) → IsBuilderInOrder before
+    → (call : Call) (held : ℕ → ℕ) → ((t : ℕ) → held t ≡ holds before t + brings call t)
+    → (result : Result (Builder H) ReflectError) → (old new : List ℕ) → IsStep hooks before call result
+    → Conserved held old (left result) new → RisesByRemoved hooks before call result old new
+rises_by_removed hooks law before ordered call held brought (Ok after) old new is_step conserved = record {
   same_length = conserved.same_length;
   each = λ t.
       let kept : holds before t + brings call t
-      ≡ held_after (meaning before call) t + removed no_hooks before.shapes before.root before.state call t
-      = law no_hooks before.shapes before.root before.state call ordered.checked ordered.state t in
-      let then : held_after (meaning before call) t ≡ holds after t
+      ≡ held_after (meaning hooks before call) t + removed hooks before.shapes before.root before.state call t
+      = law hooks before.shapes before.root before.state call ordered.checked ordered.state t in
+      let then : held_after (meaning hooks before call) t ≡ holds after t
       = ap (λ (meant : Result State ReflectErrorKind). held_after meant t) is_step.0 in
       omega (arith, brought t, conserved.kept_or_released t);
 }
-rises_by_removed law before ordered call held brought (Err kind) old new is_step conserved = record {
+rises_by_removed hooks law before ordered call held brought (Err error) old new is_step conserved = record {
   same_length = conserved.same_length;
   each = λ t.
-      let all : dropped before call (Err kind) t ≡ holds before t + brings call t
-      = drops_all before call kind t is_step in
+      let all : dropped hooks before call (Err error) t ≡ holds before t + brings call t
+      = drops_all hooks before call error t is_step in
       omega (arith, brought t, conserved.kept_or_released t);
 }
 
-pub rises_by_removed_at_build : BuildKeepsTokens → (before : Builder) → IsBuilderInOrder before
-    → (result : Result BuiltValue ReflectErrorKind) (old new : List ℕ) → IsBuilt before result
-    → Conserved (holds before) old (left_built result) new → RisesByRemovedAtBuild before result old new
-rises_by_removed_at_build law before ordered (Ok built) old new is_built conserved = record {
+pub rises_by_removed_at_build : {H : Type 0} (hooks : Meanings) → BuildKeepsTokens → (before : Builder H)
+    → IsBuilderInOrder before → (result : Result BuiltValue ReflectError) (old new : List ℕ)
+    → IsBuilt hooks before result → Conserved (holds before) old (left_built result) new
+    → RisesByRemovedAtBuild hooks before result old new
+rises_by_removed_at_build hooks law before ordered (Ok built) old new is_built conserved = record {
   same_length = conserved.same_length;
   each = λ t.
       let kept : holds before t
-      ≡ built_occurs (meaning_of_build before) t + removed_at_build no_hooks before.shapes before.root before.state t
-      = law no_hooks before.shapes before.root before.state ordered.checked ordered.state.suits t in
-      let then : built_occurs (meaning_of_build before) t ≡ left_built (Ok built) t
+      ≡ built_occurs (meaning_of_build hooks before) t + removed_at_build hooks before.shapes before.root before.state t
+      = law hooks before.shapes before.root before.state ordered.checked ordered.state.suits t in
+      let then : built_occurs (meaning_of_build hooks before) t ≡ left_built (Ok built) t
       = ap (λ (meant : Result Val ReflectErrorKind). built_occurs meant t) is_built.0 in
       omega (arith, conserved.kept_or_released t);
 }
-rises_by_removed_at_build law before ordered (Err kind) old new is_built conserved = record {
+rises_by_removed_at_build hooks law before ordered (Err error) old new is_built conserved = record {
   same_length = conserved.same_length;
   each = λ t.
-      let all : dropped_at_build before (Err kind) t ≡ holds before t = build_drops_all before kind t is_built in
+      let all : dropped_at_build hooks before (Err error) t ≡ holds before t
+      = build_drops_all hooks before error t is_built in
       omega (arith, conserved.kept_or_released t);
 }

@@ -1,109 +1,126 @@
 -- What contracts see of a builder, and what its calls owe.
-use Rattle.std.specs.Prelude.{◌≡◌, ◌⊎◌, ℕ, ◌+◌, List, Result, Ok, Err, IsErr, refl}
+use Rattle.std.specs.Prelude.{◌≡◌, ◌≢◌, ◌⊎◌, ℕ, ◌+◌, List, Option, Some, None, Result, Ok, Err, IsErr, IfErr, ⊤, refl}
 use Rattle.std.specs.Coded.{Coded, code_by, coded×, coded_ℕ}
 use Rattle.fr_shape.specs.TableCode.{table_code}
-use Rattle.fr_shape.specs.Hooks.{no_hooks}
+use Rattle.fr_shape.specs.Hooks.{Meanings}
 use Rattle.fr_shape.specs.Look.{Table}
 use Rattle.fr_shape.specs.Released.{RoseBy}
 use Rattle.fr_shape.specs.Tokens.{occurs}
 use Rattle.fr_shape.specs.Val.{Val}
 use Rattle.fr_shape.specs.declared.error.ReflectErrorKind.{ReflectErrorKind}
 use Rattle.fr_model.specs.Commands.{Call}
+use Rattle.fr_model.specs.Paths.{path_of}
 use Rattle.fr_model.specs.Removed.{removed, removed_at_build}
 use Rattle.fr_model.specs.Scripts.{brings}
 use Rattle.fr_model.specs.Step.{step, build}
 use Rattle.fr_model.specs.Tree.{State, cursor_shape, tree_occurs}
 use Rattle.fr_model.specs.StateCode.{state_code}
 use Rattle.fr_partial.specs.BuiltValue.{BuiltValue}
+use Rattle.fr_partial.specs.declared.reflect_error.ReflectError.{ReflectError}
 
--- the table that its shapes come from, the root's shape, and the state
-pub record Builder : Type 0 where
+-- the table that its shapes come from, the hooks, the root's shape, and the state
+pub record Builder (H : Type 0) : Type 0 where
   pub shapes : Table
+  pub hooks : H
   pub root : ℕ
   pub state : State
 
-abbrev pub builder_code : Coded Builder
-builder_code =
-    code_by (Table × (ℕ × State)) (coded× table_code (coded× coded_ℕ state_code))
-    (λ b. (b.shapes, (b.root, b.state))) (λ p. record { shapes = p.0; root = p.1.0; state = p.1.1 }) (λ b. refl)
+abbrev pub builder_code : {H : Type 0} → Coded H → Coded (Builder H)
+builder_code {H} hooks_code =
+    code_by (Table × (H × (ℕ × State))) (coded× table_code (coded× hooks_code (coded× coded_ℕ state_code)))
+    (λ b. (b.shapes, (b.hooks, (b.root, b.state))))
+    (λ p. record { shapes = p.0; hooks = p.1.0; root = p.1.1.0; state = p.1.1.1 }) (λ b. refl)
 
 -- the shape of the place at which it works
-abbrev pub here : Builder → ℕ
+abbrev pub here : {H : Type 0} → Builder H → ℕ
 here builder = cursor_shape builder.shapes builder.root builder.state
 
 -- how often it holds a token
-abbrev pub holds : Builder → ℕ → ℕ
+abbrev pub holds : {H : Type 0} → Builder H → ℕ → ℕ
 holds builder t = tree_occurs builder.state.tree t
 
 -- Steps
 
--- what a call means: the state after it, or why it is refused
-abbrev pub meaning : Builder → Call → Result State ReflectErrorKind
-meaning builder call = step no_hooks builder.shapes builder.root builder.state call
+-- what a call means, as the hooks mean: the state after it, or why it is refused
+abbrev pub meaning : {H : Type 0} → Meanings → Builder H → Call → Result State ReflectErrorKind
+meaning hooks builder call = step hooks builder.shapes builder.root builder.state call
 
--- What is meant came about: where it is a state, the builder stands for it, over the same table and root; where it is a
--- refusal, that is the refusal; or memory ran out.
-abbrev pub IsStepTo : Builder → (meant : Result State ReflectErrorKind) → Result Builder ReflectErrorKind → Type 0
+-- What is meant came about: where it is a state, the builder stands for it, over the same table, root and hooks; where it
+-- is a refusal, that is the error's kind; or memory ran out.
+abbrev pub IsStepTo : {H : Type 0} → Builder H → (meant : Result State ReflectErrorKind) → Result (Builder H) ReflectError → Type 0
 IsStepTo before meant (Ok after) =
-    (meant ≡ Ok after.state) × (after.shapes ≡ before.shapes) × (after.root ≡ before.root)
-IsStepTo before meant (Err kind) = (kind ≡ ReflectErrorKind.OutOfMemory) ⊎ (meant ≡ Err kind)
+    (meant ≡ Ok after.state) × (after.shapes ≡ before.shapes) × (after.root ≡ before.root) × (after.hooks ≡ before.hooks)
+IsStepTo before meant (Err error) = (error.kind ≡ ReflectErrorKind.OutOfMemory) ⊎ (meant ≡ Err error.kind)
 
 -- the call did exactly what it means, or was out of memory
-abbrev pub IsStep : Builder → Call → Result Builder ReflectErrorKind → Type 0
-IsStep before call result = IsStepTo before (meaning before call) result
+abbrev pub IsStep : {H : Type 0} → Meanings → Builder H → Call → Result (Builder H) ReflectError → Type 0
+IsStep hooks before call result = IsStepTo before (meaning hooks before call) result
 
--- what `build` means: the value, or why it is refused
-abbrev pub meaning_of_build : Builder → Result Val ReflectErrorKind
-meaning_of_build builder = build no_hooks builder.shapes builder.root builder.state
+-- what `build` means, as the hooks mean: the value, or why it is refused
+abbrev pub meaning_of_build : {H : Type 0} → Meanings → Builder H → Result Val ReflectErrorKind
+meaning_of_build hooks builder = build hooks builder.shapes builder.root builder.state
 
 -- `build` did exactly what it means, its value made by as many calls as the builder had, or was out of memory
-abbrev pub IsBuilt : Builder → Result BuiltValue ReflectErrorKind → Type 0
-IsBuilt before (Ok built) = (meaning_of_build before ≡ Ok built.value) × (built.calls ≡ before.state.calls)
-IsBuilt before (Err kind) = (kind ≡ ReflectErrorKind.OutOfMemory) ⊎ (meaning_of_build before ≡ Err kind)
+abbrev pub IsBuilt : {H : Type 0} → Meanings → Builder H → Result BuiltValue ReflectError → Type 0
+IsBuilt hooks before (Ok built) = (meaning_of_build hooks before ≡ Ok built.value) × (built.calls ≡ before.state.calls)
+IsBuilt hooks before (Err error) =
+    (error.kind ≡ ReflectErrorKind.OutOfMemory) ⊎ (meaning_of_build hooks before ≡ Err error.kind)
+
+-- whatever its kind, the error names the path of the place at which the builder worked before the call
+abbrev pub TellsPlaceBefore : {H A : Type 0} → Builder H → Result A ReflectError → Type 0
+TellsPlaceBefore before result = IfErr result (λ error. error.path ≡ path_of before.state)
 
 -- Memory
 
 -- the call isn't out of memory
-abbrev pub IsNotOutOfMemory : {A : Type 0} → Result A ReflectErrorKind → Type 0
-IsNotOutOfMemory result = result ≡ Err ReflectErrorKind.OutOfMemory → ⊥
+abbrev pub IsNotOutOfMemory : {A : Type 0} → Result A ReflectError → Type 0
+IsNotOutOfMemory result = IfErr result (λ error. error.kind ≢ ReflectErrorKind.OutOfMemory)
 
 -- a call that means a refusal is refused so, and not out of memory
-abbrev pub RefusesBeforeMemory : Builder → Call → Result Builder ReflectErrorKind → Type 0
-RefusesBeforeMemory before call result = IsErr (meaning before call) → IsNotOutOfMemory result
+abbrev pub RefusesBeforeMemory : {H : Type 0} → Meanings → Builder H → Call → Result (Builder H) ReflectError → Type 0
+RefusesBeforeMemory hooks before call result = IsErr (meaning hooks before call) → IsNotOutOfMemory result
 
 -- a `build` that means a refusal is refused so, and not out of memory
-abbrev pub BuildRefusesBeforeMemory : Builder → Result BuiltValue ReflectErrorKind → Type 0
-BuildRefusesBeforeMemory before result = IsErr (meaning_of_build before) → IsNotOutOfMemory result
+abbrev pub BuildRefusesBeforeMemory : {H : Type 0} → Meanings → Builder H → Result BuiltValue ReflectError → Type 0
+BuildRefusesBeforeMemory hooks before result = IsErr (meaning_of_build hooks before) → IsNotOutOfMemory result
 
 -- Tokens
 
 -- how often a token is held after a call: not at all where it was refused
-abbrev pub left : Result Builder ReflectErrorKind → ℕ → ℕ
+abbrev pub left : {H : Type 0} → Result (Builder H) ReflectError → ℕ → ℕ
 left (Ok after) t = holds after t
-left (Err kind) t = 0
+left (Err error) t = 0
 
--- how often a token is dropped by a call: as often as the call removes it; out of memory, as often as the builder held
--- it and the call brought it
-abbrev pub dropped : Builder → Call → Result Builder ReflectErrorKind → ℕ → ℕ
-dropped before call (Ok after) t = removed no_hooks before.shapes before.root before.state call t
-dropped before call (Err ReflectErrorKind.OutOfMemory) t = holds before t + brings call t
-dropped before call (Err kind) t = removed no_hooks before.shapes before.root before.state call t
+-- how often a refused call drops a token: as often as it removes it; out of memory, as often as the builder held it and
+-- the call brought it
+abbrev pub dropped_refused : {H : Type 0} → Meanings → Builder H → Call → ReflectErrorKind → ℕ → ℕ
+dropped_refused hooks before call ReflectErrorKind.OutOfMemory t = holds before t + brings call t
+dropped_refused hooks before call kind t = removed hooks before.shapes before.root before.state call t
+
+-- how often a token is dropped by a call: as often as the call removes it
+abbrev pub dropped : {H : Type 0} → Meanings → Builder H → Call → Result (Builder H) ReflectError → ℕ → ℕ
+dropped hooks before call (Ok after) t = removed hooks before.shapes before.root before.state call t
+dropped hooks before call (Err error) t = dropped_refused hooks before call error.kind t
 
 -- the ledger's count of each token rises by exactly what the call removes of it
-abbrev pub RisesByRemoved : Builder → Call → Result Builder ReflectErrorKind → (old new : List ℕ) → Type 0
-RisesByRemoved before call result old new = RoseBy (dropped before call result) old new
+abbrev pub RisesByRemoved : {H : Type 0} → Meanings → Builder H → Call → Result (Builder H) ReflectError → (old new : List ℕ) → Type 0
+RisesByRemoved hooks before call result old new = RoseBy (dropped hooks before call result) old new
 
 -- how often a token stands in what `build` returns
-abbrev pub left_built : Result BuiltValue ReflectErrorKind → ℕ → ℕ
+abbrev pub left_built : Result BuiltValue ReflectError → ℕ → ℕ
 left_built (Ok built) t = occurs built.value t
-left_built (Err kind) t = 0
+left_built (Err error) t = 0
 
--- how often a token is dropped by `build`: as often as it removes it; out of memory, as often as the builder held it
-abbrev pub dropped_at_build : Builder → Result BuiltValue ReflectErrorKind → ℕ → ℕ
-dropped_at_build before (Ok built) t = removed_at_build no_hooks before.shapes before.root before.state t
-dropped_at_build before (Err ReflectErrorKind.OutOfMemory) t = holds before t
-dropped_at_build before (Err kind) t = removed_at_build no_hooks before.shapes before.root before.state t
+-- how often a refused `build` drops a token: as often as it removes it; out of memory, as often as the builder held it
+abbrev pub dropped_unbuilt : {H : Type 0} → Meanings → Builder H → ReflectErrorKind → ℕ → ℕ
+dropped_unbuilt hooks before ReflectErrorKind.OutOfMemory t = holds before t
+dropped_unbuilt hooks before kind t = removed_at_build hooks before.shapes before.root before.state t
+
+-- how often a token is dropped by `build`: as often as it removes it
+abbrev pub dropped_at_build : {H : Type 0} → Meanings → Builder H → Result BuiltValue ReflectError → ℕ → ℕ
+dropped_at_build hooks before (Ok built) t = removed_at_build hooks before.shapes before.root before.state t
+dropped_at_build hooks before (Err error) t = dropped_unbuilt hooks before error.kind t
 
 -- the ledger's count of each token rises by exactly what `build` removes of it
-abbrev pub RisesByRemovedAtBuild : Builder → Result BuiltValue ReflectErrorKind → (old new : List ℕ) → Type 0
-RisesByRemovedAtBuild before result old new = RoseBy (dropped_at_build before result) old new
+abbrev pub RisesByRemovedAtBuild : {H : Type 0} → Meanings → Builder H → Result BuiltValue ReflectError → (old new : List ℕ) → Type 0
+RisesByRemovedAtBuild hooks before result old new = RoseBy (dropped_at_build hooks before result) old new

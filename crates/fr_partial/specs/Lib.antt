@@ -4,4 +4,6 @@ pub mod Children
 pub mod Completing
 pub mod Entering
 pub mod Filling
+pub mod HeldPlan
 pub mod Stack
+pub mod Starting

@@ -10,8 +10,12 @@ use Rattle.fr_shape.specs.View.{view, vals_view}
 use Rattle.fr_shape.specs.Tokens.{vals_occur}
 use Rattle.fr_shape.specs.Fills.{is_empty_struct}
 use Rattle.fr_shape.specs.Fits.{fits}
+use Rattle.fr_shape.specs.declared.shape.ShapeId.{ShapeId}
+use Rattle.fr_path.specs.declared.path_steps.PathStep.{PathStep}
+use Rattle.fr_model.specs.Paths.{path_of}
 use Rattle.fr_model.specs.Places.{Place, child_shape}
-use Rattle.fr_model.specs.Tree.{Form as TreeForm, as_struct, as_array, Tree, hole, entered, whole, begun, Trees, no_trees, branch, change_nth}
+use Rattle.fr_model.specs.Tree.{Form as TreeForm, as_struct, as_array, Tree, hole, entered, whole, begun, Trees, no_trees, branch, change_nth, State}
+use Rattle.fr_plan.specs.TypePlan.{Plan, IsPlanOf}
 use Rattle.fr_model.specs.Well.{IsBegunAs}
 use Rattle.fr_partial.specs.declared.frame.Form.{Form}
 use Rattle.fr_partial.specs.declared.frame.Piece.{Piece}
@@ -49,6 +53,10 @@ rebuild (parent ∷ parents) t = around parent (rebuild parents t)
 -- the way from the root to the place
 abbrev pub opens : List Parent → Place
 opens parents = map (λ (parent : Parent). parent.child) parents
+
+-- the state of a builder with these places open, after so many calls
+abbrev pub state_of : List Parent → Piece → (calls : ℕ) → State
+state_of parents piece calls = record { tree = rebuild parents (node piece); cursor = opens parents; calls = calls }
 
 -- a child is not there yet, or fits its shape
 abbrev pub IsChild : Table → ℕ → Val → Type 0
@@ -90,12 +98,15 @@ IsChain table s [] frame = IsFrame table s frame
 IsChain table s (parent ∷ parents) frame =
     IsParent table s parent × IsChain table (child_shape table s parent.child) parents frame
 
--- The open places of a builder over a table that it serves, for a root of shape s.
-pub record IsOpen (table : Table) (s : ℕ) (parents : List Parent) (frame : Frame) : Type 0 where
+-- The open places of a builder over a table that it serves, with the plan of its root and the path of the place at which
+-- it works.
+pub record IsOpen (table : Table) (root : ShapeId) (plan : Plan) (path : List PathStep) (parents : List Parent) (frame : Frame) (calls : ℕ) : Type 0 where
   pub numbered : IsNumbered table
   pub checked : IsChecked table
   pub served : IsServed table
-  pub chain : IsChain table s parents frame
+  pub chain : IsChain table root.0 parents frame
+  pub planned : IsPlanOf table root plan
+  pub path : path ≡ path_of (state_of parents frame.piece calls)
 
 -- how often the places above hold a token
 abbrev pub parents_hold : List Parent → ℕ → ℕ

@@ -4,46 +4,62 @@ ghost use Rattle.fr_shape.specs.Look.{def_of};
 ghost use Rattle.fr_shape.specs.Released.{Room, Conserved};
 ghost use Rattle.fr_model.specs.Step.{enters, field_refusal};
 ghost use Rattle.fr_model.specs.Tree.{cursor_tree};
-ghost use Rattle.fr_partial.specs.Builder.{here, holds, left, IsStepTo};
+ghost use Rattle.fr_partial.specs.Builder.{here, holds, left, IsStepTo, TellsPlaceBefore};
 
-use crate::Partial;
 use crate::admitting::child_of;
 use crate::entering::enter_child;
-use crate::releasing::{release_children, release_parents, release_piece};
-use fr_shape::{Ledger, ReflectErrorKind};
+use crate::paths::step_to;
+use crate::releasing::{release_all, release_children, release_parents, release_piece};
+use crate::{Partial, ReflectError};
+use fr_path::law_pop_undoes_push;
+use fr_shape::{Hooks, Ledger, ReflectErrorKind};
 
-impl<'t> Partial<'t> {
+impl<'t, H: Hooks> Partial<'t, H> {
     /// Enters a child that may be entered. Its place above may need memory.
     pub(crate) fn enter(
         self,
         i: usize,
         ledger: &mut Ledger,
-    ) -> Result<Partial<'t>, ReflectErrorKind>
+    ) -> Result<Partial<'t, H>, ReflectError>
         requires room { Room (holds self) ledger.old }
         requires admitted { field_refusal (def_of self.shapes (here self))
             (cursor_tree self.state) i ≡ None }
         ensures step { IsStepTo self.entry
             (Ok (enters self.entry.shapes (here self.entry) self.entry.state i)) result }
+        ensures path { TellsPlaceBefore self.entry result }
         ensures tokens { Conserved (holds self.entry) ledger.old (left result) ledger.new }
     {
+        law_pop_undoes_push();
         let Partial {
             alloc,
             table,
+            hooks,
+            plan,
             root,
+            mut path,
             mut parents,
             frame,
             calls,
         } = self;
+        let kind = ReflectErrorKind::OutOfMemory;
         let child = child_of(table, frame.shape, i);
+        let Ok(()) = path.push(step_to(child.form, i)) else {
+            release_all(parents, frame.piece, ledger);
+            return Err(ReflectError { kind, path });
+        };
         let Ok((above, below)) = enter_child(alloc, table, frame, i, child) else {
             release_parents(parents, ledger);
-            return Err(ReflectErrorKind::OutOfMemory);
+            path.pop();
+            return Err(ReflectError { kind, path });
         };
         match parents.push(above) {
             Ok(()) => Ok(Partial {
                 alloc,
                 table,
+                hooks,
+                plan,
                 root,
+                path,
                 parents,
                 frame: below,
                 calls: calls.saturating_add(1),
@@ -52,7 +68,8 @@ impl<'t> Partial<'t> {
                 release_piece(below.piece, ledger);
                 release_children(refused.value.children, ledger);
                 release_parents(parents, ledger);
-                Err(ReflectErrorKind::OutOfMemory)
+                path.pop();
+                Err(ReflectError { kind, path })
             }
         }
     }

@@ -1,34 +1,36 @@
 //! `begin_nth_field`: on to a field or element of the place at which the builder works.
 ghost use Rattle.fr_shape.specs.Released.{Room, Conserved};
 ghost use Rattle.fr_model.specs.Commands.{Call};
-ghost use Rattle.fr_partial.specs.Builder.{holds, left, IsStep, RefusesBeforeMemory, RisesByRemoved};
+ghost use Rattle.fr_partial.specs.Builder.{holds, left, IsStep, RefusesBeforeMemory, RisesByRemoved, TellsPlaceBefore};
 
-use crate::Partial;
 use crate::admitting::field_refusal;
+use crate::{Partial, ReflectError};
 use fr_model::law_removed;
-use fr_shape::{Ledger, ReflectErrorKind};
+use fr_shape::{Hooks, Ledger, ReflectErrorKind};
 
-impl<'t> Partial<'t> {
+impl<'t, H: Hooks> Partial<'t, H> {
     /// Enters the field or element of this number, counted from 0. One that holds something already keeps it. Where it
     /// can't be entered, that is the refusal, and never out of memory.
     pub fn begin_nth_field(
         self,
         idx: usize,
         ledger: &mut Ledger,
-    ) -> Result<Partial<'t>, ReflectErrorKind>
+    ) -> Result<Partial<'t, H>, ReflectError>
         requires room { Room (holds self) ledger.old }
-        ensures step { IsStep self.entry (Call.BeginNthField idx) result }
+        ensures step { IsStep (H.means self.entry.hooks) self.entry (Call.BeginNthField idx) result }
+        ensures path { TellsPlaceBefore self.entry result }
         ensures tokens { Conserved (holds self.entry) ledger.old (left result) ledger.new }
-        ensures removed { RisesByRemoved self.entry (Call.BeginNthField idx) result
-            ledger.old ledger.new }
-        ensures refused { RefusesBeforeMemory self.entry (Call.BeginNthField idx) result }
+        ensures removed { RisesByRemoved (H.means self.entry.hooks) self.entry
+            (Call.BeginNthField idx) result ledger.old ledger.new }
+        ensures refused { RefusesBeforeMemory (H.means self.entry.hooks) self.entry
+            (Call.BeginNthField idx) result }
     {
         law_removed();
         let shape = self.frame.shape;
         match field_refusal(self.table, &self.frame, idx) {
             Some(operation) => {
-                self.abandon(ledger);
-                Err(ReflectErrorKind::OperationFailed { shape, operation })
+                let kind = ReflectErrorKind::OperationFailed { shape, operation };
+                Err(self.refuse(kind, ledger))
             }
             None => self.enter(idx, ledger),
         }

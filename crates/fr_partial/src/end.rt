@@ -4,42 +4,48 @@ ghost use Rattle.fr_shape.specs.Released.{Room, Conserved};
 ghost use Rattle.fr_model.specs.Commands.{Call};
 ghost use Rattle.fr_model.specs.Tree.{cursor_tree};
 ghost use Rattle.fr_partial.specs.Filling.{fills_nothing};
-ghost use Rattle.fr_partial.specs.Builder.{holds, left, IsStep, IsNotOutOfMemory, RefusesBeforeMemory, RisesByRemoved};
+ghost use Rattle.fr_partial.specs.Builder.{holds, left, IsStep, IsNotOutOfMemory, RefusesBeforeMemory, RisesByRemoved, TellsPlaceBefore};
 
-use crate::Partial;
 use crate::children::put;
 use crate::completing::complete;
 use crate::frame::{Frame, Parent, Piece};
 use crate::releasing::{release_children, release_parents, release_piece};
+use crate::{Partial, ReflectError};
 use fr_model::law_removed;
-use fr_shape::{Invariant, Ledger, ReflectErrorKind};
+use fr_shape::{Hooks, Invariant, Ledger, ReflectErrorKind};
 
-impl<'t> Partial<'t> {
+impl<'t, H: Hooks> Partial<'t, H> {
     /// Completes the place, writes its value into the place above, and goes there. Only copies of templates need memory,
     /// and what is lacking is found before any is made.
-    pub fn end(self, ledger: &mut Ledger) -> Result<Partial<'t>, ReflectErrorKind>
+    pub fn end(self, ledger: &mut Ledger) -> Result<Partial<'t, H>, ReflectError>
         requires room { Room (holds self) ledger.old }
-        ensures step { IsStep self.entry Call.End result }
+        ensures step { IsStep (H.means self.entry.hooks) self.entry Call.End result }
+        ensures path { TellsPlaceBefore self.entry result }
         ensures tokens { Conserved (holds self.entry) ledger.old (left result) ledger.new }
-        ensures removed { RisesByRemoved self.entry Call.End result ledger.old ledger.new }
+        ensures removed { RisesByRemoved (H.means self.entry.hooks) self.entry Call.End result
+            ledger.old ledger.new }
         ensures memory { fills_nothing (cursor_tree self.entry.state) ≡ true
             → IsNotOutOfMemory result }
-        ensures refused { RefusesBeforeMemory self.entry Call.End result }
+        ensures refused { RefusesBeforeMemory (H.means self.entry.hooks) self.entry
+            Call.End result }
     {
         law_removed();
         let Partial {
             alloc,
             table,
+            hooks,
+            plan,
             root,
+            mut path,
             mut parents,
             frame,
             calls,
         } = self;
         let Some(parent) = parents.pop() else {
             release_piece(frame.piece, ledger);
-            return Err(ReflectErrorKind::InvariantViolation {
-                invariant: Invariant::EndAtRoot,
-            });
+            let invariant = Invariant::EndAtRoot;
+            let kind = ReflectErrorKind::InvariantViolation { invariant };
+            return Err(ReflectError { kind, path });
         };
         let Parent {
             shape,
@@ -50,10 +56,14 @@ impl<'t> Partial<'t> {
         match complete(alloc, table, frame, ledger) {
             Ok(value) => {
                 put(&mut children, child, value);
+                path.pop();
                 Ok(Partial {
                     alloc,
                     table,
+                    hooks,
+                    plan,
                     root,
+                    path,
                     parents,
                     frame: Frame {
                         shape,
@@ -65,7 +75,7 @@ impl<'t> Partial<'t> {
             Err(kind) => {
                 release_children(children, ledger);
                 release_parents(parents, ledger);
-                Err(kind)
+                Err(ReflectError { kind, path })
             }
         }
     }

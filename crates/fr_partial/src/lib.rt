@@ -13,14 +13,20 @@ mod end;
 mod entering;
 mod filling;
 mod frame;
+mod held_plan;
 mod lacking;
 mod partial;
+mod paths;
 mod putting;
+mod reading;
+mod reflect_error;
 mod releasing;
 mod set_default;
 mod set_shape;
+mod starting;
 #[cfg(test)]
 mod tests;
 
 pub use built::Built;
 pub use partial::Partial;
+pub use reflect_error::ReflectError;

@@ -10,23 +10,27 @@ ghost use Rattle.fr_partial.specs.Builder.{here, holds};
 use crate::Partial;
 use crate::frame::{Frame, Piece};
 use crate::releasing::release_piece;
-use fr_shape::{Ledger, Value};
+use fr_shape::{Hooks, Ledger, Value};
 
-impl<'t> Partial<'t> {
+impl<'t, H: Hooks> Partial<'t, H> {
     /// Puts a value that fits in the stead of all that was put at the place and beneath it. Takes no memory.
-    pub(crate) fn put(self, value: Value, ledger: &mut Ledger) -> Partial<'t>
+    pub(crate) fn put(self, value: Value, ledger: &mut Ledger) -> Partial<'t, H>
         requires fits { fits self.shapes (here self) (view value) ≡ true }
         requires room { Room (λ t. holds self t + occurs (view value) t) ledger.old }
         ensures state { result.state ≡ puts self.entry.state (view value) }
         ensures shapes { result.shapes ≡ self.entry.shapes }
         ensures root { result.root ≡ self.entry.root }
+        ensures hooks { result.hooks ≡ self.entry.hooks }
         ensures tokens { Conserved (λ t. holds self.entry t + occurs (view value) t) ledger.old
             (holds result) ledger.new }
     {
         let Partial {
             alloc,
             table,
+            hooks,
+            plan,
             root,
+            path,
             parents,
             frame,
             calls,
@@ -36,7 +40,10 @@ impl<'t> Partial<'t> {
         Partial {
             alloc,
             table,
+            hooks,
+            plan,
             root,
+            path,
             parents,
             frame: Frame {
                 shape,

@@ -1,0 +1,50 @@
+//! The path of the place at which the builder works, kept beside its open places.
+ghost use Rattle.std.specs.Prelude.{◌≡◌, ◌<◌, ◌^◌, IfOk};
+ghost use Rattle.fr_model.specs.Paths.{step_as};
+ghost use Rattle.fr_partial.specs.Stack.{as_form};
+
+use crate::frame::Form;
+use fr_path::{Path, PathStep};
+use fr_shape::{OutOfMemory, Text};
+use std::alloc::Global;
+
+/// The step to child `i` of a place that is begun so.
+pub fn step_to(form: Form, i: usize) -> PathStep
+    requires { i < 2 ^ 32 }
+    ensures { result ≡ step_as (as_form form) i }
+{
+    match form {
+        Form::Struct => PathStep::Field(i as u32),
+        Form::Array => PathStep::Index(i as u32),
+    }
+}
+
+fn copy_step(alloc: Global, step: &PathStep) -> Result<PathStep, OutOfMemory>
+    ensures { IfOk result (λ copy. copy ≡ step.now) }
+{
+    match step {
+        PathStep::Field(i) => Ok(PathStep::Field(*i)),
+        PathStep::Index(i) => Ok(PathStep::Index(*i)),
+        PathStep::Deref => Ok(PathStep::Deref),
+        PathStep::Inner => Ok(PathStep::Inner),
+        PathStep::OptionSome => Ok(PathStep::OptionSome),
+        PathStep::Proxy => Ok(PathStep::Proxy),
+        PathStep::MapKey(i) => Ok(PathStep::MapKey(*i)),
+        PathStep::MapValue(i) => Ok(PathStep::MapValue(*i)),
+        PathStep::ResultOk => Ok(PathStep::ResultOk),
+        PathStep::ResultErr => Ok(PathStep::ResultErr),
+        PathStep::SetItem => Ok(PathStep::SetItem),
+        PathStep::Entry(key) => Ok(PathStep::Entry(Text::new(alloc, key.as_str())?)),
+    }
+}
+
+/// A copy of a path, step by step.
+pub fn copy_path(alloc: Global, path: &Path) -> Result<Path, OutOfMemory>
+    ensures { IfOk result (λ copy. copy ≡ path.now) }
+{
+    let mut copy = Path::new(alloc);
+    for step in path.steps() {
+        copy.push(copy_step(alloc, step)?)?;
+    }
+    Ok(copy)
+}

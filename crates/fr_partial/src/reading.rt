@@ -1,0 +1,48 @@
+//! What a builder tells of itself.
+ghost use Rattle.std.specs.Prelude.{◌≡◌, ◌+◌, length, IfOk};
+ghost use Rattle.fr_model.specs.Paths.{path_of};
+ghost use Rattle.fr_partial.specs.Builder.{here};
+
+use crate::paths::copy_path;
+use crate::{Partial, ReflectError};
+use fr_path::Path;
+use fr_shape::{Hooks, OutOfMemory, ReflectErrorKind, ShapeId};
+
+impl<'t, H: Hooks> Partial<'t, H> {
+    /// The path of the place at which it works.
+    pub fn path(&self) -> &Path
+        ensures path { result.now ≡ path_of self.now.state }
+    {
+        &self.path
+    }
+
+    /// How many places are open: the one at which it works, and those above it.
+    pub fn frame_count(&self) -> usize
+        ensures count { result ≡ length (path_of self.now.state) + 1 }
+    {
+        self.parents.len() + 1
+    }
+
+    /// The shape of the place at which it works.
+    pub fn shape(&self) -> ShapeId
+        ensures shape { result.0 ≡ here self.now }
+    {
+        self.frame.shape
+    }
+
+    /// The shape of what it builds.
+    pub fn root_shape(&self) -> ShapeId
+        ensures root { result.0 ≡ self.now.root }
+    {
+        self.root
+    }
+
+    /// An error of this kind at the place at which it works, for a caller who refuses something there.
+    pub fn err(&self, kind: ReflectErrorKind) -> Result<ReflectError, OutOfMemory>
+        ensures kind { IfOk result (λ error. error.kind ≡ kind) }
+        ensures path { IfOk result (λ error. error.path ≡ path_of self.now.state) }
+    {
+        let path = copy_path(self.alloc, &self.path)?;
+        Ok(ReflectError { kind, path })
+    }
+}
