@@ -18,9 +18,7 @@ ghost use Rattle.fr_script.specs.Outcomes.{IsRun, IsJournals, answered, kind_wit
 use fr_model::{Command, Script, law_agree};
 use fr_partial::{Built, Partial, ReflectError};
 use fr_path::Path;
-use fr_shape::{
-    Hooks, Ledger, PlanError, ReflectErrorKind, ShapeId, ShapeTable, Shaped, release,
-};
+use fr_shape::{Hooks, Ledger, PlanError, ReflectErrorKind, ShapeId, ShapeTable, Shaped, release};
 use std::alloc::Global;
 use std::collections::VecDeque;
 

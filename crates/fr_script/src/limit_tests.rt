@@ -8,7 +8,8 @@ use std::process::Abort;
 use std::test::Fail;
 
 /// What is reported of a builder at which nothing was set.
-const NOTHING_SET: &str = r#"{"error":{"command":0,"detail":"b","kind":"UninitializedValue","path":""},"released":[]}"#;
+const NOTHING_SET: &str =
+    r#"{"error":{"command":0,"detail":"b","kind":"UninitializedValue","path":""},"released":[]}"#;
 
 /// `front`, then `part` so many times with commas between, then `back`.
 pub(crate) fn joined(

@@ -115,7 +115,6 @@ fn json_of_plan_answer(alloc: Global, answer: &PlanAnswer) -> Result<Json, Alloc
 }
 
 /// The report on a plan: one JSON object and a line feed. No table tells more names in it.
-#[tactic(auto, using(crate::proofs::FloatFree::plan_answer_float_free))]
 pub fn plan_report_of(alloc: Global, answer: &PlanAnswer) -> Result<String, AllocError>
     ensures report { IfOk result (λ text. (table : Table) (root : ℕ)
         → string_bytes text ≡ report table root (plan_outcome answer.now)) }

@@ -252,7 +252,8 @@ fn a_script_may_begin_a_thousand_places(rt: HostRuntime) -> Result<(), Fail> {
         r#"{"shapes":[{"name":"u32","def":"u32"},{"name":"String","def":"String"},{"name":"Inner","def":{"struct":[{"name":"x","shape":0},{"name":"b","shape":0}]}},{"name":"Outer","def":{"struct":[{"name":"name","shape":1},{"name":"inner","shape":2}]}}],"root":3,"commands":["#;
     let begin = r#"["begin_nth_field",1]"#;
     let most = joined(alloc, front, begin, 1_000, "]}")?;
-    let refused = r#"{"error":{"command":2,"detail":"cannot select a field from this type","kind":"OperationFailed","path":"inner.b"},"released":[]}"#;
+    let refused =
+        r#"{"error":{"command":2,"detail":"cannot select a field from this type","kind":"OperationFailed","path":"inner.b"},"released":[]}"#;
     check(&rt, "at the limit", most.as_bytes(), 1, refused)?;
     let past = joined(alloc, front, begin, 1_001, "]}")?;
     check(

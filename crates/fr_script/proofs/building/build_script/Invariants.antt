@@ -17,12 +17,12 @@ invariant-loop-command g l =
     record {
       count : l.number + length l.commands.items ≡ length l.fn.script;
       shapes : l.partial.shapes ≡ l.table;
-      hooks : l.partial.hooks ≡ l.fn.hooks.now;
+      hooks : l.partial.hooks ≡ l.fn.hooks;
       root : l.partial.root ≡ l.fn.root.0;
       made : l.partial.state.calls ≡ l.number;
       run :
-          run_from (g.H.Hooks.means l.fn.hooks.now) l.table l.fn.root.0 l.number l.partial.state (calls_of l.commands.items)
-          ≡ full_run (g.H.Hooks.means l.fn.hooks.now) l.table l.fn.root.0 (calls_of l.fn.script);
+          run_from (g.H.Hooks.means l.fn.hooks) l.table l.fn.root.0 l.number l.partial.state (calls_of l.commands.items)
+          ≡ full_run (g.H.Hooks.means l.fn.hooks) l.table l.fn.root.0 (calls_of l.fn.script);
       fitting : AllFitting l.table (calls_of l.commands.items);
       conserved :
           Conserved (brought (calls_of l.fn.script)) l.initial.ledger
