@@ -12,3 +12,4 @@ pub mod RemovedLaws
 pub mod StackLaws
 pub mod TemplateLaws
 pub mod TestLaws
+pub mod WayLaws
