@@ -22,7 +22,7 @@ impl<'t, H: Hooks> Partial<'t, H> {
         ensures count { result ≡ length (path_of self.now.state) + 1 }
     {
         law_paths();
-        self.path.len() + 1
+        self.parents.len() + 1
     }
 
     /// The shape of the place at which it works.

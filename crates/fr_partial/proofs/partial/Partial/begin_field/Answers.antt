@@ -54,11 +54,9 @@ pub returns-in-Some-clause-removed : goal.returns-in-Some-clause-removed
 returns-in-Some-clause-removed g c =
     rises_by_removed (g.H.Hooks.means c.args.self.hooks) c.law_removed.ensures.step c.args.self
     (in_order c.self.invariant c.self.view_is)
-    (Call.BeginField c.args.field_name.now) (holds c.args.self) (λ t. omega arith)
-    (Err (ReflectErrorKind.OperationFailed c.self.inside.frame.shape c.in-Some.operation)) c.args.ledger.now
-    c.abandon.new.ledger (returns-in-Some-clause-step g c)
-    (all_released _ (holds c.args.self) (ReflectErrorKind.OperationFailed c.self.inside.frame.shape c.in-Some.operation)
-    c.args.ledger.now c.abandon.new.ledger c.abandon.ensures.released)
+    (Call.BeginField c.args.field_name.now) (holds c.args.self) (λ t. omega arith) (Err c.refuse.result)
+    c.args.ledger.now c.refuse.new.ledger (returns-in-Some-clause-step g c)
+    (all_released (holds c.args.self) c.args.ledger.now c.refuse.new.ledger c.refuse.ensures.released)
 
 pub returns-in-Some-field_named-clause-removed : goal.returns-in-Some-field_named-clause-removed
 returns-in-Some-field_named-clause-removed g c =
@@ -71,8 +69,6 @@ pub returns-in-None-clause-removed : goal.returns-in-None-clause-removed
 returns-in-None-clause-removed g c =
     rises_by_removed (g.H.Hooks.means c.args.self.hooks) c.law_removed.ensures.step c.args.self
     (in_order c.self.invariant c.self.view_is)
-    (Call.BeginField c.args.field_name.now) (holds c.args.self) (λ t. omega arith)
-    (Err (ReflectErrorKind.FieldError c.self.inside.frame.shape)) c.args.ledger.now c.abandon-in-None.new.ledger
-    (returns-in-None-clause-step g c)
-    (all_released _ (holds c.args.self) (ReflectErrorKind.FieldError c.self.inside.frame.shape) c.args.ledger.now
-    c.abandon-in-None.new.ledger c.abandon-in-None.ensures.released)
+    (Call.BeginField c.args.field_name.now) (holds c.args.self) (λ t. omega arith) (Err c.refuse-in-None.result)
+    c.args.ledger.now c.refuse-in-None.new.ledger (returns-in-None-clause-step g c)
+    (all_released (holds c.args.self) c.args.ledger.now c.refuse-in-None.new.ledger c.refuse-in-None.ensures.released)
