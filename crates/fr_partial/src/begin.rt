@@ -29,11 +29,7 @@ fn out_of_memory(path: Path) -> ReflectError
 
 impl<'t, H: Hooks> Partial<'t, H> {
     /// Enters a child that may be entered. Its place above may need memory.
-    pub(crate) fn enter(
-        self,
-        i: usize,
-        ledger: &mut Ledger,
-    ) -> Result<Partial<'t, H>, ReflectError>
+    pub(crate) fn enter(self, i: usize, ledger: &mut Ledger) -> Result<Partial<'t, H>, ReflectError>
         requires room { Room (holds self) ledger.old }
         requires admitted { field_refusal (def_of self.shapes (here self))
             (cursor_tree self.state) i ≡ None }
