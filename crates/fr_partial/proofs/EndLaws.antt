@@ -11,10 +11,10 @@ use Rattle.fr_shape.specs.Fits.{fits}
 use Rattle.fr_shape.specs.Tokens.{occurs, vals_occur}
 use Rattle.fr_shape.specs.View.{view, vals_view}
 use Rattle.fr_model.specs.Places.{Place, is_root, up, child_shape}
-use Rattle.fr_model.specs.Tree.{Tree, whole, begun, tree_at, tree_occurs, trees_occur, one_more_call}
+use Rattle.fr_model.specs.Tree.{Tree, whole, begun, tree_at, tree_occurs, trees_occur, State, one_more_call}
 use Rattle.fr_model.specs.Complete.{complete}
 use Rattle.fr_model.specs.Well.{IsBegunAs}
-use Rattle.fr_model.specs.Step.{end, build, built, cause, or_missing}
+use Rattle.fr_model.specs.Step.{end, puts_and_leaves, build, built, cause, or_missing}
 use Rattle.fr_partial.specs.declared.frame.Piece.{Piece}
 use Rattle.fr_partial.specs.declared.frame.Frame.{Frame}
 use Rattle.fr_partial.specs.declared.frame.Parent.{Parent}
@@ -48,7 +48,7 @@ module _ {H : Type 0} {h : H} (table : Table) (root : ℕ) (above : List Parent)
       = ap (λ (ps : List Parent). parents_hold ps t) last ∙ parents_hold_last above parent t in
       omega arith
 
-  cursor_popped : builder.state.cursor ≡ opens above ++ parent.child ∷ []
+  pub cursor_popped : builder.state.cursor ≡ opens above ++ parent.child ∷ []
   cursor_popped =
       cursor_is table root parents frame calls chain builder is ∙ ap opens last ∙ opens_last above parent
 
@@ -83,6 +83,21 @@ module _ {H : Type 0} {h : H} (table : Table) (root : ℕ) (above : List Parent)
       ∙ ap (λ ts. rebuild above (begun (as_form parent.form) ts))
       (sym (slots_set parent.children.items parent.child v (absent_within parent.children.items parent.child popped.above.absent)))
 
+  -- the state after the value was put and the builder went up
+  pub left_state : (v : Value) (next : ℕ) (children : List Value) → complete no_hooks table frame.shape.0 (node frame.piece) ≡ Some (view v)
+      → next ≡ one_more_call calls → children ≡ set parent.children.items parent.child v
+      → puts_and_leaves builder.state (view v)
+      ≡ record { tree = rebuild above (begun (as_form parent.form) (slots children)); cursor = opens above; calls = next }
+  left_state v next children e count wrote =
+      let gone_up : up builder.state.cursor ≡ opens above = ap up cursor_popped ∙ up_last (opens above) parent.child in
+      rw (
+        changed_to table root parents frame calls chain builder is (whole (view v)) (λ old. whole (view v)) refl,
+        gone_up,
+        counted table root parents frame calls chain builder is next count,
+        written v e,
+        wrote,
+      ) refl
+
   suits : IsPiece table frame.shape.0 frame.piece
   suits = (chain_frame table root parents frame chain).piece
 
@@ -104,16 +119,7 @@ module _ {H : Type 0} {h : H} (table : Table) (root : ℕ) (above : List Parent)
     end_completes v next children e count wrote =
         let makes : complete hooks builder.shapes (here builder) (tree_at builder.state.cursor builder.state.tree) ≡ Some (view v)
         = complete_here ∙ e in
-        let gone_up : up builder.state.cursor ≡ opens above = ap up cursor_popped ∙ up_last (opens above) parent.child in
-        rw (
-          below_root,
-          makes,
-          changed_to table root parents frame calls chain builder is (whole (view v)) (λ old. whole (view v)) refl,
-          gone_up,
-          counted table root parents frame calls chain builder is next count,
-          written v e,
-          wrote,
-        ) refl
+        rw (below_root, makes) (ap (λ (s : State). Ok s) (left_state v next children e count wrote))
 
     pub end_refused : (kind : ReflectErrorKind) → IsLacking table frame.shape.0 (node frame.piece) kind
         → end hooks builder.shapes (here builder) builder.state ≡ Err kind
@@ -205,6 +211,13 @@ build_is {H} hooks table root parents frame calls builder is none shape served s
         rw e
         (ap (λ (lacking : Option ReflectErrorKind). Err (or_missing frame.shape.0 lacking))
         (lacks_alike hooks table frame.shape.0 frame.piece served suits))
+
+-- a place that lacks something isn't built
+pub unbuilt : (table : Table) (s : ℕ) (t : Tree) (kind : ReflectErrorKind) → IsLacking table s t kind
+    → built no_hooks table s t (complete no_hooks table s t) ≡ Err kind
+unbuilt table s t kind lacking =
+    ap (built no_hooks table s t) lacking.incomplete
+    ∙ ap (λ (missing : Option ReflectErrorKind). Err (or_missing s missing)) lacking.lacks
 
 -- where the root makes a value, `build` isn't refused
 pub build_not_refused : {H : Type 0} {h : H} (hooks : Meanings) (table : Table) (root : ℕ) (parents : List Parent) (frame : Frame) (calls : ℕ)

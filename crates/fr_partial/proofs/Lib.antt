@@ -10,5 +10,7 @@ pub mod OrderLaws
 pub mod PutLaws
 pub mod RemovedLaws
 pub mod StackLaws
+pub mod StartLaws
 pub mod TemplateLaws
 pub mod TestLaws
+pub mod WayLaws

@@ -31,10 +31,10 @@ pub record IsBuilderInOrder {H : Type 0} (builder : Builder H) : Type 0 where
   pub checked : IsChecked builder.shapes
   pub state : IsInOrder builder.shapes builder.root builder.state
 
-pub in_order : {H : Type 0} {h : H} (table : Table) (root : ShapeId) (plan : Plan) (path : List PathStep) (parents : List Parent)
-    (frame : Frame) (calls : ℕ) (builder : Builder H) → IsOpen table root plan path parents frame calls
+pub in_order : {H : Type 0} {h : H} {table : Table} {root : ShapeId} {plan : Plan} {steps : List PathStep} {parents : List Parent}
+    {frame : Frame} {calls : ℕ} {builder : Builder H} → IsOpen table root plan steps parents frame calls
     → builder_of h table root.0 parents frame.piece calls ≡ builder → IsBuilderInOrder builder
-in_order table root plan path parents frame calls builder is_open is =
+in_order {table = table} {root = root} {parents = parents} {frame = frame} is_open is =
     subst IsBuilderInOrder is
     (record {
       checked = is_open.checked;
@@ -45,11 +45,10 @@ in_order table root plan path parents frame calls builder is_open is =
     })
 
 -- the path that a builder keeps is that of its place
-pub path_is : {H : Type 0} {h : H} (table : Table) (root : ShapeId) (plan : Plan) (path : List PathStep) (parents : List Parent)
-    (frame : Frame) (calls : ℕ) (builder : Builder H) → IsOpen table root plan path parents frame calls
-    → builder_of h table root.0 parents frame.piece calls ≡ builder → path ≡ path_of builder.state
-path_is {H} table root plan path parents frame calls builder is_open is =
-    is_open.path ∙ ap (λ (b : Builder H). path_of b.state) is
+pub path_is : {H : Type 0} {h : H} {table : Table} {root : ShapeId} {plan : Plan} {steps : List PathStep} {parents : List Parent}
+    {frame : Frame} {calls : ℕ} {builder : Builder H} → IsOpen table root plan steps parents frame calls
+    → builder_of h table root.0 parents frame.piece calls ≡ builder → steps ≡ path_of builder.state
+path_is {H} is_open is = is_open.path ∙ ap (λ (b : Builder H). path_of b.state) is
 
 -- a refused call
 
@@ -77,18 +76,18 @@ build_drops_all hooks before error t (inr meant) = refused_build_drops hooks bef
 
 -- all that a refused call released
 
-pub all_released : {H : Type 0} (held : ℕ → ℕ) (error : ReflectError) (old new : List ℕ) → RoseBy held old new
-    → Conserved held old (left {H} (Err error)) new
-all_released held error old new rose = record {
+pub all_released : (held : ℕ → ℕ) (old new : List ℕ) → RoseBy held old new
+    → Conserved held old (λ t. 0) new
+all_released held old new rose = record {
   same_length = rose.same_length;
   kept_or_released = λ t. omega (arith, rose.each t);
   none_falls = λ t. omega (arith, rose.each t);
 }
 
-pub both_released : {H : Type 0} (first second : ℕ → ℕ) (error : ReflectError) (old between new : List ℕ)
+pub both_released : (first second : ℕ → ℕ) (old between new : List ℕ)
     → RoseBy first old between → RoseBy second between new
-    → Conserved (λ t. second t + first t) old (left {H} (Err error)) new
-both_released first second error old between new rose rose_again = record {
+    → Conserved (λ t. second t + first t) old (λ t. 0) new
+both_released first second old between new rose rose_again = record {
   same_length = rose_again.same_length ∙ rose.same_length;
   kept_or_released = λ t. omega (arith, rose.each t, rose_again.each t);
   none_falls = λ t. omega (arith, rose.each t, rose_again.each t);

@@ -1,12 +1,10 @@
 -- How the tree that a stack of open places stands for changes when the last of them does.
-use Rattle.std.proofs.Common.{◌≡◌, ℕ, zero, suc, ◌+◌, List, [], ◌∷◌, ◌++◌, slice_get, map, refl, sym, ◌∙◌, ap, subst, arith}
+use Rattle.std.proofs.Common.{◌≡◌, ℕ, zero, suc, ◌+◌, List, [], ◌∷◌, ◌++◌, slice_get, refl, sym, ◌∙◌, ap, subst, arith}
 use Rattle.fr_shape.specs.declared.value.Value.{Value}
 use Rattle.fr_shape.specs.Look.{Table}
 use Rattle.fr_shape.specs.Val.{Val, unit}
 use Rattle.fr_shape.specs.View.{view, vals_view}
 use Rattle.fr_shape.specs.Tokens.{occurs, vals_occur}
-use Rattle.fr_path.specs.declared.path_steps.PathStep.{PathStep}
-use Rattle.fr_model.specs.Paths.{step_as, steps_in}
 use Rattle.fr_model.specs.Places.{up, child_shape}
 use Rattle.fr_model.specs.Tree.{Form, as_struct, as_array, Tree, begun, child_as, branch, tree_nth, change_nth, tree_at, change_at, shape_in, tree_occurs, trees_occur}
 use Rattle.fr_partial.specs.declared.frame.Frame.{Frame}
@@ -166,24 +164,3 @@ chain_pop table s (top ∷ parents) parent frame chain =
     let rest : Popped table (child_shape table s top.child) parents parent frame
     = chain_pop table (child_shape table s top.child) parents parent frame chain.1 in
     record { above = rest.above; below = rest.below; instead = λ next fits. (chain.0, rest.instead next fits) }
-
--- the path to the last place
-
--- the steps from each place above to the next one
-abbrev pub steps_of : List Parent → List PathStep
-steps_of parents = map (λ (parent : Parent). step_as (as_form parent.form) parent.child) parents
-
-pub steps_rebuild : (table : Table) (s : ℕ) (parents : List Parent) (frame : Frame) (t : Tree) → IsChain table s parents frame
-    → steps_in (opens parents) (rebuild parents t) ≡ steps_of parents
-steps_rebuild table s [] frame t chain = refl
-steps_rebuild table s (parent ∷ parents) frame t chain =
-    ap (λ (child : Tree). step_as (as_form parent.form) parent.child ∷ steps_in (opens parents) child)
-    (child_of_change parent.children.items parent.child (rebuild parents t) chain.0.absent)
-    ∙ ap (λ (steps : List PathStep). step_as (as_form parent.form) parent.child ∷ steps)
-    (steps_rebuild table (child_shape table s parent.child) parents frame t chain.1)
-
-pub steps_last : (parents : List Parent) (parent : Parent)
-    → steps_of (parents ++ parent ∷ []) ≡ steps_of parents ++ step_as (as_form parent.form) parent.child ∷ []
-steps_last [] parent = refl
-steps_last (above ∷ parents) parent =
-    ap (λ (steps : List PathStep). step_as (as_form above.form) above.child ∷ steps) (steps_last parents parent)

@@ -100,13 +100,13 @@ IsChain table s (parent ∷ parents) frame =
 
 -- The open places of a builder over a table that it serves, with the plan of its root and the path of the place at which
 -- it works.
-pub record IsOpen (table : Table) (root : ShapeId) (plan : Plan) (path : List PathStep) (parents : List Parent) (frame : Frame) (calls : ℕ) : Type 0 where
+pub record IsOpen (table : Table) (root : ShapeId) (plan : Plan) (steps : List PathStep) (parents : List Parent) (frame : Frame) (calls : ℕ) : Type 0 where
   pub numbered : IsNumbered table
   pub checked : IsChecked table
   pub served : IsServed table
   pub chain : IsChain table root.0 parents frame
   pub planned : IsPlanOf table root plan
-  pub path : path ≡ path_of (state_of parents frame.piece calls)
+  pub path : steps ≡ path_of (state_of parents frame.piece calls)
 
 -- how often the places above hold a token
 abbrev pub parents_hold : List Parent → ℕ → ℕ

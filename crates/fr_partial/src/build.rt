@@ -35,13 +35,14 @@ impl<'t, H: Hooks> Partial<'t, H> {
             alloc,
             table,
             hooks: _,
-            plan: _,
+            plan,
             root: _,
             path,
             parents,
             frame,
             calls,
         } = self;
+        drop(plan);
         if parents.is_empty() {
             match complete(alloc, table, frame, ledger) {
                 Ok(value) => Ok(Built { value, calls }),
@@ -84,13 +85,14 @@ impl<'t, H: Hooks> Partial<'t, H> {
             alloc: _,
             table: _,
             hooks: _,
-            plan: _,
+            plan,
             root: _,
             path,
             parents,
             frame,
             calls: _,
         } = self;
+        drop(plan);
         release_all(parents, frame.piece, ledger);
         path
     }

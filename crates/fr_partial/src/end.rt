@@ -9,9 +9,10 @@ ghost use Rattle.fr_partial.specs.Builder.{holds, left, IsStep, IsNotOutOfMemory
 use crate::children::put;
 use crate::completing::complete;
 use crate::frame::{Frame, Parent, Piece};
+use crate::paths::step_back;
 use crate::releasing::{release_children, release_parents, release_piece};
 use crate::{Partial, ReflectError};
-use fr_model::law_removed;
+use fr_model::{law_paths, law_removed};
 use fr_shape::{Hooks, Invariant, Ledger, ReflectErrorKind};
 
 impl<'t, H: Hooks> Partial<'t, H> {
@@ -29,6 +30,7 @@ impl<'t, H: Hooks> Partial<'t, H> {
         ensures refused { RefusesBeforeMemory (H.means self.entry.hooks) self.entry
             Call.End result }
     {
+        law_paths();
         law_removed();
         let Partial {
             alloc,
@@ -42,6 +44,7 @@ impl<'t, H: Hooks> Partial<'t, H> {
             calls,
         } = self;
         let Some(parent) = parents.pop() else {
+            drop(plan);
             release_piece(frame.piece, ledger);
             let invariant = Invariant::EndAtRoot;
             let kind = ReflectErrorKind::InvariantViolation { invariant };
@@ -56,7 +59,7 @@ impl<'t, H: Hooks> Partial<'t, H> {
         match complete(alloc, table, frame, ledger) {
             Ok(value) => {
                 put(&mut children, child, value);
-                path.pop();
+                step_back(&mut path);
                 Ok(Partial {
                     alloc,
                     table,
@@ -73,6 +76,7 @@ impl<'t, H: Hooks> Partial<'t, H> {
                 })
             }
             Err(kind) => {
+                drop(plan);
                 release_children(children, ledger);
                 release_parents(parents, ledger);
                 Err(ReflectError { kind, path })

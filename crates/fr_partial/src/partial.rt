@@ -46,7 +46,7 @@ impl<'t, H> Model for Partial<'t, H> {
     } };
 
     ghost invariant = { λ p.
-      IsOpen p.table.now p.root (plan_in p.plan) p.path p.parents.items p.frame p.calls };
+        IsOpen p.table.now p.root (plan_in p.plan) p.path p.parents.items p.frame p.calls };
 }
 
 impl<'t, H: Hooks> Partial<'t, H> {

@@ -1,10 +1,11 @@
 //! The path of the place at which the builder works, kept beside its open places.
-ghost use Rattle.std.specs.Prelude.{◌≡◌, ◌<◌, ◌^◌, IfOk};
+ghost use Rattle.std.specs.Prelude.{◌≡◌, ◌<◌, ◌^◌, List, [], ◌∷◌, ◌++◌, IfOk};
+ghost use Rattle.fr_path.specs.declared.path_steps.PathStep.{PathStep as Step};
 ghost use Rattle.fr_model.specs.Paths.{step_as};
 ghost use Rattle.fr_partial.specs.Stack.{as_form};
 
 use crate::frame::Form;
-use fr_path::{Path, PathStep};
+use fr_path::{Path, PathStep, law_pop_undoes_push};
 use fr_shape::{OutOfMemory, Text};
 use std::alloc::Global;
 
@@ -17,6 +18,15 @@ pub fn step_to(form: Form, i: usize) -> PathStep
         Form::Struct => PathStep::Field(i as u32),
         Form::Array => PathStep::Index(i as u32),
     }
+}
+
+/// Takes the last step back.
+pub fn step_back(path: &mut Path)
+    ensures { (before : List Step) (last : Step)
+        → path.old ≡ before ++ last ∷ [] → path.new ≡ before }
+{
+    law_pop_undoes_push();
+    path.pop();
 }
 
 fn copy_step(alloc: Global, step: &PathStep) -> Result<PathStep, OutOfMemory>

@@ -10,6 +10,7 @@ ghost use Rattle.fr_partial.specs.Builder.{here, holds};
 use crate::Partial;
 use crate::frame::{Frame, Piece};
 use crate::releasing::release_piece;
+use fr_model::law_paths;
 use fr_shape::{Hooks, Ledger, Value};
 
 impl<'t, H: Hooks> Partial<'t, H> {
@@ -24,6 +25,7 @@ impl<'t, H: Hooks> Partial<'t, H> {
         ensures tokens { Conserved (λ t. holds self.entry t + occurs (view value) t) ledger.old
             (holds result) ledger.new }
     {
+        law_paths();
         let Partial {
             alloc,
             table,

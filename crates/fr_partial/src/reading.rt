@@ -5,6 +5,7 @@ ghost use Rattle.fr_partial.specs.Builder.{here};
 
 use crate::paths::copy_path;
 use crate::{Partial, ReflectError};
+use fr_model::law_paths;
 use fr_path::Path;
 use fr_shape::{Hooks, OutOfMemory, ReflectErrorKind, ShapeId};
 
@@ -20,6 +21,7 @@ impl<'t, H: Hooks> Partial<'t, H> {
     pub fn frame_count(&self) -> usize
         ensures count { result ≡ length (path_of self.now.state) + 1 }
     {
+        law_paths();
         self.parents.len() + 1
     }
 

@@ -1,22 +1,25 @@
 //! Each call with ample memory, a whole build, and where the token is after each refusal. The helpers want answers
 //! that are Ok and end the test otherwise.
-ghost use Rattle.std.specs.Prelude.{◌≡◌, ℕ, length, true, IfSome};
+ghost use Rattle.std.specs.Prelude.{◌≡◌, ℕ, [], length, true, IfSome};
 ghost use Rattle.fr_shape.specs.Checked.{IsChecked};
 ghost use Rattle.fr_shape.specs.Fits.{fits};
-ghost use Rattle.fr_shape.specs.Look.{IsIn};
+ghost use Rattle.fr_shape.specs.Look.{IsIn, variants_of};
 ghost use Rattle.fr_shape.specs.Numbered.{IsNumbered, field_count};
 ghost use Rattle.fr_shape.specs.Released.{Room};
 ghost use Rattle.fr_shape.specs.Served.{IsServed, serves, serves_def, serves_field};
 ghost use Rattle.fr_shape.specs.View.{view};
 ghost use Rattle.fr_partial.specs.Builder.{holds};
 
-use crate::Partial;
+use crate::{Partial, ReflectError};
 use fr_shape::{
-    Def, DefaultSource, Field, FieldRef, Items, Ledger, Operation, ReflectErrorKind, ScalarKind,
-    Shape, ShapeId, ShapeTable, Shaped, StructDef, StructKind, Template, Text, Value, fits,
+    Def, DefaultSource, Field, FieldRef, Items, Ledger, NoHooks, Operation, ReflectErrorKind,
+    ScalarKind, Shape, ShapeId, ShapeTable, Shaped, StructDef, StructKind, Template, Text, Value,
+    fits,
 };
 use std::alloc::Global;
 use std::process::Abort;
+
+mod paths;
 
 fn shape(alloc: Global, name: &str, def: Def, preset: Option<Template>) -> Option<Shape>
     ensures def { IfSome result (λ shape. shape.def ≡ def) }
@@ -46,6 +49,7 @@ fn field(alloc: Global, name: &str, shape: u32, default: Option<DefaultSource>) 
 fn members(alloc: Global) -> Option<Def>
     ensures served { IfSome result (λ def. serves_def def ≡ true) }
     ensures count { IfSome result (λ def. field_count def ≡ 4) }
+    ensures variants { IfSome result (λ def. variants_of def ≡ []) }
 {
     let count = field(
         alloc,
@@ -78,6 +82,8 @@ fn describe_leaves(alloc: Global) -> Option<Leaves>
         × (serves l.option ≡ true)) }
     ensures counts { IfSome result (λ l. (field_count l.number.def ≡ 0)
         × (field_count l.opaque.def ≡ 0) × (field_count l.option.def ≡ 0)) }
+    ensures variants { IfSome result (λ l. (variants_of l.number.def ≡ [])
+        × (variants_of l.opaque.def ≡ []) × (variants_of l.option.def ≡ [])) }
 {
     let number = defaulted(alloc, "number", Def::Scalar(ScalarKind::U32), Value::Nat(5))?;
     let opaque = shape(alloc, "opaque", Def::Opaque, None)?;
@@ -100,6 +106,8 @@ fn describe_branches(alloc: Global) -> Option<Branches>
     ensures served { IfSome result (λ b. (serves b.pair ≡ true) × (serves b.structure ≡ true)) }
     ensures counts { IfSome result (λ b. (field_count b.pair.def ≡ 0)
         × (field_count b.structure.def ≡ 4)) }
+    ensures variants { IfSome result (λ b. (variants_of b.pair.def ≡ [])
+        × (variants_of b.structure.def ≡ [])) }
 {
     let pair = shape(alloc, "pair", Def::Array(ShapeId(0), 2), None)?;
     let described = members(alloc)?;
@@ -141,20 +149,31 @@ fn checked(rt: &impl Abort, alloc: Global) -> ShapeTable
     }
 }
 
-fn start<'t>(rt: &impl Abort, alloc: Global, table: &'t ShapeTable, root: u32) -> Partial<'t>
+fn start<'t>(
+    rt: &impl Abort,
+    alloc: Global,
+    table: &'t ShapeTable,
+    hooks: &'t NoHooks,
+    root: u32,
+) -> Partial<'t, NoHooks>
     requires shape { IsIn table.now root }
     requires numbered { IsNumbered table.now }
     requires checked { IsChecked table.now }
     requires served { IsServed table.now }
     ensures { (t : ℕ) → holds result t ≡ 0 }
 {
-    match Partial::alloc_shape(alloc, table, ShapeId(root)) {
+    match Partial::alloc_shape(alloc, table, ShapeId(root), hooks) {
         Ok(partial) => partial,
         Err(_) => panic!(rt; "not begun"),
     }
 }
 
-fn enter<'t>(rt: &impl Abort, partial: Partial<'t>, i: usize, ledger: &mut Ledger) -> Partial<'t>
+fn enter<'t>(
+    rt: &impl Abort,
+    partial: Partial<'t, NoHooks>,
+    i: usize,
+    ledger: &mut Ledger,
+) -> Partial<'t, NoHooks>
     requires { Room (holds partial) ledger.old }
     ensures { Room (holds result) ledger.new }
 {
@@ -164,7 +183,12 @@ fn enter<'t>(rt: &impl Abort, partial: Partial<'t>, i: usize, ledger: &mut Ledge
     }
 }
 
-fn named<'t>(rt: &impl Abort, partial: Partial<'t>, name: &str, ledger: &mut Ledger) -> Partial<'t>
+fn named<'t>(
+    rt: &impl Abort,
+    partial: Partial<'t, NoHooks>,
+    name: &str,
+    ledger: &mut Ledger,
+) -> Partial<'t, NoHooks>
     requires { Room (holds partial) ledger.old }
     ensures room { Room (holds result) ledger.new }
     ensures nothing { ((t : ℕ) → holds partial.entry t ≡ 0) → (t : ℕ) → holds result t ≡ 0 }
@@ -176,7 +200,7 @@ fn named<'t>(rt: &impl Abort, partial: Partial<'t>, name: &str, ledger: &mut Led
 }
 
 /// A value of this shape, which the test sees to.
-fn shaped(rt: &impl Abort, partial: &Partial<'_>, id: u32, value: Value) -> Shaped
+fn shaped(rt: &impl Abort, partial: &Partial<'_, NoHooks>, id: u32, value: Value) -> Shaped
     ensures fits { fits partial.now.shapes result.shape result.value ≡ true }
     ensures value { result.value ≡ view value }
 {
@@ -186,10 +210,10 @@ fn shaped(rt: &impl Abort, partial: &Partial<'_>, id: u32, value: Value) -> Shap
 
 fn put_number<'t>(
     rt: &impl Abort,
-    partial: Partial<'t>,
+    partial: Partial<'t, NoHooks>,
     n: u128,
     ledger: &mut Ledger,
-) -> Partial<'t>
+) -> Partial<'t, NoHooks>
     requires { Room (holds partial) ledger.old }
     ensures { Room (holds result) ledger.new }
 {
@@ -200,7 +224,11 @@ fn put_number<'t>(
     }
 }
 
-fn put_default<'t>(rt: &impl Abort, partial: Partial<'t>, ledger: &mut Ledger) -> Partial<'t>
+fn put_default<'t>(
+    rt: &impl Abort,
+    partial: Partial<'t, NoHooks>,
+    ledger: &mut Ledger,
+) -> Partial<'t, NoHooks>
     requires { Room (holds partial) ledger.old }
     ensures { Room (holds result) ledger.new }
 {
@@ -211,7 +239,11 @@ fn put_default<'t>(rt: &impl Abort, partial: Partial<'t>, ledger: &mut Ledger) -
 }
 
 /// Puts the ledger's only token, which nothing held or released so far.
-fn put_token<'t>(rt: &impl Abort, partial: Partial<'t>, ledger: &mut Ledger) -> Partial<'t>
+fn put_token<'t>(
+    rt: &impl Abort,
+    partial: Partial<'t, NoHooks>,
+    ledger: &mut Ledger,
+) -> Partial<'t, NoHooks>
     requires { (t : ℕ) → holds partial t ≡ 0 }
     ensures { Room (holds result) ledger.new }
 {
@@ -224,7 +256,11 @@ fn put_token<'t>(rt: &impl Abort, partial: Partial<'t>, ledger: &mut Ledger) -> 
     }
 }
 
-fn leave<'t>(rt: &impl Abort, partial: Partial<'t>, ledger: &mut Ledger) -> Partial<'t>
+fn leave<'t>(
+    rt: &impl Abort,
+    partial: Partial<'t, NoHooks>,
+    ledger: &mut Ledger,
+) -> Partial<'t, NoHooks>
     requires { Room (holds partial) ledger.old }
     ensures { Room (holds result) ledger.new }
 {
@@ -239,28 +275,29 @@ fn begun<'t>(
     rt: &impl Abort,
     alloc: Global,
     table: &'t ShapeTable,
+    hooks: &'t NoHooks,
     ledger: &mut Ledger,
-) -> Partial<'t>
+) -> Partial<'t, NoHooks>
     requires count { length table.now ≡ 5 }
     requires numbered { IsNumbered table.now }
     requires checked { IsChecked table.now }
     requires served { IsServed table.now }
     ensures { Room (holds result) ledger.new }
 {
-    let entered = named(rt, start(rt, alloc, table, 4), "token", ledger);
+    let entered = named(rt, start(rt, alloc, table, hooks, 4), "token", ledger);
     put_token(rt, entered, ledger)
 }
 
 /// Why the call was refused, once the ledger has the token as released.
 fn refusal(
     rt: &impl Abort,
-    answer: Result<Partial<'_>, ReflectErrorKind>,
+    answer: Result<Partial<'_, NoHooks>, ReflectError>,
     ledger: &Ledger,
 ) -> ReflectErrorKind {
     check_count(rt, ledger, 1);
     match answer {
         Ok(_) => panic!(rt; "not refused"),
-        Err(kind) => kind,
+        Err(error) => error.kind,
     }
 }
 
@@ -277,7 +314,8 @@ fn ledger(rt: &impl Abort, alloc: Global) -> Ledger {
 fn builds_a_struct(rt: HostRuntime) {
     let table = checked(&rt, rt.alloc());
     let mut ledger = ledger(&rt, rt.alloc());
-    let mut partial = begun(&rt, rt.alloc(), &table, &mut ledger);
+    let hooks = NoHooks;
+    let mut partial = begun(&rt, rt.alloc(), &table, &hooks, &mut ledger);
     partial = leave(&rt, partial, &mut ledger);
     partial = named(&rt, partial, "pair", &mut ledger);
     partial = enter(&rt, partial, 0, &mut ledger);
@@ -313,7 +351,8 @@ fn builds_a_struct(rt: HostRuntime) {
 fn refuses_another_shape(rt: HostRuntime) {
     let table = checked(&rt, rt.alloc());
     let mut ledger = ledger(&rt, rt.alloc());
-    let partial = begun(&rt, rt.alloc(), &table, &mut ledger);
+    let hooks = NoHooks;
+    let partial = begun(&rt, rt.alloc(), &table, &hooks, &mut ledger);
     let number = shaped(&rt, &partial, 0, Value::Nat(7));
     let kind = refusal(&rt, partial.set_shape(number, &mut ledger), &ledger);
     assert!(rt;
@@ -331,7 +370,8 @@ fn refuses_another_shape(rt: HostRuntime) {
 fn refuses_a_default_that_is_not_there(rt: HostRuntime) {
     let table = checked(&rt, rt.alloc());
     let mut ledger = ledger(&rt, rt.alloc());
-    let partial = begun(&rt, rt.alloc(), &table, &mut ledger);
+    let hooks = NoHooks;
+    let partial = begun(&rt, rt.alloc(), &table, &hooks, &mut ledger);
     let kind = refusal(&rt, partial.set_default(&mut ledger), &ledger);
     assert!(rt;
         matches!(
@@ -348,7 +388,8 @@ fn refuses_a_default_that_is_not_there(rt: HostRuntime) {
 fn refuses_a_name_that_is_not_there(rt: HostRuntime) {
     let table = checked(&rt, rt.alloc());
     let mut ledger = ledger(&rt, rt.alloc());
-    let partial = begun(&rt, rt.alloc(), &table, &mut ledger);
+    let hooks = NoHooks;
+    let partial = begun(&rt, rt.alloc(), &table, &hooks, &mut ledger);
     let partial = leave(&rt, partial, &mut ledger);
     let kind = refusal(&rt, partial.begin_field("pai", &mut ledger), &ledger);
     assert!(rt; matches!(kind, ReflectErrorKind::FieldError { shape: ShapeId(4) }));
@@ -358,15 +399,16 @@ fn refuses_a_name_that_is_not_there(rt: HostRuntime) {
 fn refuses_to_build_without_a_field(rt: HostRuntime) {
     let table = checked(&rt, rt.alloc());
     let mut ledger = ledger(&rt, rt.alloc());
-    let partial = begun(&rt, rt.alloc(), &table, &mut ledger);
+    let hooks = NoHooks;
+    let partial = begun(&rt, rt.alloc(), &table, &hooks, &mut ledger);
     let partial = leave(&rt, partial, &mut ledger);
-    let Err(kind) = partial.build(&mut ledger) else {
+    let Err(error) = partial.build(&mut ledger) else {
         panic!(rt; "not refused");
     };
     check_count(&rt, &ledger, 1);
     assert!(rt;
         matches!(
-            kind,
+            error.kind,
             ReflectErrorKind::UninitializedField {
                 field: FieldRef {
                     shape: ShapeId(4),

@@ -14,17 +14,16 @@ pub returns-clause-numbered : goal.returns-clause-numbered
 returns-clause-numbered c =
     let leaves = c.in_ok-leaves.ensures.counts in
     let branches = c.in_ok-branches.ensures.counts in
+    let none = c.in_ok-leaves.ensures.variants in
+    let none_in = c.in_ok-branches.ensures.variants in
     let first = leaves.0 in
     let second = leaves.1 in
     let third = leaves.2 in
     let fourth = branches.0 in
     let fifth = branches.1 in
-    let served_leaves = c.in_ok-leaves.ensures.served in
-    let served_branches = c.in_ok-branches.ensures.served in
     rw (c.new.ensures.shapes, c.from_vec.ensures.items, c.in-Ok.ensures.items)
     (five_numbered c.in_ok-leaves.leaves.number c.in_ok-leaves.leaves.opaque c.in_ok-leaves.leaves.option
     c.in_ok-branches.branches.pair c.in_ok-branches.branches.structure
-    (five_served c.in_ok-leaves.leaves.number c.in_ok-leaves.leaves.opaque c.in_ok-leaves.leaves.option
-    c.in_ok-branches.branches.pair c.in_ok-branches.branches.structure served_leaves.0 served_leaves.1 served_leaves.2
-    served_branches.0 served_branches.1)
-    (omega arith) (omega arith) (omega arith) (omega arith) (omega arith))
+    (record { fields = omega arith; variants = none.0 }) (record { fields = omega arith; variants = none.1 })
+    (record { fields = omega arith; variants = none.2 }) (record { fields = omega arith; variants = none_in.0 })
+    (record { fields = omega arith; variants = none_in.1 }))

@@ -1,4 +1,4 @@
-use Rattle.std.proofs.Common.{◌≡◌, true, false, Result, Err, inr, sym, subst, arith}
+use Rattle.std.proofs.Common.{◌≡◌, true, false, Result, Err, inr, sym, subst, arith, ap, ◌∙◌}
 use Rattle.fr_shape.specs.declared.error.ReflectErrorKind.{ReflectErrorKind}
 use Rattle.fr_model.specs.Tree.{State}
 use Rattle.fr_partial.specs.Builder.{holds, IsStepTo}
@@ -8,19 +8,20 @@ use Rattle.fr_partial.proofs.RemovedLaws.{in_order, rises_by_removed, all_releas
 use Rattle.fr_partial.proofs.partial.Partial.begin_nth_field.Goals as goal
 
 pub enter-requires-clause-admitted : goal.enter-requires-clause-admitted
-enter-requires-clause-admitted c =
+enter-requires-clause-admitted g c =
     admitted_there c.self.inside.table.now c.self.inside.root.0 c.self.inside.parents.items c.self.inside.frame
     c.self.inside.calls c.self.invariant.chain c.args.self c.self.view_is c.args.idx (sym c.in-None.ensures)
 
 pub returns-in-Some-clause-step : goal.returns-in-Some-clause-step
-returns-in-Some-clause-step c =
+returns-in-Some-clause-step g c =
     inr
     (begin_refused c.self.inside.table.now c.self.inside.root.0 c.self.inside.parents.items c.self.inside.frame
     c.self.inside.calls c.self.invariant.chain c.args.self c.self.view_is c.args.idx c.in-Some.operation
-    (sym c.in-Some.ensures))
+    (sym c.in-Some.ensures)
+    ∙ ap Err (sym c.refuse.ensures.kind))
 
 pub returns-in-None-clause-step : goal.returns-in-None-clause-step
-returns-in-None-clause-step c =
+returns-in-None-clause-step g c =
     subst (λ (meant : Result State ReflectErrorKind). IsStepTo c.args.self meant c.enter.result)
     (sym
     (begin_admitted c.self.inside.table.now c.self.inside.root.0 c.self.inside.parents.items c.self.inside.frame
@@ -28,28 +29,24 @@ returns-in-None-clause-step c =
     c.enter.ensures.step
 
 pub returns-in-None-clause-refused : goal.returns-in-None-clause-refused
-returns-in-None-clause-refused c refused e =
+returns-in-None-clause-refused g c refused =
     let no : false ≡ true =
     rw (begin_admitted c.self.inside.table.now c.self.inside.root.0 c.self.inside.parents.items c.self.inside.frame
     c.self.inside.calls c.self.invariant.chain c.args.self c.self.view_is c.args.idx (sym c.in-None.ensures))
     at refused in
-    cc
+    absurd (cc)
 
 pub returns-in-Some-clause-removed : goal.returns-in-Some-clause-removed
-returns-in-Some-clause-removed c =
-    rises_by_removed c.law_removed.ensures.step c.args.self
-    (in_order c.self.inside.table.now c.self.inside.root.0 c.self.inside.parents.items c.self.inside.frame
-    c.self.inside.calls c.args.self c.self.invariant c.self.view_is)
-    (Call.BeginNthField c.args.idx) (holds c.args.self) (λ t. omega arith)
-    (Err (ReflectErrorKind.OperationFailed c.self.inside.frame.shape c.in-Some.operation)) c.args.ledger.now
-    c.abandon.new.ledger (returns-in-Some-clause-step c)
-    (all_released (holds c.args.self) (ReflectErrorKind.OperationFailed c.self.inside.frame.shape c.in-Some.operation)
-    c.args.ledger.now c.abandon.new.ledger c.abandon.ensures.released)
+returns-in-Some-clause-removed g c =
+    rises_by_removed (g.H.Hooks.means c.args.self.hooks) c.law_removed.ensures.step c.args.self
+    (in_order c.self.invariant c.self.view_is)
+    (Call.BeginNthField c.args.idx) (holds c.args.self) (λ t. omega arith) (Err c.refuse.result) c.args.ledger.now
+    c.refuse.new.ledger (returns-in-Some-clause-step g c)
+    (all_released (holds c.args.self) c.args.ledger.now c.refuse.new.ledger c.refuse.ensures.released)
 
 pub returns-in-None-clause-removed : goal.returns-in-None-clause-removed
-returns-in-None-clause-removed c =
-    rises_by_removed c.law_removed.ensures.step c.args.self
-    (in_order c.self.inside.table.now c.self.inside.root.0 c.self.inside.parents.items c.self.inside.frame
-    c.self.inside.calls c.args.self c.self.invariant c.self.view_is)
+returns-in-None-clause-removed g c =
+    rises_by_removed (g.H.Hooks.means c.args.self.hooks) c.law_removed.ensures.step c.args.self
+    (in_order c.self.invariant c.self.view_is)
     (Call.BeginNthField c.args.idx) (holds c.args.self) (λ t. omega arith) c.enter.result c.args.ledger.now
-    c.enter.new.ledger (returns-in-None-clause-step c) c.enter.ensures.tokens
+    c.enter.new.ledger (returns-in-None-clause-step g c) c.enter.ensures.tokens

@@ -13,45 +13,47 @@ use Rattle.fr_shape.specs.declared.error.ReflectErrorKind.{ReflectErrorKind}
 use Rattle.fr_model.specs.Commands.{Call}
 use Rattle.fr_partial.proofs.RemovedLaws.{in_order, rises_by_removed, all_released}
 use Rattle.fr_partial.proofs.partial.Partial.set_default.Goals as goal
+use Rattle.fr_partial.proofs.partial.Partial.set_default.Given.{Over}
 use Rattle.fr_partial.proofs.partial.Partial.set_default.Goals.{In-Some, In-Ok}
 
-template : (c : In-Some)
+template : (g : Over) (c : In-Some g)
     → IsTemplate c.self.inside.table.now c.self.inside.frame.shape.0 c.in-Some.template.now
-template c =
+template g c =
     preset_template c.self.inside.table.now c.self.inside.frame.shape.0 c.in-Some.template.now
     c.self.invariant.checked (sym c.in-Some.ensures.template)
 
-nothing_more : (c : In-Ok) (t : ℕ) → occurs (view c.in-Ok.value) t ≡ 0
-nothing_more c t =
+nothing_more : (g : Over) (c : In-Ok g) (t : ℕ) → occurs (view c.in-Ok.value) t ≡ 0
+nothing_more g c t =
     ap (λ (v : Val). occurs v t) c.in-Ok.ensures.copy
     ∙ light_occurs c.in-Some.template.now t
     (preset_template c.self.inside.table.now c.self.inside.frame.shape.0 c.in-Some.template.now
     c.self.invariant.checked (sym c.in-Some.ensures.template)).light
 
 pub returns-in_default-clause-step : goal.returns-in_default-clause-step
-returns-in_default-clause-step c =
+returns-in_default-clause-step g c =
     inr
     (default_missing c.self.inside.table.now c.self.inside.root.0 c.self.inside.parents.items c.self.inside.frame
     c.self.inside.calls c.self.invariant.chain c.args.self c.self.view_is
-    (sym c.in_default.ensures.template))
+    (sym c.in_default.ensures.template)
+    ∙ ap Err (sym c.refuse.ensures.kind))
 
 pub copy_template-requires : goal.copy_template-requires
-copy_template-requires c = record { no_token = (template (goal.at.copy_template-requires c).In-Some).light }
+copy_template-requires g c = record { no_token = (template g (goal.at.copy_template-requires g c).In-Some).light }
 
 pub put-requires-clause-fits : goal.put-requires-clause-fits
-put-requires-clause-fits c =
+put-requires-clause-fits g c =
     fits_here c.self.inside.table.now c.self.inside.root.0 c.self.inside.parents.items c.self.inside.frame
     c.self.inside.calls c.self.invariant.chain c.args.self c.self.view_is c.self.inside.frame.shape.0
     (view c.in-Ok.value) refl
-    (rw c.in-Ok.ensures.copy (template (goal.at.put-requires-clause-fits c).In-Some).fitting)
+    (rw c.in-Ok.ensures.copy (template g (goal.at.put-requires-clause-fits g c).In-Some).fitting)
 
 pub put-requires-clause-room : goal.put-requires-clause-room
-put-requires-clause-room c =
+put-requires-clause-room g c =
     Room_same (holds c.args.self) (λ t. holds c.args.self t + occurs (view c.in-Ok.value) t) c.args.ledger.now
-    (λ t. omega (arith, nothing_more (goal.at.put-requires-clause-room c).In-Ok t)) c.requires.room
+    (λ t. omega (arith, nothing_more g (goal.at.put-requires-clause-room g c).In-Ok t)) c.requires.room
 
 pub returns-in-Ok-clause-step : goal.returns-in-Ok-clause-step
-returns-in-Ok-clause-step c = (
+returns-in-Ok-clause-step g c = (
   default_there c.self.inside.table.now c.self.inside.root.0 c.self.inside.parents.items c.self.inside.frame
       c.self.inside.calls c.self.invariant.chain c.args.self c.self.view_is c.in-Some.template.now
       (sym c.in-Some.ensures.template)
@@ -59,49 +61,45 @@ returns-in-Ok-clause-step c = (
       ∙ ap (λ (s : State). Ok s) (sym c.put.ensures.state),
   c.put.ensures.shapes,
   c.put.ensures.root,
+  c.put.ensures.hooks,
 )
 
 pub returns-in-Ok-clause-tokens : goal.returns-in-Ok-clause-tokens
-returns-in-Ok-clause-tokens c =
+returns-in-Ok-clause-tokens g c =
     Conserved_same (λ t. holds c.args.self t + occurs (view c.in-Ok.value) t) (holds c.args.self) c.args.ledger.now
     (holds c.put.result) (left (Ok c.put.result)) c.put.new.ledger
-    (λ t. omega (arith, nothing_more (goal.at.returns-in-Ok-clause-tokens c).In-Ok t)) (λ t. refl) c.put.ensures.tokens
+    (λ t. omega (arith, nothing_more g (goal.at.returns-in-Ok-clause-tokens g c).In-Ok t)) (λ t. refl) c.put.ensures.tokens
 
 pub returns-in-Err-clause-refused : goal.returns-in-Err-clause-refused
-returns-in-Err-clause-refused c refused e =
+returns-in-Err-clause-refused g c refused =
     let there : set_default c.args.self.shapes (here c.args.self) c.args.self.state
     ≡ Ok (puts c.args.self.state c.in-Some.template.now)
     = default_there c.self.inside.table.now c.self.inside.root.0 c.self.inside.parents.items c.self.inside.frame
     c.self.inside.calls c.self.invariant.chain c.args.self c.self.view_is c.in-Some.template.now
     (sym c.in-Some.ensures.template) in
     let no : false ≡ true = rw there at refused in
-    cc
+    absurd (cc)
 
 pub returns-in_default-clause-removed : goal.returns-in_default-clause-removed
-returns-in_default-clause-removed c =
-    rises_by_removed c.law_removed.ensures.step c.args.self
-    (in_order c.self.inside.table.now c.self.inside.root.0 c.self.inside.parents.items c.self.inside.frame
-    c.self.inside.calls c.args.self c.self.invariant c.self.view_is)
-    Call.SetDefault (holds c.args.self) (λ t. omega arith)
-    (Err (ReflectErrorKind.OperationFailed c.self.inside.frame.shape Operation.NoDefault)) c.args.ledger.now
-    c.abandon.new.ledger (returns-in_default-clause-step c)
-    (all_released (holds c.args.self) (ReflectErrorKind.OperationFailed c.self.inside.frame.shape Operation.NoDefault)
-    c.args.ledger.now c.abandon.new.ledger c.abandon.ensures.released)
+returns-in_default-clause-removed g c =
+    rises_by_removed (g.H.Hooks.means c.args.self.hooks) c.law_removed.ensures.step c.args.self
+    (in_order c.self.invariant c.self.view_is)
+    Call.SetDefault (holds c.args.self) (λ t. omega arith) (Err c.refuse.result) c.args.ledger.now c.refuse.new.ledger
+    (returns-in_default-clause-step g c)
+    (all_released (holds c.args.self) c.args.ledger.now c.refuse.new.ledger c.refuse.ensures.released)
 
 pub returns-in-Ok-clause-removed : goal.returns-in-Ok-clause-removed
-returns-in-Ok-clause-removed c =
-    rises_by_removed c.law_removed.ensures.step c.args.self
-    (in_order c.self.inside.table.now c.self.inside.root.0 c.self.inside.parents.items c.self.inside.frame
-    c.self.inside.calls c.args.self c.self.invariant c.self.view_is)
+returns-in-Ok-clause-removed g c =
+    rises_by_removed (g.H.Hooks.means c.args.self.hooks) c.law_removed.ensures.step c.args.self
+    (in_order c.self.invariant c.self.view_is)
     Call.SetDefault (holds c.args.self) (λ t. omega arith) (Ok c.put.result) c.args.ledger.now c.put.new.ledger
-    (returns-in-Ok-clause-step c) (returns-in-Ok-clause-tokens c)
+    (returns-in-Ok-clause-step g c) (returns-in-Ok-clause-tokens g c)
 
 pub returns-in-Err-clause-removed : goal.returns-in-Err-clause-removed
-returns-in-Err-clause-removed c =
-    rises_by_removed c.law_removed.ensures.step c.args.self
-    (in_order c.self.inside.table.now c.self.inside.root.0 c.self.inside.parents.items c.self.inside.frame
-    c.self.inside.calls c.args.self c.self.invariant c.self.view_is)
-    Call.SetDefault (holds c.args.self) (λ t. omega arith) (Err ReflectErrorKind.OutOfMemory) c.args.ledger.now
-    c.abandon-in-Err.new.ledger (inl refl)
-    (all_released (holds c.args.self) ReflectErrorKind.OutOfMemory c.args.ledger.now c.abandon-in-Err.new.ledger
-    c.abandon-in-Err.ensures.released)
+returns-in-Err-clause-removed g c =
+    rises_by_removed (g.H.Hooks.means c.args.self.hooks) c.law_removed.ensures.step c.args.self
+    (in_order c.self.invariant c.self.view_is)
+    Call.SetDefault (holds c.args.self) (λ t. omega arith) (Err c.refuse-in-Err.result) c.args.ledger.now
+    c.refuse-in-Err.new.ledger (inl c.refuse-in-Err.ensures.kind)
+    (all_released (holds c.args.self) c.args.ledger.now c.refuse-in-Err.new.ledger
+    c.refuse-in-Err.ensures.released)

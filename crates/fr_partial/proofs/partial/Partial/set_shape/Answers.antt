@@ -13,15 +13,15 @@ use Rattle.fr_partial.proofs.RemovedLaws.{in_order, rises_by_removed, both_relea
 use Rattle.fr_partial.proofs.partial.Partial.set_shape.Goals as goal
 
 pub put-requires-clause-fits : goal.put-requires-clause-fits
-put-requires-clause-fits c =
+put-requires-clause-fits g c =
     fits_here c.self.inside.table.now c.self.inside.root.0 c.self.inside.parents.items c.self.inside.frame
     c.self.inside.calls c.self.invariant.chain c.args.self c.self.view_is c.args.value.shape (view c.into_value.result)
     (sym c.shape-actual.ensures.shape ∙ c.if-actual-expected.true)
-    (subst (λ (b : Builder). fits b.shapes c.args.value.shape (view c.into_value.result) ≡ true) (sym c.self.view_is)
+    (subst (λ (b : Builder _). fits b.shapes c.args.value.shape (view c.into_value.result) ≡ true) (sym c.self.view_is)
     (subst (λ (v : Val). fits c.args.self.shapes c.args.value.shape v ≡ true) (sym c.into_value.ensures.value) c.requires.fits))
 
 pub returns-then-actual-expected-clause-step : goal.returns-then-actual-expected-clause-step
-returns-then-actual-expected-clause-step c = (
+returns-then-actual-expected-clause-step g c = (
   set_admitted c.self.inside.table.now c.self.inside.root.0 c.self.inside.parents.items c.self.inside.frame
       c.self.inside.calls c.self.invariant.chain c.args.self c.self.view_is c.args.value.shape c.args.value.value
       (sym c.shape-actual.ensures.shape ∙ c.if-actual-expected.true)
@@ -29,36 +29,34 @@ returns-then-actual-expected-clause-step c = (
       ∙ ap (λ (s : State). Ok s) (sym c.put.ensures.state),
   c.put.ensures.shapes,
   c.put.ensures.root,
+  c.put.ensures.hooks,
 )
 
 pub returns-else-actual-expected-clause-step : goal.returns-else-actual-expected-clause-step
-returns-else-actual-expected-clause-step c =
+returns-else-actual-expected-clause-step g c =
     inr
     (ap (λ (given : ℕ). set (here c.args.self) c.args.self.state given c.args.value.value) (sym c.shape-actual.ensures.shape)
     ∙ set_refused c.self.inside.table.now c.self.inside.root.0 c.self.inside.parents.items c.self.inside.frame
     c.self.inside.calls c.self.invariant.chain c.args.self c.self.view_is c.shape-actual.result c.args.value.value
-    c.if-actual-expected.false)
+    c.if-actual-expected.false
+    ∙ ap Err (sym c.refuse.ensures.kind))
 
 pub returns-then-actual-expected-clause-removed : goal.returns-then-actual-expected-clause-removed
-returns-then-actual-expected-clause-removed c =
-    rises_by_removed c.law_removed.ensures.step c.args.self
-    (in_order c.self.inside.table.now c.self.inside.root.0 c.self.inside.parents.items c.self.inside.frame
-    c.self.inside.calls c.args.self c.self.invariant c.self.view_is)
+returns-then-actual-expected-clause-removed g c =
+    rises_by_removed (g.H.Hooks.means c.args.self.hooks) c.law_removed.ensures.step c.args.self
+    (in_order c.self.invariant c.self.view_is)
     (Call.Set c.args.value.shape c.args.value.value)
     (λ t. holds c.args.self t + occurs (view c.into_value.result) t)
     (λ t. ap (λ (v : Val). holds c.args.self t + occurs v t) c.into_value.ensures.value) (Ok c.put.result)
-    c.args.ledger.now c.put.new.ledger (returns-then-actual-expected-clause-step c) c.put.ensures.tokens
+    c.args.ledger.now c.put.new.ledger (returns-then-actual-expected-clause-step g c) c.put.ensures.tokens
 
 pub returns-else-actual-expected-clause-removed : goal.returns-else-actual-expected-clause-removed
-returns-else-actual-expected-clause-removed c =
-    rises_by_removed c.law_removed.ensures.step c.args.self
-    (in_order c.self.inside.table.now c.self.inside.root.0 c.self.inside.parents.items c.self.inside.frame
-    c.self.inside.calls c.args.self c.self.invariant c.self.view_is)
+returns-else-actual-expected-clause-removed g c =
+    rises_by_removed (g.H.Hooks.means c.args.self.hooks) c.law_removed.ensures.step c.args.self
+    (in_order c.self.invariant c.self.view_is)
     (Call.Set c.args.value.shape c.args.value.value)
     (λ t. holds c.args.self t + occurs (view c.into_value-else-actual-expected.result) t)
     (λ t. ap (λ (v : Val). holds c.args.self t + occurs v t) c.into_value-else-actual-expected.ensures.value)
-    (Err (ReflectErrorKind.WrongShape c.self.inside.frame.shape c.shape-actual.result)) c.args.ledger.now
-    c.abandon.new.ledger (returns-else-actual-expected-clause-step c)
+    (Err c.refuse.result) c.args.ledger.now c.refuse.new.ledger (returns-else-actual-expected-clause-step g c)
     (both_released (occurs (view c.into_value-else-actual-expected.result)) (holds c.args.self)
-    (ReflectErrorKind.WrongShape c.self.inside.frame.shape c.shape-actual.result) c.args.ledger.now
-    c.release.new.ledger c.abandon.new.ledger c.release.ensures.released c.abandon.ensures.released)
+    c.args.ledger.now c.release.new.ledger c.refuse.new.ledger c.release.ensures.released c.refuse.ensures.released)

@@ -1,0 +1,34 @@
+-- Starting by a plan that is there: its root's shape, and what is left to refuse.
+use Rattle.std.proofs.Common.{◌≡◌, List, [], Option, Some, None, Result, Ok, Err, IfOk, option_map, sym, ap, ◌∙◌}
+use Rattle.std.specs.Option.{option_or}
+use Rattle.fr_shape.specs.declared.error.AllocError.{AllocError}
+use Rattle.fr_shape.specs.declared.shape.ShapeId.{ShapeId}
+use Rattle.fr_shape.specs.Checked.{IsChecked}
+use Rattle.fr_shape.specs.Look.{Table}
+use Rattle.fr_model.specs.Run.{alloc_refusal, unsized_refusal}
+use Rattle.fr_plan.specs.declared.nodes.TypePlanNode.{TypePlanNode}
+use Rattle.fr_plan.specs.Lookups.{node_at}
+use Rattle.fr_plan.specs.PathLaws.{PathsAgree}
+use Rattle.fr_plan.specs.RefusalLaws.{RefusesFirst, refusal_in}
+use Rattle.fr_plan.specs.TypePlan.{Plan}
+use Rattle.fr_partial.specs.Starting.{IsPlanFrom}
+
+pub if_ok : {A E : Type 0} {P Q : A → Type 0} → (result : Result A E) → ((a : A) → P a → Q a) → IfOk result P → IfOk result Q
+if_ok (Ok a) then holds = then a holds
+if_ok (Err e) then holds = tt
+
+-- the root's node has the root's shape
+pub root_shape : PathsAgree → (table : Table) (plan : Plan) (node : TypePlanNode) → IsChecked table
+    → (from : IsPlanFrom table plan) → node_at plan plan.root ≡ Some node → node.shape ≡ from.root
+root_shape agree table plan node checked from at =
+    let same : Some node.shape ≡ Some from.root
+    = ap (option_map (λ (n : TypePlanNode). n.shape)) (sym at)
+    ∙ agree table from.root plan [] checked from.inside from.planned in
+    cc
+
+-- of a root that was planned, only that it is unsized is left to refuse
+pub only_unsized : RefusesFirst → (table : Table) (plan : Plan) → (from : IsPlanFrom table plan)
+    → alloc_refusal table from.root.0 ≡ unsized_refusal table from.root.0
+only_unsized first table plan from =
+    ap (λ (refusal : Option AllocError). option_or refusal (unsized_refusal table from.root.0))
+    (sym (first table from.root) ∙ ap refusal_in from.planned.built)

@@ -1,0 +1,78 @@
+-- The path that a builder keeps, where it goes on and where it goes back.
+use Rattle.std.proofs.Common.{◌≡◌, ℕ, suc, List, [], ◌∷◌, ◌++◌, length, Option, Some, None, IsNone, IfSome, ◌↔◌, refl, sym, ◌∙◌, ap, arith}
+use Rattle.fr_shape.specs.Look.{Table, def_of}
+use Rattle.fr_path.specs.declared.path_steps.PathStep.{PathStep}
+use Rattle.fr_shape.specs.Val.{Val}
+use Rattle.fr_model.specs.PathLaws.{EnteringAddsAStep, LeavingDropsAStep, PathIsAsDeep}
+use Rattle.fr_model.specs.Paths.{step_as, path_of}
+use Rattle.fr_model.specs.Step.{enters, puts_and_leaves}
+use Rattle.fr_model.specs.Well.{Leads}
+use Rattle.fr_model.specs.Tree.{Form, form_of, State}
+use Rattle.fr_partial.specs.declared.frame.Parent.{Parent}
+use Rattle.fr_partial.specs.Builder.{Builder, here}
+use Rattle.fr_partial.specs.Stack.{opens}
+use Rattle.fr_partial.proofs.RemovedLaws.{IsBuilderInOrder}
+
+-- a path with a last step isn't empty
+pub never_empty : (before : List PathStep) (last : PathStep) → before ++ last ∷ [] ≡ [] → ⊥
+never_empty [] last e = cc
+never_empty (step ∷ before) last e = cc
+
+-- one step back
+pub went_back : (undone : (before after : List PathStep) (step last : PathStep) → before ++ step ∷ [] ≡ after ++ last ∷ []
+    → (after ≡ before) × (last ≡ step))
+    → (taken : Option PathStep) (before old new : List PathStep) (last : PathStep)
+    → IfSome taken (λ step. old ≡ new ++ step ∷ []) → IsNone taken ↔ (old ≡ []) → old ≡ before ++ last ∷ [] → new ≡ before
+went_back undone (Some step) before old new last split none is = (undone before new last step (sym is ∙ split)).0
+went_back undone None before old new last split none is = absurd (never_empty before last (sym is ∙ none.0 refl))
+
+-- the last step of a path that isn't empty
+pub record Ends (steps : List PathStep) : Type 0 where
+  pub before : List PathStep
+  pub last : PathStep
+  pub split : steps ≡ before ++ last ∷ []
+
+ends : (step : PathStep) (steps : List PathStep) → Ends (step ∷ steps)
+ends step [] = record { before = []; last = step; split = refl }
+ends step (next ∷ steps) =
+    let rest : Ends (next ∷ steps) = ends next steps in
+    record { before = step ∷ rest.before; last = rest.last; split = ap (λ (ps : List PathStep). step ∷ ps) rest.split }
+
+-- below the root a path has a last step
+pub below_root : PathIsAsDeep → (state : State) (above : List ℕ) (i : ℕ) → state.cursor ≡ above ++ i ∷ [] → Ends (path_of state)
+below_root deep state above i cursor = go (path_of state) (deep state)
+  where
+    longer : (place : List ℕ) → length (place ++ i ∷ []) ≡ 0 → ⊥
+    longer [] e = cc
+    longer (j ∷ place) e = cc
+
+    go : (steps : List PathStep) → length steps ≡ length state.cursor → Ends steps
+    go [] e = absurd (longer above (sym (ap (λ (place : List ℕ). length place) cursor) ∙ sym e))
+    go (step ∷ steps) e = ends step steps
+
+-- the path after a child was entered
+pub entered_path : {H : Type 0} → EnteringAddsAStep → (builder : Builder H) → IsBuilderInOrder builder
+    → (i s : ℕ) (form : Form) (after : State) (steps : List PathStep) → steps ≡ path_of builder.state
+    → here builder ≡ s → form ≡ form_of (def_of builder.shapes s)
+    → enters builder.shapes (here builder) builder.state i ≡ after
+    → steps ++ step_as form i ∷ [] ≡ path_of after
+entered_path enter builder ordered i s form after steps path at as_form entered =
+    ap (λ (ps : List PathStep). ps ++ step_as form i ∷ []) path
+    ∙ ap (λ (f : Form). path_of builder.state ++ step_as f i ∷ [])
+    (as_form ∙ ap (λ (shape : ℕ). form_of (def_of builder.shapes shape)) (sym at))
+    ∙ sym (enter builder.shapes builder.root builder.state i ordered.state)
+    ∙ ap path_of entered
+
+-- the path after the builder went up
+pub left_path : LeavingDropsAStep → PathIsAsDeep → (state after : State) (v : Val) (above : List ℕ) (i : ℕ) (steps left : List PathStep)
+    → Leads state.cursor state.tree → state.cursor ≡ above ++ i ∷ [] → steps ≡ path_of state
+    → ((before : List PathStep) (last : PathStep) → steps ≡ before ++ last ∷ [] → left ≡ before)
+    → puts_and_leaves state v ≡ after → left ≡ path_of after
+left_path leave deep state after v above i steps left leads cursor path back is =
+    let way : Ends (path_of state) = below_root deep state above i cursor in
+    back way.before way.last (path ∙ way.split) ∙ sym (leave state v way.before way.last leads way.split) ∙ ap path_of is
+
+-- as many steps as places above
+pub opens_count : (parents : List Parent) → length (opens parents) ≡ length parents
+opens_count [] = refl
+opens_count (parent ∷ parents) = ap suc (opens_count parents)
