@@ -26,6 +26,8 @@ mod serving;
 mod sizes;
 #[cfg(test)]
 mod tests;
+#[cfg(test)]
+mod text_tests;
 mod validity;
 mod word;
 
