@@ -9,6 +9,7 @@ pub mod MemberLaws
 pub mod PlanLaws
 pub mod ReleasedLaws
 pub mod RuleLaws
+pub mod RunLaws
 pub mod SizeLaws
 pub mod TakeLaws
 pub mod Trees

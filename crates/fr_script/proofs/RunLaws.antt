@@ -1,0 +1,83 @@
+-- A command that is admitted: the run goes on behind it, with one call more.
+use Rattle.std.proofs.Common.{◌≡◌, ℕ, ◌+◌, Bool, true, false, cond, List, ◌∷◌, Option, Some, None, Result, Ok, Err, refl, sym, ap, ◌∙◌, subst}
+use Rattle.fr_shape.specs.declared.error.Invariant.{Invariant}
+use Rattle.fr_shape.specs.declared.error.ReflectErrorKind.{ReflectErrorKind}
+use Rattle.fr_shape.specs.Fills.{preset_of}
+use Rattle.fr_shape.specs.Hooks.{Meanings}
+use Rattle.fr_shape.specs.Look.{Table, def_of}
+use Rattle.fr_shape.specs.Named.{field_named}
+use Rattle.fr_shape.specs.Val.{Val}
+use Rattle.fr_model.specs.Commands.{Call}
+use Rattle.fr_model.specs.Complete.{complete}
+use Rattle.fr_model.specs.Places.{is_root}
+use Rattle.fr_model.specs.Run.{run_from, and_then}
+use Rattle.fr_model.specs.Step.{unless_refused, at_shape, field_refusal, named_refusal, set_refusal, enters, begins_named, puts, puts_default, ended, violates, step_at, step}
+use Rattle.fr_model.specs.Tree.{State, cursor_shape, cursor_tree, one_more_call}
+
+-- the same command over the same hooks, table and root
+pub same_step : (hooks hooks' : Meanings) (table table' : Table) (root root' : ℕ) (state : State) (call : Call)
+    (result : Result State ReflectErrorKind) → hooks ≡ hooks' → table ≡ table' → root ≡ root'
+    → step hooks table root state call ≡ result → step hooks' table' root' state call ≡ result
+same_step hooks hooks' table table' root root' state call result same_hooks same_table same_root is =
+    sym
+    (ap (λ (h : Meanings). step h table root state call) same_hooks
+    ∙ (ap (λ (t : Table). step hooks' t root state call) same_table
+    ∙ ap (λ (r : ℕ). step hooks' table' r state call) same_root))
+    ∙ is
+
+pub runs_on : (hooks : Meanings) (table : Table) (root n : ℕ) (state next : State) (call : Call) (calls : List Call)
+    → step hooks table root state call ≡ Ok next
+    → run_from hooks table root (n + 1) next calls ≡ run_from hooks table root n state (call ∷ calls)
+runs_on hooks table root n state next call calls is =
+    sym
+    (ap
+    (λ (after : Result State ReflectErrorKind). and_then n state after (λ s. run_from hooks table root (n + 1) s calls)) is)
+
+-- One call more.
+
+-- a state that was reached has had so many calls
+Counts : ℕ → Result State ReflectErrorKind → Type 0
+Counts n (Ok next) = next.calls ≡ n
+Counts n (Err kind) = Unit {0}
+
+module _ (hooks : Meanings) (table : Table) (s : ℕ) (state : State) where
+  unless_counts : (refusal : Option ReflectErrorKind) (next : State) → next.calls ≡ one_more_call state.calls
+      → Counts (one_more_call state.calls) (unless_refused refusal next)
+  unfolding Counts
+  unless_counts (Some kind) next counts = tt
+  unless_counts None next counts = counts
+
+  named_counts : (refusal : Option ReflectErrorKind) (found : Option ℕ)
+      → Counts (one_more_call state.calls) (begins_named table s state refusal found)
+  unfolding Counts
+  named_counts (Some kind) found = tt
+  named_counts None (Some i) = refl
+  named_counts None None = tt
+
+  default_counts : (preset : Option Val) → Counts (one_more_call state.calls) (puts_default s state preset)
+  unfolding Counts
+  default_counts (Some v) = refl
+  default_counts None = tt
+
+  end_counts : (at_root : Bool) (value : Option Val)
+      → Counts (one_more_call state.calls)
+      (cond at_root (Err (violates Invariant.EndAtRoot)) (ended hooks table s state value))
+  unfolding Counts
+  end_counts true value = tt
+  end_counts false (Some v) = refl
+  end_counts false None = tt
+
+  step_counts : (call : Call) → Counts (one_more_call state.calls) (step_at hooks table s state call)
+  step_counts (Call.BeginField name) =
+      named_counts (at_shape s (named_refusal (def_of table s))) (field_named name (def_of table s))
+  step_counts (Call.BeginNthField i) =
+      unless_counts (at_shape s (field_refusal (def_of table s) (cursor_tree state) i)) (enters table s state i) refl
+  step_counts (Call.Set given v) = unless_counts (set_refusal s given) (puts state v) refl
+  step_counts Call.SetDefault = default_counts (preset_of table s)
+  step_counts Call.End = end_counts (is_root state.cursor) (complete hooks table s (cursor_tree state))
+
+pub one_call_more : (hooks : Meanings) (table : Table) (root : ℕ) (state next : State) (call : Call)
+    → step hooks table root state call ≡ Ok next → next.calls ≡ one_more_call state.calls
+unfolding Counts
+one_call_more hooks table root state next call is =
+    subst (Counts (one_more_call state.calls)) is (step_counts hooks table (cursor_shape table root state) state call)
