@@ -20,15 +20,13 @@ use fr_shape::{
 use std::alloc::Global;
 use std::process::Abort;
 
-fn two(alloc: Global, name: &str, first: Option<Field>, second: Option<Field>) -> Option<Shape>
-    requires first { IfSome first (λ field. serves_field field ≡ true) }
-    requires second { IfSome second (λ field. serves_field field ≡ true) }
+fn two(alloc: Global, name: &str, first: Field, second: Field) -> Option<Shape>
+    requires first { serves_field first ≡ true }
+    requires second { serves_field second ≡ true }
     ensures served { IfSome result (λ shape. serves shape ≡ true) }
     ensures count { IfSome result (λ shape. field_count shape.def ≡ 2) }
     ensures variants { IfSome result (λ shape. variants_of shape.def ≡ []) }
 {
-    let first = first?;
-    let second = second?;
     let Ok(fields) = vec![in alloc; first, second] else {
         return None;
     };
@@ -48,8 +46,8 @@ fn cell(alloc: Global) -> Option<Shape>
     ensures count { IfSome result (λ shape. field_count shape.def ≡ 2) }
     ensures variants { IfSome result (λ shape. variants_of shape.def ≡ []) }
 {
-    let a = field(alloc, "a", 1, None);
-    let k = field(alloc, "k", 0, None);
+    let a = field(alloc, "a", 1, None)?;
+    let k = field(alloc, "k", 0, None)?;
     two(alloc, "Cell", a, k)
 }
 
@@ -58,8 +56,8 @@ fn pair(alloc: Global) -> Option<Shape>
     ensures count { IfSome result (λ shape. field_count shape.def ≡ 2) }
     ensures variants { IfSome result (λ shape. variants_of shape.def ≡ []) }
 {
-    let p = field(alloc, "p", 2, None);
-    let q = field(alloc, "q", 2, None);
+    let p = field(alloc, "p", 2, None)?;
+    let q = field(alloc, "q", 2, None)?;
     two(alloc, "Pair", p, q)
 }
 
@@ -68,8 +66,8 @@ fn numbers(alloc: Global) -> Option<Shape>
     ensures count { IfSome result (λ shape. field_count shape.def ≡ 2) }
     ensures variants { IfSome result (λ shape. variants_of shape.def ≡ []) }
 {
-    let a = field(alloc, "a", 0, custom(5));
-    let b = field(alloc, "b", 0, custom(6));
+    let a = field(alloc, "a", 0, custom(5))?;
+    let b = field(alloc, "b", 0, custom(6))?;
     two(alloc, "Numbers", a, b)
 }
 

@@ -5,4 +5,4 @@ pub returns-clause-served : goal.returns-clause-served
 returns-clause-served c =
     c.shape.ensures.served
     (rw (c.from_vec.ensures.items, c.in-Ok.ensures.items)
-    (two_fields c.in_ok-first.first c.in_ok-second.second c.in_ok-first.ensures c.in_ok-second.ensures))
+    (two_fields c.args.first c.args.second c.requires.first c.requires.second))
