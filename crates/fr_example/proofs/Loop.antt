@@ -1,5 +1,5 @@
 -- The loop over the pairs, and what is built in the end.
-use Rattle.std.proofs.Common.{◌≡◌, inl, inr, ℕ, ◌*◌, min, true, List, [], ◌∷◌, ◌++◌, length, append_assoc, length-append, Option, Some, None, Result, Ok, Err, refl, sym, ◌∙◌, ap, arith}
+use Rattle.std.proofs.Common.{◌≡◌, inl, inr, ℕ, ◌*◌, min, true, List, [], ◌∷◌, ◌++◌, length, append_assoc, length-append, Option, Some, None, Result, Ok, Err, refl, sym, ◌∙◌, ap, subst, arith}
 use Rattle.std.specs.Option.{option_or}
 use Rattle.fr_shape.specs.declared.error.ReflectErrorKind.{ReflectErrorKind}
 use Rattle.fr_shape.specs.declared.shape.Def.{Def}
@@ -12,8 +12,11 @@ use Rattle.fr_model.specs.Step.{unless_refused, build}
 use Rattle.fr_model.specs.Tree.{State, one_more_call, most_calls}
 use Rattle.fr_partial.specs.Builder.{Builder, IsStepTo, IsBuilt, meaning_of_build}
 use Rattle.fr_partial.specs.BuiltValue.{BuiltValue}
+use Rattle.fr_partial.specs.declared.reflect_error.ReflectError.{ReflectError}
+use Rattle.fr_model.specs.Run.{alloc_refusal}
+use Rattle.fr_shape.specs.declared.error.AllocError.{AllocError}
 use Rattle.fr_example.specs.declared.record.Pair.{Pair}
-use Rattle.fr_example.specs.Meant.{is_struct, refusal_of, first_refusal, unrefused, refused_or, record_meant, IsMeant}
+use Rattle.fr_example.specs.Meant.{is_struct, refusal_of, first_refusal, unrefused, refused_or, pairs_meant, unplanned, record_meant, IsMeant}
 use Rattle.fr_example.specs.Putting.{puts_pair}
 use Rattle.fr_example.proofs.Making.{makes}
 use Rattle.fr_example.proofs.Pairs.{first_refusal_later}
@@ -71,7 +74,7 @@ filled_more table root string pairs pair here after struct at e =
 pub put_refused : (table : Table) (root string : ℕ) (pairs : List Pair) (pair : Pair) (others : List Pair) (here : State)
     (kind : ReflectErrorKind) → is_struct (def_of table root) ≡ true → IsFilled table root string pairs here
     → puts_pair table root string here pair ≡ Err kind
-    → record_meant table root string (pairs ++ pair ∷ others) ≡ Err kind
+    → pairs_meant table root string (pairs ++ pair ∷ others) ≡ Err kind
 put_refused table root string pairs pair others here kind struct at e =
     ap
     (λ (o : Option ReflectErrorKind). refused_or o (unrefused table root (pairs ++ pair ∷ others)))
@@ -88,42 +91,50 @@ put_refused table root string pairs pair others here kind struct at e =
     go None e = cc
 
 -- what the whole loop meets where a pair isn't put
-pub loop_refused : (table : Table) (root string : ℕ) (pairs : List Pair) (pair : Pair) (others all : List Pair)
-    (before : Builder) (kind : ReflectErrorKind) → is_struct (def_of table root) ≡ true → before.root ≡ root
+pub loop_refused : {H : Type 0} (table : Table) (root string : ℕ) (pairs : List Pair) (pair : Pair) (others all : List Pair)
+    (before : Builder H) (error : ReflectError) → is_struct (def_of table root) ≡ true → before.root ≡ root
     → IsFilled table root string pairs before.state → all ≡ pairs ++ pair ∷ others
-    → IsStepTo before (puts_pair table before.root string before.state pair) (Err kind)
-    → IsMeant (record_meant table root string all) (Err kind)
-loop_refused table root string pairs pair others all before kind struct at_root filled are (inl memory) = inl memory
-loop_refused table root string pairs pair others all before kind struct at_root filled are (inr e) =
+    → IsStepTo before (puts_pair table before.root string before.state pair) (Err error)
+    → IsMeant (pairs_meant table root string all) (Err error)
+loop_refused table root string pairs pair others all before error struct at_root filled are (inl memory) = inl memory
+loop_refused table root string pairs pair others all before error struct at_root filled are (inr e) =
     inr (
-    ap (λ (ps : List Pair). record_meant table root string ps) are
-    ∙ put_refused table root string pairs pair others before.state kind struct filled
+    ap (λ (ps : List Pair). pairs_meant table root string ps) are
+    ∙ put_refused table root string pairs pair others before.state error.kind struct filled
     (ap (λ (r : ℕ). puts_pair table r string before.state pair) (sym at_root) ∙ e)
     )
 
 -- what is built
-built_means : (before : Builder) (meant : Result Val ReflectErrorKind) (result : Result BuiltValue ReflectErrorKind)
-    → meaning_of_build before ≡ meant → IsBuilt before result → IsMeant meant result
+built_means : {H : Type 0} (before : Builder H) (meant : Result Val ReflectErrorKind) (result : Result BuiltValue ReflectError)
+    → meaning_of_build no_hooks before ≡ meant → IsBuilt no_hooks before result → IsMeant meant result
 built_means before meant (Ok built) e so = sym e ∙ so.0
-built_means before meant (Err kind) e (inl memory) = inl memory
-built_means before meant (Err kind) e (inr so) = inr (sym e ∙ so)
+built_means before meant (Err error) e (inl memory) = inl memory
+built_means before meant (Err error) e (inr so) = inr (sym e ∙ so)
 
-pub loop_built : (table : Table) (root string : ℕ) (pairs all : List Pair) (before : Builder)
-    (result : Result BuiltValue ReflectErrorKind) → is_struct (def_of table root) ≡ true → IsServed table
+pub loop_built : {H : Type 0} (table : Table) (root string : ℕ) (pairs all : List Pair) (before : Builder H)
+    (result : Result BuiltValue ReflectError) → is_struct (def_of table root) ≡ true → IsServed table
     → before.shapes ≡ table → before.root ≡ root → IsFilled table root string pairs before.state → all ≡ pairs
-    → IsBuilt before result → IsMeant (record_meant table root string all) result
+    → IsBuilt no_hooks before result → IsMeant (pairs_meant table root string all) result
 loop_built table root string pairs all before result struct served same at_root filled are so =
-    built_means before (record_meant table root string all) result
+    built_means before (pairs_meant table root string all) result
     (ap (λ (t : Table). build no_hooks t before.root before.state) same
     ∙ ap (λ (r : ℕ). build no_hooks table r before.state) at_root
     ∙ ap (λ (s : State). build no_hooks table root s) filled.is
     ∙ makes table root known.0 pairs (min (3 * length pairs) most_calls) served known.1
     ∙ ap (λ (o : Option ReflectErrorKind). refused_or o (unrefused table root pairs)) (sym filled.unrefused)
-    ∙ ap (λ (ps : List Pair). record_meant table root string ps) (sym are))
+    ∙ ap (λ (ps : List Pair). pairs_meant table root string ps) (sym are))
     so
   where
     known : (s : StructDef) × (def_of table root ≡ Def.Struct s)
     known = struct_of (def_of table root) struct
+
+-- where there is a builder, the pairs alone count
+pub planned_means : (table : Table) (root string : ℕ) (pairs : List Pair) (result : Result BuiltValue ReflectError)
+    → alloc_refusal table root ≡ None → IsMeant (pairs_meant table root string pairs) result
+    → IsMeant (record_meant table root string pairs) result
+planned_means table root string pairs result none =
+    subst (λ (meant : Result Val ReflectErrorKind). IsMeant meant result)
+    (ap (λ (refusal : Option AllocError). refused_or (unplanned refusal) (pairs_meant table root string pairs)) (sym none))
 
 -- the list of what is left, and of what was taken
 

@@ -1,6 +1,8 @@
 -- What pairs of a field's name and a text make of a struct.
 use Rattle.std.specs.Prelude.{◌≡◌, ◌⊎◌, ◌==◌, ℕ, zero, suc, Bool, true, false, List, [], ◌∷◌, Option, Some, None, Result, Ok, Err, if◌then◌else◌}
 use Rattle.std.specs.Option.{option_or}
+use Rattle.fr_shape.specs.declared.error.AllocError.{AllocError}
+use Rattle.fr_shape.specs.declared.error.PlanError.{PlanError}
 use Rattle.fr_shape.specs.declared.error.ReflectErrorKind.{ReflectErrorKind}
 use Rattle.fr_shape.specs.declared.shape.Def.{Def}
 use Rattle.fr_shape.specs.Fills.{is_empty_struct, preset_of}
@@ -9,6 +11,8 @@ use Rattle.fr_shape.specs.Named.{field_named}
 use Rattle.fr_shape.specs.Val.{Val, Vals, text, product, no_vals, first}
 use Rattle.fr_model.specs.Complete.{missing_field}
 use Rattle.fr_model.specs.Places.{child_count, child_shape, fill_at}
+use Rattle.fr_model.specs.Run.{alloc_refusal}
+use Rattle.fr_partial.specs.declared.reflect_error.ReflectError.{ReflectError}
 use Rattle.fr_partial.specs.BuiltValue.{BuiltValue}
 use Rattle.fr_example.specs.declared.record.Pair.{Pair}
 
@@ -105,12 +109,27 @@ abbrev pub refused_or : Option ReflectErrorKind → Result Val ReflectErrorKind 
 refused_or (Some kind) value = Err kind
 refused_or None value = value
 
--- what pairs make of the struct of shape `root`: the first refusal of a pair, or else the value or the first missing field
-abbrev pub record_meant : Table → (root string : ℕ) → List Pair → Result Val ReflectErrorKind
-record_meant table root string pairs =
+-- what pairs make of a struct that has a builder: the first refusal of a pair, or else the value or the first missing field
+abbrev pub pairs_meant : Table → (root string : ℕ) → List Pair → Result Val ReflectErrorKind
+pairs_meant table root string pairs =
     refused_or (first_refusal table root string pairs) (unrefused table root pairs)
 
+-- why there is no builder, as the kind of an error
+abbrev pub kind_of : PlanError → ReflectErrorKind
+kind_of (PlanError.Alloc error) = ReflectErrorKind.Alloc error
+kind_of PlanError.OutOfMemory = ReflectErrorKind.OutOfMemory
+
+-- that there is no builder, as a refusal
+abbrev pub unplanned : Option AllocError → Option ReflectErrorKind
+unplanned (Some error) = Some (ReflectErrorKind.Alloc error)
+unplanned None = None
+
+-- what pairs make of the struct of shape `root`: that it has no builder, or else as above
+abbrev pub record_meant : Table → (root string : ℕ) → List Pair → Result Val ReflectErrorKind
+record_meant table root string pairs =
+    refused_or (unplanned (alloc_refusal table root)) (pairs_meant table root string pairs)
+
 -- what is meant was built; or that is the refusal; or memory ran out
-abbrev pub IsMeant : (meant : Result Val ReflectErrorKind) → Result BuiltValue ReflectErrorKind → Type 0
+abbrev pub IsMeant : (meant : Result Val ReflectErrorKind) → Result BuiltValue ReflectError → Type 0
 IsMeant meant (Ok built) = meant ≡ Ok built.value
-IsMeant meant (Err kind) = (kind ≡ ReflectErrorKind.OutOfMemory) ⊎ (meant ≡ Err kind)
+IsMeant meant (Err error) = (error.kind ≡ ReflectErrorKind.OutOfMemory) ⊎ (meant ≡ Err error.kind)

@@ -1,5 +1,5 @@
 //! A record of texts.
-ghost use Rattle.std.specs.Prelude.{◌≡◌, ℕ, ◌*◌, min, true, length, IfOk};
+ghost use Rattle.std.specs.Prelude.{◌≡◌, ℕ, ◌*◌, min, true, [], length, IfOk};
 ghost use Rattle.fr_shape.specs.declared.shape.Def.{Def};
 ghost use Rattle.fr_shape.specs.declared.shape.ScalarKind.{ScalarKind};
 ghost use Rattle.fr_shape.specs.Checked.{IsChecked};
@@ -9,11 +9,14 @@ ghost use Rattle.fr_shape.specs.Numbered.{IsNumbered};
 ghost use Rattle.fr_shape.specs.Served.{IsServed};
 ghost use Rattle.fr_model.specs.Tree.{most_calls};
 ghost use Rattle.fr_partial.specs.Builder.{holds, IsStepTo};
-ghost use Rattle.fr_example.specs.Meant.{is_struct, record_meant, IsMeant};
+ghost use Rattle.fr_example.specs.Meant.{is_struct, kind_of, record_meant, IsMeant};
 ghost use Rattle.fr_example.specs.Putting.{puts_pair};
 
-use fr_partial::{Built, Partial};
-use fr_shape::{Items, Ledger, ReflectErrorKind, ShapeId, ShapeTable, Shaped, Text, Value};
+use fr_partial::{Built, Partial, ReflectError};
+use fr_path::Path;
+use fr_shape::{
+    Items, Ledger, NoHooks, PlanError, ReflectErrorKind, ShapeId, ShapeTable, Shaped, Text, Value,
+};
 use std::alloc::Global;
 
 /// A field's name, and the text that is to stand in it.
@@ -23,12 +26,13 @@ pub struct Pair {
     pub text: Text,
 }
 
-/// Builds a struct from texts, in whatever order they come. It returns the value exactly where each name is that of a
-/// `String` field and every other field has a fill: each field that was named holds the last text given for it.
-/// Otherwise it returns the first refusal: `FieldError` for a name that no field has, `WrongShape` for a field that is
-/// no `String`, and last of all `UninitializedField` for a field that was not named and has no fill. Where there is no
-/// pair at all, the struct's own default comes first. `root` is the shape of the struct, `string` that of the texts.
-/// Out of memory is `OutOfMemory`, at any pair or at the end.
+/// Builds a struct from texts, in whatever order they come. It returns the value exactly where the struct has a plan,
+/// each name is that of a `String` field, and every other field has a fill: each field that was named holds the last
+/// text given for it. Otherwise it returns the first refusal: `Alloc` for a shape that has no plan, `FieldError` for a
+/// name that no field has, `WrongShape` for a field that is no `String`, and last of all `UninitializedField` for a
+/// field that was not named and has no fill. Where there is no pair at all, the struct's own default comes before that.
+/// `root` is the shape of the struct, `string` that of the texts. Out of memory is `OutOfMemory`, at any pair or at the
+/// end.
 pub fn record_of(
     alloc: Global,
     table: &ShapeTable,
@@ -36,7 +40,7 @@ pub fn record_of(
     string: ShapeId,
     pairs: Items<Pair>,
     ledger: &mut Ledger,
-) -> Result<Built, ReflectErrorKind>
+) -> Result<Built, ReflectError>
     requires root { is_struct (def_of table.now root.0) ≡ true }
     requires string { def_of table.now string.0 ≡ Def.Scalar ScalarKind.String }
     requires numbered { IsNumbered table.now }
@@ -47,8 +51,10 @@ pub fn record_of(
     ensures calls { IfOk result (λ built. built.calls ≡ min (3 * length pairs) most_calls) }
     ensures released { ledger.new ≡ ledger.old }
 {
-    let Ok(mut partial) = Partial::alloc_shape(alloc, table, root) else {
-        return Err(ReflectErrorKind::OutOfMemory);
+    let hooks = NoHooks;
+    let mut partial = match Partial::alloc_shape(alloc, table, root, &hooks) {
+        Ok(partial) => partial,
+        Err(refused) => return Err(unplanned(alloc, refused)),
     };
     for pair in pairs.into_vec() {
         partial = put(partial, table, string, pair, ledger)?;
@@ -56,14 +62,29 @@ pub fn record_of(
     partial.build(ledger)
 }
 
+/// The error at the root of a struct that has no builder.
+fn unplanned(alloc: Global, refused: PlanError) -> ReflectError
+    ensures kind { result.kind ≡ kind_of refused }
+    ensures path { result.path ≡ [] }
+{
+    let kind = match refused {
+        PlanError::Alloc(error) => ReflectErrorKind::Alloc(error),
+        PlanError::OutOfMemory => ReflectErrorKind::OutOfMemory,
+    };
+    ReflectError {
+        kind,
+        path: Path::new(alloc),
+    }
+}
+
 /// Puts a text into the field of its name. The builder works at a struct, and does so again afterwards.
 fn put<'t>(
-    partial: Partial<'t>,
+    partial: Partial<'t, NoHooks>,
     table: &'t ShapeTable,
     string: ShapeId,
     pair: Pair,
     ledger: &mut Ledger,
-) -> Result<Partial<'t>, ReflectErrorKind>
+) -> Result<Partial<'t, NoHooks>, ReflectError>
     requires same { partial.shapes ≡ table.now }
     requires string { def_of table.now string.0 ≡ Def.Scalar ScalarKind.String }
     requires tokens { (t : ℕ) → holds partial t ≡ 0 }

@@ -1,15 +1,15 @@
 //! A person with a name, an email and an age, of which the age has a default.
-ghost use Rattle.std.specs.Prelude.{◌≡◌, true, IfSome};
+ghost use Rattle.std.specs.Prelude.{◌≡◌, [], true, IfSome};
 ghost use Rattle.fr_shape.specs.declared.shape.Def.{Def};
 ghost use Rattle.fr_shape.specs.declared.shape.ScalarKind.{ScalarKind};
 ghost use Rattle.fr_shape.specs.Checked.{IsChecked};
-ghost use Rattle.fr_shape.specs.Look.{def_of};
+ghost use Rattle.fr_shape.specs.Look.{def_of, variants_of};
 ghost use Rattle.fr_shape.specs.Numbered.{IsNumbered, field_count};
 ghost use Rattle.fr_shape.specs.Served.{IsServed, serves, serves_def, serves_field};
 ghost use Rattle.fr_example.specs.Meant.{is_struct};
 
 use crate::{Pair, record_of};
-use fr_partial::Built;
+use fr_partial::{Built, ReflectError};
 use fr_shape::{
     Def, DefaultSource, Field, FieldRef, Items, Ledger, ReflectErrorKind, ScalarKind, Shape,
     ShapeId, ShapeTable, StructDef, StructKind, Template, Text, Value,
@@ -27,6 +27,7 @@ fn members(alloc: Global) -> Option<Def>
     ensures structure { IfSome result (λ def. is_struct def ≡ true) }
     ensures served { IfSome result (λ def. serves_def def ≡ true) }
     ensures count { IfSome result (λ def. field_count def ≡ 3) }
+    ensures variants { IfSome result (λ def. variants_of def ≡ []) }
 {
     let name = field(alloc, "name", 0)?;
     let email = field(alloc, "email", 0)?;
@@ -87,7 +88,7 @@ fn pair(rt: &impl Abort, alloc: Global, name: &str, text: &str) -> Pair {
 }
 
 /// The person of these pairs.
-fn person(rt: &impl Abort, alloc: Global, pairs: Items<Pair>) -> Result<Built, ReflectErrorKind> {
+fn person(rt: &impl Abort, alloc: Global, pairs: Items<Pair>) -> Result<Built, ReflectError> {
     let table = checked(rt, alloc);
     let mut ledger = Ledger::new(alloc, 0).ok().expect(rt, "no memory");
     record_of(alloc, &table, ShapeId(2), ShapeId(0), pairs, &mut ledger)
@@ -100,10 +101,17 @@ fn one(rt: &impl Abort, alloc: Global, name: &str) -> Items<Pair> {
     pairs
 }
 
+fn refusal(rt: &impl Abort, outcome: Result<Built, ReflectError>) -> ReflectErrorKind {
+    match outcome {
+        Ok(_) => panic!(rt; "not refused"),
+        Err(error) => error.kind,
+    }
+}
+
 /// Fails but where the person has this name and this email, and the default age.
 fn expect_person(
     rt: &impl Abort,
-    outcome: Result<Built, ReflectErrorKind>,
+    outcome: Result<Built, ReflectError>,
     name: &str,
     email: &str,
 ) {
@@ -148,31 +156,31 @@ fn refuses(rt: HostRuntime) {
     let unknown = person(&rt, alloc, one(&rt, alloc, "nam"));
     assert!(rt;
         matches!(
-            unknown,
-            Err(ReflectErrorKind::FieldError { shape: ShapeId(2) })
+            refusal(&rt, unknown),
+            ReflectErrorKind::FieldError { shape: ShapeId(2) }
         )
     );
     let other = person(&rt, alloc, one(&rt, alloc, "age"));
     assert!(rt;
         matches!(
-            other,
-            Err(ReflectErrorKind::WrongShape {
+            refusal(&rt, other),
+            ReflectErrorKind::WrongShape {
                 expected: ShapeId(1),
                 actual: ShapeId(0)
-            })
+            }
         )
     );
     let missing = person(&rt, alloc, one(&rt, alloc, "name"));
     assert!(rt;
         matches!(
-            missing,
-            Err(ReflectErrorKind::UninitializedField {
+            refusal(&rt, missing),
+            ReflectErrorKind::UninitializedField {
                 field: FieldRef {
                     shape: ShapeId(2),
                     variant: None,
                     index: 1
                 },
-            })
+            }
         )
     );
 }

@@ -17,7 +17,8 @@ impl<'t, H: Hooks> Partial<'t, H> {
         ledger: &mut Ledger,
     ) -> Result<Partial<'t, H>, ReflectError>
         requires room { Room (holds self) ledger.old }
-        ensures step { IsStep (H.means self.entry.hooks) self.entry (Call.BeginNthField idx) result }
+        ensures step { IsStep (H.means self.entry.hooks) self.entry
+            (Call.BeginNthField idx) result }
         ensures path { TellsPlaceBefore self.entry result }
         ensures tokens { Conserved (holds self.entry) ledger.old (left result) ledger.new }
         ensures removed { RisesByRemoved (H.means self.entry.hooks) self.entry

@@ -16,8 +16,8 @@ impl<'t, H: Hooks> Partial<'t, H> {
         ensures step { IsStep (H.means self.entry.hooks) self.entry Call.SetDefault result }
         ensures path { TellsPlaceBefore self.entry result }
         ensures tokens { Conserved (holds self.entry) ledger.old (left result) ledger.new }
-        ensures removed { RisesByRemoved (H.means self.entry.hooks) self.entry Call.SetDefault result
-            ledger.old ledger.new }
+        ensures removed { RisesByRemoved (H.means self.entry.hooks) self.entry
+            Call.SetDefault result ledger.old ledger.new }
         ensures refused { RefusesBeforeMemory (H.means self.entry.hooks) self.entry
             Call.SetDefault result }
     {

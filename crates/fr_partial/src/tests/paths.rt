@@ -41,6 +41,36 @@ fn custom(n: u128) -> Option<DefaultSource> {
     Some(DefaultSource::Custom(Template::new(Value::Nat(n))))
 }
 
+fn cell(alloc: Global) -> Option<Shape>
+    ensures served { IfSome result (λ shape. serves shape ≡ true) }
+    ensures count { IfSome result (λ shape. field_count shape.def ≡ 2) }
+    ensures variants { IfSome result (λ shape. variants_of shape.def ≡ []) }
+{
+    let a = field(alloc, "a", 1, None)?;
+    let k = field(alloc, "k", 0, None)?;
+    two(alloc, "Cell", a, k)
+}
+
+fn pair(alloc: Global) -> Option<Shape>
+    ensures served { IfSome result (λ shape. serves shape ≡ true) }
+    ensures count { IfSome result (λ shape. field_count shape.def ≡ 2) }
+    ensures variants { IfSome result (λ shape. variants_of shape.def ≡ []) }
+{
+    let p = field(alloc, "p", 2, None)?;
+    let q = field(alloc, "q", 2, None)?;
+    two(alloc, "Pair", p, q)
+}
+
+fn numbers(alloc: Global) -> Option<Shape>
+    ensures served { IfSome result (λ shape. serves shape ≡ true) }
+    ensures count { IfSome result (λ shape. field_count shape.def ≡ 2) }
+    ensures variants { IfSome result (λ shape. variants_of shape.def ≡ []) }
+{
+    let a = field(alloc, "a", 0, custom(5))?;
+    let b = field(alloc, "b", 0, custom(6))?;
+    two(alloc, "Numbers", a, b)
+}
+
 /// The structs: a cell of an opaque and a number, a pair of cells, and two numbers with defaults of their own.
 #[derive(Drop)]
 struct Structs {
@@ -57,13 +87,9 @@ fn describe_structs(alloc: Global) -> Option<Structs>
     ensures variants { IfSome result (λ s. (variants_of s.cell.def ≡ [])
         × (variants_of s.pair.def ≡ []) × (variants_of s.numbers.def ≡ [])) }
 {
-    let (a, k) = (field(alloc, "a", 1, None)?, field(alloc, "k", 0, None)?);
-    let cell = two(alloc, "Cell", a, k)?;
-    let (p, q) = (field(alloc, "p", 2, None)?, field(alloc, "q", 2, None)?);
-    let pair = two(alloc, "Pair", p, q)?;
-    let a = field(alloc, "a", 0, custom(5))?;
-    let b = field(alloc, "b", 0, custom(6))?;
-    let numbers = two(alloc, "Numbers", a, b)?;
+    let cell = cell(alloc)?;
+    let pair = pair(alloc)?;
+    let numbers = numbers(alloc)?;
     Some(Structs {
         cell,
         pair,
@@ -96,12 +122,14 @@ fn table(alloc: Global) -> Option<ShapeTable>
     ensures served { IfSome result (λ table. IsServed table) }
     ensures numbered { IfSome result (λ table. IsNumbered table) }
 {
-    let Plain { number, opaque } = describe_plain(alloc)?;
+    let plain = describe_plain(alloc)?;
+    let structs = describe_structs(alloc)?;
+    let Plain { number, opaque } = plain;
     let Structs {
         cell,
         pair,
         numbers,
-    } = describe_structs(alloc)?;
+    } = structs;
     let Ok(shapes) = vec![in alloc; number, opaque, cell, pair, numbers] else {
         return None;
     };

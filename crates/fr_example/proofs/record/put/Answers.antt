@@ -1,13 +1,13 @@
 use Rattle.std.proofs.Common.{◌≡◌, ℕ, IfOk, Ok, Err, Result, ◌∙◌}
-use Rattle.fr_shape.specs.declared.error.ReflectErrorKind.{ReflectErrorKind}
+use Rattle.fr_partial.specs.declared.reflect_error.ReflectError.{ReflectError}
 use Rattle.fr_partial.specs.Builder.{Builder, holds, left}
 use Rattle.fr_example.proofs.Tokens.{text_value_fits, same_text_fits, with_text, stays, none_left}
 use Rattle.fr_example.proofs.record.put.Goals as goal
 
-if_ok_none : (result : Result Builder ReflectErrorKind) → ((t : ℕ) → left result t ≡ 0)
+if_ok_none : {H : Type 0} (result : Result (Builder H) ReflectError) → ((t : ℕ) → left result t ≡ 0)
     → IfOk result (λ after. (t : ℕ) → holds after t ≡ 0)
 if_ok_none (Ok after) none = none
-if_ok_none (Err kind) none = tt
+if_ok_none (Err error) none = tt
 
 pub returns-in_err-entered-clause-released : goal.returns-in_err-entered-clause-released
 returns-in_err-entered-clause-released c = stays _ _ _ _ c.begin_field.ensures.tokens c.requires.tokens

@@ -1,13 +1,14 @@
 use Rattle.std.proofs.Common.{◌++◌, length, Err, sym, ◌∙◌, ap, arith, rules}
 use Rattle.std.specs.Vec.Iter.{into_iter_items}
-use Rattle.fr_example.specs.Meant.{record_meant, IsMeant}
-use Rattle.fr_example.proofs.Loop.{filled_more, loop_refused, loop_built, all_taken, one_taken}
+use Rattle.fr_example.specs.Meant.{pairs_meant, IsMeant}
+use Rattle.fr_example.proofs.Loop.{planned_means, filled_more, loop_refused, loop_built, all_taken, one_taken}
 use Rattle.fr_example.proofs.Tokens.{stays}
 use Rattle.fr_example.proofs.record.record_of.Goals as goal
 
 pub returns-in_err-partial-clause-meant : goal.returns-in_err-partial-clause-meant
 returns-in_err-partial-clause-meant c =
-    let told : IsMeant (record_meant c.args.table.now c.args.root.0 c.args.string.0 c.args.pairs)
+    planned_means c.args.table.now c.args.root.0 c.args.string.0 c.args.pairs _ c.in-Ok.ensures.refused
+    (let told : IsMeant (pairs_meant c.args.table.now c.args.root.0 c.args.string.0 c.args.pairs)
     (Err c.in_err-partial.field-0.0)
     = loop_refused c.args.table.now c.args.root.0 c.args.string.0 c.loop-pair.yielded c.in-Some.pair
     (into_iter_items c.next.new.self) c.args.pairs c.loop-pair.partial c.in_err-partial.field-0.0 c.requires.root
@@ -15,7 +16,7 @@ returns-in_err-partial-clause-meant c =
     (c.loop-pair.invariant.pairs
     ∙ ap (λ left. c.loop-pair.yielded ++ left) c.in-Some.ensures.steps.0)
     c.in_err-partial.ensures.put
-    in search rules
+    in search rules)
 
 pub loop-pair-preserved : goal.loop-pair-preserved
 loop-pair-preserved c = record {
@@ -41,12 +42,13 @@ loop-pair-preserved c = record {
 
 pub returns-clause-meant : goal.returns-clause-meant
 returns-clause-meant c =
-    loop_built c.args.table.now c.args.root.0 c.args.string.0 c.loop-pair.yielded c.args.pairs c.loop-pair.partial
+    planned_means c.args.table.now c.args.root.0 c.args.string.0 c.args.pairs c.build.result c.in-Ok.ensures.refused
+    (loop_built c.args.table.now c.args.root.0 c.args.string.0 c.loop-pair.yielded c.args.pairs c.loop-pair.partial
     c.build.result c.requires.root c.requires.served c.loop-pair.invariant.shapes c.loop-pair.invariant.root
     c.loop-pair.invariant.filled
     (all_taken c.loop-pair.yielded (into_iter_items c.loop-pair.pair-iterator) c.args.pairs
     c.loop-pair.invariant.pairs (sym c.loop-pair.invariant.left ∙ c.in-None.ensures.steps.0))
-    c.build.ensures.built
+    c.build.ensures.built)
 
 pub returns-clause-released : goal.returns-clause-released
 returns-clause-released c = stays _ _ _ _ c.build.ensures.tokens c.loop-pair.invariant.tokens ∙ c.loop-pair.invariant.ledger
