@@ -61,10 +61,7 @@ fn field_names(alloc: Global, fields: &[Field]) -> Result<FieldNames, OutOfMemor
 }
 
 /// The names of each variant's fields.
-fn variant_names(
-    alloc: Global,
-    variants: &[VariantDef],
-) -> Result<Items<FieldNames>, OutOfMemory>
+fn variant_names(alloc: Global, variants: &[VariantDef]) -> Result<Items<FieldNames>, OutOfMemory>
     ensures { IfOk result (AreVariantNames variants.now) }
 {
     let mut names = Items::new(alloc);

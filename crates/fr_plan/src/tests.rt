@@ -300,6 +300,10 @@ fn fields_are_found_by_the_names_that_they_are_declared_under(rt: HostRuntime) {
         (Some(1), "file", Some(1)),
         (Some(2), "file", None),
     ] {
-        assert_eq!(&rt; plan.declared_field(ShapeId(3), variant, name), want, "{name}");
+        assert_eq!(&rt;
+            plan.declared_field(ShapeId(3), variant, name),
+            want,
+            "{name}"
+        );
     }
 }

@@ -151,14 +151,11 @@ impl TypePlanCore {
         &self.lists.lookups
     }
 
-    /// The number of the first field that is declared under this name, whatever name it has been given since: in a struct,
-    /// or in the variant of this number of an enum.
-    pub fn declared_field(
-        &self,
-        shape: ShapeId,
-        variant: Option<u32>,
-        name: &str,
-    ) -> Option<u32>
+    /// The number of the first field that is declared under this name, of a struct or of an enum's variant of this number.
+    ///
+    /// It takes as many comparisons of names as the logarithm of how many fields there are. The name by which a field goes
+    /// instead is another: the node's lookups find that.
+    pub fn declared_field(&self, shape: ShapeId, variant: Option<u32>, name: &str) -> Option<u32>
         ensures first { (table : Table) (root : Id) → IsChecked table → IsIn table root.0
             → IsPlanOf table root self.now → Reached table root.0 shape.0
             → result ≡ declared_field (def_of table shape.0) variant name.now }

@@ -1,4 +1,4 @@
-use Rattle.std.proofs.Common.{◌≡◌, ◌+◌, ◌≤◌, ap, sym, ◌∙◌, ℕ, length, arith}
+use Rattle.std.proofs.Common.{◌+◌, ap, ◌∙◌, ℕ, length, arith}
 use Rattle.std.proofs.lemmas.List.{length_push}
 use Rattle.std.proofs.lemmas.Option.{slice_get_within}
 use Rattle.fr_plan.proofs.Named.{names_more}

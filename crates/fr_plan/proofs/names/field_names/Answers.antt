@@ -1,4 +1,4 @@
-use Rattle.std.proofs.Common.{◌≡◌, ℕ, ◌-◌, ◌<◌, List, length, drop, ap, sym, ◌∙◌, string_bytes, Some, arith}
+use Rattle.std.proofs.Common.{◌≡◌, ℕ, ◌-◌, drop, ap, sym, ◌∙◌, string_bytes, Some, arith}
 use Rattle.std.specs.BTreeMap.{get_by_text}
 use Rattle.std.proofs.lemmas.Map.Text.{btree_map_updates_text}
 use Rattle.fr_shape.specs.declared.shape.Field.{Field}

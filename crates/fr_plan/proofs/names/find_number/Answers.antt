@@ -1,4 +1,4 @@
-use Rattle.std.proofs.Common.{◌≡◌, sym, ap, ◌∙◌}
+use Rattle.std.proofs.Common.{sym, ap, ◌∙◌}
 use Rattle.fr_plan.specs.NamedNumbers.{number_of}
 use Rattle.fr_plan.proofs.Named.{number_by_text}
 use Rattle.fr_plan.proofs.names.find_number.Goals as goal

@@ -1,4 +1,4 @@
-use Rattle.std.proofs.Common.{◌≡◌, List, sym, subst, arith}
+use Rattle.std.proofs.Common.{List, sym, subst}
 use Rattle.fr_shape.specs.declared.shape.Field.{Field}
 use Rattle.fr_plan.specs.Names.{IsIndexOf, IsVariantIndex}
 use Rattle.fr_plan.proofs.Rows.{zip_more}
