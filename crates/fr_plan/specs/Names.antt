@@ -34,17 +34,19 @@ number_in (Some variant) name names = option_and_then (number_of name) (slice_ge
 abbrev pub number_at : List ShapeNames → ShapeId → (variant : Option ℕ) → (name : List ℕ) → Option ℕ
 number_at names shape variant name = option_and_then (number_in variant name) (slice_get names shape.0)
 
--- each name leads to the first of these fields that is declared under it
+-- beside each name stands the first of these fields that is declared under it, and no other name is there
 abbrev pub IsIndexOf : List Field → NamedNumbers → Type 0
 IsIndexOf fields names = (name : List ℕ) → number_of name names ≡ first_declared name 0 fields
 
+-- the names of a variant's fields
 abbrev pub IsVariantIndex : VariantDef → NamedNumbers → Type 0
 IsVariantIndex variant names = IsIndexOf variant.fields names
 
+-- those of each variant, in order
 abbrev pub AreVariantNames : List VariantDef → List NamedNumbers → Type 0
 AreVariantNames variants names = AllZip IsVariantIndex variants names
 
--- the names of a shape of this definition
+-- the names of a shape of this definition: its own, and those of its variants
 pub record AreNamesOf (def : Def) (names : ShapeNames) : Type 0 where
   pub own : (name : List ℕ) → number_of name names.own ≡ field_named name def
   pub variants : AreVariantNames (variants_of def) names.variants

@@ -153,8 +153,7 @@ impl TypePlanCore {
 
     /// The number of the first field that is declared under this name, of a struct or of an enum's variant of this number.
     ///
-    /// It takes as many comparisons of names as the logarithm of how many fields there are. The name by which a field goes
-    /// instead is another: the node's lookups find that.
+    /// It compares names O(log n) times among n fields. A field isn't found here by the name that it goes by instead.
     pub fn declared_field(&self, shape: ShapeId, variant: Option<u32>, name: &str) -> Option<u32>
         ensures first { (table : Table) (root : Id) → IsChecked table → IsIn table root.0
             → IsPlanOf table root self.now → Reached table root.0 shape.0
