@@ -9,7 +9,6 @@ use Rattle.fr_shape.specs.Fills.{preset_of, is_empty_struct}
 use Rattle.fr_shape.specs.Hooks.{Meanings}
 use Rattle.fr_shape.specs.Look.{Table, def_of, field_in}
 use Rattle.fr_shape.specs.Lists.{is_nil}
-use Rattle.fr_shape.specs.Served.{IsServed}
 use Rattle.fr_shape.specs.Val.{Val, product, no_vals}
 use Rattle.fr_model.specs.Places.{Place, count_children, child_count, one_more, product_of, each_child, child_shape, fill_of_field, fill_at}
 use Rattle.fr_model.specs.Journal.{Note, entered_at, wrote_at, Journal, Held, in_parts, written, just_entered, untouched, held, longest, entered_struct, by_entered, entered_value, by_held, by_parts, child_makes, completes_within, completes}
@@ -19,7 +18,7 @@ use Rattle.fr_model.specs.Well.{IsBegunAs, Suits, DoneBut, Leads}
 use Rattle.fr_model.proofs.Beneath.{down, along, each_same, child_value, held_down, completes_down, completes_along, longest_down, longest_along, parts_long}
 use Rattle.fr_model.proofs.Structs.{made_product, SuitFrom}
 use Rattle.fr_model.proofs.Templates.{option_preset}
-use Rattle.fr_model.proofs.Serving.{valid_same}
+use Rattle.fr_model.proofs.Plain.{AllPlain, plain_child, valid_same}
 
 -- what a journal holds of a whole place of shape s: its value, or, of a struct without fields, that it was entered
 pub data IsWhole (table : Table) (s : ℕ) (v : Val) (h : Held) : Type 0 where
@@ -79,15 +78,15 @@ begun_takes table s as_array n count k = go (def_of table s) count
 
 -- an entered place
 
-entered_same : (hooks : Meanings) (table : Table) (s : ℕ) → IsChecked table → IsServed table
+entered_same : (hooks : Meanings) (table : Table) (s : ℕ) → IsChecked table → AllPlain table s
     → is_empty_struct (def_of table s) ≡ false → entered_value table s ≡ made_of_entered hooks table s
-entered_same hooks table s checked served fields =
+entered_same hooks table s checked plain fields =
     go (def_of table s) (preset_of table s) refl refl
     (product_of (each_child (λ k. fill_at table s k) (child_count table s) 0))
     (product_of (each_child (λ k. valid_child hooks table s as_struct k (fill_at table s k)) (child_count table s) 0))
     (ap product_of
     (each_same (λ k. fill_at table s k) (λ k. valid_child hooks table s as_struct k (fill_at table s k))
-    (child_count table s) 0 (λ k. sym (valid_same hooks table s as_struct k (fill_at table s k) served)))) fields
+    (child_count table s) 0 (λ k. sym (valid_same hooks table s as_struct k (fill_at table s k) plain)))) fields
   where
     with_fields : (all : List Field) (preset fills valid : Option Val) → fills ≡ valid → is_nil all ≡ false
         → entered_struct (length all) preset fills ≡ option_or preset valid
@@ -148,58 +147,60 @@ child_as_is table s as_struct i = refl
 child_as_is table s as_array i = refl
 
 touched_child : (hooks : Meanings) (table : Table) (s : ℕ) (form : Form) (i : ℕ) (t : Tree) (notes : Journal)
-    (steps : ℕ) → IsServed table → IsTouched t → Agrees table (child_as table s form i) (down i notes) t
+    (steps : ℕ) → AllPlain table s → IsTouched t → Agrees table (child_as table s form i) (down i notes) t
     → completes_within table steps (down i notes) (child_as table s form i) []
     ≡ complete hooks table (child_as table s form i) t
     → child_value table steps notes s [] i
     ≡ valid_child hooks table s form i (complete hooks table (child_as table s form i) t)
-touched_child hooks table s form i t notes steps served touched agrees e =
+touched_child hooks table s form i t notes steps plain touched agrees e =
     ap₂ (λ (h : Held) (own : Option Val). child_makes h (fill_at table s i) own) (held_down i notes [])
     (completes_down table steps notes (child_shape table s i) i []
     ∙ ap (λ (m : ℕ). completes_within table steps (down i notes) m []) (sym (child_as_is table s form i)) ∙ e)
     ∙ makes_own table (child_as table s form i) t (down i notes) (fill_at table s i)
     (complete hooks table (child_as table s form i) t) touched agrees
-    ∙ sym (valid_same hooks table s form i (complete hooks table (child_as table s form i) t) served)
+    ∙ sym (valid_same hooks table s form i (complete hooks table (child_as table s form i) t) plain)
 
 mutual
   pub completes_tree : (hooks : Meanings) (table : Table) (t : Tree) (steps s : ℕ) (notes : Journal) → IsChecked table
-      → IsServed table → Suits table s t → Agrees table s notes t → longest notes < suc steps
+      → AllPlain table s → Suits table s t → Agrees table s notes t → longest notes < suc steps
       → completes_within table (suc steps) notes s [] ≡ complete hooks table s t
-  completes_tree hooks table hole steps s notes checked served suits agrees long =
+  completes_tree hooks table hole steps s notes checked plain suits agrees long =
       by_untouched (held notes []) _ _ agrees
-  completes_tree hooks table entered steps s notes checked served suits agrees long =
-      by_just_entered (held notes []) _ _ agrees ∙ entered_same hooks table s checked served suits
-  completes_tree hooks table (whole v) steps s notes checked served suits agrees long =
+  completes_tree hooks table entered steps s notes checked plain suits agrees long =
+      by_just_entered (held notes []) _ _ agrees ∙ entered_same hooks table s checked plain suits
+  completes_tree hooks table (whole v) steps s notes checked plain suits agrees long =
       whole_same table s v (held notes []) _ agrees
-  completes_tree hooks table (begun form ts) steps s notes checked served suits agrees long =
+  completes_tree hooks table (begun form ts) steps s notes checked plain suits agrees long =
       by_in_parts (held notes []) _ _ agrees.0
       ∙ begun_makes (def_of table s) form (count_trees ts) _ suits.0
       ∙ ap (λ (n : ℕ). product_of (each_child (child_value table steps notes s []) n 0))
       (sym (begun_count (def_of table s) form (count_trees ts) suits.0))
       ∙ sym (made_product form (each_child (child_value table steps notes s []) (count_trees ts) 0))
       ∙ ap (made form)
-      (children_complete hooks table ts steps s form 0 notes checked served
+      (children_complete hooks table ts steps s form 0 notes checked plain
+      (let count : count_trees ts ≡ child_count table s = begun_count (def_of table s) form (count_trees ts) suits.0 in omega arith)
       (begun_takes table s form (count_trees ts) suits.0) suits.1 agrees.1 (parts_long notes agrees.0) (omega arith))
 
   children_complete : (hooks : Meanings) (table : Table) (ts : Trees) (steps s : ℕ) (form : Form) (i : ℕ)
-      (notes : Journal) → IsChecked table → IsServed table
+      (notes : Journal) → IsChecked table → AllPlain table s → i + count_trees ts ≡ child_count table s
       → ((k : ℕ) → fill_at table s k ≡ hole_takes table s form k) → SuitFrom table s form i ts
       → AgreeAll table s form notes i ts → 1 ≤ longest notes → longest notes ≤ steps
       → each_child (child_value table steps notes s []) (count_trees ts) i ≡ complete_all hooks table s form i ts
-  children_complete hooks table no_trees steps s form i notes checked served takes suits agrees some long = refl
-  children_complete hooks table (branch t ts) zero s form i notes checked served takes suits agrees some long =
+  children_complete hooks table no_trees steps s form i notes checked plain count takes suits agrees some long = refl
+  children_complete hooks table (branch t ts) zero s form i notes checked plain count takes suits agrees some long =
       absurd (omega arith)
-  children_complete hooks table (branch hole ts) (suc steps) s form i notes checked served takes suits agrees some long =
+  children_complete hooks table (branch hole ts) (suc steps) s form i notes checked plain count takes suits agrees some long =
       ap₂ one_more
       (hole_makes (held notes (i ∷ [])) (fill_at table s i) _ (held_down i notes [] ∙ agrees.0)
-      ∙ takes i ∙ sym (valid_same hooks table s form i (hole_takes table s form i) served))
-      (children_complete hooks table ts (suc steps) s form (suc i) notes checked served takes suits.1 agrees.1 some long)
-  children_complete hooks table (branch t ts) (suc steps) s form i notes checked served takes suits agrees some long =
+      ∙ takes i ∙ sym (valid_same hooks table s form i (hole_takes table s form i) plain))
+      (children_complete hooks table ts (suc steps) s form (suc i) notes checked plain (omega arith) takes suits.1 agrees.1 some long)
+  children_complete hooks table (branch t ts) (suc steps) s form i notes checked plain count takes suits agrees some long =
       let below : longest (down i notes) < suc steps = omega (arith, longest_down i notes) in
       ap₂ one_more
-      (touched_child hooks table s form i t notes (suc steps) served tt agrees.0
-      (completes_tree hooks table t steps (child_as table s form i) (down i notes) checked served suits.0 agrees.0 below))
-      (children_complete hooks table ts (suc steps) s form (suc i) notes checked served takes suits.1 agrees.1 some long)
+      (touched_child hooks table s form i t notes (suc steps) plain tt agrees.0
+      (completes_tree hooks table t steps (child_as table s form i) (down i notes) checked
+      (plain_child table s form i (omega arith) plain) suits.0 agrees.0 below))
+      (children_complete hooks table ts (suc steps) s form (suc i) notes checked plain (omega arith) takes suits.1 agrees.1 some long)
 
 -- one child that agrees with something else
 
@@ -318,11 +319,11 @@ follow table s (i ∷ here) _ notes note change leads agrees step = absurd leads
 
 -- what the place at the cursor completes to, by the journal and by the tree
 pub completes_at : (hooks : Meanings) (table : Table) (s : ℕ) (here : Place) (t : Tree) (notes : Journal)
-    → IsChecked table → IsServed table → Leads here t → Suits table (shape_in table s here t) (tree_at here t)
-    → Agrees table s notes t
+    → IsChecked table → AllPlain table (shape_in table s here t) → Leads here t
+    → Suits table (shape_in table s here t) (tree_at here t) → Agrees table s notes t
     → completes table notes (shape_in table s here t) here
     ≡ complete hooks table (shape_in table s here t) (tree_at here t)
-completes_at hooks table s here t notes checked served leads suits agrees =
+completes_at hooks table s here t notes checked plain leads suits agrees =
     completes_along table (suc (longest notes)) notes (shape_in table s here t) here
     ∙ completes_tree hooks table (tree_at here t) (longest notes) (shape_in table s here t) (along here notes) checked
-    served suits (agree_along table s here t notes leads agrees) (omega (arith, longest_along here notes))
+    plain suits (agree_along table s here t notes leads agrees) (omega (arith, longest_along here notes))

@@ -1,17 +1,18 @@
 -- The place to which a cursor leads, and a tree that is changed there.
-use Rattle.std.proofs.Common.{◌≡◌, ℕ, zero, suc, true, [], ◌∷◌, ◌++◌, append-nil, Some, refl, sym, subst, arith}
+use Rattle.std.proofs.Common.{◌≡◌, ℕ, zero, suc, ◌<◌, true, [], ◌∷◌, ◌++◌, append-nil, Some, refl, sym, subst, arith}
 use Rattle.fr_shape.specs.Checked.{IsChecked}
 use Rattle.fr_shape.specs.Hooks.{Meanings}
 use Rattle.fr_shape.specs.Look.{Table, def_of}
 use Rattle.fr_shape.specs.Val.{Val}
 use Rattle.fr_shape.specs.Fits.{fits}
-use Rattle.fr_model.specs.Places.{Place, up, child_shape, shape_at}
-use Rattle.fr_model.specs.Tree.{as_struct, as_array, Tree, whole, begun, Trees, no_trees, branch, tree_nth, change_nth, tree_at, change_at, shape_in, child_as, tree_occurs, State, cursor_shape, cursor_tree}
+use Rattle.fr_model.specs.Places.{Place, up, child_count, child_shape, shape_at}
+use Rattle.fr_model.specs.Tree.{as_struct, as_array, Tree, whole, begun, Trees, no_trees, branch, tree_nth, change_nth, tree_at, change_at, shape_in, child_as, count_trees, tree_occurs, State, cursor_shape, cursor_tree}
 use Rattle.fr_model.specs.Complete.{complete}
 use Rattle.fr_model.specs.Step.{enter_child, enters, puts, puts_and_leaves}
 use Rattle.fr_model.specs.Well.{IsBegunAs, Suits, AllDone, AtCursor, DoneBut, Leads, IsInOrder}
-use Rattle.fr_model.proofs.Agreement.{leads_child}
+use Rattle.fr_model.proofs.Agreement.{begun_count, leads_within, leads_child}
 use Rattle.fr_model.proofs.Completing.{Made, completing_makes}
+use Rattle.fr_model.proofs.Plain.{AllPlain, plain_child}
 use Rattle.fr_model.proofs.Structs.{count_change, suit_change, suit_nth}
 use Rattle.fr_model.proofs.Opening.{Enterable, Entry, entry}
 
@@ -39,6 +40,17 @@ same_shape table s (i ∷ here) (begun as_struct ts) leads =
 same_shape table s (i ∷ here) (begun as_array ts) leads =
     same_shape table (child_shape table s i) here (tree_nth i ts) (leads_child i (λ child. Leads here child) ts leads)
 same_shape table s (i ∷ here) _ leads = absurd leads
+
+-- and each shape that the place's shape reaches is plain
+pub plain_at : (table : Table) (s : ℕ) (here : Place) (t : Tree) → Leads here t → Suits table s t → AllPlain table s
+    → AllPlain table (shape_in table s here t)
+plain_at table s [] t leads suits plain = plain
+plain_at table s (i ∷ here) (begun form ts) leads suits plain =
+    let count : count_trees ts ≡ child_count table s = begun_count (def_of table s) form (count_trees ts) suits.0 in
+    let within : i < count_trees ts = leads_within i (λ child. Leads here child) ts leads in
+    plain_at table (child_as table s form i) here (tree_nth i ts) (leads_child i (λ child. Leads here child) ts leads)
+    (suit_nth table s form i 0 ts i (omega arith) suits.1) (plain_child table s form i (omega arith) plain)
+plain_at table s (i ∷ here) _ leads suits plain = absurd leads
 
 -- a change there
 

@@ -14,7 +14,7 @@ use Rattle.fr_shape.specs.Val.{Val, nat, none, list_of, product, no_vals, first}
 use Rattle.fr_model.specs.Commands.{Call}
 use Rattle.fr_model.specs.Journal.{journal_run}
 use Rattle.fr_model.specs.Run.{Refusal, full_run}
-use Rattle.fr_model.proofs.Rows.{number, shape, field, struct, pair_of, set, begin, end, refused, lacks_field, lacks_value, failed}
+use Rattle.fr_model.proofs.Rows.{number, shape, field, struct, pair_of, set, begin, end, refused, field_at, at_root, lacks_field, lacks_value, failed}
 
 -- to write tables and values
 
@@ -57,7 +57,7 @@ journal_takes_own : journal_run own 1 [] ≡ Some (one_of (nat 5))
 journal_takes_own = refl
 
 -- a field that was entered takes nothing, neither its own default
-entered_takes_none : full_run no_hooks own 1 (begin 0 ∷ end ∷ []) ≡ refused 1 (lacks_value 0)
+entered_takes_none : full_run no_hooks own 1 (begin 0 ∷ end ∷ []) ≡ refused 1 (lacks_value 0) (field_at 0 ∷ [])
 entered_takes_none = refl
 
 journal_takes_none : journal_run own 1 (begin 0 ∷ end ∷ []) ≡ None
@@ -94,17 +94,17 @@ machine_sets_default : full_run no_hooks point 1 (set_default ∷ named (codes "
 machine_sets_default = refl
 
 -- a struct without a default doesn't give its fields their shapes' defaults
-no_default_in_bare : full_run no_hooks point 2 [] ≡ refused 0 (lacks_field 2 0)
+no_default_in_bare : full_run no_hooks point 2 [] ≡ refused 0 (lacks_field 2 0) at_root
 no_default_in_bare = refl
 
 -- a number that was entered doesn't end with its default, but may be set to it
-scalar_takes_none : full_run no_hooks point 2 (begin 0 ∷ end ∷ []) ≡ refused 1 (lacks_value 0)
+scalar_takes_none : full_run no_hooks point 2 (begin 0 ∷ end ∷ []) ≡ refused 1 (lacks_value 0) (field_at 0 ∷ [])
 scalar_takes_none = refl
 
 scalar_set_default : full_run no_hooks point 0 (set_default ∷ []) ≡ Ok (nat 0)
 scalar_set_default = refl
 
-no_default_to_set : full_run no_hooks own 0 (set_default ∷ []) ≡ refused 0 (failed 0 Operation.NoDefault)
+no_default_to_set : full_run no_hooks own 0 (set_default ∷ []) ≡ refused 0 (failed 0 Operation.NoDefault) at_root
 no_default_to_set = refl
 
 -- a field whose shape is a struct without fields, with a default
@@ -128,7 +128,7 @@ journal_fills_unit : journal_run marked 2 (begin 1 ∷ set 0 (nat 1) ∷ end ∷
 journal_fills_unit = refl
 
 -- without a default it has to be entered, and is whole then
-unit_is_missing : full_run no_hooks marked 4 (begin 1 ∷ set 0 (nat 1) ∷ end ∷ []) ≡ refused 3 (lacks_field 4 0)
+unit_is_missing : full_run no_hooks marked 4 (begin 1 ∷ set 0 (nat 1) ∷ end ∷ []) ≡ refused 3 (lacks_field 4 0) at_root
 unit_is_missing = refl
 
 machine_enters_unit : full_run no_hooks marked 4 (begin 1 ∷ set 0 (nat 1) ∷ end ∷ begin 0 ∷ end ∷ [])
@@ -152,7 +152,7 @@ mixed =
 mixed_is_served : IsServed mixed
 mixed_is_served = refl
 
-list_is_missing : full_run no_hooks mixed 3 [] ≡ refused 0 (lacks_field 3 1)
+list_is_missing : full_run no_hooks mixed 3 [] ≡ refused 0 (lacks_field 3 1) at_root
 list_is_missing = refl
 
 abbrev list_alone : List Call
@@ -165,10 +165,12 @@ machine_fills_option = refl
 machine_ends_option : full_run no_hooks mixed 3 (begin 0 ∷ end ∷ list_alone) ≡ Ok (pair_of none (list_of no_vals))
 machine_ends_option = refl
 
-no_such_name : full_run no_hooks mixed 3 (named (codes "x") ∷ []) ≡ refused 0 (ReflectErrorKind.FieldError (number 3))
+no_such_name : full_run no_hooks mixed 3 (named (codes "x") ∷ [])
+    ≡ refused 0 (ReflectErrorKind.FieldError (number 3)) at_root
 no_such_name = refl
 
-no_names_in_list : full_run no_hooks mixed 1 (named (codes "x") ∷ []) ≡ refused 0 (failed 1 Operation.FieldOfOther)
+no_names_in_list : full_run no_hooks mixed 1 (named (codes "x") ∷ [])
+    ≡ refused 0 (failed 1 Operation.FieldOfOther) at_root
 no_names_in_list = refl
 
 journal_knows_no_name : journal_run mixed 3 (named (codes "x") ∷ []) ≡ None

@@ -8,9 +8,11 @@ pub mod Cursor
 pub mod DefaultRows
 pub mod Moves
 pub mod Opening
+pub mod Paths
+pub mod Plain
+pub mod Plannable
 pub mod Relating
 pub mod Rows
-pub mod Serving
 pub mod Steps
 pub mod Structs
 pub mod Templates

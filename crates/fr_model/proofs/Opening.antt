@@ -41,7 +41,7 @@ begins_as table s i t n (a_field struct is below) e =
 begins_as table s i t n (an_element item m is below few not_whole) e =
     let there : n ≡ m = rw is at e in rw is (there, omega (arith, few))
 
-begun_form : (def : Def) (form : Form) (n : ℕ) → IsBegunAs def form n → form ≡ form_of def
+pub begun_form : (def : Def) (form : Form) (n : ℕ) → IsBegunAs def form n → form ≡ form_of def
 begun_form (Def.Struct struct) as_struct n h = refl
 begun_form (Def.Array item m) as_array n h = refl
 begun_form _ _ n h = absurd h.0

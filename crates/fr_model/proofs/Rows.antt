@@ -6,6 +6,7 @@ use Rattle.fr_shape.specs.declared.shape.Def.{Def}
 use Rattle.fr_shape.specs.declared.shape.StructKind.{StructKind}
 use Rattle.fr_shape.specs.declared.shape.ScalarKind.{ScalarKind}
 use Rattle.fr_shape.specs.declared.shape.Field.{Field}
+use Rattle.fr_shape.specs.declared.error.PlanFault.{PlanFault}
 use Rattle.fr_shape.specs.declared.error.ReflectErrorKind.{ReflectErrorKind}
 use Rattle.fr_shape.specs.declared.error.Operation.{Operation}
 use Rattle.fr_shape.specs.declared.error.Invariant.{Invariant}
@@ -14,6 +15,7 @@ use Rattle.fr_shape.specs.Look.{Table}
 use Rattle.fr_shape.specs.Served.{IsServed}
 use Rattle.fr_shape.specs.Fits.{fits}
 use Rattle.fr_shape.specs.Val.{Val, nat, text, token, product, no_vals, first}
+use Rattle.fr_path.specs.declared.path_steps.PathStep.{PathStep}
 use Rattle.fr_model.specs.Commands.{Call}
 use Rattle.fr_model.specs.Journal.{journal_run}
 use Rattle.fr_model.specs.Run.{Refusal, full_run}
@@ -74,8 +76,15 @@ begin i = Call.BeginNthField i
 abbrev pub end : Call
 end = Call.End
 
-abbrev pub refused : ℕ → ReflectErrorKind → Result Val Refusal
-refused n kind = Err (record { number = n; kind = kind })
+-- refused at the place to which these steps lead
+abbrev pub refused : ℕ → ReflectErrorKind → List PathStep → Result Val Refusal
+refused n kind path = Err (record { number = n; kind = kind; path = path })
+
+abbrev pub field_at : ℕ → PathStep
+field_at i = PathStep.Field i
+
+abbrev pub at_root : List PathStep
+at_root = []
 
 -- the kinds of refusals, written out here, so that the definitions of the calls are tried against them
 
@@ -120,31 +129,33 @@ journal_builds = refl
 
 -- what is refused, at which command and why
 
-nothing_put_in : full_run no_hooks nested 3 [] ≡ refused 0 (lacks_field 3 0)
+nothing_put_in : full_run no_hooks nested 3 [] ≡ refused 0 (lacks_field 3 0) at_root
 nothing_put_in = refl
 
-no_value : full_run no_hooks nested 0 [] ≡ refused 0 (lacks_value 0)
+no_value : full_run no_hooks nested 0 [] ≡ refused 0 (lacks_value 0) at_root
 no_value = refl
 
-first_field_missing : full_run no_hooks nested 3 (begin 1 ∷ end ∷ []) ≡ refused 1 (lacks_field 2 0)
+first_field_missing : full_run no_hooks nested 3 (begin 1 ∷ end ∷ []) ≡ refused 1 (lacks_field 2 0) (field_at 1 ∷ [])
 first_field_missing = refl
 
 -- the first hole, not the field that was entered last
 second_field_missing : full_run no_hooks nested 3 (begin 1 ∷ begin 0 ∷ set 0 (nat 42) ∷ end ∷ end ∷ [])
-    ≡ refused 4 (lacks_field 2 1)
+    ≡ refused 4 (lacks_field 2 1) (field_at 1 ∷ [])
 second_field_missing = refl
 
-end_at_the_root : full_run no_hooks nested 3 (end ∷ []) ≡ refused 0 (violated Invariant.EndAtRoot)
+end_at_the_root : full_run no_hooks nested 3 (end ∷ []) ≡ refused 0 (violated Invariant.EndAtRoot) at_root
 end_at_the_root = refl
 
 wrong_shape : full_run no_hooks nested 3 (begin 0 ∷ set 0 (nat 42) ∷ [])
-    ≡ refused 1 (ReflectErrorKind.WrongShape (number 1) (number 0))
+    ≡ refused 1 (ReflectErrorKind.WrongShape (number 1) (number 0)) (field_at 0 ∷ [])
 wrong_shape = refl
 
-no_fields : full_run no_hooks nested 3 (begin 1 ∷ begin 1 ∷ begin 1 ∷ []) ≡ refused 2 (failed 0 Operation.FieldOfOther)
+no_fields : full_run no_hooks nested 3 (begin 1 ∷ begin 1 ∷ begin 1 ∷ [])
+    ≡ refused 2 (failed 0 Operation.FieldOfOther) (field_at 1 ∷ field_at 1 ∷ [])
 no_fields = refl
 
-no_third_field : full_run no_hooks nested 3 (begin 2 ∷ []) ≡ refused 0 (failed 3 Operation.FieldIndexOutOfBounds)
+no_third_field : full_run no_hooks nested 3 (begin 2 ∷ [])
+    ≡ refused 0 (failed 3 Operation.FieldIndexOutOfBounds) at_root
 no_third_field = refl
 
 none_by_journal : journal_run nested 3 [] ≡ None
@@ -173,7 +184,8 @@ opaque_is_served = refl
 abbrev left_open : List Call
 left_open = begin 0 ∷ begin 0 ∷ set 0 (token 0) ∷ end ∷ begin 1 ∷ set 1 (nat 5) ∷ end ∷ []
 
-machine_refuses_open : full_run no_hooks opaque 3 left_open ≡ refused 7 (violated Invariant.BuildOpenFrames)
+machine_refuses_open : full_run no_hooks opaque 3 left_open
+    ≡ refused 7 (violated Invariant.BuildOpenFrames) (field_at 0 ∷ [])
 machine_refuses_open = refl
 
 journal_refuses_open : journal_run opaque 3 left_open ≡ None
@@ -205,3 +217,27 @@ machine_enters_anew = refl
 
 journal_enters_anew : journal_run opaque 3 entered_anew ≡ Some (pair_of (cell 2 3) (cell 1 2))
 journal_enters_anew = refl
+
+-- roots that have no builder
+
+abbrev unplanned : Table
+unplanned =
+    shape (codes "str") Def.Str
+    ∷ shape (codes "Other") Def.Other
+    ∷ shape (codes "Bad") (struct (field (codes "a") 0 ∷ field (codes "b") 1 ∷ []))
+    ∷ shape (codes "Others") (Def.Slice (number 1))
+    ∷ []
+
+abbrev no_plan : ℕ → PlanFault → ReflectErrorKind
+no_plan s fault = ReflectErrorKind.Alloc (record { shape = number s; operation = fault })
+
+-- a shape that can't be planned is refused before any command, and the refusal names it
+unsupported_field : full_run no_hooks unplanned 2 (begin 5 ∷ []) ≡ refused 0 (no_plan 1 PlanFault.Unsupported) at_root
+unsupported_field = refl
+
+unsized_root : full_run no_hooks unplanned 0 [] ≡ refused 0 (no_plan 0 PlanFault.NotSized) at_root
+unsized_root = refl
+
+-- an unsized root's own refusal comes last
+unsupported_in_unsized : full_run no_hooks unplanned 3 [] ≡ refused 0 (no_plan 1 PlanFault.Unsupported) at_root
+unsupported_in_unsized = refl

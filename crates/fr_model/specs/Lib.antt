@@ -4,6 +4,7 @@ pub mod Complete
 pub mod Covering
 pub mod Journal
 pub mod Laws
+pub mod PathLaws
 pub mod Paths
 pub mod Places
 pub mod Relation

@@ -2,10 +2,11 @@
 ghost use Rattle.fr_model.specs.Agree.{MachineAgrees, StartIsRelated, StepKeepsRelated};
 ghost use Rattle.fr_model.specs.Covering.{ScanAgrees, WaysAgree};
 ghost use Rattle.fr_model.specs.Laws.{BuildKeepsTokens, CompletesOrLacks, CompletingFits, CompletingKeepsTokens, StartIsWell, StepKeepsDistinct, StepKeepsOrder, StepKeepsTokens};
+ghost use Rattle.fr_model.specs.PathLaws.{EnteringAddsAStep, LeavingDropsAStep, PathIsAsDeep, PuttingKeepsThePath};
 
-/// For every script of fitting values over a checked and served table, whatever the hooks mean, the run of the commands
-/// gives a value exactly where the journal completes, and the same one. At the start, and after each command that is
-/// admitted, what stands at each place of the tree is what the journal holds of it.
+/// For every script of fitting values over a table that is plain for the root, whatever the hooks mean, the run of the
+/// commands gives a value exactly where the journal completes, and the same one. At the start, and after each command
+/// that is admitted, what stands at each place of the tree is what the journal holds of it.
 pub fn law_agree()
     ensures agree { MachineAgrees }
     ensures start { StartIsRelated }
@@ -24,6 +25,16 @@ pub fn law_completes()
     ensures or_lacks { CompletesOrLacks }
     ensures fits { CompletingFits }
     ensures tokens { CompletingKeepsTokens }
+{}
+
+/// The path of the place at which a builder works, from state to state. Entering a child, from a state that is in order,
+/// adds the step to that child. Putting a value keeps the path, or takes its last step away where the cursor goes up.
+/// There are as many steps as the place lies deep, so that only the root has none.
+pub fn law_paths()
+    ensures enter { EnteringAddsAStep }
+    ensures put { PuttingKeepsThePath }
+    ensures leave { LeavingDropsAStep }
+    ensures deep { PathIsAsDeep }
 {}
 
 /// Over a checked table, in a state that is in order: the tokens that the builder held and a command brought are those
