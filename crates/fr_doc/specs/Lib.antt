@@ -1,6 +1,7 @@
 pub mod Adapter
 pub mod Causes
 pub mod DefForms
+pub mod Details
 pub mod DynForms
 pub mod FaultSteps
 pub mod Faults

@@ -5,6 +5,7 @@
 mod adapters;
 mod clean;
 mod def_form;
+mod details;
 mod device;
 mod dyn_form;
 mod dyn_json;
@@ -36,6 +37,7 @@ mod variant_form;
 
 pub use adapters::{ReaderSource, WriterSink};
 pub use clean::{CleanSink, CleanSource};
+pub use details::{detail_of, name_of_shape};
 pub use device::{Failed, Sink, Source};
 pub use fault::{DocFault, DocPlace, DocSize, ReadError};
 pub use fr_shape::TableFault;

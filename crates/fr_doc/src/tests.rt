@@ -1,7 +1,12 @@
-//! The forms of the prose as texts, read and printed.
-use crate::{json_of, value_of};
+//! The forms of the prose as texts, read and printed, and the details of errors.
+use crate::{detail_of, json_of, shapes_of, value_of};
+use fr_shape::{
+    AllocError, Expected, FieldRef, InitCall, Invariant, Operation, PlanFault, Reason,
+    ReflectErrorKind, ShapeId, ShapeTable, Text, TrackerKind, TryFromFault,
+};
 use serde_json::Value as Json;
-use std::alloc::Global;
+use std::alloc::{AllocGlobal, Global};
+use std::process::Abort;
 use std::test::Fail;
 
 /// The text in which a value is printed that a text stands for; empty where the text stands for none.
@@ -95,4 +100,199 @@ fn broken_forms_stand_for_no_value(rt: HostRuntime) -> Result<(), Fail> {
         assert!(rt; printed.is_empty(), "{text}");
     }
     Ok(())
+}
+
+/// Shapes of which one has a renamed field.
+const SHAPES: &str =
+    r#"[{"name":"u32","def":"u32"},{"name":"String","def":"String"},{"name":"Point","def":{"struct":[{"name":"x","rename":"left","shape":0}]}}]"#;
+
+const U32: ShapeId = ShapeId(0);
+
+const STRING: ShapeId = ShapeId(1);
+
+const POINT: ShapeId = ShapeId(2);
+
+const NO_SHAPE: ShapeId = ShapeId(3);
+
+const fn field_of_point(index: u32) -> FieldRef {
+    FieldRef {
+        shape: POINT,
+        variant: None,
+        index,
+    }
+}
+
+fn check_details<const N: usize>(
+    rt: &(impl Abort + AllocGlobal),
+    cases: [(ReflectErrorKind, &str); N],
+) -> Result<(), Fail> {
+    let json = Json::from_str(rt.alloc(), SHAPES)?;
+    let Ok(shapes) = shapes_of(rt.alloc(), &json) else {
+        return Err(Fail::from("not read"));
+    };
+    let table = ShapeTable::new(rt.alloc(), shapes);
+    for (kind, want) in cases {
+        let detail = detail_of(rt.alloc(), &table, &kind)?;
+        assert_eq!(rt; detail.as_str(), want);
+    }
+    Ok(())
+}
+
+#[test]
+fn details_name_what_the_place_is(rt: HostRuntime) -> Result<(), Fail> {
+    check_details(
+        &rt,
+        [
+            (
+                ReflectErrorKind::WasNotA {
+                    expected: Expected::Enum,
+                    actual: U32,
+                },
+                "expected enum, got u32",
+            ),
+            (
+                ReflectErrorKind::WasNotA {
+                    expected: Expected::Option,
+                    actual: POINT,
+                },
+                "expected Option, got Point",
+            ),
+            (
+                ReflectErrorKind::WasNotA {
+                    expected: Expected::Result,
+                    actual: NO_SHAPE,
+                },
+                "expected Result, got ",
+            ),
+            (
+                ReflectErrorKind::WrongShape {
+                    expected: U32,
+                    actual: STRING,
+                },
+                "expected u32, got String",
+            ),
+            (
+                ReflectErrorKind::FieldError { shape: POINT },
+                "no such field",
+            ),
+            (
+                ReflectErrorKind::UninitializedField {
+                    field: field_of_point(0),
+                },
+                "x",
+            ),
+            (
+                ReflectErrorKind::UninitializedField {
+                    field: field_of_point(1),
+                },
+                "",
+            ),
+            (
+                ReflectErrorKind::UninitializedValue { shape: STRING },
+                "String",
+            ),
+            (
+                ReflectErrorKind::DefaultAttrButNoDefaultImpl { shape: U32 },
+                "u32",
+            ),
+            (ReflectErrorKind::ParseFailed { shape: U32 }, "u32"),
+        ],
+    )
+}
+
+#[test]
+fn details_tell_what_was_wrong(rt: HostRuntime) -> Result<(), Fail> {
+    check_details(
+        &rt,
+        [
+            (
+                ReflectErrorKind::Alloc(AllocError {
+                    shape: POINT,
+                    operation: PlanFault::NotSized,
+                }),
+                "type is not sized",
+            ),
+            (
+                ReflectErrorKind::OperationFailed {
+                    shape: U32,
+                    operation: Operation::NoDefault,
+                },
+                "type does not implement Default",
+            ),
+            (
+                ReflectErrorKind::UnexpectedTracker {
+                    call: InitCall::Set,
+                    current: TrackerKind::Map,
+                },
+                "init_set called but tracker isn't something set-like",
+            ),
+            (
+                ReflectErrorKind::InvariantViolation {
+                    invariant: Invariant::BuildDeferred,
+                },
+                "build() called but deferred mode is enabled",
+            ),
+            (
+                ReflectErrorKind::InvalidOperation {
+                    reason: Reason::NoSuchField,
+                },
+                "no such field",
+            ),
+            (
+                ReflectErrorKind::InvalidOperation {
+                    reason: Reason::NotAProduct,
+                },
+                "not a struct, enum, option or result",
+            ),
+            (ReflectErrorKind::OutOfMemory, "out of memory"),
+        ],
+    )
+}
+
+/// A copy of a message.
+fn message(rt: &impl AllocGlobal, text: &str) -> Result<Text, Fail> {
+    match Text::new(rt.alloc(), text) {
+        Ok(message) => Ok(message),
+        Err(_) => Err(Fail::from("no memory for a message")),
+    }
+}
+
+#[test]
+fn details_repeat_messages(rt: HostRuntime) -> Result<(), Fail> {
+    check_details(
+        &rt,
+        [
+            (
+                ReflectErrorKind::ValidationFailed {
+                    field: field_of_point(0),
+                    message: message(&rt, "must be >= 5, got 3")?,
+                },
+                "must be >= 5, got 3",
+            ),
+            (
+                ReflectErrorKind::CustomDeserializationError {
+                    message: message(&rt, "refused")?,
+                    src_shape: U32,
+                    dst_shape: POINT,
+                },
+                "refused",
+            ),
+            (
+                ReflectErrorKind::TryFromError {
+                    src_shape: U32,
+                    dst_shape: POINT,
+                    inner: TryFromFault::Generic(message(&rt, "must not be zero")?),
+                },
+                "must not be zero",
+            ),
+            (
+                ReflectErrorKind::TryFromError {
+                    src_shape: U32,
+                    dst_shape: POINT,
+                    inner: TryFromFault::UnsupportedSourceType,
+                },
+                "",
+            ),
+        ],
+    )
 }
