@@ -3,6 +3,8 @@ pub mod FillQuestions
 pub mod Lists
 pub mod LookupLaws
 pub mod Lookups
+pub mod NamedNumbers
+pub mod Names
 pub mod Nodes
 pub mod PathLaws
 pub mod PlanLaws

@@ -121,14 +121,16 @@ impl TypePlanCore {
         parent: &'a TypePlanNode,
         idx: usize,
     ) -> Option<&'a TypePlanNode>
-        ensures child { option_copied result ≡ node_found self.now (struct_field self.now parent.now idx) }
+        ensures child { option_copied result
+            ≡ node_found self.now (struct_field self.now parent.now idx) }
     {
         self.found(self.struct_field(parent, idx))
     }
 
     /// The number of that node.
     pub fn struct_field_node_id(&self, parent_id: NodeId, idx: usize) -> Option<NodeId>
-        ensures child { result ≡ by_id self.now (λ parent. struct_field self.now parent idx) parent_id }
+        ensures child { result
+            ≡ by_id self.now (λ parent. struct_field self.now parent idx) parent_id }
     {
         self.struct_field(self.find(parent_id)?, idx)
     }
@@ -140,7 +142,8 @@ impl TypePlanCore {
         variant_idx: usize,
         field_idx: usize,
     ) -> Option<&'a TypePlanNode>
-        ensures child { option_copied result ≡ node_found self.now (enum_variant_field self.now parent.now variant_idx field_idx) }
+        ensures child { option_copied result
+            ≡ node_found self.now (enum_variant_field self.now parent.now variant_idx field_idx) }
     {
         self.found(self.enum_variant_field(parent, variant_idx, field_idx))
     }
@@ -152,7 +155,8 @@ impl TypePlanCore {
         variant_idx: usize,
         field_idx: usize,
     ) -> Option<NodeId>
-        ensures child { result ≡ by_id self.now (λ parent. enum_variant_field self.now parent variant_idx field_idx) parent_id }
+        ensures child { result
+            ≡ by_id self.now (λ parent. enum_variant_field self.now parent variant_idx field_idx) parent_id }
     {
         self.enum_variant_field(self.find(parent_id)?, variant_idx, field_idx)
     }
@@ -215,7 +219,8 @@ impl TypePlanCore {
 
     /// The node of the content of an option.
     pub fn option_inner_node<'a>(&'a self, parent: &'a TypePlanNode) -> Option<&'a TypePlanNode>
-        ensures child { option_copied result ≡ node_found self.now (option_inner self.now parent.now) }
+        ensures child { option_copied result
+            ≡ node_found self.now (option_inner self.now parent.now) }
     {
         self.found(self.option_inner(parent))
     }
@@ -236,7 +241,8 @@ impl TypePlanCore {
 
     /// The node of the err side of a result.
     pub fn result_err_node<'a>(&'a self, parent: &'a TypePlanNode) -> Option<&'a TypePlanNode>
-        ensures child { option_copied result ≡ node_found self.now (result_err self.now parent.now) }
+        ensures child { option_copied result
+            ≡ node_found self.now (result_err self.now parent.now) }
     {
         self.found(self.result_err(parent))
     }
@@ -251,7 +257,8 @@ impl TypePlanCore {
 
     /// The node of what a pointer points to.
     pub fn pointer_pointee_node<'a>(&'a self, parent: &'a TypePlanNode) -> Option<&'a TypePlanNode>
-        ensures child { option_copied result ≡ node_found self.now (pointer_pointee self.now parent.now) }
+        ensures child { option_copied result
+            ≡ node_found self.now (pointer_pointee self.now parent.now) }
     {
         self.found(self.pointer_pointee(parent))
     }

@@ -7,6 +7,7 @@ mod fields;
 mod laws;
 mod lists;
 mod lookups;
+mod names;
 mod nodes;
 mod outlines;
 mod plans;

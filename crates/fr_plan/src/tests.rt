@@ -264,3 +264,46 @@ fn a_wide_struct_is_planned(rt: HostRuntime) {
     add(&rt, alloc, &mut shapes, "Wide", record(wide));
     assert_eq!(&rt; plan_of(&rt, alloc, shapes, 2).node_count(), 2);
 }
+
+/// A struct, of number 2, with two fields declared as `id` and one that goes by `bytes`, and an enum of two variants, of
+/// number 3.
+fn named_shapes(rt: &impl Abort, alloc: Global) -> Items<Shape> {
+    let mut shapes = two_scalars(rt, alloc);
+    let mut own = fields(rt, alloc, &[("id", 0), ("id", 1)]);
+    push(&mut own, renamed(rt, alloc, "size", "bytes", 0))
+        .ok()
+        .expect(rt, "no memory");
+    add(rt, alloc, &mut shapes, "File", record(own));
+    let mut variants = Items::new(alloc);
+    add_variant(rt, alloc, &mut variants, "Empty", &[]);
+    add_variant(rt, alloc, &mut variants, "Full", &[("id", 1), ("file", 2)]);
+    add(rt, alloc, &mut shapes, "Slot", choice(variants));
+    shapes
+}
+
+#[test]
+fn fields_are_found_by_the_names_that_they_are_declared_under(rt: HostRuntime) {
+    let alloc = rt.alloc();
+    let plan = plan_of(&rt, alloc, named_shapes(&rt, alloc), 3);
+    for (name, want) in [
+        ("id", Some(0)),
+        ("size", Some(2)),
+        ("bytes", None),
+        ("", None),
+    ] {
+        assert_eq!(&rt; plan.declared_field(ShapeId(2), None, name), want, "{name}");
+    }
+    for (variant, name, want) in [
+        (None, "file", None),
+        (Some(0), "file", None),
+        (Some(1), "id", Some(0)),
+        (Some(1), "file", Some(1)),
+        (Some(2), "file", None),
+    ] {
+        assert_eq!(&rt;
+            plan.declared_field(ShapeId(3), variant, name),
+            want,
+            "{name}"
+        );
+    }
+}

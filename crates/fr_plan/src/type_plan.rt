@@ -1,14 +1,18 @@
 //! The plan of a type.
-ghost use Rattle.std.specs.Prelude.{◌≡◌, ◌<◌, ◌≤◌, ◌+◌, [], length, replicate, slice_get, Some, IfOk, IfErr};
+ghost use Rattle.std.specs.Prelude.{◌≡◌, ℕ, ◌<◌, ◌≤◌, ◌+◌, [], length, replicate, slice_get, Some, IfOk, IfErr};
 ghost use Rattle.fr_shape.specs.Checked.{IsChecked};
-ghost use Rattle.fr_shape.specs.Look.{IsIn};
+ghost use Rattle.fr_shape.specs.Look.{Table, IsIn, def_of};
+ghost use Rattle.fr_shape.specs.Plannable.{Reached};
+ghost use Rattle.fr_shape.specs.declared.shape.ShapeId.{ShapeId as Id};
 ghost use Rattle.fr_rules.specs.Pools.{part_of};
 ghost use Rattle.fr_plan.specs.Build.{planned};
+ghost use Rattle.fr_plan.specs.Names.{declared_field};
 ghost use Rattle.fr_plan.specs.Results.{IsMeant};
 ghost use Rattle.fr_plan.specs.declared.outlines.Mark.{Mark as TheMark};
 
 use crate::building::build_shape;
 use crate::lists::PlanLists;
+use crate::names::{ShapeNames, all_names, find_name};
 use crate::nodes::{NodeId, TypePlanNode};
 use crate::outlines::{Mark, Walk};
 use crate::plans::{FieldPlan, FieldRange, ValidatorRange, VariantPlanMeta, VariantRange};
@@ -26,6 +30,7 @@ pub struct TypePlanCore {
     pub(crate) root: NodeId,
     pub(crate) lists: PlanLists,
     pub(crate) walk: Walk,
+    pub(crate) names: Arena<ShapeNames>,
 }
 
 impl Model for TypePlanCore {
@@ -33,7 +38,7 @@ impl Model for TypePlanCore {
 
     ghost Value = { Plan };
 
-    ghost view = { λ core. record { nodes = core.nodes; root = core.root; lists = core.lists; walk = core.walk } };
+    ghost view = { λ core. record { nodes = core.nodes; root = core.root; lists = core.lists; walk = core.walk; names = core.names } };
 
     ghost use Rattle.std.specs.Prelude.{◌<◌, length};
 
@@ -60,6 +65,9 @@ impl TypePlanCore {
             Ok(root) => root,
             Err(refused) => return Err(refused),
         };
+        let Ok(names) = all_names(alloc, table, &walk.marks) else {
+            return Err(PlanError::OutOfMemory);
+        };
         let mut lists = PlanLists::new(alloc);
         match nodes_of(alloc, table, &walk.nodes, &mut lists) {
             Ok(nodes) => Ok(TypePlanCore {
@@ -67,6 +75,7 @@ impl TypePlanCore {
                 root,
                 lists,
                 walk,
+                names,
             }),
             Err(OutOfMemory) => Err(PlanError::OutOfMemory),
         }
@@ -140,6 +149,17 @@ impl TypePlanCore {
         ensures pool { result.now ≡ self.now.lists.lookups }
     {
         &self.lists.lookups
+    }
+
+    /// The number of the first field that is declared under this name, of a struct or of an enum's variant of this number.
+    ///
+    /// It compares names O(log n) times among n fields. A field isn't found here by the name that it goes by instead.
+    pub fn declared_field(&self, shape: ShapeId, variant: Option<u32>, name: &str) -> Option<u32>
+        ensures first { (table : Table) (root : Id) → IsChecked table → IsIn table root.0
+            → IsPlanOf table root self.now → Reached table root.0 shape.0
+            → result ≡ declared_field (def_of table shape.0) variant name.now }
+    {
+        find_name(&self.names, shape, variant, name)
     }
 
     /// How many nodes there are.

@@ -31,6 +31,13 @@ pub fn field(rt: &impl Abort, alloc: Global, name: &str, shape: u32) -> Field {
     Field::new(alloc, text(rt, alloc, name), ShapeId(shape))
 }
 
+/// A field of this name that goes by another.
+pub fn renamed(rt: &impl Abort, alloc: Global, name: &str, rename: &str, shape: u32) -> Field {
+    let mut field = field(rt, alloc, name, shape);
+    field.rename = Some(text(rt, alloc, rename));
+    field
+}
+
 /// Fields of these names and shapes.
 pub fn fields(rt: &impl Abort, alloc: Global, rows: &[(&str, u32)]) -> Items<Field> {
     let mut fields = Items::new(alloc);
