@@ -24,10 +24,12 @@ use std::alloc::Global;
 
 /// Reads a document, runs its script over a new ledger, and returns what came of it.
 pub fn answer(alloc: Global, bytes: &[u8]) -> Result<Answer, OutOfMemory>
-    ensures outcome { IfOk result (λ answer. outcome_view answer ≡ outcome_of TheWord.Build bytes.now) }
+    ensures outcome { IfOk result (λ answer.
+        outcome_view answer ≡ outcome_of TheWord.Build bytes.now) }
     ensures promise { IfOk result (λ answer.
         KeepsPromise (document_of TheWord.Build bytes.now) (outcome_view answer)) }
-    ensures calls { IfOk result (λ answer. IsMadeByCalls (document_of TheWord.Build bytes.now) answer) }
+    ensures calls { IfOk result (λ answer.
+        IsMadeByCalls (document_of TheWord.Build bytes.now) answer) }
 {
     match read_document(alloc, Word::Build, bytes) {
         Ok(document) => {
