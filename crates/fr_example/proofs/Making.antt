@@ -1,5 +1,5 @@
 -- What a filled struct makes.
-use Rattle.std.proofs.Common.{◌≡◌, ℕ, zero, suc, Bool, true, false, not, ◌&&◌, List, [], ◌∷◌, Option, Some, None, Result, Ok, Err, if◌then◌else◌, slice_get, is_none, refl, ◌∙◌, ap}
+use Rattle.std.proofs.Common.{◌≡◌, ℕ, zero, suc, Bool, true, false, ◌&&◌, List, [], ◌∷◌, Option, Some, None, Result, Ok, Err, if◌then◌else◌, slice_get, is_none, refl, ◌∙◌, ap}
 use Rattle.std.specs.List.{list_all}
 use Rattle.std.specs.Option.{option_or}
 use Rattle.fr_shape.specs.declared.error.ReflectErrorKind.{ReflectErrorKind}
@@ -38,8 +38,7 @@ fields_served shape struct is served = go shape.def is served
       where
         of_bool : (b : Bool) → (b && is_none shape.inner && is_none shape.builder && is_none shape.convert
             && is_none shape.parse && is_none shape.parse_bytes && is_none shape.proxy && is_nil shape.format_proxies
-            && is_none shape.invariant && not shape.metadata && not shape.deny_unknown && not shape.transparent
-            && not shape.bytes_ok) ≡ true → b ≡ true
+            && is_none shape.invariant) ≡ true → b ≡ true
         of_bool true h = refl
         of_bool false h = cc
 
@@ -57,8 +56,7 @@ all_served (shape ∷ shapes) (suc id) struct served is =
 
 none_of : (field : Field) → serves_field field ≡ true → field.validators ≡ []
 none_of field served = go field.validators (both_true
-    (is_none field.rename && is_none field.alias && not field.flatten && is_none field.proxy
-    && is_nil field.format_proxies)
+    (is_none field.proxy && is_nil field.format_proxies)
     (is_nil field.validators) served).1
   where
     go : (validators : List ValidatorDef) → is_nil validators ≡ true → validators ≡ []

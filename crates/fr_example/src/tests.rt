@@ -109,12 +109,7 @@ fn refusal(rt: &impl Abort, outcome: Result<Built, ReflectError>) -> ReflectErro
 }
 
 /// Fails but where the person has this name and this email, and the default age.
-fn expect_person(
-    rt: &impl Abort,
-    outcome: Result<Built, ReflectError>,
-    name: &str,
-    email: &str,
-) {
+fn expect_person(rt: &impl Abort, outcome: Result<Built, ReflectError>, name: &str, email: &str) {
     let built = outcome.ok().expect(rt, "refused");
     let Value::Product(fields) = built.into_value() else {
         panic!(rt; "no struct");

@@ -10,7 +10,7 @@ use Rattle.fr_shape.specs.Val.{Val, unit}
 use Rattle.fr_shape.specs.View.{view}
 use Rattle.fr_model.specs.Places.{array_limit, child_shape}
 use Rattle.fr_model.specs.Step.{field_refusal, element_refusal}
-use Rattle.fr_model.specs.Tree.{Form as TreeForm, as_struct, as_array, Tree, begun, shapes_from, change_nth, count_trees}
+use Rattle.fr_model.specs.Tree.{Form as TreeForm, as_struct, as_array, Tree, shapes_from, change_nth, count_trees}
 use Rattle.fr_model.specs.Well.{IsFullAs, IsBegunAs, Suits, SuitAll, IsDone, AllDone, AtCursor, DoneBut, Leads}
 use Rattle.fr_partial.specs.declared.frame.Frame.{Frame}
 use Rattle.fr_partial.specs.declared.frame.Parent.{Parent}

@@ -1,8 +1,7 @@
 -- Starting by a plan that is there: its root's shape, and what is left to refuse.
-use Rattle.std.proofs.Common.{◌≡◌, List, [], Option, Some, None, Result, Ok, Err, IfOk, option_map, sym, ap, ◌∙◌}
+use Rattle.std.proofs.Common.{◌≡◌, [], Option, Some, Result, Ok, Err, IfOk, option_map, sym, ap, ◌∙◌}
 use Rattle.std.specs.Option.{option_or}
 use Rattle.fr_shape.specs.declared.error.AllocError.{AllocError}
-use Rattle.fr_shape.specs.declared.shape.ShapeId.{ShapeId}
 use Rattle.fr_shape.specs.Checked.{IsChecked}
 use Rattle.fr_shape.specs.Look.{Table}
 use Rattle.fr_model.specs.Run.{alloc_refusal, unsized_refusal}

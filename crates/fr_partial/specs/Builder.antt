@@ -1,5 +1,5 @@
 -- What contracts see of a builder, and what its calls owe.
-use Rattle.std.specs.Prelude.{◌≡◌, ◌≢◌, ◌⊎◌, ℕ, ◌+◌, List, Option, Some, None, Result, Ok, Err, IsErr, IfErr, ⊤, refl}
+use Rattle.std.specs.Prelude.{◌≡◌, ◌≢◌, ◌⊎◌, ℕ, ◌+◌, List, Result, Ok, Err, IsErr, IfErr, refl}
 use Rattle.std.specs.Coded.{Coded, code_by, coded×, coded_ℕ}
 use Rattle.fr_shape.specs.TableCode.{table_code}
 use Rattle.fr_shape.specs.Hooks.{Meanings}

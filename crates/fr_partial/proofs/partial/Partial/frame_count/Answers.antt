@@ -1,4 +1,4 @@
-use Rattle.std.proofs.Common.{◌≡◌, ℕ, length, ap, ◌∙◌, arith}
+use Rattle.std.proofs.Common.{◌≡◌, length, ap, ◌∙◌, arith}
 use Rattle.fr_model.specs.Paths.{path_of}
 use Rattle.fr_partial.proofs.BuilderLaws.{cursor_is}
 use Rattle.fr_partial.proofs.WayLaws.{opens_count}

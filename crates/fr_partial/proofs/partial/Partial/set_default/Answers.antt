@@ -8,8 +8,6 @@ use Rattle.fr_model.specs.Tree.{State}
 use Rattle.fr_partial.specs.Builder.{holds, here, left}
 use Rattle.fr_partial.proofs.PutLaws.{fits_here, default_there, default_missing}
 use Rattle.fr_partial.proofs.TemplateLaws.{IsTemplate, preset_template, light_occurs}
-use Rattle.fr_shape.specs.declared.error.Operation.{Operation}
-use Rattle.fr_shape.specs.declared.error.ReflectErrorKind.{ReflectErrorKind}
 use Rattle.fr_model.specs.Commands.{Call}
 use Rattle.fr_partial.proofs.RemovedLaws.{in_order, rises_by_removed, all_released}
 use Rattle.fr_partial.proofs.partial.Partial.set_default.Goals as goal

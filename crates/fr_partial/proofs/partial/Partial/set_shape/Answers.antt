@@ -6,7 +6,6 @@ use Rattle.fr_model.specs.Step.{set, puts}
 use Rattle.fr_model.specs.Tree.{State}
 use Rattle.fr_partial.specs.Builder.{Builder, here, holds}
 use Rattle.fr_partial.proofs.PutLaws.{fits_here, set_admitted, set_refused}
-use Rattle.fr_shape.specs.declared.error.ReflectErrorKind.{ReflectErrorKind}
 use Rattle.fr_model.specs.Commands.{Call}
 use Rattle.fr_shape.specs.Tokens.{occurs}
 use Rattle.fr_partial.proofs.RemovedLaws.{in_order, rises_by_removed, both_released}
