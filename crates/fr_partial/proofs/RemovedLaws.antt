@@ -2,13 +2,7 @@
 -- the definitions.
 use Rattle.std.proofs.Common.{◌≡◌, ℕ, ◌+◌, List, Result, Ok, Err, inl, inr, refl, ◌∙◌, ap, subst, arith}
 use Rattle.fr_shape.specs.declared.error.ReflectErrorKind.{ReflectErrorKind}
-use Rattle.fr_shape.specs.Checked.{IsChecked}
 use Rattle.fr_shape.specs.Hooks.{Meanings}
-use Rattle.fr_shape.specs.declared.shape.ShapeId.{ShapeId}
-use Rattle.fr_shape.specs.Look.{Table}
-use Rattle.fr_path.specs.declared.path_steps.PathStep.{PathStep}
-use Rattle.fr_plan.specs.TypePlan.{Plan}
-use Rattle.fr_model.specs.Paths.{path_of}
 use Rattle.fr_shape.specs.Released.{Conserved, RoseBy}
 use Rattle.fr_shape.specs.Val.{Val}
 use Rattle.fr_model.specs.Commands.{Call}
@@ -16,39 +10,10 @@ use Rattle.fr_model.specs.Laws.{StepKeepsTokens, held_after, BuildKeepsTokens, b
 use Rattle.fr_model.specs.Removed.{removed, removed_at_build}
 use Rattle.fr_model.specs.Scripts.{brings}
 use Rattle.fr_model.specs.Tree.{State}
-use Rattle.fr_model.specs.Well.{IsInOrder}
-use Rattle.fr_partial.specs.declared.frame.Frame.{Frame}
-use Rattle.fr_partial.specs.declared.frame.Parent.{Parent}
 use Rattle.fr_partial.specs.BuiltValue.{BuiltValue}
 use Rattle.fr_partial.specs.declared.reflect_error.ReflectError.{ReflectError}
+use Rattle.fr_partial.proofs.StateLaws.{IsBuilderInOrder}
 use Rattle.fr_partial.specs.Builder.{Builder, holds, meaning, meaning_of_build, IsStep, IsBuilt, left, dropped, dropped_refused, RisesByRemoved, left_built, dropped_at_build, dropped_unbuilt, RisesByRemovedAtBuild}
-use Rattle.fr_partial.specs.Stack.{IsOpen}
-use Rattle.fr_partial.proofs.BuilderLaws.{builder_of}
-use Rattle.fr_partial.proofs.OrderLaws.{suit_rebuild, leads_rebuild}
-
--- A builder in order: its table is checked, and its state is in order.
-pub record IsBuilderInOrder {H : Type 0} (builder : Builder H) : Type 0 where
-  pub checked : IsChecked builder.shapes
-  pub state : IsInOrder builder.shapes builder.root builder.state
-
-pub in_order : {H : Type 0} {h : H} {table : Table} {root : ShapeId} {plan : Plan} {steps : List PathStep} {parents : List Parent}
-    {frame : Frame} {calls : ℕ} {builder : Builder H} → IsOpen table root plan steps parents frame calls
-    → builder_of h table root.0 parents frame.piece calls ≡ builder → IsBuilderInOrder builder
-in_order {table = table} {root = root} {parents = parents} {frame = frame} is_open is =
-    subst IsBuilderInOrder is
-    (record {
-      checked = is_open.checked;
-      state = record {
-        suits = suit_rebuild table root.0 parents frame is_open.chain;
-        leads = leads_rebuild table root.0 parents frame is_open.chain;
-      };
-    })
-
--- the path that a builder keeps is that of its place
-pub path_is : {H : Type 0} {h : H} {table : Table} {root : ShapeId} {plan : Plan} {steps : List PathStep} {parents : List Parent}
-    {frame : Frame} {calls : ℕ} {builder : Builder H} → IsOpen table root plan steps parents frame calls
-    → builder_of h table root.0 parents frame.piece calls ≡ builder → steps ≡ path_of builder.state
-path_is {H} is_open is = is_open.path ∙ ap (λ (b : Builder H). path_of b.state) is
 
 -- a refused call
 

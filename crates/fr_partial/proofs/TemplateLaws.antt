@@ -67,56 +67,6 @@ preset_template table s v checked e = go (slice_get table s) refl
         (checked.templates s shape h)).0
         (rw h at e)
 
-field_template : (table : Table) (s : ℕ) (field : Field) (v : Val) → IsChecked table
-    → default_is_template table field.shape.0 field.default ≡ true → strict_fill table s false field ≡ Some v
-    → IsTemplate table field.shape.0 v
-field_template table s field v checked own e = go field.default refl
-  where
-    unmarked : (takes : Bool) → field.default ≡ None → takes_shape_default table s false field ≡ takes
-        → IsTemplate table field.shape.0 v
-    unmarked true mark takes = preset_template table field.shape.0 v checked (rw (mark, takes) at e)
-    unmarked false mark takes = let none : None ≡ Some v = rw (mark, takes) at e in cc
-
-    go : (mark : Option DefaultSource) → field.default ≡ mark → IsTemplate table field.shape.0 v
-    go None mark = unmarked (takes_shape_default table s false field) mark refl
-    go (Some DefaultSource.FromTrait) mark = preset_template table field.shape.0 v checked (rw mark at e)
-    go (Some (DefaultSource.Custom w)) mark =
-        let is : Some w ≡ Some v = rw mark at e in
-        let same : w ≡ v = cc in
-        subst (IsTemplate table field.shape.0) same (template_is table field.shape.0 w (rw mark at own))
-
--- what a child takes where it is a hole
-pub fill_template : (table : Table) (s i : ℕ) (v : Val) → IsChecked table → fill_at table s i ≡ Some v
-    → IsTemplate table (child_shape table s i) v
-fill_template table s i v checked e = go (slice_get table s) refl
-  where
-    go : (found : Option Shape) → slice_get table s ≡ found → IsTemplate table (child_shape table s i) v
-    go None h = let none : fill_at table s i ≡ None = rw h refl in cc
-    go (Some shape) h = at_def shape.def refl
-      where
-        defaults : list_all (λ (field : Field). default_is_template table field.shape.0 field.default) (fields_of shape.def) ≡ true
-        defaults =
-            (both_true (list_all (is_template table s) (option_to_list shape.preset))
-            (list_all (λ (field : Field). default_is_template table field.shape.0 field.default) (fields_of shape.def))
-            (checked.templates s shape h)).1
-
-        at_def : (def : Def) → shape.def ≡ def → IsTemplate table (child_shape table s i) v
-        at_def (Def.Struct struct) is = at_field (slice_get struct.fields i) refl
-          where
-            def : def_of table s ≡ Def.Struct struct
-            def = rw (h, is) refl
-
-            at_field : (found : Option Field) → slice_get struct.fields i ≡ found → IsTemplate table (child_shape table s i) v
-            at_field None at = let none : fill_at table s i ≡ None = rw (def, at) refl in cc
-            at_field (Some field) at =
-                let fill : strict_fill table s false field ≡ Some v = rw (def, at) at e in
-                let own : default_is_template table field.shape.0 field.default ≡ true
-                = all_at (λ (field : Field). default_is_template table field.shape.0 field.default) struct.fields i field
-                (rw is at defaults) at in
-                subst (λ (n : ℕ). IsTemplate table n v) (sym (field_shape table s struct i field def at))
-                (field_template table s field v checked own fill)
-        at_def _ is = let none : fill_at table s i ≡ None = rw (h, is) refl in cc
-
 -- no validator of a served table is asked
 
 served_def : (shape : Shape) → serves shape ≡ true → serves_def shape.def ≡ true

@@ -1,6 +1,6 @@
 -- The path that a builder keeps, where it goes on and where it goes back.
-use Rattle.std.proofs.Common.{◌≡◌, ℕ, suc, List, [], ◌∷◌, ◌++◌, length, Option, Some, None, IsNone, IfSome, ◌↔◌, refl, sym, ◌∙◌, ap}
-use Rattle.fr_shape.specs.Look.{def_of}
+use Rattle.std.proofs.Common.{◌≡◌, ℕ, suc, List, [], ◌∷◌, ◌++◌, length, Option, Some, None, IsNone, IfSome, ◌↔◌, refl, sym, ◌∙◌, ap, arith}
+use Rattle.fr_shape.specs.Look.{Table, def_of}
 use Rattle.fr_path.specs.declared.path_steps.PathStep.{PathStep}
 use Rattle.fr_shape.specs.Val.{Val}
 use Rattle.fr_model.specs.PathLaws.{EnteringAddsAStep, LeavingDropsAStep, PathIsAsDeep}
@@ -8,10 +8,8 @@ use Rattle.fr_model.specs.Paths.{step_as, path_of}
 use Rattle.fr_model.specs.Step.{enters, puts_and_leaves}
 use Rattle.fr_model.specs.Well.{Leads}
 use Rattle.fr_model.specs.Tree.{Form, form_of, State}
-use Rattle.fr_partial.specs.declared.frame.Parent.{Parent}
 use Rattle.fr_partial.specs.Builder.{Builder, here}
-use Rattle.fr_partial.specs.Stack.{opens}
-use Rattle.fr_partial.proofs.RemovedLaws.{IsBuilderInOrder}
+use Rattle.fr_partial.proofs.StateLaws.{IsBuilderInOrder}
 
 -- a path with a last step isn't empty
 pub never_empty : (before : List PathStep) (last : PathStep) → before ++ last ∷ [] ≡ [] → ⊥
@@ -71,8 +69,3 @@ pub left_path : LeavingDropsAStep → PathIsAsDeep → (state after : State) (v 
 left_path leave deep state after v above i steps left leads cursor path back is =
     let way : Ends (path_of state) = below_root deep state above i cursor in
     back way.before way.last (path ∙ way.split) ∙ sym (leave state v way.before way.last leads way.split) ∙ ap path_of is
-
--- as many steps as places above
-pub opens_count : (parents : List Parent) → length (opens parents) ≡ length parents
-opens_count [] = refl
-opens_count (parent ∷ parents) = ap suc (opens_count parents)

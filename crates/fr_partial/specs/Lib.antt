@@ -1,9 +1,8 @@
 pub mod Builder
 pub mod BuiltValue
-pub mod Children
-pub mod Completing
+pub mod Ending
 pub mod Entering
 pub mod Filling
 pub mod HeldPlan
-pub mod Stack
 pub mod Starting
+pub mod Underway

@@ -1,21 +1,32 @@
 //! Which children of a place may be entered, and why others may not.
 ghost use Rattle.std.specs.Prelude.{◌≡◌, ◌<◌};
 ghost use Rattle.fr_shape.specs.Look.{def_of};
-ghost use Rattle.fr_shape.specs.Named.{field_named, first_declared};
+ghost use Rattle.fr_shape.specs.Named.{field_named};
 ghost use Rattle.fr_model.specs.Places.{child_count};
 ghost use Rattle.fr_model.specs.Step.{field_refusal, named_refusal};
+ghost use Rattle.fr_frame.specs.Bodies.{own_tree};
+ghost use Rattle.fr_frame.specs.Heap.{body_of};
 ghost use Rattle.fr_partial.specs.Entering.{Describes};
-ghost use Rattle.fr_partial.specs.Stack.{node};
+ghost use Rattle.fr_partial.specs.Underway.{shape_here, IsReady};
 
-use crate::frame::{Child, Form, Frame, Piece};
-use fr_shape::{Def, Field, Operation, ShapeId, ShapeTable};
+use fr_frame::{Form, Piece, Slots};
+use fr_plan::TypePlanCore;
+use fr_shape::{Def, Operation, ShapeId, ShapeTable};
+use fr_store::Stack;
+
+/// What a table says of a child that may be entered: as what the place around it is begun, and how many children that has.
+#[derive(Clone, Copy)]
+pub struct Child {
+    pub form: Form,
+    pub count: usize,
+}
 
 /// The largest array whose elements can be entered.
 const MOST_ELEMENTS: u32 = 4096;
 
 /// Why element `i` of an array of `count` may not be entered, if so.
 fn element_refusal(item: ShapeId, count: u32, piece: &Piece, i: usize) -> Option<Operation>
-    ensures { result ≡ field_refusal (Def.Array item count) (node piece.now) i }
+    ensures { result ≡ field_refusal (Def.Array item count) (own_tree (body_of piece.now)) i }
 {
     let _item = item;
     if i >= count as usize {
@@ -25,16 +36,21 @@ fn element_refusal(item: ShapeId, count: u32, piece: &Piece, i: usize) -> Option
     } else {
         match piece {
             Piece::Whole(_) => Some(Operation::ElementOfWholeArray),
-            Piece::Entered | Piece::Begun(_, _) => None,
+            Piece::Entered | Piece::Begun(..) => None,
         }
     }
 }
 
 /// Why child `i` of the place may not be entered, if so.
-pub fn field_refusal(table: &ShapeTable, frame: &Frame, i: usize) -> Option<Operation>
-    ensures { result ≡ field_refusal (def_of table.now frame.now.shape.0) (node frame.now.piece) i }
+pub fn field_refusal(
+    table: &ShapeTable,
+    shape: ShapeId,
+    piece: &Piece,
+    i: usize,
+) -> Option<Operation>
+    ensures { result ≡ field_refusal (def_of table.now shape.0) (own_tree (body_of piece.now)) i }
 {
-    let Some(entry) = table.get(frame.shape) else {
+    let Some(entry) = table.get(shape) else {
         return Some(Operation::FieldOfOther);
     };
     match &entry.def {
@@ -46,7 +62,7 @@ pub fn field_refusal(table: &ShapeTable, frame: &Frame, i: usize) -> Option<Oper
             }
         }
         Def::Enum(_) => Some(Operation::FieldOfUnselectedVariant),
-        Def::Array(item, count) => element_refusal(*item, *count, &frame.piece, i),
+        Def::Array(item, count) => element_refusal(*item, *count, piece, i),
         Def::Slice(_) => Some(Operation::FieldOfSlice),
         Def::Opaque => Some(Operation::FieldOfOpaque),
         _ => Some(Operation::FieldOfOther),
@@ -72,25 +88,27 @@ pub fn named_refusal(table: &ShapeTable, shape: ShapeId) -> Option<Operation>
     }
 }
 
-/// The number of the first of these fields that is declared under this name.
-fn first_declared(fields: &[Field], name: &str) -> Option<usize>
-    ensures { result ≡ first_declared name.now 0 fields.now }
-{
-    for i in 0..fields.len() {
-        if fields[i].name.as_str() == name {
-            return Some(i);
-        }
-    }
-    None
-}
-
-/// The number of the field of a struct that is declared under this name.
-pub fn field_named(table: &ShapeTable, shape: ShapeId, name: &str) -> Option<usize>
+/// The number of the first field that is declared under this name, where the place on top of the stack has the shape.
+pub fn field_named(
+    table: &ShapeTable,
+    root: ShapeId,
+    plan: &TypePlanCore,
+    slots: &Slots,
+    stack: &Stack,
+    shape: ShapeId,
+    name: &str,
+) -> Option<usize>
+    requires ready { IsReady table.now root plan.now slots.now stack.now }
+    requires shape { shape.0 ≡ shape_here table.now root.0 slots.now stack.now }
     ensures { result ≡ field_named name.now (def_of table.now shape.0) }
 {
-    match &table.get(shape)?.def {
-        Def::Struct(described) => first_declared(described.fields.as_slice(), name),
-        _ => None,
+    let _table = table;
+    let _root = root;
+    let _slots = slots;
+    let _stack = stack;
+    match plan.declared_field(shape, None, name) {
+        Some(number) => Some(number as usize),
+        None => None,
     }
 }
 
@@ -104,12 +122,10 @@ pub fn child_of(table: &ShapeTable, shape: ShapeId, i: usize) -> Child
     };
     match &entry.def {
         Def::Struct(described) => Child {
-            shape: described.fields.as_slice()[i].shape,
             form: Form::Struct,
             count: described.fields.len(),
         },
-        Def::Array(item, count) => Child {
-            shape: *item,
+        Def::Array(_, count) => Child {
             form: Form::Array,
             count: *count as usize,
         },

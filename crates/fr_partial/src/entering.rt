@@ -1,124 +1,162 @@
-//! Entering a child of the place at which the builder works.
-ghost use Rattle.std.specs.Prelude.{◌≡◌, ℕ, ◌+◌, None, length, IfOk, OnErr};
-ghost use Rattle.fr_shape.specs.Fills.{is_empty_struct};
+//! Going on to a child of the place at which the builder works.
+ghost use Rattle.std.specs.Prelude.{◌≡◌, ◌<◌, ◌^◌, [], ◌∷◌, ◌++◌, Ok, None, IfOk, OnOk, OnErr};
+ghost use Rattle.fr_shape.specs.declared.error.ReflectErrorKind.{ReflectErrorKind};
 ghost use Rattle.fr_shape.specs.Look.{def_of};
-ghost use Rattle.fr_shape.specs.Tokens.{vals_occur};
-ghost use Rattle.fr_shape.specs.View.{view, vals_view};
-ghost use Rattle.fr_model.specs.Places.{child_shape};
-ghost use Rattle.fr_model.specs.Step.{field_refusal, enter, enter_child, opened_as};
-ghost use Rattle.fr_model.specs.Tree.{fresh, begun, tree_occurs};
+ghost use Rattle.fr_shape.specs.Released.{Room, RoseBy, Conserved};
+ghost use Rattle.fr_model.specs.Step.{enter_child, enters, field_refusal};
+ghost use Rattle.fr_model.specs.Tree.{change_at, cursor_tree, tree_occurs};
+ghost use Rattle.fr_frame.specs.Heap.{as_form};
+ghost use Rattle.fr_frame.specs.Kids.{child_node};
+ghost use Rattle.fr_store.specs.Moves.{cursor_in, node_here, tree_here, tree_in_slots, IsOpenAt};
+ghost use Rattle.fr_store.specs.Stands.{IsOpen};
+ghost use Rattle.fr_partial.specs.Builder.{here, holds, left, IsStepTo, TellsPlaceBefore};
 ghost use Rattle.fr_partial.specs.Entering.{Describes};
-ghost use Rattle.fr_partial.specs.Stack.{as_form, slot, slots, node, around, IsChild, AreChildren, IsPiece, IsParent, IsFrame};
+ghost use Rattle.fr_partial.specs.Underway.{shape_here, IsReady};
 
-use crate::children::{children_of, is_placeholder, placeholders, product_of, take};
-use crate::frame::{Child, Frame, Parent, Piece};
-use fr_shape::{OutOfMemory, ShapeId, ShapeTable, Value};
-use std::alloc::Global;
+use crate::admitting::{Child, child_of};
+use crate::paths::{step_back, step_to};
+use crate::finishing::abandon;
+use crate::placing::shape_here;
+use crate::{Partial, ReflectError};
+use fr_frame::{Form, Slots};
+use fr_model::{law_paths, law_removed, law_well};
+use fr_path::Path;
+use fr_plan::{NodeId, TypePlanCore, law_plan_lookups};
+use fr_shape::{Hooks, Ledger, OutOfMemory, ReflectErrorKind, ShapeId, ShapeTable};
+use fr_store::Stack;
 
-/// Whether a shape is a struct without fields.
-fn is_empty_struct(table: &ShapeTable, shape: ShapeId) -> bool
-    ensures { result ≡ is_empty_struct (def_of table.now shape.0) }
+/// The error of a call that finds no memory.
+fn out_of_memory(path: Path) -> ReflectError
+    ensures kind { result.kind ≡ ReflectErrorKind.OutOfMemory }
+    ensures path { result.path ≡ path }
 {
-    match table.get(shape) {
-        Some(entry) => entry.def.is_empty_struct(),
-        None => false,
+    ReflectError {
+        kind: ReflectErrorKind::OutOfMemory,
+        path,
     }
 }
 
-/// A child that is entered for the first time.
-pub fn fresh(alloc: Global, table: &ShapeTable, shape: ShapeId) -> Piece
-    ensures tree { node result ≡ fresh (def_of table.now shape.0) }
-    ensures fitting { IsPiece table.now shape.0 result }
-{
-    if is_empty_struct(table, shape) {
-        Piece::Whole(product_of(Vec::new(alloc)))
-    } else {
-        Piece::Entered
-    }
-}
-
-/// A child that is entered: a placeholder is now entered, anything else is whole as it was.
-fn entered(alloc: Global, table: &ShapeTable, shape: ShapeId, value: Value) -> Piece
-    requires { IsChild table.now shape.0 (view value) }
-    ensures tree { node result ≡ enter (def_of table.now shape.0) (slot (view value)) }
-    ensures fitting { IsPiece table.now shape.0 result }
-{
-    if is_placeholder(&value) {
-        fresh(alloc, table, shape)
-    } else {
-        Piece::Whole(value)
-    }
-}
-
-/// The children of a place, as many as it has fields or elements. Only a place that was just entered needs memory.
-fn open(
-    alloc: Global,
-    table: &ShapeTable,
-    shape: ShapeId,
-    piece: Piece,
-    i: usize,
-    child: Child,
-) -> Result<Vec<Value>, OutOfMemory>
-    requires place { IsPiece table.now shape.0 piece }
-    requires child { Describes table.now shape.0 i child }
-    requires admitted { field_refusal (def_of table.now shape.0) (node piece) i ≡ None }
-    ensures tree { IfOk result (λ children.
-        opened_as (as_form child.form) child.count (node piece)
-        ≡ begun (as_form child.form) (slots children.items)) }
-    ensures count { IfOk result (λ children. length children.items ≡ child.count) }
-    ensures fitting { IfOk result (λ children. AreChildren table.now shape.0 0 children.items) }
-    ensures tokens { IfOk result (λ children.
-        (t : ℕ) → vals_occur (vals_view children.items) t ≡ tree_occurs (node piece) t) }
-    ensures nothing_lost { OnErr result ((t : ℕ) → tree_occurs (node piece) t ≡ 0) }
-{
-    let _table = table;
-    match piece {
-        Piece::Entered => placeholders(alloc, child.count),
-        Piece::Whole(value) => Ok(children_of(value)),
-        Piece::Begun(_, children) => Ok(children),
-    }
-}
-
-/// The place begun around one of its children, and that child entered.
-pub fn enter_child(
-    alloc: Global,
-    table: &ShapeTable,
-    frame: Frame,
-    i: usize,
-    child: Child,
-) -> Result<(Parent, Frame), OutOfMemory>
-    requires place { IsFrame table.now frame.shape.0 frame }
-    requires child { Describes table.now frame.shape.0 i child }
-    requires admitted { field_refusal (def_of table.now frame.shape.0) (node frame.piece) i ≡ None }
-    ensures tree { IfOk result (λ both.
-        around both.0 (node both.1.piece)
-        ≡ enter_child table.now frame.shape.0 i (node frame.piece)) }
-    ensures above { IfOk result (λ both. IsParent table.now frame.shape.0 both.0) }
-    ensures number { IfOk result (λ both. both.0.child ≡ i) }
-    ensures below { IfOk result (λ both.
-        IsFrame table.now (child_shape table.now frame.shape.0 i) both.1) }
-    ensures tokens { IfOk result (λ both.
-        (t : ℕ) → vals_occur (vals_view both.0.children.items) t
-        + tree_occurs (node both.1.piece) t ≡ tree_occurs (node frame.piece) t) }
-    ensures nothing_lost { OnErr result ((t : ℕ) → tree_occurs (node frame.piece) t ≡ 0) }
-{
-    let Frame { shape, piece } = frame;
-    match open(alloc, table, shape, piece, i, child) {
-        Ok(opened) => {
-            let mut children = opened;
-            let value = take(&mut children, i);
-            let below = Frame {
-                shape: child.shape,
-                piece: entered(alloc, table, child.shape, value),
-            };
-            let above = Parent {
-                shape,
-                form: child.form,
-                children,
-                child: i,
-            };
-            Ok((above, below))
+impl<'t, H: Hooks> Partial<'t, H> {
+    /// Enters a child that may be entered. Its place above may need memory.
+    pub(crate) fn enter(self, i: usize, ledger: &mut Ledger) -> Result<Partial<'t, H>, ReflectError>
+        requires room { Room (holds self) ledger.old }
+        requires admitted { field_refusal (def_of self.shapes (here self))
+            (cursor_tree self.state) i ≡ None }
+        ensures step { IsStepTo self.entry
+            (Ok (enters self.entry.shapes (here self.entry) self.entry.state i)) result }
+        ensures path { TellsPlaceBefore self.entry result }
+        ensures tokens { Conserved (holds self.entry) ledger.old (left result) ledger.new }
+    {
+        law_paths();
+        law_removed();
+        law_well();
+        let Partial {
+            alloc,
+            table,
+            hooks,
+            plan,
+            root,
+            mut path,
+            slots,
+            stack,
+            calls,
+        } = self;
+        let shape = shape_here(table, root, plan.core(), &slots, &stack);
+        let child = child_of(table, shape, i);
+        let Ok(()) = path.push(step_to(child.form, i)) else {
+            abandon(slots, stack, plan.core(), ledger);
+            drop(plan);
+            return Err(out_of_memory(path));
+        };
+        match enter_child(table, root, plan.core(), slots, stack, i, child, ledger) {
+            Ok((slots, stack)) => Ok(Partial {
+                alloc,
+                table,
+                hooks,
+                plan,
+                root,
+                path,
+                slots,
+                stack,
+                calls: calls.saturating_add(1),
+            }),
+            Err(_) => {
+                drop(plan);
+                step_back(&mut path);
+                Err(out_of_memory(path))
+            }
         }
-        Err(refused) => Err(refused),
+    }
+}
+
+/// The plan's node of the place on top of the stack.
+fn node_here(plan: &TypePlanCore, slots: &Slots, stack: &Stack) -> NodeId
+    requires { IsOpen plan.now slots.now stack.now }
+    ensures { result ≡ node_here plan.now slots.now stack.now }
+{
+    let _plan = plan;
+    let Some(top) = stack.top() else {
+        unreachable!()
+    };
+    match slots.place(top) {
+        Some(place) => place.node,
+        None => unreachable!(),
+    }
+}
+
+/// The plan's node of child `i` of a place of this node that is begun so.
+fn child_node(plan: &TypePlanCore, node: NodeId, form: Form, i: usize) -> NodeId
+    ensures { result ≡ child_node plan.now node (as_form form) i }
+{
+    let found = match form {
+        Form::Struct => plan.struct_field_node_id(node, i),
+        Form::Array => plan.list_item_node_id(node),
+    };
+    match found {
+        Some(child) => child,
+        None => NodeId(0),
+    }
+}
+
+/// Begins the place on top around a child that may be entered, and goes on to that child. Where there is no memory, all is
+/// released.
+fn enter_child(
+    table: &ShapeTable,
+    root: ShapeId,
+    plan: &TypePlanCore,
+    mut slots: Slots,
+    mut stack: Stack,
+    i: usize,
+    child: Child,
+    ledger: &mut Ledger,
+) -> Result<(Slots, Stack), OutOfMemory>
+    requires ready { IsReady table.now root plan.now slots stack }
+    requires child { Describes table.now (shape_here table.now root.0 slots stack) i child }
+    requires admitted { field_refusal (def_of table.now (shape_here table.now root.0 slots stack))
+        (tree_here slots stack) i ≡ None }
+    requires small { i < 2 ^ 32 }
+    requires room { Room (tree_occurs (tree_in_slots slots stack)) ledger.old }
+    ensures entered { IfOk result (λ both. IsOpenAt plan.now both.0 both.1
+        (cursor_in slots stack ++ i ∷ [])
+        (change_at (cursor_in slots stack)
+            (enter_child table.now (shape_here table.now root.0 slots stack) i)
+            (tree_in_slots slots stack))) }
+    ensures kept { OnOk result (ledger.new ≡ ledger.old) }
+    ensures released { OnErr result
+        (RoseBy (tree_occurs (tree_in_slots slots stack)) ledger.old ledger.new) }
+{
+    law_plan_lookups();
+    let _root = root;
+    let node = child_node(plan, node_here(plan, &slots, &stack), child.form, i);
+    let Ok(()) = stack.begin(&mut slots, plan, child.form, child.count) else {
+        stack.abandon(&mut slots, plan, ledger);
+        return Err(OutOfMemory);
+    };
+    match stack.enter(&mut slots, table, plan, node, child.form, i as u32) {
+        Ok(()) => Ok((slots, stack)),
+        Err(refused) => {
+            stack.abandon(&mut slots, plan, ledger);
+            Err(refused)
+        }
     }
 }

@@ -2,28 +2,20 @@
 #![tactic(auto)]
 
 mod admitting;
-mod begin;
-mod begin_field;
-mod begin_nth_field;
-mod build;
 mod built;
-mod children;
-mod completing;
-mod end;
 mod entering;
-mod filling;
-mod frame;
+mod fields;
+mod finish;
+mod finishing;
 mod held_plan;
-mod lacking;
 mod partial;
 mod paths;
-mod putting;
+mod placing;
 mod reading;
 mod reflect_error;
-mod releasing;
-mod set_default;
-mod set_shape;
+mod set;
 mod starting;
+
 #[cfg(test)]
 mod tests;
 

@@ -5,10 +5,11 @@ ghost use Rattle.fr_shape.specs.Numbered.{IsNumbered};
 ghost use Rattle.fr_shape.specs.Served.{IsServed};
 ghost use Rattle.fr_model.specs.Well.{IsInOrder};
 
-use crate::frame::{Frame, Parent};
 use crate::held_plan::HeldPlan;
+use fr_frame::Slots;
 use fr_path::Path;
 use fr_shape::{Hooks, ShapeId, ShapeTable};
+use fr_store::Stack;
 use std::alloc::Global;
 use std::marker::Model;
 
@@ -22,9 +23,10 @@ pub struct Partial<'t, H> {
     pub(crate) root: ShapeId,
     /// The path of the place at which it works.
     pub(crate) path: Path,
-    /// The places above the one at which it works, the root first.
-    pub(crate) parents: Vec<Parent>,
-    pub(crate) frame: Frame,
+    /// The open places, and what was put at them.
+    pub(crate) slots: Slots,
+    /// Their slots, the root's first and that of the place at which it works last.
+    pub(crate) stack: Stack,
     pub(crate) calls: u32,
 }
 
@@ -36,17 +38,17 @@ impl<'t, H> Model for Partial<'t, H> {
     ghost coded = { builder_code H.code };
 
     ghost use Rattle.fr_partial.specs.HeldPlan.{plan_in};
-    ghost use Rattle.fr_partial.specs.Stack.{state_of, IsOpen};
+    ghost use Rattle.fr_partial.specs.Underway.{state_of, IsUnderway};
 
     ghost view = { λ p. record {
       shapes = p.table.now;
       hooks = p.hooks.now;
       root = p.root.0;
-      state = state_of p.parents.items p.frame.piece p.calls;
+      state = state_of p.slots p.stack p.calls;
     } };
 
     ghost invariant = { λ p.
-        IsOpen p.table.now p.root (plan_in p.plan) p.path p.parents.items p.frame p.calls };
+      IsUnderway p.table.now p.root (plan_in p.plan) p.path p.slots p.stack p.calls };
 }
 
 impl<'t, H: Hooks> Partial<'t, H> {
@@ -59,6 +61,6 @@ impl<'t, H: Hooks> Partial<'t, H> {
         ensures served { IsServed self.now.shapes }
         ensures in_order { IsInOrder self.now.shapes self.now.root self.now.state }
     {
-        let _frame = &self.frame;
+        let _slots = &self.slots;
     }
 }

@@ -2,9 +2,9 @@
 ghost use Rattle.std.specs.Prelude.{◌≡◌, ◌<◌, ◌^◌, List, [], ◌∷◌, ◌++◌, IfOk};
 ghost use Rattle.fr_path.specs.declared.path_steps.PathStep.{PathStep as Step};
 ghost use Rattle.fr_model.specs.Paths.{step_as};
-ghost use Rattle.fr_partial.specs.Stack.{as_form};
+ghost use Rattle.fr_frame.specs.Heap.{as_form};
 
-use crate::frame::Form;
+use fr_frame::Form;
 use fr_path::{Path, PathStep, law_pop_undoes_push};
 use fr_shape::{OutOfMemory, Text};
 use std::alloc::Global;

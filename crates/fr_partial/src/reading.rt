@@ -4,6 +4,7 @@ ghost use Rattle.fr_model.specs.Paths.{path_of};
 ghost use Rattle.fr_partial.specs.Builder.{here};
 
 use crate::paths::copy_path;
+use crate::placing::shape_here;
 use crate::{Partial, ReflectError};
 use fr_model::law_paths;
 use fr_path::Path;
@@ -22,14 +23,20 @@ impl<'t, H: Hooks> Partial<'t, H> {
         ensures count { result ≡ length (path_of self.now.state) + 1 }
     {
         law_paths();
-        self.parents.len() + 1
+        self.stack.len()
     }
 
     /// The shape of the place at which it works.
     pub fn shape(&self) -> ShapeId
         ensures shape { result.0 ≡ here self.now }
     {
-        self.frame.shape
+        shape_here(
+            self.table,
+            self.root,
+            self.plan.core(),
+            &self.slots,
+            &self.stack,
+        )
     }
 
     /// The shape of what it builds.

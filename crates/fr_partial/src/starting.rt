@@ -1,22 +1,26 @@
 //! The ways to start a builder: by a shape, whose plan it makes, or by a plan that is lent to it.
-ghost use Rattle.std.specs.Prelude.{◌≡◌, IfOk};
+ghost use Rattle.std.specs.Prelude.{◌≡◌, [], IfOk};
 ghost use Rattle.fr_shape.specs.Checked.{IsChecked, is_sized};
 ghost use Rattle.fr_shape.specs.Look.{IsIn, def_of};
 ghost use Rattle.fr_shape.specs.Numbered.{IsNumbered};
 ghost use Rattle.fr_shape.specs.Served.{IsServed};
 ghost use Rattle.fr_model.specs.Run.{alloc_refusal, unsized_refusal};
-ghost use Rattle.fr_model.specs.Tree.{initial};
+ghost use Rattle.fr_model.specs.Tree.{fresh, initial};
+ghost use Rattle.fr_store.specs.Moves.{IsOpenAt};
 ghost use Rattle.fr_plan.specs.TypePlan.{IsPlanOf};
 ghost use Rattle.fr_partial.specs.HeldPlan.{plan_in};
 ghost use Rattle.fr_partial.specs.Starting.{IsPlanFrom, RefusedWith};
 
 use crate::Partial;
-use crate::entering::fresh;
-use crate::frame::Frame;
 use crate::held_plan::HeldPlan;
+use fr_frame::{FrameOwner, Slots};
+use fr_model::law_well;
 use fr_path::Path;
-use fr_plan::{TypePlanCore, law_first_refusal, law_plan_paths};
-use fr_shape::{AllocError, Def, Hooks, PlanError, PlanFault, ShapeId, ShapeTable};
+use fr_plan::{TypePlanCore, law_first_refusal, law_plan_lookups, law_plan_paths};
+use fr_shape::{
+    AllocError, Def, Hooks, OutOfMemory, PlanError, PlanFault, ShapeId, ShapeTable,
+};
+use fr_store::Stack;
 use std::alloc::Global;
 
 /// Whether the size of the shape's values is known.
@@ -32,6 +36,28 @@ fn is_sized(table: &ShapeTable, shape: ShapeId) -> bool
         Def::Result(_, _) | Def::List(_) | Def::Map(_, _) | Def::Set(_) | Def::Array(_, _) => true,
         Def::Pointer(_) | Def::Dynamic | Def::Undefined | Def::Other => true,
     }
+}
+
+/// The slot of a root at which nothing was put yet, and the stack of it alone.
+fn first_place(
+    alloc: Global,
+    table: &ShapeTable,
+    plan: &TypePlanCore,
+    root: ShapeId,
+) -> Result<(Slots, Stack), OutOfMemory>
+    requires checked { IsChecked table.now }
+    requires inside { IsIn table.now root.0 }
+    requires planned { IsPlanOf table.now root plan.now }
+    ensures open { IfOk result (λ both.
+        IsOpenAt plan.now both.0 both.1 [] (fresh (def_of table.now root.0))) }
+{
+    law_plan_lookups();
+    let _root = root;
+    let mut slots = Slots::new(alloc);
+    let mut stack = Stack::new(alloc);
+    let top = slots.enter(table, plan, plan.root_id(), FrameOwner::Root)?;
+    stack.push(top)?;
+    Ok((slots, stack))
 }
 
 impl<'t, H: Hooks> Partial<'t, H> {
@@ -139,6 +165,7 @@ impl<'t, H: Hooks> Partial<'t, H> {
         hooks: &'t H,
     ) -> Result<Partial<'t, H>, PlanError>
         requires plan { IsPlanOf table.now root (plan_in plan) }
+        requires inside { IsIn table.now root.0 }
         requires numbered { IsNumbered table.now }
         requires checked { IsChecked table.now }
         requires served { IsServed table.now }
@@ -148,12 +175,16 @@ impl<'t, H: Hooks> Partial<'t, H> {
         ensures state { IfOk result (λ p. p.state ≡ initial table.now root.0) }
         ensures refused { RefusedWith (unsized_refusal table.now root.0) result }
     {
+        law_well();
         if !is_sized(table, root) {
             return Err(PlanError::Alloc(AllocError {
                 shape: root,
                 operation: PlanFault::NotSized,
             }));
         }
+        let Ok((slots, stack)) = first_place(alloc, table, plan.core(), root) else {
+            return Err(PlanError::OutOfMemory);
+        };
         Ok(Partial {
             alloc,
             table,
@@ -161,11 +192,8 @@ impl<'t, H: Hooks> Partial<'t, H> {
             plan,
             root,
             path: Path::new(alloc),
-            parents: Vec::new(alloc),
-            frame: Frame {
-                shape: root,
-                piece: fresh(alloc, table, root),
-            },
+            slots,
+            stack,
             calls: 0,
         })
     }

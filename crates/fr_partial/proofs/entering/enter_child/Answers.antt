@@ -1,74 +1,204 @@
-use Rattle.std.proofs.Common.{◌≡◌, ℕ, ◌+◌, set, refl, sym, ap, ◌∙◌, subst, arith}
-use Rattle.fr_shape.specs.Look.{def_of}
-use Rattle.fr_shape.specs.Tokens.{occurs, vals_occur}
-use Rattle.fr_shape.specs.View.{view, vals_view}
-use Rattle.fr_model.specs.Places.{child_shape, child_count}
-use Rattle.fr_model.specs.Step.{enter, opened_as}
-use Rattle.fr_model.specs.Tree.{Form, tree_occurs}
-use Rattle.fr_partial.specs.Stack.{as_form, slot, node, IsChild, IsPiece}
-use Rattle.fr_partial.proofs.BeginLaws.{entered_tree, entered_children, entered_begun, entered_absent, entered_occurs}
-use Rattle.fr_partial.proofs.ChildrenLaws.{child_known, vals_occur_out}
-use Rattle.fr_partial.proofs.OrderLaws.{full_begun}
+use Rattle.std.proofs.Common.{◌≡◌, ℕ, ◌<◌, length, List, ◌++◌, ◌∷◌, [], Option, None, refl, sym, ap, ◌∙◌, subst}
+use Rattle.std.specs.Prelude.{IsSomeAnd}
+use Rattle.fr_shape.specs.Look.{Table, def_of}
+use Rattle.fr_shape.specs.declared.shape.ShapeId.{ShapeId}
+use Rattle.fr_shape.specs.TokenLaws.{Room_same, RoseBy_same}
+use Rattle.fr_model.specs.Step.{enter, opened_as, field_refusal}
+use Rattle.fr_model.specs.Tree.{Form, Tree, tree_at, change_child, change_at, child_as, tree_occurs}
+use Rattle.fr_model.specs.Places.{Place}
+use Rattle.fr_model.specs.Well.{IsFullAs, Suits}
+use Rattle.fr_plan.specs.declared.nodes.NodeId.{NodeId}
+use Rattle.fr_plan.specs.LookupLaws.{LookupsAgree, LookupPathsAgree}
+use Rattle.fr_plan.specs.TypePlan.{Plan}
+use Rattle.fr_frame.specs.declared.places.Slot.{Slot}
+use Rattle.fr_frame.specs.Bodies.{MayOpen}
+use Rattle.fr_frame.specs.Changes.{SameTokens}
+use Rattle.fr_frame.specs.Completing.{shape_of}
+use Rattle.fr_frame.specs.Heap.{Node, as_form, heap_of}
+use Rattle.fr_frame.specs.Kids.{child_node}
+use Rattle.fr_store.specs.MoveLaws.{open_top}
+use Rattle.fr_store.specs.Moves.{cursor_in, node_here as node_on_top, tree_in_slots, tree_here, HasChild, IsOpenAt}
+use Rattle.fr_store.specs.Numbers.{IsLast}
+use Rattle.fr_store.specs.Stands.{IsOpen, kid_shown}
+use Rattle.fr_partial.specs.Underway.{shape_here, IsReady}
+use Rattle.fr_partial.proofs.EnterLaws.{may_open, has_child, changed_at, entered_so, node_stays, def_entered}
+use Rattle.fr_partial.proofs.FitLaws.{is_there}
+use Rattle.fr_partial.proofs.PlaceLaws.{here_found, here_along, held_is, open_shown, plot_here}
+use Rattle.fr_partial.proofs.ShapeLaws.{IsOfShape, child_shaped}
 use Rattle.fr_partial.proofs.entering.enter_child.Goals as goal
 
-pub returns-in-Ok-clause-tree : goal.returns-in-Ok-clause-tree
-returns-in-Ok-clause-tree c =
-    entered_tree c.in-Ok.opened.items c.args.i c.take-value.result c.take-value.ensures.rest.0
-    c.take-value.new.children.items (node c.entered.result) _ (as_form c.args.child.form)
-    (def_of c.args.table.now (child_shape c.args.table.now c.args.frame.shape.0 c.args.i)) c.take-value.ensures.taken
-    c.take-value.ensures.rest.2
-    (c.entered.ensures.tree
-    ∙ ap (λ (n : ℕ). enter (def_of c.args.table.now n) (slot (view c.take-value.result))) c.requires.child.shape)
-    (ap (λ (form : Form). opened_as form (child_count c.args.table.now c.args.frame.shape.0) (node c.args.frame.piece))
-    (sym c.requires.child.form)
-    ∙ ap (λ (n : ℕ). opened_as (as_form c.args.child.form) n (node c.args.frame.piece)) (sym c.requires.child.count)
-    ∙ c.in-Ok.ensures.tree)
+-- the tokens are the same where the slots' are
+same_tokens : (plan : Plan) (before after : List Slot) (stack : List ℕ) → IsOpen plan before stack → IsOpen plan after stack
+    → SameTokens before after → (t : ℕ)
+    → tree_occurs (tree_in_slots before stack) t ≡ tree_occurs (tree_in_slots after stack) t
+same_tokens plan before after stack first then same t =
+    sym (held_is plan before stack first t) ∙ sym (same t) ∙ held_is plan after stack then t
 
-pub returns-in-Ok-clause-above : goal.returns-in-Ok-clause-above
-returns-in-Ok-clause-above c = record {
-  shape = refl;
-  begun =
-      entered_begun c.args.table.now c.args.frame.shape.0 (as_form c.args.child.form) c.args.child.count c.in-Ok.opened.items c.args.i
-      c.take-value.ensures.rest.0 c.take-value.new.children.items
-      (full_begun (def_of c.args.table.now c.args.frame.shape.0) (as_form c.args.child.form) c.args.child.count
-      (node c.args.frame.piece) c.args.i c.requires.child.begun c.requires.child.within c.requires.admitted)
-      c.in-Ok.ensures.count
-      c.take-value.ensures.rest.2;
-  children =
-      entered_children c.args.table.now c.args.frame.shape.0 c.in-Ok.opened.items c.args.i c.take-value.ensures.rest.0
-      c.take-value.new.children.items c.in-Ok.ensures.fitting c.take-value.ensures.rest.1
-      c.take-value.ensures.rest.2;
-  absent =
-      entered_absent c.in-Ok.opened.items c.args.i c.take-value.ensures.rest.0 c.take-value.new.children.items
-      (omega (arith, c.in-Ok.ensures.count, c.requires.child.within)) c.take-value.ensures.rest.1
-      c.take-value.ensures.rest.2;
-}
+module _ (agree : LookupsAgree) (paths : LookupPathsAgree) (table : Table) (root : ShapeId) (plan : Plan) (slots : List Slot)
+    (stack : List ℕ) (ready : IsReady table root plan slots stack) (form : Form) (count i : ℕ)
+    (full : IsFullAs (def_of table (shape_here table root.0 slots stack)) form count) (below : i < count)
+    (may : field_refusal (def_of table (shape_here table root.0 slots stack)) (tree_here slots stack) i ≡ None) where
+  opens : (n : ℕ) (last : IsLast stack n) → IsSomeAnd (heap_of slots n) (λ (found : Node). MayOpen found.body)
+  opens n last =
+      subst (λ (found : Option Node). IsSomeAnd found (λ (x : Node). MayOpen x.body))
+      (sym (here_found plan slots stack ready.shown n last))
+      (may_open table (shape_here table root.0 slots stack) i form count (open_top plan slots stack ready.shown).plot full
+      (subst (λ (t : Tree). Suits table (shape_here table root.0 slots stack) t)
+      (sym (plot_here plan slots stack ready.shown))
+      (here_along agree paths table root plan slots stack ready).suits)
+      (ap (λ (t : Tree). field_refusal (def_of table (shape_here table root.0 slots stack)) t i)
+      (plot_here plan slots stack ready.shown)
+      ∙ may))
 
-pub entered-requires : goal.entered-requires
-entered-requires c =
-    subst (λ (s : ℕ). IsChild c.args.table.now s (view c.take-value.result)) (sym c.requires.child.shape)
-    (subst (λ (i : ℕ). IsChild c.args.table.now (child_shape c.args.table.now c.args.frame.shape.0 i) (view c.take-value.result))
-    (omega arith)
-    (child_known c.args.table.now c.args.frame.shape.0 0 c.in-Ok.opened.items c.args.i c.take-value.result
-    c.in-Ok.ensures.fitting c.take-value.ensures.taken))
+  child_is : IsOfShape plan (child_node plan (node_on_top plan slots stack) form i)
+      (child_as table (shape_here table root.0 slots stack) form i)
+  child_is =
+      child_shaped agree table root plan ready.checked ready.inside ready.planned (node_on_top plan slots stack)
+      (shape_here table root.0 slots stack) form count i (here_along agree paths table root plan slots stack ready).node_is
+      full below
 
-pub returns-in-Ok-clause-below : goal.returns-in-Ok-clause-below
-returns-in-Ok-clause-below c = record {
-  shape = c.requires.child.shape;
-  piece =
-      subst (λ (s : ℕ). IsPiece c.args.table.now s c.entered.result) c.requires.child.shape c.entered.ensures.fitting;
-}
+  module _ (after : List Slot)
+      (begun : IsOpenAt plan after stack (cursor_in slots stack)
+      (change_at (cursor_in slots stack) (opened_as form count) (tree_in_slots slots stack))) where
+    has : HasChild form i (tree_here after stack)
+    has =
+        subst (λ (t : Tree). HasChild form i t)
+        (sym
+        (ap (λ (p : Place). tree_at p (tree_in_slots after stack)) begun.cursor
+        ∙ ap (tree_at (cursor_in slots stack)) begun.built
+        ∙ changed_at (cursor_in slots stack) (opened_as form count) (tree_in_slots slots stack) ready.leads
+        ∙ ap (opened_as form count) (sym (plot_here plan slots stack ready.shown))))
+        (has_child table (shape_here table root.0 slots stack) i form count (open_top plan slots stack ready.shown).plot full
+        below
+        (subst (λ (t : Tree). Suits table (shape_here table root.0 slots stack) t)
+        (sym (plot_here plan slots stack ready.shown))
+        (here_along agree paths table root plan slots stack ready).suits)
+        (ap (λ (t : Tree). field_refusal (def_of table (shape_here table root.0 slots stack)) t i)
+        (plot_here plan slots stack ready.shown)
+        ∙ may))
 
-pub returns-in-Ok-clause-tokens : goal.returns-in-Ok-clause-tokens
-returns-in-Ok-clause-tokens c t =
-    let out : vals_occur (vals_view c.in-Ok.opened.items) t
-    ≡ vals_occur (vals_view (set c.in-Ok.opened.items c.args.i c.take-value.ensures.rest.0)) t
-    + occurs (view c.take-value.result) t
-    = vals_occur_out c.in-Ok.opened.items c.args.i c.take-value.ensures.rest.0 c.take-value.result t
-    c.take-value.ensures.taken c.take-value.ensures.rest.1 in
-    let rest : vals_occur (vals_view c.take-value.new.children.items) t
-    ≡ vals_occur (vals_view (set c.in-Ok.opened.items c.args.i c.take-value.ensures.rest.0)) t
-    = ap (λ children. vals_occur (vals_view children) t) c.take-value.ensures.rest.2 in
-    let child : tree_occurs (node c.entered.result) t ≡ occurs (view c.take-value.result) t
-    = ap (λ tree. tree_occurs tree t) c.entered.ensures.tree ∙ entered_occurs (def_of c.args.table.now c.args.child.shape.0) (view c.take-value.result) t in
-    omega (arith, c.in-Ok.ensures.tokens t)
+    stays : node_on_top plan after stack ≡ node_on_top plan slots stack
+    stays =
+        node_stays plan plan.root (cursor_in slots stack) (cursor_in after stack) (opened_as form count)
+        (kid_shown (heap_of slots) stack) (kid_shown (heap_of after) stack) begun.cursor ready.leads begun.built
+
+pub begin-requires-clause-may_open : goal.begin-requires-clause-may_open
+begin-requires-clause-may_open c =
+    opens c.law_plan_lookups.ensures.agree c.law_plan_lookups.ensures.paths c.args.table.now c.args.root c.args.plan.now
+    c.args.slots c.args.stack c.requires.ready (as_form c.args.child.form) c.args.child.count c.args.i
+    c.requires.child.begun c.requires.child.within c.requires.admitted
+
+pub abandon-requires-clause-is_open : goal.abandon-requires-clause-is_open
+abandon-requires-clause-is_open c =
+    open_shown c.args.plan.now c.args.slots c.begin.new.slots c.args.stack c.requires.ready.shown
+    c.in_default.ensures.refused c.begin.ensures.tokens
+
+pub abandon-requires-clause-room : goal.abandon-requires-clause-room
+abandon-requires-clause-room c =
+    Room_same (tree_occurs (tree_in_slots c.args.slots c.args.stack))
+    (tree_occurs (tree_in_slots c.begin.new.slots c.args.stack)) c.args.ledger.now
+    (same_tokens c.args.plan.now c.args.slots c.begin.new.slots c.args.stack c.requires.ready.shown
+    (abandon-requires-clause-is_open c) c.begin.ensures.tokens)
+    c.requires.room
+
+pub returns-in_default-clause-released : goal.returns-in_default-clause-released
+returns-in_default-clause-released c =
+    RoseBy_same (tree_occurs (tree_in_slots c.begin.new.slots c.args.stack))
+    (tree_occurs (tree_in_slots c.args.slots c.args.stack)) c.args.ledger.now c.abandon.new.ledger
+    (λ t.
+    sym
+    (same_tokens c.args.plan.now c.args.slots c.begin.new.slots c.args.stack c.requires.ready.shown
+    (open_shown c.args.plan.now c.args.slots c.begin.new.slots c.args.stack c.requires.ready.shown
+    c.in_default.ensures.refused c.begin.ensures.tokens)
+    c.begin.ensures.tokens t))
+    c.abandon.ensures.released
+
+pub enter-requires-clause-child : goal.enter-requires-clause-child
+enter-requires-clause-child c =
+    has c.law_plan_lookups.ensures.agree c.law_plan_lookups.ensures.paths c.args.table.now c.args.root c.args.plan.now
+    c.args.slots c.args.stack c.requires.ready (as_form c.args.child.form) c.args.child.count c.args.i
+    c.requires.child.begun c.requires.child.within c.requires.admitted c.begin.new.slots c.in-Ok.ensures.begun
+
+pub enter-requires-clause-node : goal.enter-requires-clause-node
+enter-requires-clause-node c =
+    c.child_node-node.ensures
+    ∙ ap (λ (n : NodeId). child_node c.args.plan.now n (as_form c.args.child.form) c.args.i)
+    (c.node_here.ensures
+    ∙ sym
+    (stays c.law_plan_lookups.ensures.agree c.law_plan_lookups.ensures.paths c.args.table.now c.args.root c.args.plan.now
+    c.args.slots c.args.stack c.requires.ready (as_form c.args.child.form) c.args.child.count c.args.i
+    c.requires.child.begun c.requires.child.within c.requires.admitted c.begin.new.slots c.in-Ok.ensures.begun))
+
+pub enter-requires-clause-planned : goal.enter-requires-clause-planned
+enter-requires-clause-planned c =
+    let shaped = child_is c.law_plan_lookups.ensures.agree c.law_plan_lookups.ensures.paths c.args.table.now c.args.root
+    c.args.plan.now c.args.slots c.args.stack c.requires.ready (as_form c.args.child.form) c.args.child.count c.args.i
+    c.requires.child.begun c.requires.child.within c.requires.admitted in
+    subst (λ (n : NodeId). n.0 < length c.args.plan.now.nodes)
+    (sym
+    (c.child_node-node.ensures
+    ∙ ap (λ (n : NodeId). child_node c.args.plan.now n (as_form c.args.child.form) c.args.i) c.node_here.ensures))
+    (is_there c.args.plan.now.nodes _ shaped.found shaped.there)
+
+pub abandon-requires-in-Err-clause-is_open : goal.abandon-requires-in-Err-clause-is_open
+abandon-requires-in-Err-clause-is_open c =
+    subst (λ (slots : List Slot). IsOpen c.args.plan.now slots c.enter.new.self) (sym c.in-Err.ensures.slots_kept)
+    (subst (λ (stack : List ℕ). IsOpen c.args.plan.now c.begin.new.slots stack) (sym c.in-Err.ensures.kept)
+    c.in-Ok.ensures.begun.open_still)
+
+pub abandon-requires-in-Err-clause-room : goal.abandon-requires-in-Err-clause-room
+abandon-requires-in-Err-clause-room c =
+    Room_same (tree_occurs (tree_in_slots c.args.slots c.args.stack))
+    (tree_occurs (tree_in_slots c.enter.new.slots c.enter.new.self)) c.args.ledger.now
+    (λ t.
+    same_tokens c.args.plan.now c.args.slots c.begin.new.slots c.args.stack c.requires.ready.shown
+    c.in-Ok.ensures.begun.open_still c.begin.ensures.tokens t
+    ∙ ap (λ (slots : List Slot). tree_occurs (tree_in_slots slots c.args.stack) t) (sym c.in-Err.ensures.slots_kept)
+    ∙ ap (λ (stack : List ℕ). tree_occurs (tree_in_slots c.enter.new.slots stack) t) (sym c.in-Err.ensures.kept))
+    c.requires.room
+
+pub returns-in-Err-clause-released : goal.returns-in-Err-clause-released
+returns-in-Err-clause-released c =
+    RoseBy_same (tree_occurs (tree_in_slots c.enter.new.slots c.enter.new.self))
+    (tree_occurs (tree_in_slots c.args.slots c.args.stack)) c.args.ledger.now c.abandon-in-Err.new.ledger
+    (λ t.
+    sym
+    (same_tokens c.args.plan.now c.args.slots c.begin.new.slots c.args.stack c.requires.ready.shown
+    c.in-Ok.ensures.begun.open_still c.begin.ensures.tokens t
+    ∙ ap (λ (slots : List Slot). tree_occurs (tree_in_slots slots c.args.stack) t) (sym c.in-Err.ensures.slots_kept)
+    ∙ ap (λ (stack : List ℕ). tree_occurs (tree_in_slots c.enter.new.slots stack) t) (sym c.in-Err.ensures.kept)))
+    c.abandon-in-Err.ensures.released
+
+pub returns-in-Ok-enter-clause-entered : goal.returns-in-Ok-enter-clause-entered
+returns-in-Ok-enter-clause-entered c =
+    let entered = c.in-Ok-enter.ensures.entered in
+    let begun = c.in-Ok.ensures.begun in
+    let place = cursor_in c.args.slots c.args.stack in
+    let change = change_child c.args.i (enter (def_of c.args.table.now (shape_of c.args.plan.now c.child_node-node.result))) in
+    let shaped = child_is c.law_plan_lookups.ensures.agree c.law_plan_lookups.ensures.paths c.args.table.now c.args.root
+    c.args.plan.now c.args.slots c.args.stack c.requires.ready (as_form c.args.child.form) c.args.child.count c.args.i
+    c.requires.child.begun c.requires.child.within c.requires.admitted in
+    record {
+      open_still = entered.open_still;
+      cursor = entered.cursor ∙ ap (λ (p : Place). p ++ c.args.i ∷ []) begun.cursor;
+      built =
+          entered.built
+          ∙ ap (λ (p : Place). change_at p change (tree_in_slots c.begin.new.slots c.args.stack)) begun.cursor
+          ∙ ap (change_at place change) begun.built
+          ∙ entered_so c.args.table.now
+          (shape_here c.args.table.now c.args.root.0 c.args.slots c.args.stack) c.args.i place
+          (tree_in_slots c.args.slots c.args.stack) (as_form c.args.child.form) c.args.child.count
+          (def_of c.args.table.now (shape_of c.args.plan.now c.child_node-node.result)) c.requires.child.form
+          c.requires.child.count
+          (def_entered c.args.table.now c.args.plan.now c.child_node-node.result
+          (shape_here c.args.table.now c.args.root.0 c.args.slots c.args.stack) c.args.i (as_form c.args.child.form)
+          (subst
+          (λ (n : NodeId).
+          IsOfShape c.args.plan.now n
+          (child_as c.args.table.now (shape_here c.args.table.now c.args.root.0 c.args.slots c.args.stack)
+          (as_form c.args.child.form) c.args.i))
+          (sym
+          (c.child_node-node.ensures
+          ∙ ap (λ (n : NodeId). child_node c.args.plan.now n (as_form c.args.child.form) c.args.i) c.node_here.ensures))
+          shaped));
+    }

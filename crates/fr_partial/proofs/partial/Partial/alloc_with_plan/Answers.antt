@@ -1,6 +1,7 @@
 use Rattle.std.proofs.Common.{◌≡◌, ℕ, Option, sym, ap, ◌∙◌, subst}
 use Rattle.fr_shape.specs.declared.error.AllocError.{AllocError}
 use Rattle.fr_shape.specs.declared.shape.ShapeId.{ShapeId}
+use Rattle.fr_shape.specs.Look.{IsIn}
 use Rattle.fr_model.specs.Run.{unsized_refusal}
 use Rattle.fr_model.specs.Tree.{initial}
 use Rattle.fr_plan.specs.TypePlan.{IsPlanOf}
@@ -21,10 +22,20 @@ number_is : (g : Over) (c : After-root g) → (from : IsPlanFrom c.args.table.no
     → c.root.result.now.shape.0 ≡ from.root.0
 number_is g c from = ap (λ (id : ShapeId). id.0) (root_is g c from)
 
+pub start-requires-clause-inside : goal.start-requires-clause-inside
+start-requires-clause-inside g c =
+    subst (λ (s : ℕ). IsIn c.args.table.now s)
+    (sym (number_is g (goal.at.start-requires-clause-inside g c).After-root c.requires.plan)) c.requires.plan.inside
+
 pub start-requires-clause-plan : goal.start-requires-clause-plan
 start-requires-clause-plan g c =
     subst (λ (id : ShapeId). IsPlanOf c.args.table.now id c.args.plan.now)
     (sym (root_is g (goal.at.start-requires-clause-plan g c).After-root c.requires.plan)) c.requires.plan.planned
+
+pub start-requires-clause-inside : goal.start-requires-clause-inside
+start-requires-clause-inside g c =
+    subst (λ (n : ℕ). IsIn c.args.table.now n)
+    (sym (number_is g (goal.at.start-requires-clause-inside g c).After-root c.requires.plan)) c.requires.plan.inside
 
 pub returns-clause-root : goal.returns-clause-root
 returns-clause-root g c =

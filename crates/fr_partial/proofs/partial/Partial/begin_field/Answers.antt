@@ -1,51 +1,49 @@
 use Rattle.std.proofs.Common.{◌≡◌, true, false, Result, Err, inr, sym, subst, arith, ap, ◌∙◌}
 use Rattle.fr_shape.specs.declared.error.ReflectErrorKind.{ReflectErrorKind}
-use Rattle.fr_shape.specs.Look.{def_of}
+use Rattle.fr_model.specs.Commands.{Call}
 use Rattle.fr_model.specs.Tree.{State}
 use Rattle.fr_partial.specs.Builder.{holds, IsStepTo}
-use Rattle.fr_partial.specs.Stack.{node}
-use Rattle.fr_partial.proofs.BeginLaws.{admitted_there, named_within, named_admitted, named_refused, named_unknown}
-use Rattle.fr_model.specs.Commands.{Call}
-use Rattle.fr_partial.proofs.RemovedLaws.{in_order, rises_by_removed, all_released}
+use Rattle.fr_partial.proofs.BeginLaws.{named_there, named_admitted, named_refused, named_unknown}
+use Rattle.fr_partial.proofs.RemovedLaws.{rises_by_removed, all_released}
+use Rattle.fr_partial.proofs.StateLaws.{in_order}
 use Rattle.fr_partial.proofs.partial.Partial.begin_field.Goals as goal
 
 pub returns-in-Some-clause-step : goal.returns-in-Some-clause-step
 returns-in-Some-clause-step g c =
     inr
-    (named_refused c.self.inside.table.now c.self.inside.root.0 c.self.inside.parents.items c.self.inside.frame
-    c.self.inside.calls c.self.invariant.chain c.args.self c.self.view_is c.args.field_name.now c.in-Some.operation
-    (sym c.in-Some.ensures)
+    (named_refused c.self.inside.table.now c.self.inside.root.0 c.self.inside.slots c.self.inside.stack
+    c.self.inside.calls c.args.self c.self.view_is c.shape-shape.result c.shape-shape.ensures.shape c.args.field_name.now
+    c.in-Some.operation (sym c.in-Some.ensures)
     ∙ ap Err (sym c.refuse.ensures.kind))
 
 pub enter-requires-clause-admitted : goal.enter-requires-clause-admitted
 enter-requires-clause-admitted g c =
-    admitted_there c.self.inside.table.now c.self.inside.root.0 c.self.inside.parents.items c.self.inside.frame
-    c.self.inside.calls c.self.invariant.chain c.args.self c.self.view_is c.in-Some-field_named.i
-    (named_within (def_of c.self.inside.table.now c.self.inside.frame.shape.0) (node c.self.inside.frame.piece)
-    c.args.field_name.now c.in-Some-field_named.i (sym c.in-Some-field_named.ensures))
+    named_there c.self.inside.table.now c.self.inside.root.0 c.self.inside.slots c.self.inside.stack
+    c.self.inside.calls c.args.self c.self.view_is c.shape-shape.result c.shape-shape.ensures.shape c.args.field_name.now
+    c.in-Some-field_named.i (sym c.in-Some-field_named.ensures)
 
 pub returns-in-Some-field_named-clause-step : goal.returns-in-Some-field_named-clause-step
 returns-in-Some-field_named-clause-step g c =
     subst (λ (meant : Result State ReflectErrorKind). IsStepTo c.args.self meant c.enter.result)
     (sym
-    (named_admitted c.self.inside.table.now c.self.inside.root.0 c.self.inside.parents.items c.self.inside.frame
-    c.self.inside.calls c.self.invariant.chain c.args.self c.self.view_is c.args.field_name.now c.in-Some-field_named.i
-    (sym c.in_default.ensures) (sym c.in-Some-field_named.ensures)))
+    (named_admitted c.self.inside.table.now c.self.inside.root.0 c.self.inside.slots c.self.inside.stack
+    c.self.inside.calls c.args.self c.self.view_is c.shape-shape.result c.shape-shape.ensures.shape c.args.field_name.now
+    c.in-Some-field_named.i (sym c.in_default.ensures) (sym c.in-Some-field_named.ensures)))
     c.enter.ensures.step
 
 pub returns-in-None-clause-step : goal.returns-in-None-clause-step
 returns-in-None-clause-step g c =
     inr
-    (named_unknown c.self.inside.table.now c.self.inside.root.0 c.self.inside.parents.items c.self.inside.frame
-    c.self.inside.calls c.self.invariant.chain c.args.self c.self.view_is c.args.field_name.now
+    (named_unknown c.self.inside.table.now c.self.inside.root.0 c.self.inside.slots c.self.inside.stack
+    c.self.inside.calls c.args.self c.self.view_is c.shape-shape.result c.shape-shape.ensures.shape c.args.field_name.now
     (sym c.in_default.ensures) (sym c.in-None.ensures)
     ∙ ap Err (sym c.refuse-in-None.ensures.kind))
 
 pub returns-in-Some-field_named-clause-refused : goal.returns-in-Some-field_named-clause-refused
 returns-in-Some-field_named-clause-refused g c refused =
     let no : false ≡ true =
-    rw (named_admitted c.self.inside.table.now c.self.inside.root.0 c.self.inside.parents.items c.self.inside.frame
-    c.self.inside.calls c.self.invariant.chain c.args.self c.self.view_is c.args.field_name.now
+    rw (named_admitted c.self.inside.table.now c.self.inside.root.0 c.self.inside.slots c.self.inside.stack
+    c.self.inside.calls c.args.self c.self.view_is c.shape-shape.result c.shape-shape.ensures.shape c.args.field_name.now
     c.in-Some-field_named.i (sym c.in_default.ensures) (sym c.in-Some-field_named.ensures))
     at refused in
     absurd (cc)

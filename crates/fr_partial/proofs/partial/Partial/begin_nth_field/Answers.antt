@@ -1,39 +1,48 @@
-use Rattle.std.proofs.Common.{◌≡◌, true, false, Result, Err, inr, sym, subst, arith, ap, ◌∙◌}
+use Rattle.std.proofs.Common.{◌≡◌, None, true, false, Result, Err, inr, sym, subst, arith, ap, ◌∙◌}
 use Rattle.fr_shape.specs.declared.error.ReflectErrorKind.{ReflectErrorKind}
-use Rattle.fr_model.specs.Tree.{State}
-use Rattle.fr_partial.specs.Builder.{holds, IsStepTo}
-use Rattle.fr_partial.proofs.BeginLaws.{admitted_there, begin_admitted, begin_refused}
+use Rattle.fr_shape.specs.Look.{def_of}
 use Rattle.fr_model.specs.Commands.{Call}
-use Rattle.fr_partial.proofs.RemovedLaws.{in_order, rises_by_removed, all_released}
+use Rattle.fr_model.specs.Step.{field_refusal}
+use Rattle.fr_model.specs.Tree.{State, cursor_tree}
+use Rattle.fr_partial.specs.Builder.{here, holds, IsStepTo}
+use Rattle.fr_partial.proofs.BeginLaws.{refusal_is, begin_admitted, begin_refused}
+use Rattle.fr_partial.proofs.RemovedLaws.{rises_by_removed, all_released}
+use Rattle.fr_partial.proofs.StateLaws.{in_order}
 use Rattle.fr_partial.proofs.partial.Partial.begin_nth_field.Goals as goal
+use Rattle.fr_partial.proofs.partial.Partial.begin_nth_field.Given.{Over}
+use Rattle.fr_partial.proofs.partial.Partial.begin_nth_field.Goals.{In-None}
+
+admitted : (g : Over) (c : In-None g)
+    → field_refusal (def_of c.args.self.shapes (here c.args.self)) (cursor_tree c.args.self.state) c.args.idx ≡ None
+admitted g c =
+    sym
+    (refusal_is c.self.inside.table.now c.self.inside.root.0 c.self.inside.slots c.self.inside.stack c.self.inside.calls
+    c.args.self c.self.view_is c.shape-shape.result.0 c.shape-shape.ensures.shape _ c.piece_here.ensures c.args.idx)
+    ∙ sym c.in-None.ensures
 
 pub enter-requires-clause-admitted : goal.enter-requires-clause-admitted
-enter-requires-clause-admitted g c =
-    admitted_there c.self.inside.table.now c.self.inside.root.0 c.self.inside.parents.items c.self.inside.frame
-    c.self.inside.calls c.self.invariant.chain c.args.self c.self.view_is c.args.idx (sym c.in-None.ensures)
+enter-requires-clause-admitted g c = admitted g (goal.at.enter-requires-clause-admitted g c).In-None
 
 pub returns-in-Some-clause-step : goal.returns-in-Some-clause-step
 returns-in-Some-clause-step g c =
     inr
-    (begin_refused c.self.inside.table.now c.self.inside.root.0 c.self.inside.parents.items c.self.inside.frame
-    c.self.inside.calls c.self.invariant.chain c.args.self c.self.view_is c.args.idx c.in-Some.operation
-    (sym c.in-Some.ensures)
+    (begin_refused c.args.self c.args.idx c.shape-shape.result c.in-Some.operation c.shape-shape.ensures.shape
+    (sym
+    (refusal_is c.self.inside.table.now c.self.inside.root.0 c.self.inside.slots c.self.inside.stack c.self.inside.calls
+    c.args.self c.self.view_is c.shape-shape.result.0 c.shape-shape.ensures.shape _ c.piece_here.ensures c.args.idx)
+    ∙ sym c.in-Some.ensures)
     ∙ ap Err (sym c.refuse.ensures.kind))
 
 pub returns-in-None-clause-step : goal.returns-in-None-clause-step
 returns-in-None-clause-step g c =
     subst (λ (meant : Result State ReflectErrorKind). IsStepTo c.args.self meant c.enter.result)
-    (sym
-    (begin_admitted c.self.inside.table.now c.self.inside.root.0 c.self.inside.parents.items c.self.inside.frame
-    c.self.inside.calls c.self.invariant.chain c.args.self c.self.view_is c.args.idx (sym c.in-None.ensures)))
+    (sym (begin_admitted c.args.self c.args.idx (admitted g (goal.at.returns-in-None-clause-step g c).In-None)))
     c.enter.ensures.step
 
 pub returns-in-None-clause-refused : goal.returns-in-None-clause-refused
 returns-in-None-clause-refused g c refused =
     let no : false ≡ true =
-    rw (begin_admitted c.self.inside.table.now c.self.inside.root.0 c.self.inside.parents.items c.self.inside.frame
-    c.self.inside.calls c.self.invariant.chain c.args.self c.self.view_is c.args.idx (sym c.in-None.ensures))
-    at refused in
+    rw (begin_admitted c.args.self c.args.idx (admitted g (goal.at.returns-in-None-clause-refused g c).In-None)) at refused in
     absurd (cc)
 
 pub returns-in-Some-clause-removed : goal.returns-in-Some-clause-removed

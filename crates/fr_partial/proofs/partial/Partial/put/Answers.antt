@@ -1,76 +1,67 @@
-use Rattle.std.proofs.Common.{◌≡◌, ℕ, ◌+◌, true, refl, sym, ◌∙◌, ap, subst, arith}
+use Rattle.std.proofs.Common.{◌≡◌, ℕ, ◌+◌, true, Ok, refl, sym, ◌∙◌, ap, subst, arith}
 use Rattle.fr_shape.specs.Fits.{fits}
-use Rattle.fr_shape.specs.Look.{Table}
+use Rattle.fr_shape.specs.Hooks.{no_hooks}
 use Rattle.fr_shape.specs.TokenLaws.{Room_fewer}
 use Rattle.fr_shape.specs.Tokens.{occurs}
 use Rattle.fr_shape.specs.View.{view}
-use Rattle.fr_model.specs.Tree.{whole, tree_occurs}
+use Rattle.fr_model.specs.Commands.{Call}
+use Rattle.fr_model.specs.Step.{step, puts}
+use Rattle.fr_model.specs.Tree.{Tree, State, tree_occurs}
+use Rattle.fr_plan.specs.TypePlan.{Plan}
+use Rattle.fr_store.specs.Moves.{tokens_here, tree_in_slots}
+use Rattle.fr_store.specs.Stands.{IsOpen}
 use Rattle.fr_partial.specs.Builder.{Builder, here, holds}
-use Rattle.fr_partial.specs.Stack.{node, rebuild, parents_hold}
-use Rattle.fr_partial.proofs.StackLaws.{occurs_rebuild, chain_change}
-use Rattle.fr_partial.proofs.BuilderLaws.{places_hold, holds_of, here_of, puts_is}
-use Rattle.fr_model.specs.Paths.{path_of}
-use Rattle.fr_partial.proofs.RemovedLaws.{in_order, path_is}
+use Rattle.fr_partial.specs.Underway.{shape_here, state_of}
+use Rattle.fr_partial.proofs.FitLaws.{fits_in}
+use Rattle.fr_partial.proofs.PutLaws.{set_admitted}
+use Rattle.fr_partial.proofs.StateLaws.{put_keeps, state_is, underway_after, order_after, tokens_after}
 use Rattle.fr_partial.proofs.partial.Partial.put.Goals as goal
 
-pub release_piece-requires : goal.release_piece-requires
-release_piece-requires g c =
-    Room_fewer (tree_occurs (node c.self.inside.frame.piece)) (λ t. holds c.args.self t + occurs (view c.args.value) t)
-    c.args.ledger.now
-    (λ t.
-    let h : holds c.args.self t ≡ places_hold c.self.inside.parents.items c.self.inside.frame.piece t
-    = holds_of c.self.inside.table.now c.self.inside.root.0 c.self.inside.parents.items c.self.inside.frame
-    c.self.inside.calls c.self.invariant.chain c.args.self c.self.view_is t in
-    omega arith)
-    c.requires.room
+pub set-requires-clause-room : goal.set-requires-clause-room
+set-requires-clause-room g c =
+    Room_fewer (tokens_here c.self.inside.slots c.self.inside.stack)
+    (λ t. holds c.args.self t + occurs (view c.args.value) t) c.args.ledger.now
+    (λ t. omega (arith, put_keeps c.self.invariant c.self.view_is c.law_removed.ensures.step (view c.args.value) t
+    (set_admitted (shape_here c.self.inside.table.now c.self.inside.root.0 c.self.inside.slots c.self.inside.stack)
+    (shape_here c.self.inside.table.now c.self.inside.root.0 c.self.inside.slots c.self.inside.stack)
+    (state_of c.self.inside.slots c.self.inside.stack c.self.inside.calls) (view c.args.value) refl))) c.requires.room
 
 pub invariant_of-result : goal.invariant_of-result
-invariant_of-result g c = record {
-  numbered = c.self.invariant.numbered;
-  checked = c.self.invariant.checked;
-  served = c.self.invariant.served;
-  chain =
-      chain_change c.self.inside.table.now c.self.inside.root.0 c.self.inside.parents.items c.self.inside.frame _
-      c.self.invariant.chain
-      (record {
-        shape = refl;
-        piece =
-            subst (λ (s : ℕ). fits c.self.inside.table.now s (view c.args.value) ≡ true)
-            (here_of c.self.inside.table.now c.self.inside.root.0 c.self.inside.parents.items c.self.inside.frame
-            c.self.inside.calls c.self.invariant.chain c.args.self c.self.view_is)
-            (subst (λ (table : Table). fits table (here c.args.self) (view c.args.value) ≡ true)
-            (ap (λ (b : Builder _). b.shapes) (sym c.self.view_is)) c.requires.fits);
-      });
-  planned = c.self.invariant.planned;
-  path =
-      path_is c.self.invariant c.self.view_is
-      ∙ sym
-      (c.law_paths.ensures.put c.args.self.state (view c.args.value)
-      (in_order c.self.invariant c.self.view_is).state.leads)
-      ∙ ap path_of
-      (sym
-      (puts_is c.self.inside.table.now c.self.inside.root.0 c.self.inside.parents.items c.self.inside.frame
-      c.self.inside.calls c.self.invariant.chain c.args.self c.self.view_is (view c.args.value)
-      c.saturating_add.result c.saturating_add.ensures));
-}
+invariant_of-result g c =
+    let s : ℕ = shape_here c.self.inside.table.now c.self.inside.root.0 c.self.inside.slots c.self.inside.stack in
+    let state : State = state_of c.self.inside.slots c.self.inside.stack c.self.inside.calls in
+    let fitting : fits c.self.inside.table.now s (view c.args.value) ≡ true
+    = ap (λ (b : Builder _). fits b.shapes (here b) (view c.args.value)) c.self.view_is ∙ c.requires.fits in
+    underway_after c.self.invariant c.self.inside.path c.set.new.slots c.self.inside.stack c.saturating_add.result
+    (puts state (view c.args.value))
+    (subst (λ (p : Plan). IsOpen p c.set.new.slots c.self.inside.stack) c.core.ensures c.set.ensures.set.open_still)
+    (state_is _ c.set.new.slots c.self.inside.stack _ _ c.saturating_add.result _ c.set.ensures.set
+    c.saturating_add.ensures)
+    (order_after c.self.invariant c.law_well.ensures.in_order no_hooks (puts state (view c.args.value))
+    (Call.Set s (view c.args.value)) (fits_in c.self.inside.table.now s (view c.args.value) fitting, fitting)
+    (set_admitted s s state (view c.args.value) refl))
+    (c.self.invariant.path ∙ sym (c.law_paths.ensures.put state (view c.args.value) c.self.invariant.ready.leads))
 
 pub returns-clause-state : goal.returns-clause-state
 returns-clause-state g c =
-    puts_is c.self.inside.table.now c.self.inside.root.0 c.self.inside.parents.items c.self.inside.frame
-    c.self.inside.calls c.self.invariant.chain c.args.self c.self.view_is (view c.args.value) c.saturating_add.result
+    state_is _ c.set.new.slots c.self.inside.stack _ _ c.saturating_add.result _ c.set.ensures.set
     c.saturating_add.ensures
+    ∙ ap (λ (b : Builder _). puts b.state (view c.args.value)) c.self.view_is
 
 pub returns-clause-tokens : goal.returns-clause-tokens
 returns-clause-tokens g c = record {
-  same_length = c.release_piece.ensures.same_length;
+  same_length = c.set.ensures.released.same_length;
   kept_or_released = λ t.
-      let h : holds c.args.self t ≡ places_hold c.self.inside.parents.items c.self.inside.frame.piece t
-      = holds_of c.self.inside.table.now c.self.inside.root.0 c.self.inside.parents.items c.self.inside.frame
-      c.self.inside.calls c.self.invariant.chain c.args.self c.self.view_is t in
-      let now : tree_occurs (rebuild c.self.inside.parents.items (whole (view c.args.value))) t
-      ≡ parents_hold c.self.inside.parents.items t + occurs (view c.args.value) t
-      = occurs_rebuild c.self.inside.table.now c.self.inside.root.0 c.self.inside.parents.items c.self.inside.frame
-      (whole (view c.args.value)) t c.self.invariant.chain in
-      omega (arith, c.release_piece.ensures.each t);
-  none_falls = λ t. omega (arith, c.release_piece.ensures.each t);
+      let now : tree_occurs (tree_in_slots c.set.new.slots c.self.inside.stack) t
+      ≡ tree_occurs (puts (state_of c.self.inside.slots c.self.inside.stack c.self.inside.calls) (view c.args.value)).tree t
+      = ap (λ (tree : Tree). tree_occurs tree t) c.set.ensures.set.built in
+      omega (
+        arith,
+        put_keeps c.self.invariant c.self.view_is c.law_removed.ensures.step (view c.args.value) t
+    (set_admitted (shape_here c.self.inside.table.now c.self.inside.root.0 c.self.inside.slots c.self.inside.stack)
+    (shape_here c.self.inside.table.now c.self.inside.root.0 c.self.inside.slots c.self.inside.stack)
+    (state_of c.self.inside.slots c.self.inside.stack c.self.inside.calls) (view c.args.value) refl),
+        c.set.ensures.released.each t,
+      );
+  none_falls = λ t. omega (arith, c.set.ensures.released.each t);
 }

@@ -1,37 +1,41 @@
 use Rattle.std.proofs.Common.{◌≡◌, ℕ, ◌+◌, true, false, Ok, Err, refl, inl, inr, sym, ap, ◌∙◌, arith}
+use Rattle.fr_shape.specs.Fits.{fits}
 use Rattle.fr_shape.specs.TokenLaws.{Room_same, Conserved_same}
 use Rattle.fr_shape.specs.Tokens.{occurs}
 use Rattle.fr_shape.specs.Val.{Val}
 use Rattle.fr_shape.specs.View.{view}
 use Rattle.fr_model.specs.Step.{puts, set_default}
 use Rattle.fr_model.specs.Tree.{State}
-use Rattle.fr_partial.specs.Builder.{holds, here, left}
-use Rattle.fr_partial.proofs.PutLaws.{fits_here, default_there, default_missing}
+use Rattle.fr_partial.specs.Builder.{Builder, holds, here, left}
+use Rattle.fr_partial.proofs.PutLaws.{default_there, default_missing}
 use Rattle.fr_partial.proofs.TemplateLaws.{IsTemplate, preset_template, light_occurs}
+use Rattle.fr_shape.specs.declared.error.Operation.{Operation}
+use Rattle.fr_shape.specs.declared.error.ReflectErrorKind.{ReflectErrorKind}
 use Rattle.fr_model.specs.Commands.{Call}
-use Rattle.fr_partial.proofs.RemovedLaws.{in_order, rises_by_removed, all_released}
+use Rattle.fr_partial.proofs.RemovedLaws.{rises_by_removed, all_released}
+use Rattle.fr_partial.proofs.StateLaws.{in_order}
 use Rattle.fr_partial.proofs.partial.Partial.set_default.Goals as goal
 use Rattle.fr_partial.proofs.partial.Partial.set_default.Given.{Over}
 use Rattle.fr_partial.proofs.partial.Partial.set_default.Goals.{In-Some, In-Ok}
 
 template : (g : Over) (c : In-Some g)
-    → IsTemplate c.self.inside.table.now c.self.inside.frame.shape.0 c.in-Some.template.now
+    → IsTemplate c.self.inside.table.now c.shape-shape.result.0 c.in-Some.template.now
 template g c =
-    preset_template c.self.inside.table.now c.self.inside.frame.shape.0 c.in-Some.template.now
-    c.self.invariant.checked (sym c.in-Some.ensures.template)
+    preset_template c.self.inside.table.now c.shape-shape.result.0 c.in-Some.template.now
+    c.self.invariant.ready.checked (sym c.in-Some.ensures.template)
 
 nothing_more : (g : Over) (c : In-Ok g) (t : ℕ) → occurs (view c.in-Ok.value) t ≡ 0
 nothing_more g c t =
     ap (λ (v : Val). occurs v t) c.in-Ok.ensures.copy
     ∙ light_occurs c.in-Some.template.now t
-    (preset_template c.self.inside.table.now c.self.inside.frame.shape.0 c.in-Some.template.now
-    c.self.invariant.checked (sym c.in-Some.ensures.template)).light
+    (preset_template c.self.inside.table.now c.shape-shape.result.0 c.in-Some.template.now
+    c.self.invariant.ready.checked (sym c.in-Some.ensures.template)).light
 
 pub returns-in_default-clause-step : goal.returns-in_default-clause-step
 returns-in_default-clause-step g c =
     inr
-    (default_missing c.self.inside.table.now c.self.inside.root.0 c.self.inside.parents.items c.self.inside.frame
-    c.self.inside.calls c.self.invariant.chain c.args.self c.self.view_is
+    (default_missing c.self.inside.table.now c.self.inside.root.0 c.self.inside.slots c.self.inside.stack
+    c.self.inside.calls c.args.self c.self.view_is c.shape-shape.result c.shape-shape.ensures.shape
     (sym c.in_default.ensures.template)
     ∙ ap Err (sym c.refuse.ensures.kind))
 
@@ -40,10 +44,10 @@ copy_template-requires g c = record { no_token = (template g (goal.at.copy_templ
 
 pub put-requires-clause-fits : goal.put-requires-clause-fits
 put-requires-clause-fits g c =
-    fits_here c.self.inside.table.now c.self.inside.root.0 c.self.inside.parents.items c.self.inside.frame
-    c.self.inside.calls c.self.invariant.chain c.args.self c.self.view_is c.self.inside.frame.shape.0
-    (view c.in-Ok.value) refl
-    (rw c.in-Ok.ensures.copy (template g (goal.at.put-requires-clause-fits g c).In-Some).fitting)
+    ap (λ (b : Builder _). fits b.shapes (here c.args.self) (view c.in-Ok.value)) (sym c.self.view_is)
+    ∙ ap (λ (s : ℕ). fits c.self.inside.table.now s (view c.in-Ok.value)) (sym c.shape-shape.ensures.shape)
+    ∙ ap (λ (v : Val). fits c.self.inside.table.now c.shape-shape.result.0 v) c.in-Ok.ensures.copy
+    ∙ (template g (goal.at.put-requires-clause-fits g c).In-Some).fitting
 
 pub put-requires-clause-room : goal.put-requires-clause-room
 put-requires-clause-room g c =
@@ -52,8 +56,8 @@ put-requires-clause-room g c =
 
 pub returns-in-Ok-clause-step : goal.returns-in-Ok-clause-step
 returns-in-Ok-clause-step g c = (
-  default_there c.self.inside.table.now c.self.inside.root.0 c.self.inside.parents.items c.self.inside.frame
-      c.self.inside.calls c.self.invariant.chain c.args.self c.self.view_is c.in-Some.template.now
+  default_there c.self.inside.table.now c.self.inside.root.0 c.self.inside.slots c.self.inside.stack
+    c.self.inside.calls c.args.self c.self.view_is c.shape-shape.result c.shape-shape.ensures.shape c.in-Some.template.now
       (sym c.in-Some.ensures.template)
       ∙ ap (λ (v : Val). Ok (puts c.args.self.state v)) (sym c.in-Ok.ensures.copy)
       ∙ ap (λ (s : State). Ok s) (sym c.put.ensures.state),
@@ -72,8 +76,8 @@ pub returns-in-Err-clause-refused : goal.returns-in-Err-clause-refused
 returns-in-Err-clause-refused g c refused =
     let there : set_default c.args.self.shapes (here c.args.self) c.args.self.state
     ≡ Ok (puts c.args.self.state c.in-Some.template.now)
-    = default_there c.self.inside.table.now c.self.inside.root.0 c.self.inside.parents.items c.self.inside.frame
-    c.self.inside.calls c.self.invariant.chain c.args.self c.self.view_is c.in-Some.template.now
+    = default_there c.self.inside.table.now c.self.inside.root.0 c.self.inside.slots c.self.inside.stack
+    c.self.inside.calls c.args.self c.self.view_is c.shape-shape.result c.shape-shape.ensures.shape c.in-Some.template.now
     (sym c.in-Some.ensures.template) in
     let no : false ≡ true = rw there at refused in
     absurd (cc)

@@ -1,0 +1,453 @@
+-- What a place lacks and what it makes, by what each of its children lacks and makes.
+use Rattle.std.proofs.Common.{◌≡◌, ℕ, zero, suc, ◌+◌, ◌-◌, ◌<◌, Bool, List, [], ◌∷◌, length, map, drop, replicate, Option, Some, None, IsSome, slice_get, get_or, inl, inr, refl, sym, ◌∙◌, ap, subst, arith}
+use Rattle.std.specs.Option.{option_or}
+use Rattle.std.specs.Prelude.{◌≤◌, Result, Ok, Err, IfErr, take, slice_index_or, if◌then◌else◌}
+use Rattle.fr_arena.specs.Ranges.{Range}
+use Rattle.fr_shape.specs.declared.error.ReflectErrorKind.{ReflectErrorKind}
+use Rattle.fr_shape.specs.declared.shape.Def.{Def}
+use Rattle.fr_shape.specs.declared.shape.Field.{Field}
+use Rattle.fr_shape.specs.declared.shape.FieldRef.{FieldRef}
+use Rattle.fr_shape.specs.declared.shape.ScalarKind.{ScalarKind}
+use Rattle.fr_shape.specs.declared.shape.ValidatorDef.{ValidatorDef}
+use Rattle.fr_shape.specs.Fills.{preset_of}
+use Rattle.fr_shape.specs.Hooks.{Meanings}
+use Rattle.fr_shape.specs.Look.{Table, def_of}
+use Rattle.fr_shape.specs.Val.{Val, Vals}
+use Rattle.fr_shape.specs.Validators.{passes, passes_at, message, kind_of}
+use Rattle.fr_rules.specs.declared.validators.PrecomputedValidator.{PrecomputedValidator}
+use Rattle.fr_rules.specs.FillRules.{fill_told}
+use Rattle.fr_rules.specs.Pools.{part_of}
+use Rattle.fr_rules.specs.Validators.{passes_held, validator_of}
+use Rattle.fr_model.specs.Complete.{complete, complete_all, made, made_by, made_of_fills, lack, lack_among, lack_by, lack_of_hole, lack_of_holes, failing_child, failing_field, first_failing, valid_child, unless_failing, unless_there, missing_child, missing_field, missing_value}
+use Rattle.fr_model.specs.Places.{child_count, fill_at, one_more, each_child}
+use Rattle.fr_model.specs.Tree.{Form, as_struct, as_array}
+use Rattle.fr_plan.specs.declared.plans.FieldPlan.{FieldPlan}
+use Rattle.fr_plan.specs.Plans.{precomputed, with_kind, kind_of as kind_in_plan}
+use Rattle.fr_plan.specs.TypePlan.{Plan}
+use Rattle.fr_frame.specs.Bodies.{Body, entered_body, whole_body, begun_body, own_tree, trees_of}
+use Rattle.fr_frame.specs.Cells.{Cell, absent, given, placed, value_of_cell, value_at, values_of}
+use Rattle.fr_frame.specs.Filling.{IsTold, IsToldAt, AreTold, child_value, filled, filled_body, lack_of_child, first_refused, IsCauseOf, HaveNoValidators}
+
+-- What fails.
+
+kinds_agree : (def : Def) → kind_in_plan def ≡ kind_of def
+kinds_agree (Def.Scalar kind) = refl
+kinds_agree def = refl
+
+held_passes : (checks : ℕ → Val → Bool) (kind : ScalarKind) (validator : ValidatorDef) (v : Val)
+    → passes_held checks (with_kind kind validator) v ≡ passes checks kind validator v
+held_passes checks kind (ValidatorDef.Custom hook) v = refl
+held_passes checks kind (ValidatorDef.Min low) v = refl
+held_passes checks kind (ValidatorDef.Max high) v = refl
+held_passes checks kind (ValidatorDef.MinLength low) v = refl
+held_passes checks kind (ValidatorDef.MaxLength high) v = refl
+held_passes checks kind ValidatorDef.Url v = refl
+held_passes checks kind (ValidatorDef.Regex pattern) v = refl
+held_passes checks kind (ValidatorDef.Contains needle) v = refl
+
+held_is : (kind : ScalarKind) (validator : ValidatorDef) → validator_of (with_kind kind validator) ≡ validator
+held_is kind (ValidatorDef.Custom hook) = refl
+held_is kind (ValidatorDef.Min low) = refl
+held_is kind (ValidatorDef.Max high) = refl
+held_is kind (ValidatorDef.MinLength low) = refl
+held_is kind (ValidatorDef.MaxLength high) = refl
+held_is kind ValidatorDef.Url = refl
+held_is kind (ValidatorDef.Regex pattern) = refl
+held_is kind (ValidatorDef.Contains needle) = refl
+
+abbrev meant_field : ℕ → ℕ → FieldRef
+meant_field s i = record { shape = record { 0 = s }; variant = None; index = i }
+
+refused_is : (means : Meanings) (def : Def) (s i : ℕ) (validators : List ValidatorDef) (v : Val)
+    → first_refused means (meant_field s i) (map (precomputed (kind_in_plan def)) validators) v
+    ≡ first_failing means def s i validators v
+refused_is means def s i [] v = refl
+refused_is means def s i (validator ∷ validators) v =
+    ap
+    (λ (b : Bool).
+    if b then first_refused means (meant_field s i) (map (precomputed (kind_in_plan def)) validators) v
+    else Some (ReflectErrorKind.ValidationFailed (meant_field s i)
+    (message (validator_of (with_kind (kind_in_plan def) validator)) v)))
+    (held_passes means.check (kind_in_plan def) validator v
+    ∙ ap (λ (kind : ScalarKind). passes means.check kind validator v) (kinds_agree def))
+    ∙ ap
+    (λ (o : Option ReflectErrorKind).
+    if passes_at means.check def validator v then o
+    else Some (ReflectErrorKind.ValidationFailed (meant_field s i)
+    (message (validator_of (with_kind (kind_in_plan def) validator)) v)))
+    (refused_is means def s i validators v)
+    ∙ ap
+    (λ (d : ValidatorDef).
+    if passes_at means.check def validator v then first_failing means def s i validators v
+    else Some (ReflectErrorKind.ValidationFailed (meant_field s i) (message d v)))
+    (held_is (kind_in_plan def) validator)
+
+-- One child.
+
+pub cause_first : (a b : Option ReflectErrorKind) (kind : ReflectErrorKind) → IsCauseOf a kind → IsCauseOf (option_or a b) kind
+cause_first (Some k) b kind h = h
+cause_first None b kind (inl e) = absurd (cc)
+cause_first None b kind (inr h) = absurd h.1
+
+pub first_none : (a b : Option ReflectErrorKind) → a ≡ None → option_or a b ≡ b
+first_none a b e = ap (λ (o : Option ReflectErrorKind). option_or o b) e
+
+or_none : (a b : Option ReflectErrorKind) → option_or a b ≡ None → (a ≡ None) × (b ≡ None)
+or_none (Some k) b h = absurd (cc)
+or_none None b h = (refl, h)
+
+value_there : (kind : ReflectErrorKind) (value : Option Val) (failing : Option Val → Option ReflectErrorKind)
+    → option_or (unless_there value kind) (failing value) ≡ None
+    → (unless_failing (failing value) value ≡ value) × IsSome value
+value_there kind (Some v) failing h = (ap (λ (f : Option ReflectErrorKind). unless_failing f (Some v)) h, refl)
+value_there kind None failing h = absurd (cc)
+
+value_lacks : (kind : ReflectErrorKind) (value : Option Val) (failing : Option Val → Option ReflectErrorKind)
+    (cause : ReflectErrorKind) → option_or (unless_there value kind) (failing value) ≡ Some cause
+    → unless_failing (failing value) value ≡ None
+value_lacks kind (Some v) failing cause h = ap (λ (f : Option ReflectErrorKind). unless_failing f (Some v)) h
+value_lacks kind None failing cause h = no_value (failing None)
+  where
+    no_value : (f : Option ReflectErrorKind) → unless_failing f None ≡ None
+    no_value (Some k) = refl
+    no_value None = refl
+
+more_there : (value : Option Val) (values : Option Vals) → IsSome value → IsSome values → IsSome (one_more value values)
+more_there (Some v) (Some vs) a b = refl
+more_there (Some v) None a b = absurd (cc)
+more_there None values a b = absurd (cc)
+
+none_more : (value : Option Val) → one_more value None ≡ None
+none_more (Some v) = refl
+none_more None = refl
+
+-- Fields, as a plan tells them.
+
+module _ (means : Meanings) (table : Table) (plan : Plan) (s i : ℕ) (told : FieldPlan) (is : IsTold table plan s i told) where
+  pub field_value : (own : Option Val) → option_or own (fill_told table told.fill_rule) ≡ child_value table s as_struct i own
+  field_value own = ap (option_or own) is.fill
+
+  pub field_fails : (v : Val)
+      → first_refused means told.field (part_of plan.lists.validators told.validators) v
+      ≡ failing_child means table s as_struct i (Some v)
+  field_fails v =
+      ap (λ (meant : FieldRef). first_refused means meant (part_of plan.lists.validators told.validators) v) is.meant
+      ∙ ap (λ (validators : List PrecomputedValidator). first_refused means (meant_field s i) validators v) is.validators.names
+      ∙ refused_is means (def_of table is.field.shape.0) s i is.field.validators v
+      ∙ ap (λ (field : Option Field). failing_field means table s i field (Some v)) (sym is.here)
+
+  -- where the field has this value it lacks what fails
+  pub field_lacks : (own : Option Val) (v : Val) → option_or own (fill_told table told.fill_rule) ≡ Some v
+      → first_refused means told.field (part_of plan.lists.validators told.validators) v
+      ≡ lack_of_child means table s as_struct i own
+  field_lacks own v e =
+      field_fails v
+      ∙ ap
+      (λ (value : Option Val). option_or (unless_there value (missing_field s i)) (failing_child means table s as_struct i value))
+      (sym e ∙ field_value own)
+
+pub told_here : (table : Table) (plan : Plan) (s i : ℕ) (told : List FieldPlan) (one : FieldPlan) → AreTold table plan s told
+    → slice_get told i ≡ Some one → IsTold table plan s i one
+told_here table plan s i told one are e = subst (IsToldAt table plan s i) e (are.each i)
+
+shape_is : (table : Table) (plan : Plan) (s i : ℕ) (one : FieldPlan) → IsTold table plan s i one → one.field.shape.0 ≡ s
+shape_is table plan s i one is = ap (λ (meant : FieldRef). meant.shape.0) is.meant
+
+number_is : (table : Table) (plan : Plan) (s i : ℕ) (one : FieldPlan) → IsTold table plan s i one → one.field.index ≡ i
+number_is table plan s i one is = ap (λ (meant : FieldRef). meant.index) is.meant
+
+-- the same, of the shape and number that it names itself
+pub told_itself : (table : Table) (plan : Plan) (s i : ℕ) (one : FieldPlan) → IsTold table plan s i one
+    → IsTold table plan one.field.shape.0 one.field.index one
+told_itself table plan s i one is =
+    subst (λ (n : ℕ). IsTold table plan n one.field.index one) (sym (shape_is table plan s i one is))
+    (subst (λ (k : ℕ). IsTold table plan s k one) (sym (number_is table plan s i one is)) is)
+
+pub lack_itself : (means : Meanings) (table : Table) (plan : Plan) (s i : ℕ) (one : FieldPlan) (own : Option Val)
+    → IsTold table plan s i one
+    → lack_of_child means table one.field.shape.0 as_struct one.field.index own ≡ lack_of_child means table s as_struct i own
+lack_itself means table plan s i one own is =
+    ap (λ (n : ℕ). lack_of_child means table n as_struct one.field.index own) (shape_is table plan s i one is)
+    ∙ ap (λ (k : ℕ). lack_of_child means table s as_struct k own) (number_is table plan s i one is)
+
+-- Children.
+
+module _ (means : Meanings) (table : Table) (s : ℕ) (form : Form) where
+  lack_step : (i : ℕ) (c : Cell) (cs : List Cell)
+      → lack_among means table s form i (trees_of (c ∷ cs))
+      ≡ option_or (lack_of_child means table s form i (value_of_cell c)) (lack_among means table s form (suc i) (trees_of cs))
+  lack_step i absent cs = refl
+  lack_step i (given v) cs = refl
+  lack_step i (placed n) cs = refl
+
+  made_step : (i : ℕ) (c : Cell) (cs : List Cell)
+      → complete_all means table s form i (trees_of (c ∷ cs))
+      ≡ one_more (valid_child means table s form i (child_value table s form i (value_of_cell c)))
+      (complete_all means table s form (suc i) (trees_of cs))
+  made_step i absent cs = refl
+  made_step i (given v) cs = refl
+  made_step i (placed n) cs = refl
+
+  pub lack_next : (cs : List Cell) (k i : ℕ) → k < length cs
+      → lack_among means table s form i (trees_of (drop k cs))
+      ≡ option_or (lack_of_child means table s form i (value_at cs k)) (lack_among means table s form (suc i) (trees_of (drop (suc k) cs)))
+  lack_next [] k i h = absurd (omega arith)
+  lack_next (c ∷ cs) zero i h = lack_step i c cs
+  lack_next (c ∷ cs) (suc k) i h = lack_next cs k i (omega arith)
+
+  -- children that lack nothing make what they are filled to
+  pub made_whole : (i : ℕ) (cs : List Cell) → lack_among means table s form i (trees_of cs) ≡ None
+      → (complete_all means table s form i (trees_of cs) ≡ filled table s form i cs) × IsSome (filled table s form i cs)
+  made_whole i [] h = (refl, refl)
+  made_whole i (c ∷ cs) h =
+      let both : (lack_of_child means table s form i (value_of_cell c) ≡ None)
+      × (lack_among means table s form (suc i) (trees_of cs) ≡ None)
+      = or_none (lack_of_child means table s form i (value_of_cell c)) (lack_among means table s form (suc i) (trees_of cs))
+      (sym (lack_step i c cs) ∙ h) in
+      let here : (valid_child means table s form i (child_value table s form i (value_of_cell c)) ≡ child_value table s form i (value_of_cell c))
+      × IsSome (child_value table s form i (value_of_cell c))
+      = value_there (missing_child s form i) (child_value table s form i (value_of_cell c)) (failing_child means table s form i) both.0 in
+      let rest : (complete_all means table s form (suc i) (trees_of cs) ≡ filled table s form (suc i) cs) × IsSome (filled table s form (suc i) cs)
+      = made_whole (suc i) cs both.1 in (
+        made_step i c cs
+            ∙ ap (λ (value : Option Val). one_more value (complete_all means table s form (suc i) (trees_of cs))) here.0
+            ∙ ap (one_more (child_value table s form i (value_of_cell c))) rest.0,
+        more_there (child_value table s form i (value_of_cell c)) (filled table s form (suc i) cs) here.1 rest.1,
+      )
+
+  -- and none is made where something is lacking
+  pub not_made : (i : ℕ) (cs : List Cell) (kind : ReflectErrorKind) → lack_among means table s form i (trees_of cs) ≡ Some kind
+      → complete_all means table s form i (trees_of cs) ≡ None
+  not_made i [] kind h = absurd (cc)
+  not_made i (c ∷ cs) kind h =
+      made_step i c cs
+      ∙ go (lack_of_child means table s form i (value_of_cell c)) refl (sym (lack_step i c cs) ∙ h) (not_made (suc i) cs kind)
+    where
+      go : (here : Option ReflectErrorKind) → lack_of_child means table s form i (value_of_cell c) ≡ here
+          → option_or (lack_of_child means table s form i (value_of_cell c)) (lack_among means table s form (suc i) (trees_of cs)) ≡ Some kind
+          → (lack_among means table s form (suc i) (trees_of cs) ≡ Some kind → complete_all means table s form (suc i) (trees_of cs) ≡ None)
+          → one_more (valid_child means table s form i (child_value table s form i (value_of_cell c)))
+          (complete_all means table s form (suc i) (trees_of cs)) ≡ None
+      go (Some cause) e all rest =
+          ap (λ (value : Option Val). one_more value (complete_all means table s form (suc i) (trees_of cs)))
+          (value_lacks (missing_child s form i) (child_value table s form i (value_of_cell c)) (failing_child means table s form i) cause e)
+      go None e all rest =
+          ap (one_more (valid_child means table s form i (child_value table s form i (value_of_cell c))))
+          (rest (sym (first_none (lack_of_child means table s form i (value_of_cell c)) (lack_among means table s form (suc i) (trees_of cs)) e) ∙ all))
+          ∙ none_more (valid_child means table s form i (child_value table s form i (value_of_cell c)))
+
+  pub no_children_lack : (count i : ℕ)
+      → lack_of_holes means table s form count i ≡ lack_among means table s form i (trees_of (replicate count absent))
+  no_children_lack zero i = refl
+  no_children_lack (suc count) i =
+      ap (option_or (lack_of_hole means table s form i)) (no_children_lack count (suc i))
+
+pub holes_next : (means : Meanings) (table : Table) (s count left i : ℕ) → left ≡ suc count
+    → lack_of_holes means table s as_struct left i
+    ≡ option_or (lack_of_child means table s as_struct i None) (lack_of_holes means table s as_struct count (suc i))
+holes_next means table s count left i e = ap (λ (n : ℕ). lack_of_holes means table s as_struct n i) e
+
+-- Places.
+
+module _ (means : Meanings) (table : Table) (s : ℕ) where
+  no_children_made : (count i : ℕ)
+      → each_child (λ k. valid_child means table s as_struct k (fill_at table s k)) count i
+      ≡ complete_all means table s as_struct i (trees_of (replicate count absent))
+  no_children_made zero i = refl
+  no_children_made (suc count) i =
+      ap (one_more (valid_child means table s as_struct i (fill_at table s i))) (no_children_made count (suc i))
+
+  abbrev holes : List Cell
+  holes = replicate (child_count table s) absent
+
+  by_def_whole : (def : Def) (preset : Option Val) (lacking : Option ReflectErrorKind) (made_up fills : Option Val)
+      → lack_by def preset lacking (missing_value s) ≡ None → (lacking ≡ None → (made_up ≡ fills) × IsSome fills)
+      → (made_by def preset made_up ≡ made_by def preset fills) × IsSome (made_by def preset fills)
+  by_def_whole (Def.Struct struct) (Some v) lacking made_up fills h so = (refl, refl)
+  by_def_whole (Def.Struct struct) None lacking made_up fills h so = so h
+  by_def_whole (Def.Option t) (Some v) lacking made_up fills h so = (refl, refl)
+  by_def_whole (Def.Option t) None lacking made_up fills h so = absurd (cc)
+  by_def_whole _ preset lacking made_up fills h so = absurd (cc)
+
+  by_def_lacks : (def : Def) (preset : Option Val) (lacking : Option ReflectErrorKind) (made_up : Option Val)
+      (kind : ReflectErrorKind) → lack_by def preset lacking (missing_value s) ≡ Some kind
+      → (lacking ≡ Some kind → made_up ≡ None) → made_by def preset made_up ≡ None
+  by_def_lacks (Def.Struct struct) (Some v) lacking made_up kind h so = absurd (cc)
+  by_def_lacks (Def.Struct struct) None lacking made_up kind h so = so h
+  by_def_lacks (Def.Option t) (Some v) lacking made_up kind h so = absurd (cc)
+  by_def_lacks (Def.Option t) None lacking made_up kind h so = refl
+  by_def_lacks _ preset lacking made_up kind h so = refl
+
+  made_up_is : made_of_fills means table s ≡ made as_struct (complete_all means table s as_struct 0 (trees_of holes))
+  made_up_is = ap (made as_struct) (no_children_made (child_count table s) 0)
+
+  made_there : (form : Form) (values : Option Vals) → IsSome values → IsSome (made form values)
+  made_there as_struct (Some vs) h = refl
+  made_there as_array (Some vs) h = refl
+  made_there form None h = absurd (cc)
+
+  made_none : (form : Form) → made form None ≡ None
+  made_none as_struct = refl
+  made_none as_array = refl
+
+  -- a place that lacks nothing makes what it is filled to
+  pub body_whole : (body : Body) → lack means table s (own_tree body) ≡ None
+      → (complete means table s (own_tree body) ≡ filled_body table s body) × IsSome (filled_body table s body)
+  body_whole entered_body h =
+      by_def_whole (def_of table s) (preset_of table s) (lack_of_holes means table s as_struct (child_count table s) 0)
+      (made_of_fills means table s) (made as_struct (filled table s as_struct 0 holes)) h
+      (λ e.
+      let so : (complete_all means table s as_struct 0 (trees_of holes) ≡ filled table s as_struct 0 holes) × IsSome (filled table s as_struct 0 holes)
+      = made_whole means table s as_struct 0 holes (sym (no_children_lack means table s as_struct (child_count table s) 0) ∙ e) in
+      (made_up_is ∙ ap (made as_struct) so.0, made_there as_struct (filled table s as_struct 0 holes) so.1))
+  body_whole (whole_body v) h = (refl, refl)
+  body_whole (begun_body form cells) h =
+      let so : (complete_all means table s form 0 (trees_of cells) ≡ filled table s form 0 cells) × IsSome (filled table s form 0 cells)
+      = made_whole means table s form 0 cells h in
+      (ap (made form) so.0, made_there form (filled table s form 0 cells) so.1)
+
+  -- and one that lacks something makes nothing
+  pub body_lacks : (body : Body) (kind : ReflectErrorKind) → lack means table s (own_tree body) ≡ Some kind
+      → complete means table s (own_tree body) ≡ None
+  body_lacks entered_body kind h =
+      by_def_lacks (def_of table s) (preset_of table s) (lack_of_holes means table s as_struct (child_count table s) 0)
+      (made_of_fills means table s) kind h
+      (λ e.
+      made_up_is
+      ∙ ap (made as_struct)
+      (not_made means table s as_struct 0 holes kind (sym (no_children_lack means table s as_struct (child_count table s) 0) ∙ e)))
+  body_lacks (whole_body v) kind h = absurd (cc)
+  body_lacks (begun_body form cells) kind h =
+      ap (made form) (not_made means table s form 0 cells kind h) ∙ made_none form
+
+-- Children that are all there, of fields without validators.
+
+item_at : {X : Type 0} (xs : List X) (k : ℕ) → k < length xs → (x : X) × (slice_get xs k ≡ Some x)
+item_at [] k h = absurd (omega arith)
+item_at (x ∷ xs) zero h = (x, refl)
+item_at (x ∷ xs) (suc k) h = item_at xs k (omega arith)
+
+index_is : {X : Type 0} (xs : List X) (k : ℕ) (d x : X) → slice_get xs k ≡ Some x → slice_index_or xs k d ≡ x
+index_is [] k d x e = absurd (cc)
+index_is (y ∷ xs) zero d x e = cc
+index_is (y ∷ xs) (suc k) d x e = index_is xs k d x e
+
+none_of : {X : Type 0} (xs : List X) (range : Range) → range.len ≡ 0 → part_of xs range ≡ []
+none_of xs range e =
+    let nothing : (range.start + range.len) - range.start ≡ 0 = omega arith in
+    ap (λ (n : ℕ). take n (drop range.start xs)) nothing
+
+module _ (means : Meanings) (table : Table) (plan : Plan) (s : ℕ) (told : List FieldPlan) (are : AreTold table plan s told)
+    (no_validators : HaveNoValidators told) where
+  passes_all : (i : ℕ) (v : Val) → i < length told → failing_child means table s as_struct i (Some v) ≡ None
+  passes_all i v h =
+      let one : (x : FieldPlan) × (slice_get told i ≡ Some x) = item_at told i h in
+      let is : IsTold table plan s i one.0 = told_here table plan s i told one.0 are one.1 in
+      let none : one.0.validators.len ≡ 0
+      = ap (λ (x : FieldPlan). x.validators.len) (sym (index_is told i one.0 one.0 one.1)) ∙ no_validators i one.0 h in
+      sym (field_fails means table plan s i one.0 is v)
+      ∙ ap (λ (validators : List PrecomputedValidator). first_refused means one.0.field validators v)
+      (none_of plan.lists.validators one.0.validators none)
+
+  lack_nothing : (j : ℕ) (cs : List Cell) → j + length cs ≤ length told → IsSome (values_of cs)
+      → lack_among means table s as_struct j (trees_of cs) ≡ None
+  lack_nothing j [] h there = refl
+  lack_nothing j (absent ∷ cs) h there = absurd (cc)
+  lack_nothing j (placed n ∷ cs) h there = absurd (cc)
+  lack_nothing j (given v ∷ cs) h there =
+      ap (λ (o : Option ReflectErrorKind). option_or o (lack_among means table s as_struct (suc j) (trees_of cs)))
+      (passes_all j v (omega arith))
+      ∙ lack_nothing (suc j) cs (omega arith) (go (values_of cs) there)
+    where
+      go : (vs : Option Vals) → IsSome (one_more (Some v) vs) → IsSome vs
+      go (Some vs) h = refl
+      go None h = absurd (cc)
+
+  pub no_validator_lacks : (cs : List Cell) → length cs ≡ length told → IsSome (values_of cs)
+      → lack_among means table s as_struct 0 (trees_of cs) ≡ None
+  no_validator_lacks cs h there = lack_nothing 0 cs (omega arith) there
+
+-- an array lacks its value where an element isn't there, and else nothing
+
+pub elements_there : (means : Meanings) (table : Table) (s i : ℕ) (cs : List Cell) → IsSome (values_of cs)
+    → lack_among means table s as_array i (trees_of cs) ≡ None
+elements_there means table s i [] h = refl
+elements_there means table s i (absent ∷ cs) h = absurd (cc)
+elements_there means table s i (placed n ∷ cs) h = absurd (cc)
+elements_there means table s i (given v ∷ cs) h = elements_there means table s (suc i) cs (go (values_of cs) h)
+  where
+    go : (vs : Option Vals) → IsSome (one_more (Some v) vs) → IsSome vs
+    go (Some vs) h = refl
+    go None h = absurd (cc)
+
+pub element_lacks : (means : Meanings) (table : Table) (s i : ℕ) (cs : List Cell) → values_of cs ≡ None
+    → lack_among means table s as_array i (trees_of cs) ≡ Some (missing_value s)
+element_lacks means table s i [] h = absurd (cc)
+element_lacks means table s i (absent ∷ cs) h = refl
+element_lacks means table s i (placed n ∷ cs) h = refl
+element_lacks means table s i (given v ∷ cs) h = element_lacks means table s (suc i) cs (go (values_of cs) h)
+  where
+    go : (vs : Option Vals) → one_more (Some v) vs ≡ None → vs ≡ None
+    go (Some vs) h = absurd (cc)
+    go None h = refl
+
+-- Field by field.
+
+pub item_is : {X : Type 0} (xs : List X) (i : ℕ) (x : X) → i < length xs → x ≡ get_or xs i x → slice_get xs i ≡ Some x
+item_is xs i x h e =
+    let at : (y : _) × (slice_get xs i ≡ Some y) = item_at xs i h in
+    at.1 ∙ ap Some (sym (index_is xs i x at.0 at.1) ∙ sym e)
+
+pub err_so : {X E : Type 0} (r : Result X E) (P Q : E → Type 0) → ((kind : E) → P kind → Q kind) → IfErr r P → IfErr r Q
+err_so (Ok x) P Q so h = tt
+err_so (Err kind) P Q so h = so kind h
+
+module _ (means : Meanings) (table : Table) (plan : Plan) (s i : ℕ) (one : FieldPlan) (is : IsTold table plan s i one) where
+  abbrev its_lack : Option Val → Option ReflectErrorKind
+  its_lack own = lack_of_child means table one.field.shape.0 as_struct one.field.index own
+
+  holes_left : (n : ℕ) → i < n
+      → lack_of_holes means table s as_struct (n - i) i
+      ≡ option_or (its_lack None) (lack_of_holes means table s as_struct (n - (i + 1)) (suc i))
+  holes_left n h =
+      let left : n - i ≡ suc (n - (i + 1)) = omega arith in
+      holes_next means table s (n - (i + 1)) (n - i) i left
+      ∙ ap (λ (o : Option ReflectErrorKind). option_or o (lack_of_holes means table s as_struct (n - (i + 1)) (suc i)))
+      (sym (lack_itself means table plan s i one None is))
+
+  pub holes_preserved : (n : ℕ) → i < n → its_lack None ≡ None
+      → lack_of_holes means table s as_struct (n - i) i ≡ lack_of_holes means table s as_struct (n - (i + 1)) (i + 1)
+  holes_preserved n h passes =
+      let next : suc i ≡ i + 1 = omega arith in
+      holes_left n h ∙ first_none (its_lack None) (lack_of_holes means table s as_struct (n - (i + 1)) (suc i)) passes
+      ∙ ap (λ (k : ℕ). lack_of_holes means table s as_struct (n - (i + 1)) k) next
+
+  pub holes_cause : (n : ℕ) → i < n → (kind : ReflectErrorKind) → IsCauseOf (its_lack None) kind
+      → IsCauseOf (lack_of_holes means table s as_struct (n - i) i) kind
+  holes_cause n h kind cause =
+      subst (λ (o : Option ReflectErrorKind). IsCauseOf o kind) (sym (holes_left n h))
+      (cause_first (its_lack None) (lack_of_holes means table s as_struct (n - (i + 1)) (suc i)) kind cause)
+
+  fields_left : (cs : List Cell) (own : Option Val) → i < length cs → own ≡ value_at cs i
+      → lack_among means table s as_struct i (trees_of (drop i cs))
+      ≡ option_or (its_lack own) (lack_among means table s as_struct (suc i) (trees_of (drop (suc i) cs)))
+  fields_left cs own h e =
+      lack_next means table s as_struct cs i i h
+      ∙ ap
+      (λ (o : Option ReflectErrorKind). option_or o (lack_among means table s as_struct (suc i) (trees_of (drop (suc i) cs))))
+      (ap (lack_of_child means table s as_struct i) (sym e) ∙ sym (lack_itself means table plan s i one own is))
+
+  pub fields_preserved : (cs : List Cell) (own : Option Val) → i < length cs → own ≡ value_at cs i → its_lack own ≡ None
+      → lack_among means table s as_struct i (trees_of (drop i cs))
+      ≡ lack_among means table s as_struct (i + 1) (trees_of (drop (i + 1) cs))
+  fields_preserved cs own h e passes =
+      let next : suc i ≡ i + 1 = omega arith in
+      fields_left cs own h e
+      ∙ first_none (its_lack own) (lack_among means table s as_struct (suc i) (trees_of (drop (suc i) cs))) passes
+      ∙ ap (λ (k : ℕ). lack_among means table s as_struct k (trees_of (drop k cs))) next
+
+  pub fields_cause : (cs : List Cell) (own : Option Val) → i < length cs → own ≡ value_at cs i → (kind : ReflectErrorKind)
+      → IsCauseOf (its_lack own) kind → IsCauseOf (lack_among means table s as_struct i (trees_of (drop i cs))) kind
+  fields_cause cs own h e kind cause =
+      subst (λ (o : Option ReflectErrorKind). IsCauseOf o kind) (sym (fields_left cs own h e))
+      (cause_first (its_lack own) (lack_among means table s as_struct (suc i) (trees_of (drop (suc i) cs))) kind cause)

@@ -1,0 +1,22 @@
+use Rattle.std.proofs.Common.{◌≡◌, ◌≢◌, ℕ, ◌<◌, length, replicate, Some, None, refl, sym, ◌∙◌, ap, subst, arith}
+use Rattle.std.specs.FinSet as finite
+use Rattle.fr_arena.specs.BitSets.{HasAllBelow}
+use Rattle.fr_shape.specs.declared.value.Value.{Value}
+use Rattle.fr_shape.specs.Val.{Val, unit, token}
+use Rattle.fr_shape.specs.View.{view}
+use Rattle.fr_frame.specs.Cells.{absent, given, placed, cell, in_slot}
+use Rattle.fr_frame.proofs.CellLaws.{same_length, has_room, cells_put, cells_absent, cells_given, cell_is, bit_set, bit_set_here, bit_unset, bit_unset_here, bit_below, value_here, no_value_here, slot_here, no_slot_of_value, no_value_at, no_slot_at, values_are, all_set_is}
+use Rattle.fr_frame.proofs.children.Children.clear.Goals as goal
+
+pub unset-requires : goal.unset-requires
+unset-requires c = record { inside = has_room c.self.inside.given c.self.inside.values.items c.args.self.now c.args.i c.self.invariant c.self.view_is c.requires }
+
+pub index_mut-requires : goal.index_mut-requires
+index_mut-requires c = omega (arith, same_length c.self.inside.given c.self.inside.values.items c.args.self.now c.self.view_is)
+
+pub returns : goal.returns
+returns c =
+    cells_put c.self.inside.given c.unset.new.self c.self.inside.values.items c.args.self.now c.args.i c.nothing.result
+    absent c.self.view_is
+    (λ j ne. c.unset.ensures.by_index j ∙ bit_unset c.args.i j _ ne)
+    (ap (λ b. cell b (view c.nothing.result)) (c.unset.ensures.by_index c.args.i ∙ bit_unset_here c.args.i _) ∙ ap in_slot c.nothing.ensures)

@@ -1,0 +1,19 @@
+use Rattle.std.proofs.Common.{◌≡◌, ◌≢◌, ℕ, ◌<◌, Some, None, refl, sym, ◌∙◌, ap, subst, arith}
+use Rattle.fr_shape.specs.Val.{Val, token}
+use Rattle.fr_shape.specs.View.{view}
+use Rattle.fr_frame.specs.Cells.{absent, given, placed, cell}
+use Rattle.fr_frame.proofs.CellLaws.{same_length, has_room, cells_put, cell_is, bit_set, bit_set_here, bit_unset, bit_unset_here, bit_below, value_here, no_value_here, slot_here}
+use Rattle.fr_frame.proofs.children.Children.put.Goals as goal
+
+pub set-requires : goal.set-requires
+set-requires c = record { inside = has_room c.self.inside.given c.self.inside.values.items c.args.self.now c.args.i c.self.invariant c.self.view_is c.requires }
+
+pub index_mut-requires : goal.index_mut-requires
+index_mut-requires c = omega (arith, same_length c.self.inside.given c.self.inside.values.items c.args.self.now c.self.view_is)
+
+pub returns : goal.returns
+returns c =
+    cells_put c.self.inside.given c.set.new.self c.self.inside.values.items c.args.self.now c.args.i c.args.value
+    (given (view c.args.value)) c.self.view_is
+    (λ j ne. c.set.ensures.by_index j ∙ bit_set c.args.i j _ ne)
+    (ap (λ b. cell b (view c.args.value)) (c.set.ensures.by_index c.args.i ∙ bit_set_here c.args.i _))

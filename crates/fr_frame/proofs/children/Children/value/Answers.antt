@@ -1,0 +1,25 @@
+use Rattle.std.proofs.Common.{◌≡◌, ◌≢◌, ℕ, ◌<◌, length, replicate, Some, None, refl, sym, ◌∙◌, ap, subst, arith}
+use Rattle.std.specs.FinSet as finite
+use Rattle.fr_arena.specs.BitSets.{HasAllBelow}
+use Rattle.fr_shape.specs.declared.value.Value.{Value}
+use Rattle.fr_shape.specs.Val.{Val, unit, token}
+use Rattle.fr_shape.specs.View.{view}
+use Rattle.fr_frame.specs.Cells.{absent, given, placed, cell, in_slot}
+use Rattle.fr_frame.proofs.CellLaws.{same_length, has_room, cells_put, cells_absent, cells_given, cell_is, bit_set, bit_set_here, bit_unset, bit_unset_here, bit_below, value_here, no_value_here, slot_here, no_slot_of_value, no_value_at, no_slot_at, values_are, all_set_is}
+use Rattle.fr_frame.proofs.children.Children.value.Goals as goal
+
+pub get-requires : goal.get-requires
+get-requires c = record { inside = has_room c.self.inside.given c.self.inside.values.items c.args.self.now c.args.i c.self.invariant c.self.view_is c.requires }
+
+pub index-requires : goal.index-requires
+index-requires c = omega (arith, same_length c.self.inside.given c.self.inside.values.items c.args.self.now c.self.view_is)
+
+pub returns-then-get : goal.returns-then-get
+returns-then-get c =
+    sym (value_here c.args.self.now c.args.i (finite.contains c.self.inside.given.members c.args.i) (view c.index.result.now)
+    (cell_is c.self.inside.given c.self.inside.values.items c.args.self.now c.args.i c.index.result.now c.self.view_is c.requires c.index.ensures)
+    (sym c.get.ensures.member ∙ c.if-get.true))
+
+pub returns-else-get : goal.returns-else-get
+returns-else-get c =
+    sym (no_value_at c.self.inside.given c.self.inside.values.items c.args.self.now c.args.i c.self.view_is c.requires (sym c.get.ensures.member ∙ c.if-get.false))

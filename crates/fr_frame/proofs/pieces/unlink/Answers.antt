@@ -1,0 +1,24 @@
+use Rattle.std.proofs.Common.{◌≡◌, ℕ, ◌+◌, List, Option, Some, None, ap, sym, ◌∙◌, subst, arith}
+use Rattle.fr_shape.specs.Val.{Val}
+use Rattle.fr_shape.specs.View.{view}
+use Rattle.fr_frame.specs.declared.places.Piece.{Piece}
+use Rattle.fr_frame.specs.Bodies.{begun_body, body_occurs, opened, opened_by}
+use Rattle.fr_frame.specs.Cells.{Cell, absent, given, placed, cells_occur, value_at, value_occurs}
+use Rattle.fr_frame.specs.Heap.{as_form, body_of}
+use Rattle.fr_frame.proofs.CellLaws.{occur_set, occur_taken, Releasing, releasing_begins, releasing_room, releasing_step, releasing_ends, rose_not, rose_by, cells_of_given}
+use Rattle.fr_frame.proofs.pieces.unlink.Goals as goal
+use Rattle.fr_frame.specs.Cells.{slot_at}
+use Rattle.fr_frame.proofs.CellLaws.{slot_no_value}
+
+pub returns-then-held-slot-clause-tokens : goal.returns-then-held-slot-clause-tokens
+returns-then-held-slot-clause-tokens c t =
+    let was : body_occurs (body_of c.args.piece.now) t ≡ cells_occur c.in-Begun.children t
+    = ap (λ (p : Piece). body_occurs (body_of p) t) c.in-Begun.is in
+    let held : Some c.in-Some-slot.held.0 ≡ slot_at c.in-Begun.children c.in-Some.i = c.in-Some-slot.ensures in
+    let none : value_at c.in-Begun.children c.in-Some.i ≡ None = slot_no_value c.in-Begun.children c.in-Some.i c.in-Some-slot.held.0 held in
+    omega (
+      arith,
+      occur_taken c.in-Begun.children c.in-Some.i absent t c.in-Some.ensures.inside,
+      ap (λ (cs : List Cell). cells_occur cs t) c.clear.ensures,
+      ap (λ (o : Option Val). value_occurs o t) none,
+    )

@@ -1,0 +1,10 @@
+use Rattle.std.proofs.Common.{◌≡◌, ℕ, ◌+◌, List, Some, None, ap, sym, ◌∙◌, arith}
+use Rattle.fr_frame.specs.declared.places.Slot.{Slot}
+use Rattle.fr_frame.specs.Heap.{slots_occur, slot_occurs, node_in}
+use Rattle.fr_frame.proofs.HeapLaws.{occur_set, occur_append, free_holds, free_there}
+use Rattle.fr_frame.proofs.slots.Slots.append.Goals as goal
+
+pub returns-clause-tokens : goal.returns-clause-tokens
+returns-clause-tokens c t =
+    ap (λ (slots : List Slot). slots_occur slots t) c.in-Ok.ensures.appended ∙ occur_append c.self.inside.entries None t
+    ∙ ap (λ (slots : List Slot). slots_occur slots t) c.self.view_is

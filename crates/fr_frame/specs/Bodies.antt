@@ -1,0 +1,144 @@
+-- What was put at a place, and what becomes of it where a child is entered or leaves.
+use Rattle.std.specs.Prelude.{ℕ, ◌+◌, List, [], ◌∷◌, map, replicate, slice_get, slice_set, Option, Some, None, IsSome, nat_eq, if◌then◌else◌}
+use Rattle.std.specs.Option.{option_and_then}
+use Rattle.fr_shape.specs.declared.shape.Def.{Def}
+use Rattle.fr_shape.specs.Fills.{is_empty_struct}
+use Rattle.fr_shape.specs.Tokens.{occurs}
+use Rattle.fr_shape.specs.Val.{Val, Vals, product, no_vals, first}
+use Rattle.fr_path.specs.declared.path_steps.PathStep.{PathStep}
+use Rattle.fr_model.specs.Complete.{made}
+use Rattle.fr_model.specs.Places.{parts_of}
+use Rattle.fr_model.specs.Tree.{Form, as_struct, as_array, Tree, hole, entered, whole, begun, Trees, no_trees, branch}
+use Rattle.fr_frame.specs.Cells.{Cell, absent, given, placed, cells_occur, values_of}
+
+-- a place: entered, with nothing put in; holding a value; or begun, with its children
+pub data Body : Type 0 where
+  entered_body : Body
+  whole_body : Val → Body
+  begun_body : Form → List Cell → Body
+
+abbrev pub body_occurs : Body → ℕ → ℕ
+body_occurs entered_body t = 0
+body_occurs (whole_body v) t = occurs v t
+body_occurs (begun_body form cells) t = cells_occur cells t
+
+-- a place of this definition that is just entered: a struct without fields is whole, as there is nothing to put in
+abbrev pub fresh_body : Def → Body
+fresh_body def = if is_empty_struct def then whole_body (product no_vals) else entered_body
+
+-- The child at a step.
+
+-- the number of the child to which a step leads from a place that is begun so, if it leads to one: a struct's field, an
+-- array's element
+abbrev pub child_number : Form → PathStep → Option ℕ
+child_number as_struct (PathStep.Field i) = Some i
+child_number as_struct _ = None
+child_number as_array (PathStep.Index i) = Some i
+child_number as_array _ = None
+
+-- the child at a step, where the place is begun and has it
+abbrev pub cell_at : Body → PathStep → Option Cell
+cell_at entered_body step = None
+cell_at (whole_body v) step = None
+cell_at (begun_body form cells) step = option_and_then (slice_get cells) (child_number form step)
+
+abbrev pub with_nth : List Cell → Cell → Option ℕ → List Cell
+with_nth cells child (Some i) = slice_set cells i child
+with_nth cells child None = cells
+
+-- the place with another child at a step, where it has one
+abbrev pub with_cell : Body → PathStep → Cell → Body
+with_cell entered_body step child = entered_body
+with_cell (whole_body v) step child = whole_body v
+with_cell (begun_body form cells) step child = begun_body form (with_nth cells child (child_number form step))
+
+-- Entering a child that will be in slot n.
+
+-- what is put at the child's place: what its parent holds of it, and else nothing
+abbrev pub taken_over : Def → Option Cell → Body
+taken_over def (Some absent) = fresh_body def
+taken_over def (Some (given v)) = whole_body v
+taken_over def (Some (placed m)) = fresh_body def
+taken_over def None = fresh_body def
+
+-- the parent: a child that has no slot yet now stands in slot n
+abbrev pub linked_by : (n : ℕ) → PathStep → Body → Option Cell → Body
+linked_by n step body (Some absent) = with_cell body step (placed n)
+linked_by n step body (Some (given v)) = with_cell body step (placed n)
+linked_by n step body (Some (placed m)) = body
+linked_by n step body None = body
+
+abbrev pub linked : (n : ℕ) → PathStep → Body → Body
+linked n step body = linked_by n step body (cell_at body step)
+
+-- A child that leaves slot n: where its parent has it there, it now isn't there.
+abbrev pub unlinked_by : (n : ℕ) → PathStep → Body → Option Cell → Body
+unlinked_by n step body (Some (placed m)) = if nat_eq m n then with_cell body step absent else body
+unlinked_by n step body (Some absent) = body
+unlinked_by n step body (Some (given v)) = body
+unlinked_by n step body None = body
+
+abbrev pub unlinked : (n : ℕ) → PathStep → Body → Body
+unlinked n step body = unlinked_by n step body (cell_at body step)
+
+-- Beginning a place.
+
+abbrev pub cells_of_vals : Vals → List Cell
+cells_of_vals no_vals = []
+cells_of_vals (first v vs) = given v ∷ cells_of_vals vs
+
+abbrev pub opened_by : Form → Val → (parts : Option Vals) → Body
+opened_by form v (Some vs) = begun_body form (cells_of_vals vs)
+opened_by form v None = whole_body v
+
+-- a place that is begun so, with so many children: an entered one has none of them yet, of a whole one each has its part
+-- of the value, a begun one stays as it is
+abbrev pub opened : Form → (count : ℕ) → Body → Body
+opened form count entered_body = begun_body form (replicate count absent)
+opened form count (whole_body v) = opened_by form v (parts_of v)
+opened form count (begun_body as_before cells) = begun_body as_before cells
+
+-- a whole place is begun only where its value has parts
+abbrev pub MayOpen : Body → Type 0
+MayOpen entered_body = Unit {0}
+MayOpen (whole_body v) = IsSome (parts_of v)
+MayOpen (begun_body form cells) = Unit {0}
+
+-- What a place comes to.
+
+-- the value of a place that is whole, or begun with each child's value there
+abbrev pub value_of : Body → Option Val
+value_of entered_body = None
+value_of (whole_body v) = Some v
+value_of (begun_body form cells) = made form (values_of cells)
+
+-- a child in a slot of its own isn't told here
+abbrev pub tree_of_cell : Cell → Tree
+tree_of_cell absent = hole
+tree_of_cell (given v) = whole v
+tree_of_cell (placed n) = hole
+
+abbrev pub trees_of : List Cell → Trees
+trees_of [] = no_trees
+trees_of (c ∷ cs) = branch (tree_of_cell c) (trees_of cs)
+
+-- the tree of a place none of whose children is in a slot of its own
+abbrev pub own_tree : Body → Tree
+own_tree entered_body = entered
+own_tree (whole_body v) = whole v
+own_tree (begun_body form cells) = begun form (trees_of cells)
+
+abbrev pub IsUnplaced : Cell → Type 0
+IsUnplaced absent = Unit {0}
+IsUnplaced (given v) = Unit {0}
+IsUnplaced (placed n) = ⊥
+
+abbrev pub AreUnplaced : List Cell → Type 0
+AreUnplaced [] = Unit {0}
+AreUnplaced (c ∷ cs) = IsUnplaced c × AreUnplaced cs
+
+-- no child of the place is in a slot of its own
+abbrev pub IsClosed : Body → Type 0
+IsClosed entered_body = Unit {0}
+IsClosed (whole_body v) = Unit {0}
+IsClosed (begun_body form cells) = AreUnplaced cells

@@ -1,0 +1,119 @@
+-- What contracts see of slots: under each number, what is known of the place in that slot.
+use Rattle.std.specs.Prelude.{ℕ, suc, ◌+◌, Bool, false, List, [], ◌∷◌, slice_get, Option, Some, None, nat_eq, if◌then◌else◌}
+use Rattle.std.specs.Option.{option_map, option_and_then}
+use Rattle.fr_shape.specs.declared.shape.Def.{Def}
+use Rattle.fr_shape.specs.View.{view}
+use Rattle.fr_path.specs.declared.path_steps.PathStep.{PathStep}
+use Rattle.fr_model.specs.Tree.{Form as TreeForm, as_struct, as_array}
+use Rattle.fr_plan.specs.declared.nodes.NodeId.{NodeId}
+use Rattle.fr_frame.specs.declared.places.Form.{Form}
+use Rattle.fr_frame.specs.declared.places.FrameOwner.{FrameOwner}
+use Rattle.fr_frame.specs.declared.places.Piece.{Piece}
+use Rattle.fr_frame.specs.declared.places.Place.{Place}
+use Rattle.fr_frame.specs.declared.places.Slot.{Slot}
+use Rattle.fr_frame.specs.declared.places.SlotId.{SlotId}
+use Rattle.fr_frame.specs.Cells.{Cell, placed}
+use Rattle.fr_frame.specs.Bodies.{Body, entered_body, whole_body, begun_body, body_occurs, cell_at, taken_over, linked, unlinked}
+
+-- the place in a slot: the plan's node that it is built by, the place that it belongs to, whether it is stored, how deep it
+-- lies, and what was put at it
+pub record Node : Type 0 where
+  pub node : NodeId
+  pub owner : FrameOwner
+  pub stored : Bool
+  pub depth : ℕ
+  pub body : Body
+
+abbrev pub Heap : Type 0
+Heap = ℕ → Option Node
+
+abbrev pub as_form : Form → TreeForm
+as_form Form.Struct = as_struct
+as_form Form.Array = as_array
+
+abbrev pub body_of : Piece → Body
+body_of Piece.Entered = entered_body
+body_of (Piece.Whole v) = whole_body (view v)
+body_of (Piece.Begun form children) = begun_body (as_form form) children
+
+abbrev pub node_of : Place → Node
+node_of place = record {
+  node = place.node;
+  owner = place.owner;
+  stored = place.stored;
+  depth = place.depth;
+  body = body_of place.piece;
+}
+
+abbrev pub node_in : Slot → Option Node
+node_in (Slot.Free next) = None
+node_in (Slot.Used place) = Some (node_of place)
+
+-- what is known of the places in these slots
+abbrev pub heap_of : List Slot → Heap
+heap_of slots n = option_and_then node_in (slice_get slots n)
+
+-- how often a token stands in all of them
+abbrev pub slot_occurs : Slot → ℕ → ℕ
+slot_occurs (Slot.Free next) t = 0
+slot_occurs (Slot.Used place) t = body_occurs (body_of place.piece) t
+
+abbrev pub slots_occur : List Slot → ℕ → ℕ
+slots_occur [] t = 0
+slots_occur (slot ∷ slots) t = slot_occurs slot t + slots_occur slots t
+
+-- no place lies deeper
+unfoldable pub depth_limit : ℕ
+depth_limit = 4294967295
+
+-- Changed heaps.
+
+-- the heap with something else under one number
+abbrev pub with_slot : Heap → ℕ → Option Node → Heap
+with_slot heap n found m = if nat_eq m n then found else heap m
+
+-- one place with something else put at it
+abbrev pub with_body : Heap → ℕ → (Body → Body) → Heap
+with_body heap n change = with_slot heap n (option_map (λ (at : Node). record at { body = change at.body }) (heap n))
+
+-- what the owner of a place holds at its step
+abbrev pub held_by : Heap → FrameOwner → Option Cell
+held_by heap FrameOwner.Root = None
+held_by heap (FrameOwner.Child parent step) = option_and_then (λ (at : Node). cell_at at.body step) (heap parent.0)
+
+abbrev pub depth_above : Option Node → ℕ
+depth_above (Some at) = suc at.depth
+depth_above None = 0
+
+-- how deep a place lies that belongs there
+abbrev pub depth_below : Heap → FrameOwner → ℕ
+depth_below heap FrameOwner.Root = 0
+depth_below heap (FrameOwner.Child parent step) = depth_above (heap parent.0)
+
+-- the owner of the place in slot n, where it has that child, now has it there
+abbrev pub links : FrameOwner → ℕ → Heap → Heap
+links FrameOwner.Root n heap = heap
+links (FrameOwner.Child parent step) n heap = with_body heap parent.0 (linked n step)
+
+-- the owner of the place that was in slot n, where it had it there, has it no more
+abbrev pub unlinks : FrameOwner → ℕ → Heap → Heap
+unlinks FrameOwner.Root n heap = heap
+unlinks (FrameOwner.Child parent step) n heap = with_body heap parent.0 (unlinked n step)
+
+-- a place that is just entered, of a node whose shape has this definition
+abbrev pub entered_node : Def → Heap → NodeId → FrameOwner → Node
+entered_node def heap node owner = record {
+  node = node;
+  owner = owner;
+  stored = false;
+  depth = depth_below heap owner;
+  body = taken_over def (held_by heap owner);
+}
+
+-- it is entered into slot n, and its owner's child is there
+abbrev pub with_entered : Def → Heap → NodeId → FrameOwner → ℕ → Heap
+with_entered def heap node owner n = with_slot (links owner n heap) n (Some (entered_node def heap node owner))
+
+-- slot n is free again, and its owner's child isn't there
+abbrev pub without : Heap → ℕ → FrameOwner → Heap
+without heap n owner = unlinks owner n (with_slot heap n None)

@@ -1,0 +1,138 @@
+-- The tree that places in slots make up: each place knows its slot, and whether it is stored.
+use Rattle.std.specs.Prelude.{◌≡◌, ℕ, zero, suc, ◌+◌, ◌<◌, Bool, List, [], ◌∷◌, Option, Some, None, unwrap_or}
+use Rattle.fr_shape.specs.Tokens.{occurs}
+use Rattle.fr_shape.specs.Val.{Val}
+use Rattle.fr_model.specs.Paths.{step_as}
+use Rattle.fr_model.specs.Tree.{Form, as_struct, as_array, Tree, hole, entered, whole, begun, Trees, no_trees, branch}
+use Rattle.fr_plan.specs.declared.nodes.NodeId.{NodeId}
+use Rattle.fr_plan.specs.Lookups.{struct_field, list_item, by_id}
+use Rattle.fr_plan.specs.TypePlan.{Plan}
+use Rattle.fr_frame.specs.declared.places.FrameOwner.{FrameOwner}
+use Rattle.fr_frame.specs.Cells.{Cell, absent, given, placed}
+use Rattle.fr_frame.specs.Bodies.{Body, entered_body, whole_body, begun_body}
+use Rattle.fr_frame.specs.Heap.{Node, Heap, depth_limit}
+
+-- A child: not there; there with its value; or in a slot, with what lies there. `Plot` is what lies in a slot.
+mutual
+  pub data Kid : Type 0 where
+    gone : Kid
+    there : Val → Kid
+    at : (slot : ℕ) → (stored : Bool) → Plot → Kid
+
+  pub data Plot : Type 0 where
+    entered_plot : Plot
+    whole_plot : Val → Plot
+    begun_plot : Form → Kids → Plot
+
+  pub data Kids : Type 0 where
+    no_kids : Kids
+    kid : Kid → Kids → Kids
+
+-- The same without slots.
+abbrev mutual
+  pub tree_of : Kid → Tree
+  tree_of gone = hole
+  tree_of (there v) = whole v
+  tree_of (at slot stored plot) = tree_in plot
+
+  pub tree_in : Plot → Tree
+  tree_in entered_plot = entered
+  tree_in (whole_plot v) = whole v
+  tree_in (begun_plot form kids) = begun form (trees_in kids)
+
+  pub trees_in : Kids → Trees
+  trees_in no_kids = no_trees
+  trees_in (kid k ks) = branch (tree_of k) (trees_in ks)
+
+-- One place of it by itself.
+
+abbrev pub cell_of : Kid → Cell
+cell_of gone = absent
+cell_of (there v) = given v
+cell_of (at slot stored plot) = placed slot
+
+abbrev pub cells_in : Kids → List Cell
+cells_in no_kids = []
+cells_in (kid k ks) = cell_of k ∷ cells_in ks
+
+abbrev pub body_in : Plot → Body
+body_in entered_plot = entered_body
+body_in (whole_plot v) = whole_body v
+body_in (begun_plot form kids) = begun_body form (cells_in kids)
+
+-- Reading it off a heap.
+
+abbrev pub kid_in : (below : ℕ → Kid) → Cell → Kid
+kid_in below absent = gone
+kid_in below (given v) = there v
+kid_in below (placed slot) = below slot
+
+abbrev pub kids_in : (below : ℕ → Kid) → List Cell → Kids
+kids_in below [] = no_kids
+kids_in below (c ∷ cs) = kid (kid_in below c) (kids_in below cs)
+
+abbrev pub plot_in : (below : ℕ → Kid) → Body → Plot
+plot_in below entered_body = entered_plot
+plot_in below (whole_body v) = whole_plot v
+plot_in below (begun_body form cells) = begun_plot form (kids_in below cells)
+
+abbrev pub kid_by : (below : ℕ → Kid) → (slot : ℕ) → Option Node → Kid
+kid_by below slot (Some node) = at slot node.stored (plot_in below node.body)
+kid_by below slot None = gone
+
+-- what lies in a slot, so many levels deep
+abbrev pub kid_from : (levels : ℕ) → Heap → (slot : ℕ) → Kid
+kid_from zero heap slot = gone
+kid_from (suc levels) heap slot = kid_by (kid_from levels heap) slot (heap slot)
+
+-- what lies in a slot
+abbrev pub kid_of : Heap → (slot : ℕ) → Kid
+kid_of heap slot = kid_from depth_limit heap slot
+
+-- What a heap holds.
+
+-- the plan's node of child i of a place that is begun so (node 0 where there is none)
+abbrev pub child_node : Plan → NodeId → Form → ℕ → NodeId
+child_node plan node as_struct i = unwrap_or (by_id plan (λ parent. struct_field plan parent i) node) (record { 0 = 0 })
+child_node plan node as_array i = unwrap_or (by_id plan (list_item plan) node) (record { 0 = 0 })
+
+abbrev pub child_owner : (slot : ℕ) → Form → ℕ → FrameOwner
+child_owner slot form i = FrameOwner.Child (record { 0 = slot }) (step_as form i)
+
+-- The heap holds this at this depth, as a place of this owner that is built by this node of the plan. What is in no slot is
+-- held by its owner.
+abbrev mutual
+  pub Holds : Plan → Heap → NodeId → FrameOwner → ℕ → Kid → Type 0
+  Holds plan heap node owner depth gone = Unit {0}
+  Holds plan heap node owner depth (there v) = Unit {0}
+  Holds plan heap node owner depth (at slot stored plot) =
+      (heap slot ≡ Some (record { node = node; owner = owner; stored = stored; depth = depth; body = body_in plot }))
+      × (depth < depth_limit) × HoldsIn plan heap node slot (suc depth) plot
+
+  pub HoldsIn : Plan → Heap → NodeId → (slot : ℕ) → ℕ → Plot → Type 0
+  HoldsIn plan heap node slot depth entered_plot = Unit {0}
+  HoldsIn plan heap node slot depth (whole_plot v) = Unit {0}
+  HoldsIn plan heap node slot depth (begun_plot form kids) = HoldsAll plan heap node slot form 0 depth kids
+
+  -- children from number i on
+  pub HoldsAll : Plan → Heap → NodeId → (slot : ℕ) → Form → (i : ℕ) → ℕ → Kids → Type 0
+  HoldsAll plan heap node slot form i depth no_kids = Unit {0}
+  HoldsAll plan heap node slot form i depth (kid k ks) =
+      Holds plan heap (child_node plan node form i) (child_owner slot form i) depth k
+      × HoldsAll plan heap node slot form (suc i) depth ks
+
+-- How often a token stands in it, and a slot serves in it.
+abbrev mutual
+  pub kid_occurs : Kid → ℕ → ℕ
+  kid_occurs gone t = 0
+  kid_occurs (there v) t = occurs v t
+  kid_occurs (at slot stored plot) t = plot_occurs plot t
+
+  pub plot_occurs : Plot → ℕ → ℕ
+  plot_occurs entered_plot t = 0
+  plot_occurs (whole_plot v) t = occurs v t
+  plot_occurs (begun_plot form kids) t = kids_occur kids t
+
+  pub kids_occur : Kids → ℕ → ℕ
+  kids_occur no_kids t = 0
+  kids_occur (kid k ks) t = kid_occurs k t + kids_occur ks t

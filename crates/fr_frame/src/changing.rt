@@ -1,0 +1,96 @@
+//! Changing what was put at a place that stays in its slot.
+ghost use Rattle.std.specs.Prelude.{◌≡◌, ℕ, ◌+◌, OnOk, OnErr, Some};
+ghost use Rattle.fr_shape.specs.Released.{Room, RoseBy};
+ghost use Rattle.fr_shape.specs.Tokens.{occurs};
+ghost use Rattle.fr_shape.specs.View.{view};
+ghost use Rattle.fr_frame.specs.Bodies.{body_occurs, cell_at, opened, whole_body, with_cell, MayOpen};
+ghost use Rattle.fr_frame.specs.Cells.{absent, given};
+ghost use Rattle.fr_frame.specs.Changes.{IfInUse, IsInUse, SameTokens, Shows};
+ghost use Rattle.fr_frame.specs.Heap.{as_form, heap_of, slots_occur, with_body};
+
+use crate::pieces::{opened, put_child, release_piece};
+use crate::places::{Form, Piece, Place, SlotId};
+use crate::slots::Slots;
+use fr_path::PathStep;
+use fr_shape::{Ledger, OutOfMemory, Value};
+
+impl SlotId {
+    /// Puts a value in the stead of all that was put at the place, whose tokens are released. Children in slots of their own
+    /// stay there. Takes no memory.
+    pub fn put(self, slots: &mut Slots, value: Value, ledger: &mut Ledger)
+        requires in_use { IsInUse slots.old self.0 }
+        requires room { IfInUse slots.old self.0 (λ at. Room (body_occurs at.body) ledger.old) }
+        ensures put { Shows slots.new
+            (with_body (heap_of slots.old) self.0 (λ old. whole_body (view value))) }
+        ensures released { IfInUse slots.old self.0 (λ at.
+            RoseBy (body_occurs at.body) ledger.old ledger.new) }
+        ensures tokens { IfInUse slots.old self.0 (λ at. (t : ℕ) →
+            slots_occur slots.old t + occurs (view value) t
+            ≡ slots_occur slots.new t + body_occurs at.body t) }
+    {
+        let Place {
+            node,
+            owner,
+            stored,
+            depth,
+            piece,
+        } = slots.lift_out(self);
+        release_piece(piece, ledger);
+        let place = Place {
+            node,
+            owner,
+            stored,
+            depth,
+            piece: Piece::Whole(value),
+        };
+        slots.lower(self, place);
+    }
+
+    /// Begins the place, so that its children can be entered: an entered one has none of so many children yet, of a whole
+    /// one each has its part of the value, a begun one stays as it is.
+    pub fn begin(self, slots: &mut Slots, form: Form, count: usize) -> Result<(), OutOfMemory>
+        requires in_use { IsInUse slots.old self.0 }
+        requires may_open { IfInUse slots.old self.0 (λ at. MayOpen at.body) }
+        ensures begun { OnOk result (Shows slots.new
+            (with_body (heap_of slots.old) self.0 (opened (as_form form) count))) }
+        ensures refused { OnErr result (Shows slots.new (heap_of slots.old)) }
+        ensures tokens { SameTokens slots.old slots.new }
+    {
+        let alloc = slots.alloc();
+        let Place {
+            node,
+            owner,
+            stored,
+            depth,
+            piece,
+        } = slots.lift_out(self);
+        let (piece, result) = match opened(alloc, piece, form, count) {
+            Ok(begun) => (begun, Ok(())),
+            Err(back) => (back, Err(OutOfMemory)),
+        };
+        let place = Place {
+            node,
+            owner,
+            stored,
+            depth,
+            piece,
+        };
+        slots.lower(self, place);
+        result
+    }
+
+    /// Puts a value at the child to which this step leads, which isn't there yet and is in no slot. Takes no memory.
+    pub fn put_child(self, slots: &mut Slots, step: &PathStep, value: Value)
+        requires in_use { IsInUse slots.old self.0 }
+        requires absent { IfInUse slots.old self.0 (λ at.
+            cell_at at.body step.now ≡ Some absent) }
+        ensures put { Shows slots.new (with_body (heap_of slots.old) self.0
+            (λ old. with_cell old step.now (given (view value)))) }
+        ensures tokens { (t : ℕ) → slots_occur slots.new t
+            ≡ slots_occur slots.old t + occurs (view value) t }
+    {
+        let mut place = slots.lift_out(self);
+        put_child(&mut place.piece, step, value);
+        slots.lower(self, place);
+    }
+}

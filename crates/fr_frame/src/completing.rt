@@ -1,0 +1,85 @@
+//! Completing one place by itself: what it lacks is found first, and then its holes take copies of
+//! their templates.
+ghost use Rattle.std.specs.Prelude.{◌≡◌, ◌≢◌, ◌⊎◌, ℕ, ◌<◌, length, IfErr, OnOk};
+ghost use Rattle.fr_shape.specs.Checked.{IsChecked};
+ghost use Rattle.fr_shape.specs.declared.error.ReflectErrorKind.{ReflectErrorKind as Kind};
+ghost use Rattle.fr_frame.specs.Bodies.{body_occurs, IsClosed};
+ghost use Rattle.fr_frame.specs.Changes.{IfInUse, IsInUse, SameTokens, Shows};
+ghost use Rattle.fr_frame.specs.Closed.{IsClosedAt};
+ghost use Rattle.fr_frame.specs.Completing.{shape_of, FillsAt, IsFilled, IsFull, IsPlanFor, MayComplete, WhyNot};
+ghost use Rattle.fr_frame.specs.Heap.{body_of, heap_of};
+
+use crate::filling::fill;
+use crate::lacking::test_piece;
+use crate::places::{Piece, SlotId};
+use crate::slots::Slots;
+use fr_plan::{NodeId, TypePlanCore};
+use fr_shape::{Hooks, OutOfMemory, ReflectErrorKind, ShapeTable};
+use std::alloc::Global;
+
+/// Lets a place, all of whose children are given or not there, hold the value that it makes. Only
+/// copies of templates, and what is said of a value that fails, need memory. Where there is none,
+/// some of its holes may be filled.
+pub(crate) fn fill_piece<H: Hooks>(
+    alloc: Global,
+    table: &ShapeTable,
+    plan: &TypePlanCore,
+    hooks: &H,
+    node: NodeId,
+    piece: &mut Piece,
+) -> Result<(), ReflectErrorKind>
+    requires checked { IsChecked table.now }
+    requires planned { IsPlanFor table.now plan.now }
+    requires inside { node.0 < length plan.now.nodes }
+    requires full { IsFull table.now (shape_of plan.now node) (body_of piece.old) }
+    requires closed { IsClosed (body_of piece.old) }
+    ensures filled { OnOk result (IsFilled (H.means hooks.now) table.now (shape_of plan.now node)
+        (body_of piece.old) (body_of piece.new)) }
+    ensures why { IfErr result (WhyNot (H.means hooks.now) table.now (shape_of plan.now node)
+        (body_of piece.old)) }
+    ensures kept { IfErr result (λ kind. (kind ≡ Kind.OutOfMemory)
+        ⊎ (body_of piece.new ≡ body_of piece.old)) }
+    ensures tokens { (t : ℕ) →
+        body_occurs (body_of piece.new) t ≡ body_occurs (body_of piece.old) t }
+    ensures full { IsFull table.now (shape_of plan.now node) (body_of piece.new) }
+    ensures closed { IsClosed (body_of piece.new) }
+{
+    test_piece(alloc, table, plan, hooks, node, piece)?;
+    match fill(alloc, table, plan, node, piece) {
+        Ok(()) => Ok(()),
+        Err(OutOfMemory) => Err(ReflectErrorKind::OutOfMemory),
+    }
+}
+
+impl SlotId {
+    /// Completes the place, so that its value can be taken out: a child that isn't there takes a copy
+    /// of its template, and every child's value has to pass its field's validators. What is lacking is
+    /// found before anything is copied.
+    pub fn fill_and_require_fields<H: Hooks>(
+        self,
+        slots: &mut Slots,
+        table: &ShapeTable,
+        plan: &TypePlanCore,
+        hooks: &H,
+    ) -> Result<(), ReflectErrorKind>
+        requires in_use { IsInUse slots.old self.0 }
+        requires checked { IsChecked table.now }
+        requires plan { IsPlanFor table.now plan.now }
+        requires place { IfInUse slots.old self.0 (MayComplete table.now plan.now) }
+        ensures filled { OnOk result (IfInUse slots.old self.0 (FillsAt (H.means hooks.now)
+            table.now plan.now slots.old slots.new self.0)) }
+        ensures why { IfErr result (λ kind. IfInUse slots.old self.0 (λ at.
+            WhyNot (H.means hooks.now) table.now (shape_of plan.now at.node) at.body kind)) }
+        ensures unchanged { IfErr result (λ kind. (kind ≡ Kind.OutOfMemory)
+            ⊎ Shows slots.new (heap_of slots.old)) }
+        ensures others { (n : ℕ) → n ≢ self.0 → heap_of slots.new n ≡ heap_of slots.old n }
+        ensures closed { IfInUse slots.old self.0 (IsClosedAt slots.old slots.new self.0) }
+        ensures tokens { SameTokens slots.old slots.new }
+    {
+        let alloc = slots.alloc();
+        let mut place = slots.lift_out(self);
+        let result = fill_piece(alloc, table, plan, hooks, place.node, &mut place.piece);
+        slots.lower(self, place);
+        result
+    }
+}

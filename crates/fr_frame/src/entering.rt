@@ -1,0 +1,52 @@
+//! Entering a place.
+ghost use Rattle.std.specs.Prelude.{◌≡◌, ℕ, ◌<◌, length, IfOk, OnOk, OnErr, None};
+ghost use Rattle.fr_shape.specs.Look.{def_of};
+ghost use Rattle.fr_frame.specs.Changes.{IsOwnerInUse, SameTokens, Shows};
+ghost use Rattle.fr_frame.specs.Completing.{shape_of};
+ghost use Rattle.fr_frame.specs.Heap.{depth_below, depth_limit, heap_of, with_entered};
+
+use crate::pieces::fresh;
+use crate::places::{FrameOwner, Piece, Place, SlotId};
+use crate::slots::Slots;
+use fr_plan::{NodeId, TypePlanCore};
+use fr_shape::{OutOfMemory, ShapeTable};
+
+impl Slots {
+    /// A slot for a place of this node. What its owner held of it goes into the slot, and the owner then knows the slot; an
+    /// owner that has no such child, or has it in a slot already, stays as it is.
+    pub fn enter(
+        &mut self,
+        table: &ShapeTable,
+        plan: &TypePlanCore,
+        node: NodeId,
+        owner: FrameOwner,
+    ) -> Result<SlotId, OutOfMemory>
+        requires owner { IsOwnerInUse self.old owner }
+        requires planned { node.0 < length plan.now.nodes }
+        ensures vacant { IfOk result (λ id. heap_of self.old id.0 ≡ None) }
+        ensures entered { IfOk result (λ id. Shows self.new (with_entered
+            (def_of table.now (shape_of plan.now node)) (heap_of self.old) node owner id.0)) }
+        ensures limit { OnOk result (depth_below (heap_of self.old) owner < depth_limit) }
+        ensures tokens { SameTokens self.old self.new }
+        ensures refused { OnErr result (self.new ≡ self.old) }
+    {
+        let Some(depth) = self.depth_below(&owner) else {
+            return Err(OutOfMemory);
+        };
+        let id = self.vacant()?;
+        let shape = plan.node(node).shape;
+        let piece = match self.link(id, &owner) {
+            Some(value) => Piece::Whole(value),
+            None => fresh(self.alloc(), table, shape),
+        };
+        let place = Place {
+            node,
+            owner,
+            stored: false,
+            depth,
+            piece,
+        };
+        self.lower(id, place);
+        Ok(id)
+    }
+}

@@ -1,0 +1,255 @@
+//! What a place lacks whose children are given or not there. Only what is said of a value that fails
+//! takes memory.
+ghost use Rattle.std.specs.Prelude.{◌≡◌, ◌<◌, None, true, length, IfErr, IsSome, OnErr, OnOk};
+ghost use Rattle.std.specs.Option.{option_map, option_copied, option_or};
+ghost use Rattle.fr_shape.specs.Checked.{IsChecked};
+ghost use Rattle.fr_shape.specs.Look.{def_of};
+ghost use Rattle.fr_shape.specs.View.{view};
+ghost use Rattle.fr_rules.specs.FillRules.{fill_told};
+ghost use Rattle.fr_model.specs.Complete.{lack, lack_among, lack_of_entered, lack_of_holes, missing_value};
+ghost use Rattle.fr_model.specs.Places.{child_count};
+ghost use Rattle.fr_model.specs.Tree.{as_struct};
+ghost use Rattle.fr_model.specs.Well.{IsFullAs};
+ghost use Rattle.fr_frame.specs.Bodies.{own_tree, trees_of};
+ghost use Rattle.fr_frame.specs.Cells.{values_of};
+ghost use Rattle.fr_frame.specs.Completing.{shape_of, IsFull, IsPlanFor};
+ghost use Rattle.fr_frame.specs.Filling.{first_refused, lack_of_child, HaveNoValidators, IsCauseOf, IsTold};
+ghost use Rattle.fr_frame.specs.Heap.{body_of};
+
+use crate::children::Children;
+use crate::field_plans::{fill_of, plans_of_fields};
+use crate::places::{Form, Piece};
+use fr_plan::{FieldPlan, NodeId, TypePlanCore};
+use fr_rules::PrecomputedValidator;
+use fr_shape::{Def, FieldRef, Hooks, ReflectErrorKind, ShapeTable, Value};
+use std::alloc::Global;
+
+/// Runs validators of a field on its value, in their order.
+fn run_validators<H: Hooks>(
+    alloc: Global,
+    hooks: &H,
+    validators: &[PrecomputedValidator],
+    value: &Value,
+    field: FieldRef,
+) -> Result<(), ReflectErrorKind>
+    ensures passing { OnOk result
+        (first_refused (H.means hooks.now) field validators.now (view value.now) ≡ None) }
+    ensures failing { IfErr result
+        (IsCauseOf (first_refused (H.means hooks.now) field validators.now (view value.now))) }
+{
+    for validator in validators {
+        validator.run(alloc, hooks, value, field)?;
+    }
+    Ok(())
+}
+
+/// A child's value, or the template that it takes where it isn't there.
+fn value_for<'a>(
+    table: &'a ShapeTable,
+    told: &FieldPlan,
+    own: Option<&'a Value>,
+) -> Option<&'a Value>
+    ensures { option_map view (option_copied result) ≡ option_or
+        (option_map view (option_copied own.entry)) (fill_told table.now told.now.fill_rule) }
+{
+    match own {
+        Some(value) => Some(value),
+        None => match fill_of(table, told.fill_rule) {
+            Some(template) => Some(template.value()),
+            None => None,
+        },
+    }
+}
+
+/// Tests a struct's field, of which this is the value, if it is there: there has to be one, and it
+/// has to be valid.
+fn test_field<H: Hooks>(
+    alloc: Global,
+    table: &ShapeTable,
+    plan: &TypePlanCore,
+    hooks: &H,
+    told: &FieldPlan,
+    own: Option<&Value>,
+) -> Result<(), ReflectErrorKind>
+    requires told { IsTold table.now plan.now told.now.field.shape.0 told.now.field.index told.now }
+    ensures passing { OnOk result
+        (lack_of_child (H.means hooks.now) table.now told.now.field.shape.0 as_struct
+        told.now.field.index (option_map view (option_copied own.entry)) ≡ None) }
+    ensures failing { IfErr result (IsCauseOf
+        (lack_of_child (H.means hooks.now) table.now told.now.field.shape.0 as_struct
+        told.now.field.index (option_map view (option_copied own.entry)))) }
+{
+    let Some(value) = value_for(table, told, own) else {
+        return Err(ReflectErrorKind::UninitializedField { field: told.field });
+    };
+    run_validators(
+        alloc,
+        hooks,
+        plan.validators(told.validators),
+        value,
+        told.field,
+    )
+}
+
+/// Tests each field of a struct that was only entered: all of them are holes.
+fn test_holes<H: Hooks>(
+    alloc: Global,
+    table: &ShapeTable,
+    plan: &TypePlanCore,
+    hooks: &H,
+    node: NodeId,
+) -> Result<(), ReflectErrorKind>
+    requires checked { IsChecked table.now }
+    requires planned { IsPlanFor table.now plan.now }
+    requires inside { node.0 < length plan.now.nodes }
+    requires described { IsFullAs (def_of table.now (shape_of plan.now node)) as_struct
+        (child_count table.now (shape_of plan.now node)) }
+    ensures passing { OnOk result
+        (lack_of_holes (H.means hooks.now) table.now (shape_of plan.now node) as_struct
+        (child_count table.now (shape_of plan.now node)) 0 ≡ None) }
+    ensures failing { IfErr result (IsCauseOf
+        (lack_of_holes (H.means hooks.now) table.now (shape_of plan.now node) as_struct
+        (child_count table.now (shape_of plan.now node)) 0)) }
+{
+    let told = plans_of_fields(table, plan, node);
+    for i in 0..told.len() {
+        test_field(alloc, table, plan, hooks, &told[i], None)?;
+    }
+    Ok(())
+}
+
+/// Tests each field of a begun struct.
+fn test_fields<H: Hooks>(
+    alloc: Global,
+    table: &ShapeTable,
+    plan: &TypePlanCore,
+    hooks: &H,
+    node: NodeId,
+    children: &Children,
+) -> Result<(), ReflectErrorKind>
+    requires checked { IsChecked table.now }
+    requires planned { IsPlanFor table.now plan.now }
+    requires inside { node.0 < length plan.now.nodes }
+    requires full { IsFullAs (def_of table.now (shape_of plan.now node)) as_struct
+        (length children.now) }
+    ensures passing { OnOk result
+        (lack_among (H.means hooks.now) table.now (shape_of plan.now node) as_struct 0
+        (trees_of children.now) ≡ None) }
+    ensures failing { IfErr result (IsCauseOf
+        (lack_among (H.means hooks.now) table.now (shape_of plan.now node) as_struct 0
+        (trees_of children.now))) }
+{
+    let told = plans_of_fields(table, plan, node);
+    if children.are_all_there() && has_no_validators(told) {
+        return Ok(());
+    }
+    for i in 0..told.len() {
+        test_field(alloc, table, plan, hooks, &told[i], children.value(i))?;
+    }
+    Ok(())
+}
+
+/// Whether no field has a validator.
+fn has_no_validators(told: &[FieldPlan]) -> bool
+    ensures { result ≡ true → HaveNoValidators told.now }
+{
+    for field in told {
+        if field.validators.len() > 0 {
+            return false;
+        }
+    }
+    true
+}
+
+/// Tests a place that was only entered.
+fn test_entered<H: Hooks>(
+    alloc: Global,
+    table: &ShapeTable,
+    plan: &TypePlanCore,
+    hooks: &H,
+    node: NodeId,
+) -> Result<(), ReflectErrorKind>
+    requires checked { IsChecked table.now }
+    requires planned { IsPlanFor table.now plan.now }
+    requires inside { node.0 < length plan.now.nodes }
+    ensures passing { OnOk result
+        (lack_of_entered (H.means hooks.now) table.now (shape_of plan.now node) ≡ None) }
+    ensures failing { IfErr result
+        (IsCauseOf (lack_of_entered (H.means hooks.now) table.now (shape_of plan.now node))) }
+{
+    let shape = plan.node(node).shape;
+    let Some(entry) = table.get(shape) else {
+        return Err(ReflectErrorKind::UninitializedValue { shape });
+    };
+    match (&entry.def, &entry.preset) {
+        (Def::Struct(_) | Def::Option(_), Some(_)) => Ok(()),
+        (Def::Struct(_), None) => test_holes(alloc, table, plan, hooks, node),
+        (Def::Option(_), None) => Err(ReflectErrorKind::UninitializedValue { shape }),
+        (
+            Def::Scalar(_)
+            | Def::Str
+            | Def::Opaque
+            | Def::Dynamic
+            | Def::Undefined
+            | Def::Other
+            | Def::Enum(_)
+            | Def::Result(..)
+            | Def::List(_)
+            | Def::Map(..)
+            | Def::Set(_)
+            | Def::Array(..)
+            | Def::Slice(_)
+            | Def::Pointer(_),
+            _,
+        ) => Err(ReflectErrorKind::UninitializedValue { shape }),
+    }
+}
+
+/// Tests an array, each of whose elements is given or not there: all have to be there.
+fn test_elements(
+    plan: &TypePlanCore,
+    node: NodeId,
+    children: &Children,
+) -> Result<(), ReflectErrorKind>
+    requires inside { node.0 < length plan.now.nodes }
+    ensures passing { OnOk result (IsSome (values_of children.now)) }
+    ensures failing { IfErr result (λ kind. kind ≡ missing_value (shape_of plan.now node)) }
+    ensures absent { OnErr result (values_of children.now ≡ None) }
+{
+    if children.are_all_there() {
+        return Ok(());
+    }
+    Err(ReflectErrorKind::UninitializedValue {
+        shape: plan.node(node).shape,
+    })
+}
+
+/// Tests what a place lacks, if anything. Where all children are there and none has a validator, no
+/// child is looked at.
+pub(crate) fn test_piece<H: Hooks>(
+    alloc: Global,
+    table: &ShapeTable,
+    plan: &TypePlanCore,
+    hooks: &H,
+    node: NodeId,
+    piece: &Piece,
+) -> Result<(), ReflectErrorKind>
+    requires checked { IsChecked table.now }
+    requires planned { IsPlanFor table.now plan.now }
+    requires inside { node.0 < length plan.now.nodes }
+    requires full { IsFull table.now (shape_of plan.now node) (body_of piece.now) }
+    ensures passing { OnOk result (lack (H.means hooks.now) table.now (shape_of plan.now node)
+        (own_tree (body_of piece.now)) ≡ None) }
+    ensures failing { IfErr result (IsCauseOf
+        (lack (H.means hooks.now) table.now (shape_of plan.now node)
+        (own_tree (body_of piece.now)))) }
+{
+    match piece {
+        Piece::Entered => test_entered(alloc, table, plan, hooks, node),
+        Piece::Whole(_) => Ok(()),
+        Piece::Begun(form, children) => match *form {
+            Form::Struct => test_fields(alloc, table, plan, hooks, node, children),
+            Form::Array => test_elements(plan, node, children),
+        },
+    }
+}

@@ -1,0 +1,24 @@
+//! Slots: the places of which a value is being built, each under a number that stays while it is in use.
+//!
+//! A begun place holds the values of its children. A child that is being built is in a slot of its own, and its parent
+//! knows which.
+#![tactic(auto)]
+
+mod changing;
+mod children;
+mod completing;
+mod entering;
+mod field_plans;
+mod filling;
+mod lacking;
+mod leaving;
+mod linking;
+mod pieces;
+mod places;
+mod slots;
+#[cfg(test)]
+mod tests;
+
+pub use children::Children;
+pub use places::{Form, FrameOwner, Piece, Place, Slot, SlotId};
+pub use slots::Slots;

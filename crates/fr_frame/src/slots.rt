@@ -1,0 +1,179 @@
+//! All slots of a builder.
+ghost use Rattle.std.specs.Prelude.{◌≡◌, ℕ, ◌+◌, ◌<◌, length, slice_get, slice_set, Some, None, IfOk, IfSome, OnErr};
+ghost use Rattle.std.specs.Option.{option_map, option_copied};
+ghost use Rattle.fr_frame.specs.Bodies.{body_occurs};
+ghost use Rattle.fr_frame.specs.Changes.{IsInUse, SameTokens, Shows};
+ghost use Rattle.fr_frame.specs.Heap.{body_of, heap_of, node_of, slots_occur, with_slot};
+ghost use Rattle.fr_frame.specs.declared.places.Slot.{Slot as Entry};
+
+use crate::places::{Place, Slot, SlotId};
+use fr_arena::Arena;
+use fr_shape::OutOfMemory;
+use std::alloc::Global;
+use std::marker::Model;
+
+/// All slots of a builder. Those that are free are linked to one another, the one that was freed last first.
+///
+/// Contracts see the list of the slots.
+#[derive(Drop)]
+pub struct Slots {
+    alloc: Global,
+    entries: Arena<Slot>,
+    free: Option<SlotId>,
+}
+
+impl Model for Slots {
+    ghost use Rattle.std.specs.Prelude.{List};
+    ghost use Rattle.std.specs.Coded.{coded_list};
+    ghost use Rattle.fr_frame.specs.declared.places.Slot.{Slot};
+    ghost use Rattle.fr_frame.specs.contracts.places.Slot as slot;
+
+    ghost Value = { List Slot };
+
+    ghost coded = { coded_list slot.the_row.coded };
+
+    ghost view = { λ slots. slots.entries };
+}
+
+impl Slots {
+    /// No slots.
+    pub fn new(alloc: Global) -> Slots
+        ensures free { (n : ℕ) → heap_of result n ≡ None }
+        ensures nothing { (t : ℕ) → slots_occur result t ≡ 0 }
+    {
+        Slots {
+            alloc,
+            entries: Arena::new(alloc),
+            free: None,
+        }
+    }
+
+    /// What the slots take their memory from.
+    pub(crate) fn alloc(&self) -> Global {
+        self.alloc
+    }
+
+    /// The place in a slot, if the slot is in use.
+    pub fn place(&self, id: SlotId) -> Option<&Place>
+        ensures place { option_map node_of (option_copied result) ≡ heap_of self.now id.0 }
+    {
+        if (id.0 as usize) >= self.entries.len() {
+            return None;
+        }
+        match self.entries.get(id.idx()) {
+            Slot::Free(_) => None,
+            Slot::Used(place) => Some(place),
+        }
+    }
+
+    /// Puts something else into a slot, and gives what was there.
+    fn swap(&mut self, id: SlotId, slot: Slot) -> Slot
+        requires { id.0 < length self.old }
+        ensures was { slice_get self.old id.0 ≡ Some result }
+        ensures now { self.new ≡ slice_set self.old id.0 slot }
+    {
+        std::mem::replace(self.entries.get_mut(id.idx()), slot)
+    }
+
+    /// Takes the place out of a slot, which is then free and comes before this one.
+    fn lift(&mut self, id: SlotId, next: Option<SlotId>) -> Place
+        requires { IsInUse self.old id.0 }
+        ensures place { heap_of self.old id.0 ≡ Some (node_of result) }
+        ensures rest { Shows self.new (with_slot (heap_of self.old) id.0 None) }
+        ensures tokens { (t : ℕ) → slots_occur self.old t
+            ≡ slots_occur self.new t + body_occurs (body_of result.piece) t }
+        ensures length { length self.new ≡ length self.old }
+    {
+        match self.swap(id, Slot::Free(next)) {
+            Slot::Used(place) => place,
+            Slot::Free(_) => unreachable!(),
+        }
+    }
+
+    /// Puts a place into a slot that is free.
+    pub(crate) fn lower(&mut self, id: SlotId, place: Place)
+        requires inside { id.0 < length self.old }
+        requires free { heap_of self.old id.0 ≡ None }
+        ensures rest { Shows self.new (with_slot (heap_of self.old) id.0 (Some (node_of place))) }
+        ensures tokens { (t : ℕ) → slots_occur self.new t
+            ≡ slots_occur self.old t + body_occurs (body_of place.piece) t }
+        ensures length { length self.new ≡ length self.old }
+    {
+        self.swap(id, Slot::Used(place));
+    }
+
+    /// Takes the place out of a slot for a while.
+    pub(crate) fn lift_out(&mut self, id: SlotId) -> Place
+        requires { IsInUse self.old id.0 }
+        ensures place { heap_of self.old id.0 ≡ Some (node_of result) }
+        ensures rest { Shows self.new (with_slot (heap_of self.old) id.0 None) }
+        ensures tokens { (t : ℕ) → slots_occur self.old t
+            ≡ slots_occur self.new t + body_occurs (body_of result.piece) t }
+        ensures inside { id.0 < length self.new }
+        ensures length { length self.new ≡ length self.old }
+    {
+        self.lift(id, None)
+    }
+
+    /// Takes the place out of a slot, which may then serve another.
+    pub(crate) fn leave(&mut self, id: SlotId) -> Place
+        requires { IsInUse self.old id.0 }
+        ensures place { heap_of self.old id.0 ≡ Some (node_of result) }
+        ensures rest { Shows self.new (with_slot (heap_of self.old) id.0 None) }
+        ensures tokens { (t : ℕ) → slots_occur self.old t
+            ≡ slots_occur self.new t + body_occurs (body_of result.piece) t }
+    {
+        let next = self.free;
+        let place = self.lift(id, next);
+        self.free = Some(id);
+        place
+    }
+
+    /// The slot that comes after a free one. There is none where that one isn't free.
+    fn after_free(&self, id: SlotId) -> Option<Option<SlotId>>
+        ensures { IfSome result (λ next. slice_get self.now id.0 ≡ Some (Entry.Free next)) }
+    {
+        if (id.0 as usize) >= self.entries.len() {
+            return None;
+        }
+        match self.entries.get(id.idx()) {
+            Slot::Free(next) => Some(*next),
+            Slot::Used(_) => None,
+        }
+    }
+
+    /// A slot behind the others.
+    fn append(&mut self) -> Result<SlotId, OutOfMemory>
+        ensures inside { IfOk result (λ id. id.0 < length self.new) }
+        ensures vacant { IfOk result (λ id. heap_of self.old id.0 ≡ None) }
+        ensures rest { Shows self.new (heap_of self.old) }
+        ensures tokens { SameTokens self.old self.new }
+        ensures refused { OnErr result (self.new ≡ self.old) }
+    {
+        if self.entries.len() >= u32::MAX as usize {
+            return Err(OutOfMemory);
+        }
+        let Ok(idx) = self.entries.alloc(Slot::Free(None)) else {
+            return Err(OutOfMemory);
+        };
+        Ok(SlotId::of(idx))
+    }
+
+    /// A slot that is free: the one that was freed last, else one behind the others. Whoever asks puts a place into it.
+    pub(crate) fn vacant(&mut self) -> Result<SlotId, OutOfMemory>
+        ensures inside { IfOk result (λ id. id.0 < length self.new) }
+        ensures vacant { IfOk result (λ id. heap_of self.old id.0 ≡ None) }
+        ensures rest { Shows self.new (heap_of self.old) }
+        ensures tokens { SameTokens self.old self.new }
+        ensures refused { OnErr result (self.new ≡ self.old) }
+    {
+        let Some(id) = self.free else {
+            return self.append();
+        };
+        let Some(next) = self.after_free(id) else {
+            return self.append();
+        };
+        self.free = next;
+        Ok(id)
+    }
+}

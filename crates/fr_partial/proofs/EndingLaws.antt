@@ -1,0 +1,343 @@
+-- Completing the place on top of the stack: whether it may be, the value that it makes, and where the builder is then.
+use Rattle.std.proofs.Common.{◌≡◌, ◌⊎◌, ℕ, zero, suc, true, false, List, [], ◌∷◌, length, Option, Some, None, option_map, unwrap_or, inl, inr, refl, sym, ◌∙◌, ap, subst, arith}
+use Rattle.std.specs.Prelude.{IsSome, IsSomeAnd, is_none, is_some}
+use Rattle.fr_shape.specs.declared.error.ReflectErrorKind.{ReflectErrorKind}
+use Rattle.fr_shape.specs.declared.shape.ShapeId.{ShapeId}
+use Rattle.fr_shape.specs.Hooks.{Meanings}
+use Rattle.fr_shape.specs.Look.{Table, def_of}
+use Rattle.fr_shape.specs.Released.{Room, RoseBy}
+use Rattle.fr_shape.specs.TokenLaws.{Room_same, RoseBy_same}
+use Rattle.fr_shape.specs.Val.{Val, Vals}
+use Rattle.fr_model.specs.Complete.{complete}
+use Rattle.fr_model.specs.Places.{Place, one_more, up}
+use Rattle.fr_model.specs.Step.{cause}
+use Rattle.fr_model.specs.Tree.{Tree, hole, entered, whole, begun, Trees, no_trees, branch, change_at, change_nth, count_trees, shape_in, tree_at, tree_occurs}
+use Rattle.fr_model.specs.Well.{IsFullAs, Suits}
+use Rattle.fr_plan.specs.declared.nodes.NodeId.{NodeId}
+use Rattle.fr_plan.specs.declared.nodes.TypePlanNode.{TypePlanNode}
+use Rattle.fr_plan.specs.LookupLaws.{LookupsAgree, LookupPathsAgree}
+use Rattle.fr_plan.specs.TypePlan.{Plan}
+use Rattle.fr_frame.specs.declared.places.Slot.{Slot}
+use Rattle.fr_frame.specs.Bodies.{Body, entered_body, whole_body, begun_body, body_occurs, own_tree, trees_of, value_of, IsClosed, AreUnplaced}
+use Rattle.fr_frame.specs.Cells.{Cell, absent, given, placed, values_of}
+use Rattle.fr_frame.specs.Changes.{IfInUse, SameTokens}
+use Rattle.fr_frame.specs.Closed.{IsClosedAt}
+use Rattle.fr_frame.specs.Completing.{shape_of, takes_template, FillsAt, IsFull, IsOfValidator, IsPlanFor, MayComplete, WhyNot as WhyNotAt}
+use Rattle.fr_frame.specs.Heap.{Node, heap_of, with_slot}
+use Rattle.fr_frame.specs.Kids.{gone, there, Plot, tree_of, tree_in, trees_in, cells_in, body_in, kids_in, plot_in, plot_occurs}
+use Rattle.fr_store.specs.AbandonLaws.{slots_tokens}
+use Rattle.fr_store.specs.MoveLaws.{open_top, same_last, top_changed}
+use Rattle.fr_store.specs.Moves.{cursor_in, tree_here, tree_in_slots, AtTop, IsOpenAt}
+use Rattle.fr_store.specs.Numbers.{IsLast}
+use Rattle.fr_store.specs.Stands.{IsOpen, kid_shown}
+use Rattle.fr_store.specs.TopLaws.{closed_occur, closed_tree, slot_here}
+use Rattle.fr_store.specs.WayLaws.{tree_of_at}
+use Rattle.fr_partial.specs.Ending.{IsEnded, WhyNot}
+use Rattle.fr_partial.specs.Filling.{fills_nothing, has_no_hole}
+use Rattle.fr_partial.specs.Underway.{shape_here, IsReady}
+use Rattle.fr_partial.proofs.FitLaws.{is_there}
+use Rattle.fr_partial.proofs.PlaceLaws.{node_here, here_found, here_along}
+use Rattle.fr_partial.proofs.ShapeLaws.{IsOfShape}
+
+-- A place none of whose children is in a slot.
+
+abbrev closed_plot : Body → Plot
+closed_plot body = plot_in (λ slot. gone) body
+
+cells_back : (cells : List Cell) → AreUnplaced cells → cells_in (kids_in (λ slot. gone) cells) ≡ cells
+cells_back [] closed = refl
+cells_back (absent ∷ cells) closed = ap (λ (cs : List Cell). absent ∷ cs) (cells_back cells closed.1)
+cells_back (given v ∷ cells) closed = ap (λ (cs : List Cell). given v ∷ cs) (cells_back cells closed.1)
+cells_back (placed n ∷ cells) closed = absurd closed.0
+
+body_back : (body : Body) → IsClosed body → body_in (closed_plot body) ≡ body
+body_back entered_body closed = refl
+body_back (whole_body v) closed = refl
+body_back (begun_body form cells) closed = ap (begun_body form) (cells_back cells closed)
+
+trees_back : (cells : List Cell) → trees_in (kids_in (λ slot. gone) cells) ≡ trees_of cells
+trees_back [] = refl
+trees_back (absent ∷ cells) = ap (λ (ts : Trees). branch hole ts) (trees_back cells)
+trees_back (given v ∷ cells) = ap (λ (ts : Trees). branch (whole v) ts) (trees_back cells)
+trees_back (placed n ∷ cells) = ap (λ (ts : Trees). branch hole ts) (trees_back cells)
+
+tree_back : (body : Body) → tree_in (closed_plot body) ≡ own_tree body
+tree_back entered_body = refl
+tree_back (whole_body v) = refl
+tree_back (begun_body form cells) = ap (λ (ts : Trees). begun form ts) (trees_back cells)
+
+count_of : (cells : List Cell) → count_trees (trees_of cells) ≡ length cells
+count_of [] = refl
+count_of (c ∷ cells) = ap suc (count_of cells)
+
+-- one that suits its shape has all its children
+full_by : (table : Table) (s : ℕ) (body : Body) → Suits table s (own_tree body) → IsFull table s body
+full_by table s entered_body suits = tt
+full_by table s (whole_body v) suits = tt
+full_by table s (begun_body form cells) suits =
+    subst (λ (count : ℕ). IsFullAs (def_of table s) form count) (count_of cells) suits.0.0
+
+-- What takes a template has a hole.
+
+more_none : (v : Val) (values : Option Vals) → is_none (one_more (Some v) values) ≡ true → is_none values ≡ true
+more_none v (Some vs) h = cc
+more_none v None h = refl
+
+has_hole : (cells : List Cell) → is_none (values_of cells) ≡ true → has_no_hole (trees_of cells) ≡ false
+has_hole [] h = cc
+has_hole (absent ∷ cells) h = refl
+has_hole (given v ∷ cells) h = has_hole cells (more_none v (values_of cells) h)
+has_hole (placed n ∷ cells) h = refl
+
+takes : (body : Body) → takes_template body ≡ true → fills_nothing (own_tree body) ≡ false
+takes entered_body h = refl
+takes (whole_body v) h = cc
+takes (begun_body form cells) h = has_hole cells h
+
+why_of : (means : Meanings) (table : Table) (s : ℕ) (body : Body) (kind : ReflectErrorKind) → WhyNotAt means table s body kind
+    → WhyNot means table s (own_tree body) kind
+why_of means table s body kind (inl lacking) = inl (record { incomplete = lacking.incomplete; lacks = lacking.lacks })
+why_of means table s body kind (inr wants) = inr (record { memory = wants.memory; needed = go wants.needed })
+  where
+    go : (IsSome (complete means table s (own_tree body)) × (takes_template body ≡ true))
+        ⊎ ((complete means table s (own_tree body) ≡ None) × IsOfValidator (cause means table s (own_tree body)))
+        → (IsSome (complete means table s (own_tree body)) × (fills_nothing (own_tree body) ≡ false))
+        ⊎ ((complete means table s (own_tree body) ≡ None) × IsOfValidator (cause means table s (own_tree body)))
+    go (inl made) = inl (made.0, takes body made.1)
+    go (inr said) = inr said
+
+-- What is put at one place twice.
+
+nth_twice : (i : ℕ) (first second both : Tree → Tree) (ts : Trees) → ((t : Tree) → second (first t) ≡ both t)
+    → change_nth i second (change_nth i first ts) ≡ change_nth i both ts
+nth_twice i first second both no_trees same = refl
+nth_twice zero first second both (branch t ts) same = ap (λ (x : Tree). branch x ts) (same t)
+nth_twice (suc i) first second both (branch t ts) same =
+    ap (λ (xs : Trees). branch t xs) (nth_twice i first second both ts same)
+
+put_twice : (place : Place) (old new t : Tree)
+    → change_at place (λ was. new) (change_at place (λ was. old) t) ≡ change_at place (λ was. new) t
+put_twice [] old new t = refl
+put_twice (i ∷ place) old new hole = refl
+put_twice (i ∷ place) old new entered = refl
+put_twice (i ∷ place) old new (whole v) = refl
+put_twice (i ∷ place) old new (begun form ts) =
+    ap (λ (xs : Trees). begun form xs)
+    (nth_twice i (λ child. change_at place (λ was. old) child) (λ child. change_at place (λ was. new) child)
+    (λ child. change_at place (λ was. new) child) ts (λ t. put_twice place old new t))
+
+body_found : Option Node → Body
+body_found (Some found) = found.body
+body_found None = entered_body
+
+shape_found : (plan : Plan) (node : NodeId) (s : ℕ) → IsOfShape plan node s → shape_of plan node ≡ s
+shape_found plan node s is =
+    ap
+    (λ (found : Option TypePlanNode). (unwrap_or (option_map (λ (x : TypePlanNode). x.shape) found) (record { 0 = 0 })).0)
+    is.there ∙ is.shape
+
+-- The top, before it is filled.
+module _ (plan : Plan) (slots : List Slot) (stack : List ℕ) (shown : IsOpen plan slots stack) (n : ℕ) (last : IsLast stack n) where
+  here_so : (So : Node → Type 0) → IfInUse slots n So → So (node_here plan slots stack shown)
+  here_so So so = subst (λ (found : Option Node). IsSomeAnd found So) (here_found plan slots stack shown n last) so
+
+  so_here : (So : Node → Type 0) → So (node_here plan slots stack shown) → IfInUse slots n So
+  so_here So so = subst (λ (found : Option Node). IsSomeAnd found So) (sym (here_found plan slots stack shown n last)) so
+
+own_here : (plan : Plan) (slots : List Slot) (stack : List ℕ) (shown : IsOpen plan slots stack)
+    → own_tree (node_here plan slots stack shown).body ≡ tree_here slots stack
+own_here plan slots stack shown =
+    let top = open_top plan slots stack shown in
+    sym (closed_tree top.plot top.closed)
+    ∙ ap tree_of (sym top.is)
+    ∙ tree_of_at (cursor_in slots stack) (kid_shown (heap_of slots) stack)
+
+module _ (agree : LookupsAgree) (paths : LookupPathsAgree) (table : Table) (root : ShapeId) (plan : Plan) (slots : List Slot)
+    (stack : List ℕ) (ready : IsReady table root plan slots stack) where
+  shape_is : shape_of plan (node_here plan slots stack ready.shown).node ≡ shape_here table root.0 slots stack
+  shape_is =
+      shape_found plan (node_here plan slots stack ready.shown).node (shape_here table root.0 slots stack)
+      (here_along agree paths table root plan slots stack ready).node_is
+
+  -- it may be completed
+  pub may_complete : (n : ℕ) → IsLast stack n → IfInUse slots n (MayComplete table plan)
+  may_complete n last =
+      let along = here_along agree paths table root plan slots stack ready in
+      let at = node_here plan slots stack ready.shown in
+      so_here plan slots stack ready.shown n last (λ (found : Node). MayComplete table plan found)
+      (record {
+        planned = is_there plan.nodes at.node.0 along.node_is.found along.node_is.there;
+        full =
+            subst (λ (s : ℕ). IsFull table s at.body) (sym shape_is)
+            (full_by table (shape_here table root.0 slots stack) at.body
+            (subst (λ (t : Tree). Suits table (shape_here table root.0 slots stack) t)
+            (sym (own_here plan slots stack ready.shown)) along.suits));
+        closed = (open_top plan slots stack ready.shown).closed;
+      })
+
+  -- why it makes no value, said of its slot, is said of the place
+  pub why_here : (means : Meanings) (n : ℕ) (last : IsLast stack n) (kind : ReflectErrorKind)
+      → IfInUse slots n (λ (at : Node). WhyNotAt means table (shape_of plan at.node) at.body kind)
+      → WhyNot means table (shape_here table root.0 slots stack) (tree_here slots stack) kind
+  why_here means n last kind why =
+      let at = node_here plan slots stack ready.shown in
+      subst (λ (t : Tree). WhyNot means table (shape_here table root.0 slots stack) t kind)
+      (own_here plan slots stack ready.shown)
+      (subst (λ (s : ℕ). WhyNot means table s (own_tree at.body) kind) shape_is
+      (why_of means table (shape_of plan at.node) at.body kind
+      (here_so plan slots stack ready.shown n last
+      (λ (found : Node). WhyNotAt means table (shape_of plan found.node) found.body kind) why)))
+
+-- the table's plan
+pub plan_for : (table : Table) (root : ShapeId) (plan : Plan) (slots : List Slot) (stack : List ℕ)
+    → IsReady table root plan slots stack → IsPlanFor table plan
+plan_for table root plan slots stack ready = record { root = root; inside = ready.inside; planned = ready.planned }
+
+-- The top, after it was filled or refused.
+module _ (plan : Plan) (before after : List Slot) (stack : List ℕ) (shown : IsOpen plan before stack) (n : ℕ)
+    (last : IsLast stack n) (closed_in : IfInUse before n (IsClosedAt before after n)) (tokens : SameTokens before after) where
+  unfoldable kept : IsClosedAt before after n (node_here plan before stack shown)
+  kept = here_so plan before stack shown n last (λ (at : Node). IsClosedAt before after n at) closed_in
+
+  filled_at : IsOpenAt plan after stack (cursor_in before stack)
+      (change_at (cursor_in before stack) (λ old. own_tree kept.body) (tree_in_slots before stack))
+  filled_at =
+      let top = open_top plan before stack shown in
+      let new : Plot = closed_plot kept.body in
+      let is : body_in new ≡ kept.body = body_back kept.body kept.closed in
+      let closed : IsClosed (body_in new) = subst IsClosed (sym is) kept.closed in
+      subst
+      (λ (t : Tree). IsOpenAt plan after stack (cursor_in before stack)
+      (change_at (cursor_in before stack) (λ old. t) (tree_in_slots before stack)))
+      (tree_back kept.body)
+      (top_changed plan before after stack shown n last (λ old. kept.body) new is closed
+      (λ m. kept.becomes m
+      ∙ ap
+      (λ (found : Option Node). with_slot (heap_of before) n
+      (option_map (λ (x : Node). record x { body = kept.body }) found) m)
+      (sym (here_found plan before stack shown n last)))
+      (λ t.
+      let was : plot_occurs top.plot t ≡ body_occurs (body_in top.plot) t = closed_occur top.plot t top.closed in
+      let now : plot_occurs new t ≡ body_occurs kept.body t
+      = closed_occur new t closed ∙ ap (λ (b : Body). body_occurs b t) is in
+      let same : body_occurs kept.body t ≡ body_occurs (body_in top.plot) t = kept.tokens t in
+      omega (arith, tokens t)))
+
+  -- the builder is open still, at the same place, with the same tokens
+  pub open_after : IsOpen plan after stack
+  open_after = filled_at.open_still
+
+  pub cursor_after : cursor_in after stack ≡ cursor_in before stack
+  cursor_after = filled_at.cursor
+
+  tokens_after : (t : ℕ) → tree_occurs (tree_in_slots before stack) t ≡ tree_occurs (tree_in_slots after stack) t
+  tokens_after t =
+      sym (slots_tokens plan before stack shown t) ∙ sym (tokens t) ∙ slots_tokens plan after stack open_after t
+
+  pub room_after : (ledger : List ℕ) → Room (tree_occurs (tree_in_slots before stack)) ledger
+      → Room (tree_occurs (tree_in_slots after stack)) ledger
+  room_after ledger room =
+      Room_same (tree_occurs (tree_in_slots before stack)) (tree_occurs (tree_in_slots after stack)) ledger tokens_after room
+
+  pub rose_after : (ledger risen : List ℕ) → RoseBy (tree_occurs (tree_in_slots after stack)) ledger risen
+      → RoseBy (tree_occurs (tree_in_slots before stack)) ledger risen
+  rose_after ledger risen rose =
+      RoseBy_same (tree_occurs (tree_in_slots after stack)) (tree_occurs (tree_in_slots before stack)) ledger risen
+      (λ t. sym (tokens_after t)) rose
+
+  found_after : heap_of after n ≡ Some (record (node_here plan before stack shown) { body = kept.body })
+  found_after =
+      kept.becomes n
+      ∙ slot_here (heap_of before) n (Some (record (node_here plan before stack shown) { body = kept.body }))
+
+  after_so : (So : Node → Type 0) → IfInUse after n So → So (record (node_here plan before stack shown) { body = kept.body })
+  after_so So so = subst (λ (found : Option Node). IsSomeAnd found So) found_after so
+
+  so_after : (So : Node → Type 0) → So (record (node_here plan before stack shown) { body = kept.body }) → IfInUse after n So
+  so_after So so = subst (λ (found : Option Node). IsSomeAnd found So) (sym found_after) so
+
+  -- Filled.
+  module _ (means : Meanings) (table : Table) (root : ShapeId) (agree : LookupsAgree) (paths : LookupPathsAgree)
+      (ready : IsReady table root plan before stack) (filled : IfInUse before n (FillsAt means table plan before after n)) where
+    fills : FillsAt means table plan before after n (node_here plan before stack shown)
+    fills = here_so plan before stack shown n last (λ (at : Node). FillsAt means table plan before after n at) filled
+
+    same_body : fills.body ≡ kept.body
+    unfolding body_found
+    same_body =
+        ap body_found
+        (sym (fills.becomes n
+        ∙ slot_here (heap_of before) n (Some (record (node_here plan before stack shown) { body = fills.body })))
+        ∙ found_after)
+
+    held : value_of kept.body ≡ Some fills.filled.value
+    held = ap value_of (sym same_body) ∙ fills.filled.held
+
+    -- it makes the value that it holds
+    meant : complete means table (shape_here table root.0 before stack) (tree_here before stack) ≡ Some fills.filled.value
+    meant =
+        ap (λ (s : ℕ). complete means table s (tree_here before stack))
+        (sym (shape_is agree paths table root plan before stack ready))
+        ∙ ap (λ (t : Tree). complete means table (shape_of plan (node_here plan before stack shown).node) t)
+        (sym (own_here plan before stack shown))
+        ∙ fills.filled.meant
+
+    held_so : IsSome (value_of kept.body)
+    held_so = ap (λ (v : Option Val). is_some v) held
+
+    pub value_there : IfInUse after n (λ (at : Node). IsSome (value_of at.body))
+    value_there = so_after (λ (at : Node). IsSome (value_of at.body)) held_so
+
+    pub value_at_top : AtTop after stack (λ (at : Node). IsSome (value_of at.body))
+    value_at_top m is =
+        let same : n ≡ m = same_last last.0 is.0 n m (sym last.1 ∙ is.1) in
+        subst (λ (x : ℕ). IfInUse after x (λ (at : Node). IsSome (value_of at.body))) same value_there
+
+    -- and is left with it
+    pub ended : (slots : List Slot) (next : List ℕ)
+        → AtTop after stack (λ (at : Node). (v : Val) → value_of at.body ≡ Some v
+        → IsOpenAt plan slots next (up (cursor_in after stack))
+        (change_at (cursor_in after stack) (λ old. whole v) (tree_in_slots after stack)))
+        → IsEnded means table (shape_here table root.0 before stack) plan slots next (tree_in_slots before stack)
+        (cursor_in before stack)
+    ended slots next left =
+        let v : Val = fills.filled.value in
+        let now : IsOpenAt plan slots next (up (cursor_in after stack))
+        (change_at (cursor_in after stack) (λ old. whole v) (tree_in_slots after stack))
+        = after_so
+            (λ (at : Node). (v : Val) → value_of at.body ≡ Some v
+            → IsOpenAt plan slots next (up (cursor_in after stack))
+            (change_at (cursor_in after stack) (λ old. whole v) (tree_in_slots after stack)))
+            (left n last) v held in
+        record {
+          value = v;
+          meant = meant;
+          after =
+              subst (λ (t : Tree). IsOpenAt plan slots next (up (cursor_in before stack)) t)
+              (ap (λ (t : Tree). change_at (cursor_in before stack) (λ old. whole v) t) filled_at.built
+              ∙ put_twice (cursor_in before stack) (own_tree kept.body) (whole v) (tree_in_slots before stack))
+              (subst
+              (λ (p : Place). IsOpenAt plan slots next (up p) (change_at p (λ old. whole v) (tree_in_slots after stack)))
+              cursor_after now);
+        }
+
+    -- the root's value
+    pub root_value : cursor_in before stack ≡ [] → (v : Val) → IfInUse after n (λ (at : Node). value_of at.body ≡ Some v)
+        → complete means table root.0 (tree_in_slots before stack) ≡ Some v
+    root_value at_root v is =
+        let same : value_of kept.body ≡ Some v = after_so (λ (at : Node). value_of at.body ≡ Some v) is in
+        ap
+        (λ (p : Place). complete means table (shape_in table root.0 p (tree_in_slots before stack))
+        (tree_at p (tree_in_slots before stack)))
+        (sym at_root)
+        ∙ meant ∙ sym held ∙ same
+
+-- why the root makes no value
+pub why_root : (means : Meanings) (table : Table) (root : ℕ) (slots : List Slot) (stack : List ℕ) (kind : ReflectErrorKind)
+    → cursor_in slots stack ≡ [] → WhyNot means table (shape_here table root slots stack) (tree_here slots stack) kind
+    → WhyNot means table root (tree_in_slots slots stack) kind
+why_root means table root slots stack kind at_root why =
+    subst
+    (λ (p : Place). WhyNot means table (shape_in table root p (tree_in_slots slots stack))
+    (tree_at p (tree_in_slots slots stack)) kind)
+    at_root why

@@ -1,0 +1,230 @@
+-- Entering a child: the place may be begun, is begun around it, and the child's node is the plan's.
+use Rattle.std.proofs.Common.{◌≡◌, ℕ, zero, suc, ◌+◌, ◌<◌, Bool, true, false, List, [], ◌∷◌, length, Option, Some, None, IsSome, nat_lt, nat_le, if◌then◌else◌, option_map, unwrap_or, refl, sym, ◌∙◌, ap, subst, arith}
+use Rattle.std.specs.Option.{option_or}
+use Rattle.std.specs.Prelude.{IsSomeAnd, is_some}
+use Rattle.fr_shape.specs.declared.error.Operation.{Operation}
+use Rattle.fr_shape.specs.declared.shape.Def.{Def}
+use Rattle.fr_shape.specs.declared.shape.Field.{Field}
+use Rattle.fr_shape.specs.declared.shape.ShapeId.{ShapeId}
+use Rattle.fr_shape.specs.declared.shape.StructDef.{StructDef}
+use Rattle.fr_shape.specs.Fits.{fits, fields_fit, count_vals}
+use Rattle.fr_shape.specs.Look.{Table, def_of, settled}
+use Rattle.fr_shape.specs.Val.{Val, Vals, unit, product, no_vals, first}
+use Rattle.fr_model.specs.Places.{Place, array_limit, child_shape, count_children, parts_of}
+use Rattle.fr_model.specs.Step.{field_refusal, enter, enter_child, opened, opened_as, opened_value}
+use Rattle.fr_model.specs.Tree.{Form, as_struct, as_array, form_of, child_as, Tree, hole, entered, whole, begun, Trees, no_trees, branch, tree_nth, change_nth, child_tree, tree_at, change_child, change_at, wholes, holes, count_trees}
+use Rattle.fr_model.specs.Well.{IsFullAs, Suits, DoneBut, Leads}
+use Rattle.fr_plan.specs.declared.nodes.NodeId.{NodeId}
+use Rattle.fr_plan.specs.TypePlan.{Plan}
+use Rattle.fr_frame.specs.Bodies.{MayOpen}
+use Rattle.fr_frame.specs.Kids.{Kid, gone, there, at, Plot, entered_plot, whole_plot, begun_plot, tree_of, tree_in, body_in, child_node}
+use Rattle.fr_store.specs.Moves.{HasChild}
+use Rattle.fr_store.specs.Ways.{kid_below, node_below, node_along}
+use Rattle.fr_store.specs.WayLaws.{tree_of_below}
+use Rattle.fr_plan.specs.declared.nodes.TypePlanNode.{TypePlanNode}
+use Rattle.fr_frame.specs.Completing.{shape_of}
+use Rattle.fr_partial.proofs.FitLaws.{both_true}
+use Rattle.fr_partial.proofs.ShapeLaws.{IsOfShape}
+
+-- Changes at a place of a tree.
+
+nth_changed : (i : ℕ) (Below : Tree → Type 0) (change : Tree → Tree) (ts : Trees) → DoneBut i Below ts
+    → tree_nth i (change_nth i change ts) ≡ change (tree_nth i ts)
+nth_changed i Below change no_trees leads = absurd leads
+nth_changed zero Below change (branch t ts) leads = refl
+nth_changed (suc i) Below change (branch t ts) leads = nth_changed i Below change ts leads.1
+
+nth_leads : (i : ℕ) (Below : Tree → Type 0) (ts : Trees) → DoneBut i Below ts → Below (tree_nth i ts)
+nth_leads i Below no_trees leads = absurd leads
+nth_leads zero Below (branch t ts) leads = leads.0
+nth_leads (suc i) Below (branch t ts) leads = nth_leads i Below ts leads.1
+
+pub changed_at : (place : Place) (change : Tree → Tree) (t : Tree) → Leads place t
+    → tree_at place (change_at place change t) ≡ change (tree_at place t)
+changed_at [] change t leads = refl
+changed_at (i ∷ place) change (begun form ts) leads =
+    ap (tree_at place) (nth_changed i (λ child. Leads place child) (λ child. change_at place change child) ts leads)
+    ∙ changed_at place change (tree_nth i ts) (nth_leads i (λ child. Leads place child) ts leads)
+changed_at (i ∷ place) change hole leads = absurd leads
+changed_at (i ∷ place) change entered leads = absurd leads
+changed_at (i ∷ place) change (whole v) leads = absurd leads
+
+nth_twice : (i : ℕ) (f g h : Tree → Tree) → ((t : Tree) → f (g t) ≡ h t) → (ts : Trees)
+    → change_nth i f (change_nth i g ts) ≡ change_nth i h ts
+nth_twice i f g h same no_trees = refl
+nth_twice zero f g h same (branch t ts) = ap (λ (x : Tree). branch x ts) (same t)
+nth_twice (suc i) f g h same (branch t ts) = ap (branch t) (nth_twice i f g h same ts)
+
+pub changed_twice : (place : Place) (f g : Tree → Tree) (t : Tree)
+    → change_at place f (change_at place g t) ≡ change_at place (λ x. f (g x)) t
+changed_twice [] f g t = refl
+changed_twice (i ∷ place) f g hole = refl
+changed_twice (i ∷ place) f g entered = refl
+changed_twice (i ∷ place) f g (whole v) = refl
+changed_twice (i ∷ place) f g (begun form ts) =
+    ap (begun form)
+    (nth_twice i (λ child. change_at place f child) (λ child. change_at place g child)
+    (λ child. change_at place (λ x. f (g x)) child) (changed_twice place f g) ts)
+
+-- begun around the child, and the child entered: that is what entering means
+pub entered_so : (table : Table) (s i : ℕ) (place : Place) (t : Tree) (form : Form) (count : ℕ) (def : Def)
+    → form ≡ form_of (def_of table s) → count ≡ count_children (def_of table s) → def ≡ def_of table (child_shape table s i)
+    → change_at place (change_child i (enter def)) (change_at place (opened_as form count) t)
+    ≡ change_at place (enter_child table s i) t
+entered_so table s i place t form count def is counts of =
+    changed_twice place (change_child i (enter def)) (opened_as form count) t
+    ∙ ap (λ (d : Def). change_at place (λ x. change_child i (enter d) (opened_as form count x)) t) of
+    ∙ ap (λ (f : Form). change_at place (λ x. change_child i (enter (def_of table (child_shape table s i))) (opened_as f count x)) t) is
+    ∙ ap (λ (n : ℕ). change_at place (λ x. change_child i (enter (def_of table (child_shape table s i))) (opened_as (form_of (def_of table s)) n x)) t) counts
+
+-- What may be begun.
+
+settled_struct : (table : Table) (s : ℕ) (struct : StructDef) → def_of table s ≡ Def.Struct struct
+    → settled table s ≡ Def.Struct struct
+settled_struct [] s struct e = cc
+settled_struct (shape ∷ shapes) s struct e = rw e refl
+
+both_none : (a b : Option Operation) (x : Operation) → option_or a (option_or b (Some x)) ≡ None → ⊥
+both_none (Some o) b x e = cc
+both_none None (Some o) x e = cc
+both_none None None x e = cc
+
+count_fields : (table : Table) (fields : List Field) (vs : Vals) → fields_fit table fields vs ≡ true
+    → count_vals vs ≡ length fields
+count_fields table [] no_vals h = refl
+count_fields table [] (first v vs) h = cc
+count_fields table (field ∷ fields) no_vals h = cc
+count_fields table (field ∷ fields) (first v vs) h =
+    ap suc (count_fields table fields vs (both_true (fits table field.shape.0 v) (fields_fit table fields vs) h).1)
+
+-- a whole struct has as many parts as fields
+record Parts (v : Val) (count : ℕ) : Type 0 where
+  parts : Vals
+  are : parts_of v ≡ Some parts
+  counts : count_vals parts ≡ count
+
+struct_parts : (table : Table) (s : ℕ) (struct : StructDef) → def_of table s ≡ Def.Struct struct → (v : Val)
+    → fits table s v ≡ true → Parts v (length struct.fields)
+struct_parts table s struct is (product vs) h = record {
+  parts = vs;
+  are = refl;
+  counts = count_fields table struct.fields vs (rw (settled_struct table s struct is) at h);
+}
+struct_parts table s struct is unit h = cc
+struct_parts table s struct is _ h = let no = rw (settled_struct table s struct is) at h in cc
+
+whole_parts : (table : Table) (s i : ℕ) (v : Val) (form : Form) (count : ℕ) → IsFullAs (def_of table s) form count
+    → fits table s v ≡ true → field_refusal (def_of table s) (whole v) i ≡ None → Parts v count
+whole_parts table s i v form count full fit may = go (def_of table s) refl form full may
+  where
+    go : (def : Def) → def_of table s ≡ def → (form : Form) → IsFullAs def form count
+        → field_refusal def (whole v) i ≡ None → Parts v count
+    go (Def.Struct struct) e as_struct b none =
+        subst (λ (n : ℕ). Parts v n) (sym b) (struct_parts table s struct e v fit)
+    go (Def.Array t n) e as_array b none =
+        absurd
+        (both_none (if nat_lt i n then None else Some Operation.ArrayIndexOutOfBounds)
+        (if nat_le n array_limit then None else Some Operation.ArrayTooLarge) Operation.ElementOfWholeArray none)
+    go _ e _ b none = absurd b
+
+count_holes : (n : ℕ) → count_trees (holes n) ≡ n
+count_holes zero = refl
+count_holes (suc n) = ap suc (count_holes n)
+
+count_wholes : (vs : Vals) → count_trees (wholes vs) ≡ count_vals vs
+count_wholes no_vals = refl
+count_wholes (first v vs) = ap suc (count_wholes vs)
+
+same_full : (def : Def) (f g : Form) (n m : ℕ) → IsFullAs def f n → IsFullAs def g m → (f ≡ g) × (n ≡ m)
+same_full (Def.Struct struct) as_struct as_struct n m a b = (refl, a ∙ sym b)
+same_full (Def.Struct struct) as_struct as_array n m a b = absurd b
+same_full (Def.Struct struct) as_array g n m a b = absurd a
+same_full (Def.Array t k) as_array as_array n m a b = (refl, a ∙ sym b)
+same_full (Def.Array t k) as_array as_struct n m a b = absurd b
+same_full (Def.Array t k) as_struct g n m a b = absurd a
+same_full _ f g n m a b = absurd a
+
+pub may_open : (table : Table) (s i : ℕ) (form : Form) (count : ℕ) (plot : Plot) → IsFullAs (def_of table s) form count
+    → Suits table s (tree_in plot) → field_refusal (def_of table s) (tree_in plot) i ≡ None → MayOpen (body_in plot)
+may_open table s i form count entered_plot full suits may = tt
+may_open table s i form count (begun_plot made kids) full suits may = tt
+may_open table s i form count (whole_plot v) full suits may =
+    let parts = whole_parts table s i v form count full suits may in
+    ap is_some parts.are
+
+pub has_child : (table : Table) (s i : ℕ) (form : Form) (count : ℕ) (plot : Plot) → IsFullAs (def_of table s) form count
+    → i < count → Suits table s (tree_in plot) → field_refusal (def_of table s) (tree_in plot) i ≡ None
+    → HasChild form i (opened_as form count (tree_in plot))
+has_child table s i form count entered_plot full below suits may = (refl, omega (arith, count_holes count))
+has_child table s i form count (begun_plot made kids) full below suits may =
+    let same = same_full (def_of table s) made form (count_trees _) count suits.0.0 full in
+    (same.0, omega (arith, same.1))
+has_child table s i form count (whole_plot v) full below suits may =
+    let parts = whole_parts table s i v form count full suits may in
+    subst (λ (found : Option Vals). HasChild form i (opened_value form v found)) (sym parts.are)
+    (refl, omega (arith, count_wholes parts.parts, parts.counts))
+
+-- The plan's node at a place, by the tree.
+
+abbrev node_by : Plan → NodeId → ℕ → Tree → NodeId
+node_by plan node i hole = node
+node_by plan node i entered = node
+node_by plan node i (whole v) = node
+node_by plan node i (begun form ts) = child_node plan node form i
+
+node_in_tree : Plan → NodeId → Place → Tree → NodeId
+node_in_tree plan node [] t = node
+node_in_tree plan node (i ∷ place) t = node_in_tree plan (node_by plan node i t) place (child_tree i t)
+
+by_tree : (plan : Plan) (node : NodeId) (i : ℕ) (k : Kid) → node_below plan node i k ≡ node_by plan node i (tree_of k)
+by_tree plan node i gone = refl
+by_tree plan node i (there v) = refl
+by_tree plan node i (at slot stored entered_plot) = refl
+by_tree plan node i (at slot stored (whole_plot v)) = refl
+by_tree plan node i (at slot stored (begun_plot form kids)) = refl
+
+along_tree : (plan : Plan) (node : NodeId) (place : Place) (k : Kid)
+    → node_along plan node place k ≡ node_in_tree plan node place (tree_of k)
+unfolding node_in_tree
+along_tree plan node [] k = refl
+along_tree plan node (i ∷ place) k =
+    ap (λ (n : NodeId). node_along plan n place (kid_below i k)) (by_tree plan node i k)
+    ∙ along_tree plan (node_by plan node i (tree_of k)) place (kid_below i k)
+    ∙ ap (node_in_tree plan (node_by plan node i (tree_of k)) place) (tree_of_below i k)
+
+-- what is put at the place itself doesn't matter
+same_node : (plan : Plan) (node : NodeId) (place : Place) (change : Tree → Tree) (t : Tree) → Leads place t
+    → node_in_tree plan node place (change_at place change t) ≡ node_in_tree plan node place t
+unfolding node_in_tree
+same_node plan node [] change t leads = refl
+same_node plan node (i ∷ place) change (begun form ts) leads =
+    ap (node_in_tree plan (child_node plan node form i) place)
+    (nth_changed i (λ child. Leads place child) (λ child. change_at place change child) ts leads)
+    ∙ same_node plan (child_node plan node form i) place change (tree_nth i ts)
+    (nth_leads i (λ child. Leads place child) ts leads)
+same_node plan node (i ∷ place) change hole leads = absurd leads
+same_node plan node (i ∷ place) change entered leads = absurd leads
+same_node plan node (i ∷ place) change (whole v) leads = absurd leads
+
+-- the node stays where something else is put at the place
+pub node_stays : (plan : Plan) (node : NodeId) (place now : Place) (change : Tree → Tree) (before after : Kid) → now ≡ place
+    → Leads place (tree_of before) → tree_of after ≡ change_at place change (tree_of before)
+    → node_along plan node now after ≡ node_along plan node place before
+node_stays plan node place now change before after same leads is =
+    ap (λ (p : Place). node_along plan node p after) same
+    ∙ along_tree plan node place after
+    ∙ ap (node_in_tree plan node place) is
+    ∙ same_node plan node place change (tree_of before) leads
+    ∙ sym (along_tree plan node place before)
+
+-- The definition of an entered child.
+pub def_entered : (table : Table) (plan : Plan) (node : NodeId) (s i : ℕ) (form : Form)
+    → IsOfShape plan node (child_as table s form i) → def_of table (shape_of plan node) ≡ def_of table (child_shape table s i)
+def_entered table plan node s i form shaped =
+    ap (λ (found : Option TypePlanNode). def_of table (unwrap_or (option_map (λ (n : TypePlanNode). n.shape) found) (record { 0 = 0 })).0)
+    shaped.there
+    ∙ ap (def_of table) (shaped.shape ∙ by_form form)
+  where
+    by_form : (form : Form) → child_as table s form i ≡ child_shape table s i
+    by_form as_struct = refl
+    by_form as_array = refl

@@ -1,0 +1,145 @@
+-- The first place: the root's, in a slot by itself.
+use Rattle.std.proofs.Common.{◌≡◌, ℕ, ◌<◌, ◌≤◌, Bool, true, false, List, [], ◌∷◌, ◌++◌, nat_eq, Option, Some, unwrap_or, refl, sym, ◌∙◌, ap, subst, arith}
+use Rattle.std.specs.Prelude.{if◌then◌else◌}
+use Rattle.fr_shape.specs.declared.shape.Def.{Def}
+use Rattle.fr_shape.specs.declared.shape.ShapeId.{ShapeId}
+use Rattle.fr_shape.specs.Checked.{IsChecked}
+use Rattle.fr_shape.specs.Fills.{is_empty_struct}
+use Rattle.fr_shape.specs.Look.{Table, IsIn, def_of}
+use Rattle.fr_shape.specs.Numbered.{IsNumbered}
+use Rattle.fr_shape.specs.Served.{IsServed}
+use Rattle.fr_shape.specs.Val.{product, no_vals}
+use Rattle.fr_model.specs.Laws.{StartIsWell}
+use Rattle.fr_model.specs.Paths.{path_of}
+use Rattle.fr_model.specs.Tree.{Tree, State, whole, entered, fresh, initial}
+use Rattle.fr_model.specs.Well.{Suits, Leads}
+use Rattle.fr_path.specs.declared.path_steps.PathStep.{PathStep}
+use Rattle.fr_plan.specs.declared.nodes.NodeId.{NodeId}
+use Rattle.fr_plan.specs.LookupLaws.{LookupPathsAgree}
+use Rattle.fr_plan.specs.TypePlan.{Plan, IsPlanOf}
+use Rattle.fr_frame.specs.declared.places.FrameOwner.{FrameOwner}
+use Rattle.fr_frame.specs.declared.places.Slot.{Slot}
+use Rattle.fr_frame.specs.Bodies.{Body, entered_body, whole_body, fresh_body, IsClosed}
+use Rattle.fr_frame.specs.Changes.{SameTokens, Shows}
+use Rattle.fr_frame.specs.Completing.{shape_of}
+use Rattle.fr_frame.specs.Heap.{heap_of, slots_occur, entered_node, with_entered, depth_limit}
+use Rattle.fr_frame.specs.Kids.{at, Plot, entered_plot, whole_plot, tree_in, body_in, plot_occurs}
+use Rattle.fr_store.specs.EnterLaws.{fresh_plot}
+use Rattle.fr_store.specs.MoveLaws.{open_at_from}
+use Rattle.fr_store.specs.Moves.{IsOpenAt}
+use Rattle.fr_store.specs.TopLaws.{slot_here, closed_uses, closed_holds, closed_marked}
+use Rattle.fr_store.specs.Ways.{counts_if, uses_in}
+use Rattle.fr_partial.specs.Underway.{state_of, IsUnderway}
+use Rattle.fr_partial.proofs.StateLaws.{state_is}
+
+-- the plan's root has the root's shape
+pub shape_is : LookupPathsAgree → (table : Table) (root : ShapeId) (plan : Plan) → IsChecked table → IsIn table root.0
+    → IsPlanOf table root plan → shape_of plan plan.root ≡ root.0
+shape_is paths table root plan checked inside planned =
+    ap (λ (found : Option ShapeId). (unwrap_or found (record { 0 = 0 })).0)
+    (paths table root plan [] checked inside planned)
+
+-- What is entered where nothing was.
+
+fresh_put : (def : Def) → fresh_body def ≡ body_in (fresh_plot def)
+fresh_put def = go (is_empty_struct def)
+  where
+    go : (empty : Bool) → (if empty then whole_body (product no_vals) else entered_body)
+        ≡ body_in (if empty then whole_plot (product no_vals) else entered_plot)
+    go true = refl
+    go false = refl
+
+fresh_grown : (def : Def) → tree_in (fresh_plot def) ≡ fresh def
+fresh_grown def = go (is_empty_struct def)
+  where
+    go : (empty : Bool) → tree_in (if empty then whole_plot (product no_vals) else entered_plot)
+        ≡ (if empty then whole (product no_vals) else entered)
+    go true = refl
+    go false = refl
+
+fresh_alone : (def : Def) → IsClosed (body_in (fresh_plot def))
+fresh_alone def = go (is_empty_struct def)
+  where
+    go : (empty : Bool) → IsClosed (body_in (if empty then whole_plot (product no_vals) else entered_plot))
+    go true = tt
+    go false = tt
+
+fresh_bare : (def : Def) (t : ℕ) → plot_occurs (fresh_plot def) t ≡ 0
+fresh_bare def t = go (is_empty_struct def)
+  where
+    go : (empty : Bool) → plot_occurs (if empty then whole_plot (product no_vals) else entered_plot) t ≡ 0
+    go true = refl
+    go false = refl
+
+at_most_once : (same : Bool) → counts_if same ≤ 1
+at_most_once true = omega arith
+at_most_once false = omega arith
+
+-- a slot of the root's place, and the stack of it alone
+alone : (plan : Plan) (slots : List Slot) (stack : List ℕ) (n : ℕ) (plot : Plot) (tree : Tree) → IsClosed (body_in plot)
+    → heap_of slots n
+    ≡ Some (record { node = plan.root; owner = FrameOwner.Root; stored = false; depth = 0; body = body_in plot })
+    → 0 < depth_limit → ((t : ℕ) → slots_occur slots t ≡ plot_occurs plot t) → stack ≡ n ∷ [] → tree_in plot ≡ tree
+    → IsOpenAt plan slots stack [] tree
+alone plan slots stack n plot tree closed found limit tokens along is =
+    open_at_from plan slots stack [] (at n false plot) tree
+    (record {
+      holds = (found, limit, closed_holds plan (heap_of slots) plan.root n 1 plot closed);
+      once = λ m.
+          let none : uses_in plot m ≡ 0 = closed_uses plot m closed in
+          omega (arith, at_most_once (nat_eq n m));
+      leads = (refl, closed_marked true plot closed);
+      along = along;
+    })
+    (refl, closed_marked false plot closed)
+    tokens is
+
+-- the root is entered
+pub first_open : LookupPathsAgree → (table : Table) (root : ShapeId) (plan : Plan) → IsChecked table → IsIn table root.0
+    → IsPlanOf table root plan → (before after : List Slot) (node : NodeId) (n : ℕ) (old stack : List ℕ)
+    → ((t : ℕ) → slots_occur before t ≡ 0) → node ≡ plan.root
+    → Shows after (with_entered (def_of table (shape_of plan node)) (heap_of before) node FrameOwner.Root n)
+    → 0 < depth_limit → SameTokens before after → old ≡ [] → stack ≡ old ++ n ∷ []
+    → IsOpenAt plan after stack [] (fresh (def_of table root.0))
+first_open paths table root plan checked inside planned before after node n old stack nothing is shows limit same none along =
+    let def : Def = def_of table root.0 in
+    let shape : shape_of plan plan.root ≡ root.0 = shape_is paths table root plan checked inside planned in
+    alone plan after stack n (fresh_plot def) (fresh def) (fresh_alone def)
+    (shows n
+    ∙ slot_here (heap_of before) n
+    (Some (entered_node (def_of table (shape_of plan node)) (heap_of before) node FrameOwner.Root))
+    ∙ ap (λ (own : NodeId). Some (entered_node (def_of table (shape_of plan own)) (heap_of before) own FrameOwner.Root)) is
+    ∙ ap (λ (s : ℕ). Some (entered_node (def_of table s) (heap_of before) plan.root FrameOwner.Root)) shape
+    ∙ ap
+    (λ (body : Body).
+    Some (record { node = plan.root; owner = FrameOwner.Root; stored = false; depth = 0; body = body }))
+    (fresh_put def))
+    limit
+    (λ t. same t ∙ nothing t ∙ sym (fresh_bare def t))
+    (along ∙ ap (λ (above : List ℕ). above ++ n ∷ []) none)
+    (fresh_grown def)
+
+-- A builder at the root, with no call yet.
+module _ (table : Table) (root : ShapeId) (plan : Plan) (slots : List Slot) (stack : List ℕ)
+    (first : IsOpenAt plan slots stack [] (fresh (def_of table root.0))) where
+  pub starts_at : state_of slots stack 0 ≡ initial table root.0
+  starts_at = state_is plan slots stack [] (fresh (def_of table root.0)) 0 0 first refl
+
+  pub starts_underway : StartIsWell → IsIn table root.0 → IsNumbered table → IsChecked table → IsServed table
+      → IsPlanOf table root plan → (steps : List PathStep) → steps ≡ []
+      → IsUnderway table root plan steps slots stack 0
+  starts_underway well inside numbered checked served planned steps none =
+      let start = well table root.0 in
+      record {
+        numbered = numbered;
+        served = served;
+        ready = record {
+          inside = inside;
+          checked = checked;
+          planned = planned;
+          shown = first.open_still;
+          suits = subst (λ (s : State). Suits table root.0 s.tree) (sym starts_at) start.in_order.suits;
+          leads = subst (λ (s : State). Leads s.cursor s.tree) (sym starts_at) start.in_order.leads;
+        };
+        path = none ∙ ap path_of (sym starts_at);
+      }

@@ -1,0 +1,149 @@
+-- What a place of a served table lacks is a field or a value: never memory, and never a value that passes a validator.
+use Rattle.std.proofs.Common.{◌≡◌, ◌⊎◌, ℕ, zero, suc, Bool, true, false, List, [], ◌∷◌, Option, Some, None, IsSome, IsErr, Ok, Err, inl, inr, refl, sym, ◌∙◌, ap, subst}
+use Rattle.std.specs.Option.{option_or}
+use Rattle.fr_shape.specs.declared.shape.Def.{Def}
+use Rattle.fr_shape.specs.declared.error.ReflectErrorKind.{ReflectErrorKind}
+use Rattle.fr_shape.specs.Fills.{preset_of}
+use Rattle.fr_shape.specs.Hooks.{Meanings}
+use Rattle.fr_shape.specs.Look.{Table, def_of}
+use Rattle.fr_shape.specs.Served.{IsServed}
+use Rattle.fr_shape.specs.Val.{Val}
+use Rattle.fr_model.specs.Complete.{complete, lack, lack_among, lack_of_hole, lack_of_holes, lack_of_entered, lack_by, unless_there, missing_child, missing_value, hole_takes, failing_child}
+use Rattle.fr_model.specs.Places.{child_count}
+use Rattle.fr_model.specs.Step.{cause, or_missing}
+use Rattle.fr_model.specs.Tree.{Form, as_struct, as_array, Tree, hole, entered, whole, begun, Trees, no_trees, branch, child_as}
+use Rattle.fr_frame.specs.Completing.{IsOfValidator}
+use Rattle.fr_partial.specs.Filling.{fills_nothing}
+use Rattle.fr_partial.specs.Ending.{IsLacking, NeedsMemory, WhyNot}
+use Rattle.fr_partial.proofs.TemplateLaws.{none_failing}
+
+-- a field or a value is lacking
+abbrev is_missing : ReflectErrorKind → Bool
+is_missing (ReflectErrorKind.UninitializedField field) = true
+is_missing (ReflectErrorKind.UninitializedValue shape) = true
+is_missing _ = false
+
+abbrev AreMissing : Option ReflectErrorKind → Type 0
+AreMissing lacking = (kind : ReflectErrorKind) → lacking ≡ Some kind → is_missing kind ≡ true
+
+nothing_missing : AreMissing None
+nothing_missing kind e = cc
+
+some_missing : (kind : ReflectErrorKind) → is_missing kind ≡ true → AreMissing (Some kind)
+some_missing kind h other e =
+    let same : kind ≡ other = cc in
+    ap is_missing (sym same) ∙ h
+
+either_missing : (a b : Option ReflectErrorKind) → AreMissing a → AreMissing b → AreMissing (option_or a b)
+either_missing (Some kind) b first second = first
+either_missing None b first second = second
+
+child_missing : (s : ℕ) (form : Form) (i : ℕ) → is_missing (missing_child s form i) ≡ true
+child_missing s as_struct i = refl
+child_missing s as_array i = refl
+
+value_missing : (s : ℕ) → is_missing (missing_value s) ≡ true
+value_missing s = refl
+
+there_missing : (value : Option Val) (kind : ReflectErrorKind) → is_missing kind ≡ true → AreMissing (unless_there value kind)
+there_missing (Some v) kind h = nothing_missing
+there_missing None kind h = some_missing kind h
+
+module _ (hooks : Meanings) (table : Table) (served : IsServed table) where
+  failing_missing : (s : ℕ) (form : Form) (i : ℕ) (value : Option Val) → AreMissing (failing_child hooks table s form i value)
+  failing_missing s form i value =
+      subst AreMissing (sym (none_failing hooks table s form i value served)) nothing_missing
+
+  hole_missing : (s : ℕ) (form : Form) (i : ℕ) → AreMissing (lack_of_hole hooks table s form i)
+  hole_missing s form i =
+      either_missing (unless_there (hole_takes table s form i) (missing_child s form i))
+      (failing_child hooks table s form i (hole_takes table s form i))
+      (there_missing (hole_takes table s form i) (missing_child s form i) (child_missing s form i))
+      (failing_missing s form i (hole_takes table s form i))
+
+  holes_missing : (s : ℕ) (form : Form) (count i : ℕ) → AreMissing (lack_of_holes hooks table s form count i)
+  holes_missing s form zero i = nothing_missing
+  holes_missing s form (suc count) i =
+      either_missing (lack_of_hole hooks table s form i) (lack_of_holes hooks table s form count (suc i))
+      (hole_missing s form i) (holes_missing s form count (suc i))
+
+  entered_missing : (s : ℕ) → AreMissing (lack_of_entered hooks table s)
+  entered_missing s =
+      go (def_of table s) (preset_of table s) (lack_of_holes hooks table s as_struct (child_count table s) 0)
+      (holes_missing s as_struct (child_count table s) 0)
+    where
+      go : (def : Def) (preset : Option Val) (of_holes : Option ReflectErrorKind) → AreMissing of_holes
+          → AreMissing (lack_by def preset of_holes (missing_value s))
+      go (Def.Struct struct) (Some v) of_holes holes = nothing_missing
+      go (Def.Struct struct) None of_holes holes = holes
+      go (Def.Option t) preset of_holes holes = there_missing preset (missing_value s) (value_missing s)
+      go _ preset of_holes holes = some_missing (missing_value s) (value_missing s)
+
+  mutual
+    lack_missing : (s : ℕ) (t : Tree) → AreMissing (lack hooks table s t)
+    lack_missing s hole = some_missing (missing_value s) (value_missing s)
+    lack_missing s entered = entered_missing s
+    lack_missing s (whole v) = nothing_missing
+    lack_missing s (begun form ts) = among_missing s form 0 ts
+
+    among_missing : (s : ℕ) (form : Form) (i : ℕ) (ts : Trees) → AreMissing (lack_among hooks table s form i ts)
+    among_missing s form i no_trees = nothing_missing
+    among_missing s form i (branch hole ts) =
+        either_missing (lack_of_hole hooks table s form i) (lack_among hooks table s form (suc i) ts)
+        (hole_missing s form i) (among_missing s form (suc i) ts)
+    among_missing s form i (branch entered ts) =
+        either_missing _ _ (lack_missing (child_as table s form i) entered)
+        (either_missing _ _ (failing_missing s form i _) (among_missing s form (suc i) ts))
+    among_missing s form i (branch (whole v) ts) =
+        either_missing _ _ (lack_missing (child_as table s form i) (whole v))
+        (either_missing _ _ (failing_missing s form i _) (among_missing s form (suc i) ts))
+    among_missing s form i (branch (begun made us) ts) =
+        either_missing _ _ (lack_missing (child_as table s form i) (begun made us))
+        (either_missing _ _ (failing_missing s form i _) (among_missing s form (suc i) ts))
+
+  cause_missing : (s : ℕ) (t : Tree) → is_missing (cause hooks table s t) ≡ true
+  cause_missing s t = go (lack hooks table s t) refl
+    where
+      go : (lacking : Option ReflectErrorKind) → lack hooks table s t ≡ lacking → is_missing (cause hooks table s t) ≡ true
+      go (Some kind) e = rw e (by_kind kind e)
+        where
+          by_kind : (kind : ReflectErrorKind) → lack hooks table s t ≡ Some kind → is_missing kind ≡ true
+          by_kind kind e = lack_missing s t kind e
+      go None e = rw e (value_missing s)
+
+  of_validator : (kind : ReflectErrorKind) → IsOfValidator kind → is_missing kind ≡ true → ⊥
+  of_validator kind said h =
+      let same : is_missing kind ≡ false = ap is_missing said.2 in
+      let no : true ≡ false = sym h ∙ same in
+      cc
+
+  memory_not_missing : is_missing ReflectErrorKind.OutOfMemory ≡ false
+  memory_not_missing = refl
+
+  -- where a place isn't completed since there is no memory, it makes a value and takes a template
+  pub only_wants : (s : ℕ) (t : Tree) (kind : ReflectErrorKind) → WhyNot hooks table s t kind
+      → kind ≡ ReflectErrorKind.OutOfMemory → IsSome (complete hooks table s t)
+  only_wants s t kind (inl lacking) memory =
+      let no : true ≡ false
+      = sym (cause_missing s t) ∙ ap is_missing (sym lacking.lacks ∙ memory) ∙ memory_not_missing in
+      cc
+  only_wants s t kind (inr wants) memory = go wants.needed
+    where
+      go : (IsSome (complete hooks table s t) × (fills_nothing t ≡ false)) ⊎ ((complete hooks table s t ≡ None) × IsOfValidator (cause hooks table s t))
+          → IsSome (complete hooks table s t)
+      go (inl made) = made.0
+      go (inr said) = absurd (of_validator (cause hooks table s t) said.1 (cause_missing s t))
+
+  pub only_takes : (s : ℕ) (t : Tree) (kind : ReflectErrorKind) → WhyNot hooks table s t kind
+      → kind ≡ ReflectErrorKind.OutOfMemory → fills_nothing t ≡ false
+  only_takes s t kind (inl lacking) memory =
+      let no : true ≡ false
+      = sym (cause_missing s t) ∙ ap is_missing (sym lacking.lacks ∙ memory) ∙ memory_not_missing in
+      cc
+  only_takes s t kind (inr wants) memory = go wants.needed
+    where
+      go : (IsSome (complete hooks table s t) × (fills_nothing t ≡ false))
+          ⊎ ((complete hooks table s t ≡ None) × IsOfValidator (cause hooks table s t))
+          → fills_nothing t ≡ false
+      go (inl made) = made.1
+      go (inr said) = absurd (of_validator (cause hooks table s t) said.1 (cause_missing s t))

@@ -1,0 +1,125 @@
+-- The place on top of the stack: its shape, and what stands there.
+use Rattle.std.proofs.Common.{◌≡◌, ℕ, ◌<◌, false, List, [], ◌∷◌, length, append-nil, Option, Some, None, refl, sym, ◌∙◌, ap, subst}
+use Rattle.fr_shape.specs.declared.shape.ShapeId.{ShapeId}
+use Rattle.fr_shape.specs.Look.{Table}
+use Rattle.fr_model.specs.Places.{Place}
+use Rattle.fr_model.specs.Tree.{Tree, tree_at, tree_occurs}
+use Rattle.fr_plan.specs.declared.nodes.TypePlanNode.{TypePlanNode}
+use Rattle.fr_plan.specs.Lookups.{node_at}
+use Rattle.fr_plan.specs.LookupLaws.{LookupsAgree, LookupPathsAgree}
+use Rattle.fr_plan.specs.TypePlan.{Plan}
+use Rattle.fr_frame.specs.declared.places.Place.{Place as Entry}
+use Rattle.fr_frame.specs.declared.places.Slot.{Slot}
+use Rattle.fr_frame.specs.Bodies.{own_tree}
+use Rattle.fr_frame.specs.Heap.{Node, body_of, node_of, heap_of, slots_occur}
+use Rattle.fr_frame.specs.declared.places.FrameOwner.{FrameOwner}
+use Rattle.fr_frame.specs.Changes.{SameTokens, Shows}
+use Rattle.fr_frame.specs.Kids.{Kid, tree_of, tree_in, body_in}
+use Rattle.fr_store.specs.HoldLaws.{holds_frame}
+use Rattle.fr_store.specs.StandLaws.{open_from}
+use Rattle.fr_store.specs.MoveLaws.{open_top, top_slot}
+use Rattle.fr_store.specs.Moves.{cursor_in, tree_in_slots, tree_here}
+use Rattle.fr_store.specs.Numbers.{IsLast}
+use Rattle.fr_store.specs.Stands.{IsOpen, kid_shown}
+use Rattle.fr_store.specs.TopLaws.{closed_tree}
+use Rattle.fr_store.specs.Ways.{kid_at, Leads, node_along, owner_along}
+use Rattle.fr_store.specs.WayLaws.{leads_reach, tree_of_at, tree_tokens}
+use Rattle.fr_partial.specs.Underway.{shape_here, IsReady}
+use Rattle.fr_partial.proofs.FitLaws.{is_there}
+use Rattle.fr_partial.proofs.ShapeLaws.{IsOfShape, Along, along, root_shaped}
+
+-- what is in the last slot of the stack
+abbrev pub node_here : (plan : Plan) (slots : List Slot) (stack : List ℕ) → IsOpen plan slots stack → Node
+node_here plan slots stack shown = record {
+  node = node_along plan plan.root (cursor_in slots stack) (kid_shown (heap_of slots) stack);
+  owner = owner_along FrameOwner.Root (cursor_in slots stack) (kid_shown (heap_of slots) stack);
+  stored = false;
+  depth = length (cursor_in slots stack);
+  body = body_in (open_top plan slots stack shown).plot;
+}
+
+module _ (plan : Plan) (slots : List Slot) (stack : List ℕ) (shown : IsOpen plan slots stack) (n : ℕ) (last : IsLast stack n) where
+  pub here_found : heap_of slots n ≡ Some (node_here plan slots stack shown)
+  here_found = ap (heap_of slots) (sym (top_slot plan slots stack shown n last)) ∙ (open_top plan slots stack shown).here
+
+  -- the place that is found there
+  pub found_is : (place : Entry) → Some (node_of place) ≡ heap_of slots n → node_of place ≡ node_here plan slots stack shown
+  found_is place is =
+      let both : Some (node_of place) ≡ Some (node_here plan slots stack shown) = is ∙ here_found in
+      cc
+
+  -- there is one
+  pub none_found : None ≡ heap_of slots n → ⊥
+  none_found is =
+      let both : None ≡ Some (node_here plan slots stack shown) = is ∙ here_found in
+      cc
+
+-- what was put there is what stands at the place at which the builder works
+pub tree_found : (plan : Plan) (slots : List Slot) (stack : List ℕ) (shown : IsOpen plan slots stack) (n : ℕ) (last : IsLast stack n)
+    → (place : Entry) → Some (node_of place) ≡ heap_of slots n → own_tree (body_of place.piece) ≡ tree_here slots stack
+tree_found plan slots stack shown n last place is =
+    let top = open_top plan slots stack shown in
+    ap (λ (found : Node). own_tree found.body) (found_is plan slots stack shown n last place is)
+    ∙ sym (closed_tree top.plot top.closed)
+    ∙ ap tree_of (sym top.is)
+    ∙ tree_of_at (cursor_in slots stack) (kid_shown (heap_of slots) stack)
+
+module _ (agree : LookupsAgree) (paths : LookupPathsAgree) (table : Table) (root : ShapeId) (plan : Plan) (slots : List Slot)
+    (stack : List ℕ) (ready : IsReady table root plan slots stack) where
+  -- the plan's node of the place at which the builder works, and the tree there
+  pub here_along : Along table plan (node_along plan plan.root (cursor_in slots stack) (kid_shown (heap_of slots) stack))
+      (shape_here table root.0 slots stack) (tree_here slots stack)
+  here_along =
+      along agree table root plan ready.checked ready.inside ready.planned (cursor_in slots stack)
+      (kid_shown (heap_of slots) stack) plan.root root.0
+      (root_shaped agree table root plan ready.checked ready.inside ready.planned paths) ready.suits
+      (leads_reach (cursor_in slots stack) [] (kid_shown (heap_of slots) stack)
+      (subst (λ (p : Place). Leads p (kid_shown (heap_of slots) stack)) (sym (append-nil (cursor_in slots stack)))
+      ready.shown.stands.leads))
+
+  pub found_shaped : (n : ℕ) (last : IsLast stack n) (place : Entry) → Some (node_of place) ≡ heap_of slots n
+      → IsOfShape plan place.node (shape_here table root.0 slots stack)
+  found_shaped n last place is =
+      subst (λ (found : Node). IsOfShape plan found.node (shape_here table root.0 slots stack))
+      (sym (found_is plan slots stack ready.shown n last place is)) here_along.node_is
+
+  pub found_inside : (n : ℕ) (last : IsLast stack n) (place : Entry) → Some (node_of place) ≡ heap_of slots n
+      → place.node.0 < length plan.nodes
+  found_inside n last place is =
+      let shaped = found_shaped n last place is in
+      is_there plan.nodes place.node.0 shaped.found shaped.there
+
+  pub found_shape : (n : ℕ) (last : IsLast stack n) (place : Entry) → Some (node_of place) ≡ heap_of slots n
+      → (found : TypePlanNode) → node_at plan place.node ≡ Some found → found.shape.0 ≡ shape_here table root.0 slots stack
+  found_shape n last place is found at =
+      let shaped = found_shaped n last place is in
+      let both : Some found ≡ Some shaped.found = sym at ∙ shaped.there in
+      let same : found ≡ shaped.found = cc in
+      ap (λ (x : TypePlanNode). x.shape.0) same ∙ shaped.shape
+
+-- Slots that show the same are open as before.
+
+pub held_is : (plan : Plan) (slots : List Slot) (stack : List ℕ) → IsOpen plan slots stack → (t : ℕ)
+    → slots_occur slots t ≡ tree_occurs (tree_in_slots slots stack) t
+held_is plan slots stack shown t = shown.tokens t ∙ tree_tokens (kid_shown (heap_of slots) stack) t
+
+pub open_shown : (plan : Plan) (slots after : List Slot) (stack : List ℕ) → IsOpen plan slots stack
+    → Shows after (heap_of slots) → SameTokens slots after → IsOpen plan after stack
+open_shown plan slots after stack shown same tokens =
+    open_from plan after stack (cursor_in slots stack) (kid_shown (heap_of slots) stack)
+    (record {
+      holds =
+          holds_frame plan (heap_of slots) (heap_of after) plan.root FrameOwner.Root 0 (kid_shown (heap_of slots) stack)
+          shown.stands.holds (λ n h. same n);
+      once = shown.stands.once;
+      leads = shown.stands.leads;
+      along = shown.stands.along;
+    })
+    shown.strict (λ t. tokens t ∙ shown.tokens t)
+
+-- the plot on top stands there
+pub plot_here : (plan : Plan) (slots : List Slot) (stack : List ℕ) (shown : IsOpen plan slots stack)
+    → tree_in (open_top plan slots stack shown).plot ≡ tree_here slots stack
+plot_here plan slots stack shown =
+    let top = open_top plan slots stack shown in
+    ap tree_of (sym top.is) ∙ tree_of_at (cursor_in slots stack) (kid_shown (heap_of slots) stack)

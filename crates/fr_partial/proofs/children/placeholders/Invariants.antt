@@ -1,8 +1,0 @@
-use Rattle.std.proofs.Common.{◌≡◌, length}
-use Rattle.std.specs.List.{All}
-use Rattle.fr_shape.specs.Val.{unit}
-use Rattle.fr_shape.specs.View.{view}
-use Rattle.fr_partial.proofs.children.placeholders.Given as goal
-
-abbrev pub invariant-loop-i : goal.invariant-loop-i
-invariant-loop-i l = All (λ child. view child ≡ unit) l.children.items × (length l.children.items ≡ l._i)

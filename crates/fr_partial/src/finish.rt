@@ -1,0 +1,162 @@
+//! `end`, `build` and `abandon`: the place becomes whole and the builder goes up, or the builder comes to its end.
+ghost use Rattle.std.specs.Prelude.{◌≡◌, true, IfOk};
+ghost use Rattle.fr_shape.specs.Fits.{fits};
+ghost use Rattle.fr_shape.specs.Released.{Room, RoseBy, Conserved};
+ghost use Rattle.fr_model.specs.Commands.{Call};
+ghost use Rattle.fr_model.specs.Paths.{path_of};
+ghost use Rattle.fr_model.specs.Tree.{cursor_tree};
+ghost use Rattle.fr_partial.specs.Filling.{fills_nothing};
+ghost use Rattle.fr_partial.specs.Builder.{holds, left, left_built, BuildRefusesBeforeMemory, IsBuilt, IsNotOutOfMemory, IsStep, RefusesBeforeMemory, RisesByRemoved, RisesByRemovedAtBuild, TellsPlaceBefore};
+
+use crate::finishing::{abandon, end_here, take_root};
+use crate::paths::step_back;
+use crate::{Built, Partial, ReflectError};
+use fr_model::{law_completes, law_paths, law_removed, law_well};
+use fr_path::Path;
+use fr_shape::{Hooks, Invariant, Ledger, ReflectErrorKind};
+
+impl<'t, H: Hooks> Partial<'t, H> {
+    /// Completes the place, writes its value into the place above, and goes there. Only copies of templates need memory,
+    /// and what is lacking is found before any is made.
+    pub fn end(self, ledger: &mut Ledger) -> Result<Partial<'t, H>, ReflectError>
+        requires room { Room (holds self) ledger.old }
+        ensures step { IsStep (H.means self.entry.hooks) self.entry Call.End result }
+        ensures path { TellsPlaceBefore self.entry result }
+        ensures tokens { Conserved (holds self.entry) ledger.old (left result) ledger.new }
+        ensures removed { RisesByRemoved (H.means self.entry.hooks) self.entry Call.End result
+            ledger.old ledger.new }
+        ensures memory { fills_nothing (cursor_tree self.entry.state) ≡ true
+            → IsNotOutOfMemory result }
+        ensures refused { RefusesBeforeMemory (H.means self.entry.hooks) self.entry
+            Call.End result }
+    {
+        law_paths();
+        law_removed();
+        law_well();
+        let Partial {
+            alloc,
+            table,
+            hooks,
+            plan,
+            root,
+            mut path,
+            slots,
+            stack,
+            calls,
+        } = self;
+        let open = stack.len();
+        if open == 1 {
+            abandon(slots, stack, plan.core(), ledger);
+            drop(plan);
+            let invariant = Invariant::EndAtRoot;
+            let kind = ReflectErrorKind::InvariantViolation { invariant };
+            return Err(ReflectError { kind, path });
+        }
+        match end_here(table, root, plan.core(), hooks, slots, stack, ledger) {
+            Ok((slots, stack)) => {
+                step_back(&mut path);
+                Ok(Partial {
+                    alloc,
+                    table,
+                    hooks,
+                    plan,
+                    root,
+                    path,
+                    slots,
+                    stack,
+                    calls: calls.saturating_add(1),
+                })
+            }
+            Err(kind) => {
+                drop(plan);
+                Err(ReflectError { kind, path })
+            }
+        }
+    }
+
+    /// Completes the root and hands its value over. Only copies of templates need memory, and what is lacking is found
+    /// before any is made.
+    pub fn build(self, ledger: &mut Ledger) -> Result<Built, ReflectError>
+        requires room { Room (holds self) ledger.old }
+        ensures built { IsBuilt (H.means self.entry.hooks) self.entry result }
+        ensures path { TellsPlaceBefore self.entry result }
+        ensures fits { IfOk result (λ built.
+            fits self.entry.shapes self.entry.root built.value ≡ true) }
+        ensures tokens { Conserved (holds self.entry) ledger.old (left_built result) ledger.new }
+        ensures removed { RisesByRemovedAtBuild (H.means self.entry.hooks) self.entry result
+            ledger.old ledger.new }
+        ensures memory { fills_nothing (cursor_tree self.entry.state) ≡ true
+            → IsNotOutOfMemory result }
+        ensures refused { BuildRefusesBeforeMemory (H.means self.entry.hooks) self.entry result }
+    {
+        law_completes();
+        law_removed();
+        let Partial {
+            alloc: _,
+            table,
+            hooks,
+            plan,
+            root,
+            path,
+            slots,
+            stack,
+            calls,
+        } = self;
+        let open = stack.len();
+        if open == 1 {
+            let result = take_root(table, root, plan.core(), hooks, slots, stack, ledger);
+            drop(plan);
+            match result {
+                Ok(value) => Ok(Built { value, calls }),
+                Err(kind) => Err(ReflectError { kind, path }),
+            }
+        } else {
+            abandon(slots, stack, plan.core(), ledger);
+            drop(plan);
+            let invariant = Invariant::BuildOpenFrames;
+            let kind = ReflectErrorKind::InvariantViolation { invariant };
+            Err(ReflectError { kind, path })
+        }
+    }
+
+    /// Gives the builder up, and with it all that was put into it.
+    pub fn abandon(self, ledger: &mut Ledger)
+        requires room { Room (holds self) ledger.old }
+        ensures released { RoseBy (holds self.entry) ledger.old ledger.new }
+    {
+        self.give_up(ledger);
+    }
+
+    /// The error of a call that is refused before it changes anything.
+    pub(crate) fn refuse(self, kind: ReflectErrorKind, ledger: &mut Ledger) -> ReflectError
+        requires room { Room (holds self) ledger.old }
+        ensures kind { result.kind ≡ kind }
+        ensures path { result.path ≡ path_of self.entry.state }
+        ensures released { RoseBy (holds self.entry) ledger.old ledger.new }
+    {
+        let path = self.give_up(ledger);
+        ReflectError { kind, path }
+    }
+
+    /// Releases all that the builder holds. Its path is left.
+    fn give_up(self, ledger: &mut Ledger) -> Path
+        requires room { Room (holds self) ledger.old }
+        ensures path { result ≡ path_of self.entry.state }
+        ensures released { RoseBy (holds self.entry) ledger.old ledger.new }
+    {
+        let Partial {
+            alloc: _,
+            table: _,
+            hooks: _,
+            plan,
+            root: _,
+            path,
+            slots,
+            stack,
+            calls: _,
+        } = self;
+        abandon(slots, stack, plan.core(), ledger);
+        drop(plan);
+        path
+    }
+}

@@ -1,0 +1,104 @@
+//! Completing the place on top of the stack, and leaving it with its value.
+ghost use Rattle.std.specs.Prelude.{◌≡◌, [], false, Some, IfOk, IfErr, OnOk, OnErr};
+ghost use Rattle.fr_shape.specs.Released.{Room, RoseBy};
+ghost use Rattle.fr_shape.specs.View.{view};
+ghost use Rattle.fr_model.specs.Complete.{complete};
+ghost use Rattle.fr_model.specs.Places.{is_root};
+ghost use Rattle.fr_model.specs.Tree.{tree_occurs};
+ghost use Rattle.fr_store.specs.Moves.{cursor_in, tree_here, tree_in_slots};
+ghost use Rattle.fr_store.specs.Stands.{IsOpen};
+ghost use Rattle.fr_partial.specs.Ending.{IsEnded, WhyNot};
+ghost use Rattle.fr_partial.specs.Underway.{shape_here, IsReady};
+
+use fr_frame::Slots;
+use fr_plan::{TypePlanCore, law_plan_lookups};
+use fr_shape::{Hooks, Ledger, ReflectErrorKind, ShapeId, ShapeTable, Value};
+use fr_store::Stack;
+
+/// Completes the place on top, writes its value into the place above, and goes there. Where that can't be, all is released.
+pub fn end_here<H: Hooks>(
+    table: &ShapeTable,
+    root: ShapeId,
+    plan: &TypePlanCore,
+    hooks: &H,
+    mut slots: Slots,
+    mut stack: Stack,
+    ledger: &mut Ledger,
+) -> Result<(Slots, Stack), ReflectErrorKind>
+    requires ready { IsReady table.now root plan.now slots stack }
+    requires below { is_root (cursor_in slots stack) ≡ false }
+    requires room { Room (tree_occurs (tree_in_slots slots stack)) ledger.old }
+    ensures ended { IfOk result (λ both. IsEnded (H.means hooks.now) table.now
+        (shape_here table.now root.0 slots stack) plan.now both.0 both.1
+        (tree_in_slots slots stack) (cursor_in slots stack)) }
+    ensures kept { OnOk result (ledger.new ≡ ledger.old) }
+    ensures why { IfErr result (λ kind. WhyNot (H.means hooks.now) table.now
+        (shape_here table.now root.0 slots stack) (tree_here slots stack) kind) }
+    ensures released { OnErr result
+        (RoseBy (tree_occurs (tree_in_slots slots stack)) ledger.old ledger.new) }
+{
+    law_plan_lookups();
+    let _root = root;
+    let Some(top) = stack.top() else {
+        unreachable!()
+    };
+    match top.fill_and_require_fields(&mut slots, table, plan, hooks) {
+        Ok(()) => {
+            stack.end(&mut slots, plan, ledger);
+            Ok((slots, stack))
+        }
+        Err(kind) => {
+            abandon(slots, stack, plan, ledger);
+            Err(kind)
+        }
+    }
+}
+
+/// Completes the root, and gives its value out. Where that can't be, all is released.
+pub fn take_root<H: Hooks>(
+    table: &ShapeTable,
+    root: ShapeId,
+    plan: &TypePlanCore,
+    hooks: &H,
+    mut slots: Slots,
+    stack: Stack,
+    ledger: &mut Ledger,
+) -> Result<Value, ReflectErrorKind>
+    requires ready { IsReady table.now root plan.now slots stack }
+    requires at_root { cursor_in slots stack ≡ [] }
+    requires room { Room (tree_occurs (tree_in_slots slots stack)) ledger.old }
+    ensures value { IfOk result (λ v. complete (H.means hooks.now) table.now root.0
+        (tree_in_slots slots stack) ≡ Some (view v)) }
+    ensures kept { OnOk result (ledger.new ≡ ledger.old) }
+    ensures why { IfErr result (λ kind. WhyNot (H.means hooks.now) table.now root.0
+        (tree_in_slots slots stack) kind) }
+    ensures released { OnErr result
+        (RoseBy (tree_occurs (tree_in_slots slots stack)) ledger.old ledger.new) }
+{
+    law_plan_lookups();
+    let _root = root;
+    let Some(top) = stack.top() else {
+        unreachable!()
+    };
+    match top.fill_and_require_fields(&mut slots, table, plan, hooks) {
+        Ok(()) => {
+            let Ok(value) = top.into_value(&mut slots, ledger) else {
+                unreachable!()
+            };
+            Ok(value)
+        }
+        Err(kind) => {
+            abandon(slots, stack, plan, ledger);
+            Err(kind)
+        }
+    }
+}
+
+/// Releases all.
+pub fn abandon(mut slots: Slots, mut stack: Stack, plan: &TypePlanCore, ledger: &mut Ledger)
+    requires shown { IsOpen plan.now slots stack }
+    requires room { Room (tree_occurs (tree_in_slots slots stack)) ledger.old }
+    ensures released { RoseBy (tree_occurs (tree_in_slots slots stack)) ledger.old ledger.new }
+{
+    stack.abandon(&mut slots, plan, ledger);
+}

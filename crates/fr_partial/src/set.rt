@@ -1,0 +1,80 @@
+//! `set_shape` and `set_default`: a whole value at the place at which the builder works.
+ghost use Rattle.std.specs.Prelude.{◌≡◌, ◌+◌, [], true, IfOk};
+ghost use Rattle.fr_shape.specs.Fits.{fits};
+ghost use Rattle.fr_shape.specs.Released.{Room, Conserved};
+ghost use Rattle.fr_shape.specs.Tokens.{occurs, tokens};
+ghost use Rattle.fr_shape.specs.View.{view};
+ghost use Rattle.fr_model.specs.Commands.{Call};
+ghost use Rattle.fr_partial.specs.Builder.{holds, left, IsStep, IsNotOutOfMemory, RefusesBeforeMemory, RisesByRemoved, TellsPlaceBefore};
+
+use crate::{Partial, ReflectError};
+use fr_model::law_removed;
+use fr_shape::{
+    Hooks, Ledger, Operation, OutOfMemory, ReflectErrorKind, Shaped, Template, Value,
+    clone_template, release,
+};
+use std::alloc::Global;
+
+/// A copy of what a template shows.
+fn copy_template(alloc: Global, template: &Template) -> Result<Value, OutOfMemory>
+    requires no_token { tokens template.now ≡ [] }
+    ensures copy { IfOk result (λ v. view v ≡ template.now) }
+{
+    clone_template(alloc, template.value())
+}
+
+impl<'t, H: Hooks> Partial<'t, H> {
+    /// Puts a value of the place's own shape there, in the stead of all that was put at the place and beneath it.
+    pub fn set_shape(
+        self,
+        value: Shaped,
+        ledger: &mut Ledger,
+    ) -> Result<Partial<'t, H>, ReflectError>
+        requires fits { fits self.shapes value.shape value.value ≡ true }
+        requires room { Room (λ t. holds self t + occurs value.value t) ledger.old }
+        ensures step { IsStep (H.means self.entry.hooks) self.entry
+            (Call.Set value.shape value.value) result }
+        ensures path { TellsPlaceBefore self.entry result }
+        ensures tokens { Conserved (λ t. holds self.entry t + occurs value.value t) ledger.old
+            (left result) ledger.new }
+        ensures removed { RisesByRemoved (H.means self.entry.hooks) self.entry
+            (Call.Set value.shape value.value) result ledger.old ledger.new }
+        ensures memory { IsNotOutOfMemory result }
+    {
+        law_removed();
+        self.law_in_order();
+        let expected = self.shape();
+        let actual = value.shape();
+        if actual.0 == expected.0 {
+            Ok(self.put(value.into_value(), ledger))
+        } else {
+            release(value.into_value(), ledger);
+            Err(self.refuse(ReflectErrorKind::WrongShape { expected, actual }, ledger))
+        }
+    }
+
+    /// Puts a copy of the default of the place's shape there, in the stead of all that was put at the place and beneath
+    /// it. Where there is no default, that is the refusal, and never out of memory.
+    pub fn set_default(self, ledger: &mut Ledger) -> Result<Partial<'t, H>, ReflectError>
+        requires room { Room (holds self) ledger.old }
+        ensures step { IsStep (H.means self.entry.hooks) self.entry Call.SetDefault result }
+        ensures path { TellsPlaceBefore self.entry result }
+        ensures tokens { Conserved (holds self.entry) ledger.old (left result) ledger.new }
+        ensures removed { RisesByRemoved (H.means self.entry.hooks) self.entry
+            Call.SetDefault result ledger.old ledger.new }
+        ensures refused { RefusesBeforeMemory (H.means self.entry.hooks) self.entry
+            Call.SetDefault result }
+    {
+        law_removed();
+        let shape = self.shape();
+        let Some(template) = self.table.preset(shape) else {
+            let operation = Operation::NoDefault;
+            let kind = ReflectErrorKind::OperationFailed { shape, operation };
+            return Err(self.refuse(kind, ledger));
+        };
+        match copy_template(self.alloc, template) {
+            Ok(value) => Ok(self.put(value, ledger)),
+            Err(_) => Err(self.refuse(ReflectErrorKind::OutOfMemory, ledger)),
+        }
+    }
+}

@@ -1,0 +1,242 @@
+-- Laws of what heaps hold, for proofs: other heaps that hold the same, or the same with something else at one place.
+use Rattle.std.proofs.Common.{◌≡◌, ◌≢◌, ◌⊎◌, ℕ, zero, suc, ◌+◌, ◌<◌, List, [], ◌∷◌, ◌++◌, length, nat_eq, Option, Some, None, inl, inr, refl, sym, ◌∙◌, ap, subst, arith}
+use Rattle.fr_path.specs.declared.path_steps.PathStep.{PathStep}
+use Rattle.fr_model.specs.Paths.{step_as, steps_in}
+use Rattle.fr_model.specs.Places.{Place}
+use Rattle.fr_model.specs.Tree.{Form, Tree}
+use Rattle.fr_plan.specs.declared.nodes.NodeId.{NodeId}
+use Rattle.fr_plan.specs.TypePlan.{Plan}
+use Rattle.fr_frame.specs.declared.places.FrameOwner.{FrameOwner}
+use Rattle.fr_frame.specs.Bodies.{begun_body}
+use Rattle.fr_frame.specs.Cells.{Cell}
+use Rattle.fr_frame.specs.Heap.{Node, Heap, depth_limit}
+use Rattle.fr_frame.specs.Kids.{Kid, gone, there, at, Plot, entered_plot, whole_plot, begun_plot, Kids, no_kids, kid, tree_of, cell_of, cells_in, body_in, kid_in, kids_in, plot_in, kid_by, kid_from, child_node, child_owner, Holds, HoldsIn, HoldsAll}
+use Rattle.fr_store.specs.Stands.{step_of_owner, step_to, steps_to}
+use Rattle.fr_store.specs.Ways.{count_kids, kid_nth, kid_at, put_nth, put_at, slots_along, counts_if, uses, uses_in, uses_among, Leads, Reaches, node_along, owner_along}
+use Rattle.fr_store.specs.WayLaws.{counts_same, counts_other, same_or_other, leads_reach, leads_at, uses_nth, uses_at, tree_of_nth}
+
+-- the other heap has the same under each number that serves in it
+abbrev pub AgreeOn : Heap → Heap → Kid → Type 0
+AgreeOn heap other k = (n : ℕ) → 0 < uses k n → other n ≡ heap n
+
+mutual
+  -- a heap that agrees on the slots that serve holds the same
+  pub holds_frame : (plan : Plan) (heap other : Heap) (node : NodeId) (owner : FrameOwner) (depth : ℕ) (k : Kid)
+      → Holds plan heap node owner depth k → AgreeOn heap other k → Holds plan other node owner depth k
+  holds_frame plan heap other node owner depth gone holds agree = tt
+  holds_frame plan heap other node owner depth (there v) holds agree = tt
+  holds_frame plan heap other node owner depth (at slot stored plot) holds agree = (
+    agree slot (omega (arith, counts_same slot)) ∙ holds.0,
+    holds.1,
+    holds_frame_in plan heap other node slot (suc depth) plot holds.2 (λ n h. agree n (omega arith)),
+  )
+
+  holds_frame_in : (plan : Plan) (heap other : Heap) (node : NodeId) (slot depth : ℕ) (plot : Plot)
+      → HoldsIn plan heap node slot depth plot → ((n : ℕ) → 0 < uses_in plot n → other n ≡ heap n)
+      → HoldsIn plan other node slot depth plot
+  holds_frame_in plan heap other node slot depth entered_plot holds agree = tt
+  holds_frame_in plan heap other node slot depth (whole_plot v) holds agree = tt
+  holds_frame_in plan heap other node slot depth (begun_plot form kids) holds agree =
+      holds_frame_among plan heap other node slot form 0 depth kids holds agree
+
+  holds_frame_among : (plan : Plan) (heap other : Heap) (node : NodeId) (slot : ℕ) (form : Form) (i depth : ℕ) (ks : Kids)
+      → HoldsAll plan heap node slot form i depth ks → ((n : ℕ) → 0 < uses_among ks n → other n ≡ heap n)
+      → HoldsAll plan other node slot form i depth ks
+  holds_frame_among plan heap other node slot form i depth no_kids holds agree = tt
+  holds_frame_among plan heap other node slot form i depth (kid k ks) holds agree = (
+    holds_frame plan heap other (child_node plan node form i) (child_owner slot form i) depth k holds.0
+        (λ n h. agree n (omega arith)),
+    holds_frame_among plan heap other node slot form (suc i) depth ks holds.1 (λ n h. agree n (omega arith)),
+  )
+
+-- a slot that is free doesn't serve
+mutual
+  pub unused : (plan : Plan) (heap : Heap) (node : NodeId) (owner : FrameOwner) (depth : ℕ) (k : Kid) (n : ℕ)
+      → Holds plan heap node owner depth k → heap n ≡ None → uses k n ≡ 0
+  unused plan heap node owner depth gone n holds free = refl
+  unused plan heap node owner depth (there v) n holds free = refl
+  unused plan heap node owner depth (at slot stored plot) n holds free =
+      omega (arith, go (same_or_other slot n), unused_in plan heap node slot (suc depth) plot n holds.2 free)
+    where
+      go : (slot ≡ n) ⊎ (slot ≢ n) → counts_if (nat_eq slot n) ≡ 0
+      go (inl e) = let both = ap heap e in cc (holds.0, free, both)
+      go (inr ne) = counts_other slot n ne
+
+  unused_in : (plan : Plan) (heap : Heap) (node : NodeId) (slot depth : ℕ) (plot : Plot) (n : ℕ)
+      → HoldsIn plan heap node slot depth plot → heap n ≡ None → uses_in plot n ≡ 0
+  unused_in plan heap node slot depth entered_plot n holds free = refl
+  unused_in plan heap node slot depth (whole_plot v) n holds free = refl
+  unused_in plan heap node slot depth (begun_plot form kids) n holds free =
+      unused_among plan heap node slot form 0 depth kids n holds free
+
+  unused_among : (plan : Plan) (heap : Heap) (node : NodeId) (slot : ℕ) (form : Form) (i depth : ℕ) (ks : Kids) (n : ℕ)
+      → HoldsAll plan heap node slot form i depth ks → heap n ≡ None → uses_among ks n ≡ 0
+  unused_among plan heap node slot form i depth no_kids n holds free = refl
+  unused_among plan heap node slot form i depth (kid k ks) n holds free =
+      omega
+      (arith, unused plan heap (child_node plan node form i) (child_owner slot form i) depth k n holds.0 free, unused_among plan heap node slot form (suc i) depth ks n holds.1 free)
+
+-- One child of many, and one place.
+
+holds_nth : (plan : Plan) (heap : Heap) (node : NodeId) (slot : ℕ) (form : Form) (first depth : ℕ) (ks : Kids) (i m : ℕ)
+    → m ≡ first + i → i < count_kids ks → HoldsAll plan heap node slot form first depth ks
+    → Holds plan heap (child_node plan node form m) (child_owner slot form m) depth (kid_nth i ks)
+holds_nth plan heap node slot form first depth no_kids i m e h holds = absurd (omega arith)
+holds_nth plan heap node slot form first depth (kid k ks) zero m e h holds =
+    let same : first ≡ m = omega arith in
+    subst (λ (j : ℕ). Holds plan heap (child_node plan node form j) (child_owner slot form j) depth k) same holds.0
+holds_nth plan heap node slot form first depth (kid k ks) (suc i) m e h holds =
+    holds_nth plan heap node slot form (suc first) depth ks i m (omega arith) (omega arith) holds.1
+
+-- what lies at a place is held there: by the plan's node along the way, as a child of what lies above
+pub holds_at : (plan : Plan) (heap : Heap) (node : NodeId) (owner : FrameOwner) (depth : ℕ) (place : Place) (k : Kid)
+    → Holds plan heap node owner depth k → Reaches place k
+    → Holds plan heap (node_along plan node place k) (owner_along owner place k) (depth + length place) (kid_at place k)
+holds_at plan heap node owner depth [] k holds reach =
+    let same : depth ≡ depth + 0 = omega arith in
+    subst (λ (d : ℕ). Holds plan heap node owner d k) same holds
+holds_at plan heap node owner depth (i ∷ place) (at slot stored (begun_plot form kids)) holds reach =
+    let same : suc depth + length place ≡ depth + suc (length place) = omega arith in
+    let child = holds_nth plan heap node slot form 0 (suc depth) kids i i (omega arith) reach.0 holds.2 in
+    subst
+    (λ (d : ℕ). Holds plan heap (node_along plan (child_node plan node form i) place (kid_nth i kids))
+    (owner_along (child_owner slot form i) place (kid_nth i kids)) d (kid_at place (kid_nth i kids)))
+    same
+    (holds_at plan heap (child_node plan node form i) (child_owner slot form i) (suc depth) place (kid_nth i kids) child
+    reach.1)
+holds_at plan heap node owner depth (i ∷ place) (at slot stored entered_plot) holds reach = absurd reach
+holds_at plan heap node owner depth (i ∷ place) (at slot stored (whole_plot v)) holds reach = absurd reach
+holds_at plan heap node owner depth (i ∷ place) gone holds reach = absurd reach
+holds_at plan heap node owner depth (i ∷ place) (there v) holds reach = absurd reach
+
+-- Something else at one place.
+
+-- where one heap holds the old, the other holds the new
+abbrev pub Replaces : Plan → (heap other : Heap) → (old new : Kid) → Type 0
+Replaces plan heap other old new =
+    (node : NodeId) (owner : FrameOwner) (depth : ℕ) → Holds plan heap node owner depth old
+    → Holds plan other node owner depth new
+
+-- the other heap has the same under each number that serves in it outside of this part
+abbrev pub AgreeBeside : Heap → Heap → Kid → (part : Kid) → Type 0
+AgreeBeside heap other k part = (n : ℕ) → uses part n < uses k n → other n ≡ heap n
+
+replaced_nth : (plan : Plan) (heap other : Heap) (node : NodeId) (slot : ℕ) (form : Form) (first depth : ℕ) (ks : Kids)
+    (i : ℕ) (new : Kid) → Replaces plan heap other (kid_nth i ks) new
+    → ((n : ℕ) → uses (kid_nth i ks) n < uses_among ks n → other n ≡ heap n)
+    → HoldsAll plan heap node slot form first depth ks → HoldsAll plan other node slot form first depth (put_nth i new ks)
+replaced_nth plan heap other node slot form first depth no_kids i new step agree holds = tt
+replaced_nth plan heap other node slot form first depth (kid k ks) zero new step agree holds = (
+  step (child_node plan node form first) (child_owner slot form first) depth holds.0,
+  holds_frame_among plan heap other node slot form (suc first) depth ks holds.1 (λ n h. agree n (omega arith)),
+)
+replaced_nth plan heap other node slot form first depth (kid k ks) (suc i) new step agree holds = (
+  holds_frame plan heap other (child_node plan node form first) (child_owner slot form first) depth k holds.0
+      (λ n h. agree n (omega (arith, uses_nth i ks n))),
+  replaced_nth plan heap other node slot form (suc first) depth ks i new step (λ n h. agree n (omega arith)) holds.1,
+)
+
+cells_put_nth : (i : ℕ) (new : Kid) (ks : Kids) → cell_of new ≡ cell_of (kid_nth i ks)
+    → cells_in (put_nth i new ks) ≡ cells_in ks
+cells_put_nth i new no_kids same = refl
+cells_put_nth zero new (kid k ks) same = ap (λ (c : Cell). c ∷ cells_in ks) same
+cells_put_nth (suc i) new (kid k ks) same = ap (λ (cs : List Cell). cell_of k ∷ cs) (cells_put_nth i new ks same)
+
+pub cell_put_at : (place : Place) (new k : Kid) → cell_of new ≡ cell_of (kid_at place k)
+    → cell_of (put_at place new k) ≡ cell_of k
+cell_put_at [] new k same = same
+cell_put_at (i ∷ place) new gone same = refl
+cell_put_at (i ∷ place) new (there v) same = refl
+cell_put_at (i ∷ place) new (at slot stored plot) same = refl
+
+-- what replaces a part replaces the whole, where the part stays in its slot and all beside it is as it was
+pub replaces_at : (plan : Plan) (heap other : Heap) (place : Place) (new k : Kid)
+    → cell_of new ≡ cell_of (kid_at place k) → AgreeBeside heap other k (kid_at place k)
+    → Replaces plan heap other (kid_at place k) new → Replaces plan heap other k (put_at place new k)
+replaces_at plan heap other [] new k same agree step node owner depth holds = step node owner depth holds
+replaces_at plan heap other (i ∷ place) new gone same agree step node owner depth holds = tt
+replaces_at plan heap other (i ∷ place) new (there v) same agree step node owner depth holds = tt
+replaces_at plan heap other (i ∷ place) new (at slot stored entered_plot) same agree step node owner depth holds =
+    holds_frame plan heap other node owner depth (at slot stored entered_plot) holds
+    (λ n h. agree n (omega (arith, uses_at place gone n)))
+replaces_at plan heap other (i ∷ place) new (at slot stored (whole_plot v)) same agree step node owner depth holds =
+    holds_frame plan heap other node owner depth (at slot stored (whole_plot v)) holds
+    (λ n h. agree n (omega (arith, uses_at place gone n)))
+replaces_at plan heap other (i ∷ place) new (at slot stored (begun_plot form kids)) same agree step node owner depth holds =
+    let child : Kid = kid_nth i kids in (
+      agree slot (omega (arith, counts_same slot, uses_at place child slot, uses_nth i kids slot)) ∙ holds.0
+          ∙ ap (λ (cells : List Cell). Some (record {
+            node = node;
+            owner = owner;
+            stored = stored;
+            depth = depth;
+            body = begun_body form cells;
+          }))
+          (sym (cells_put_nth i (put_at place new child) kids (cell_put_at place new child same))),
+      holds.1,
+      replaced_nth plan heap other node slot form 0 (suc depth) kids i (put_at place new child)
+          (replaces_at plan heap other place new child same
+          (λ n h. agree n (omega (arith, uses_nth i kids n))) step)
+          (λ n h. agree n (omega (arith, uses_at place child n))) holds.2,
+    )
+
+-- Reading back.
+
+level_below : (levels depth : ℕ) → levels + depth ≡ depth_limit → depth < depth_limit → (less : ℕ) × (levels ≡ suc less)
+level_below zero depth e h = absurd (omega arith)
+level_below (suc less) depth e h = (less, refl)
+
+mutual
+  -- what a heap holds is what is read off it
+  pub read_back : (plan : Plan) (heap : Heap) (node : NodeId) (owner : FrameOwner) (depth levels : ℕ) (k : Kid)
+      → levels + depth ≡ depth_limit → Holds plan heap node owner depth k → kid_in (kid_from levels heap) (cell_of k) ≡ k
+  read_back plan heap node owner depth levels gone e holds = refl
+  read_back plan heap node owner depth levels (there v) e holds = refl
+  read_back plan heap node owner depth levels (at slot stored plot) e holds =
+      go (level_below levels depth e holds.1)
+      (λ less deep. read_back_in plan heap node slot (suc depth) less plot deep holds.2)
+    where
+      go : (less : ℕ) × (levels ≡ suc less)
+          → ((less : ℕ) → less + suc depth ≡ depth_limit → plot_in (kid_from less heap) (body_in plot) ≡ plot)
+          → kid_from levels heap slot ≡ at slot stored plot
+      go l rest =
+          ap (λ (n : ℕ). kid_from n heap slot) l.1 ∙ ap (kid_by (kid_from l.0 heap) slot) holds.0
+          ∙ ap (λ (p : Plot). at slot stored p) (rest l.0 (omega (arith, l.1)))
+
+  read_back_in : (plan : Plan) (heap : Heap) (node : NodeId) (slot depth levels : ℕ) (plot : Plot)
+      → levels + depth ≡ depth_limit → HoldsIn plan heap node slot depth plot
+      → plot_in (kid_from levels heap) (body_in plot) ≡ plot
+  read_back_in plan heap node slot depth levels entered_plot e holds = refl
+  read_back_in plan heap node slot depth levels (whole_plot v) e holds = refl
+  read_back_in plan heap node slot depth levels (begun_plot form kids) e holds =
+      ap (λ (ks : Kids). begun_plot form ks) (read_back_among plan heap node slot form 0 depth levels kids e holds)
+
+  read_back_among : (plan : Plan) (heap : Heap) (node : NodeId) (slot : ℕ) (form : Form) (i depth levels : ℕ) (ks : Kids)
+      → levels + depth ≡ depth_limit → HoldsAll plan heap node slot form i depth ks
+      → kids_in (kid_from levels heap) (cells_in ks) ≡ ks
+  read_back_among plan heap node slot form i depth levels no_kids e holds = refl
+  read_back_among plan heap node slot form i depth levels (kid k ks) e holds =
+      ap (λ (x : Kid). kid x (kids_in (kid_from levels heap) (cells_in ks)))
+      (read_back plan heap (child_node plan node form i) (child_owner slot form i) depth levels k e holds.0)
+      ∙ ap (λ (xs : Kids). kid k xs) (read_back_among plan heap node slot form (suc i) depth levels ks e holds.1)
+
+-- the steps that the owners tell are those of the tree
+pub steps_read : (plan : Plan) (heap : Heap) (node : NodeId) (owner : FrameOwner) (depth : ℕ) (place : Place) (k : Kid)
+    → Holds plan heap node owner depth k → Leads place k
+    → steps_to heap (slots_along place k) ≡ step_of_owner owner ++ steps_in place (tree_of k)
+steps_read plan heap node owner depth [] (at slot stored plot) holds leads =
+    ap (λ (found : Option Node). step_to found ++ []) holds.0
+steps_read plan heap node owner depth [] gone holds leads = absurd leads
+steps_read plan heap node owner depth [] (there v) holds leads = absurd leads
+steps_read plan heap node owner depth (i ∷ place) (at slot stored (begun_plot form kids)) holds leads =
+    let reach = leads_reach (i ∷ []) place (at slot stored (begun_plot form kids)) leads in
+    let child = holds_nth plan heap node slot form 0 (suc depth) kids i i (omega arith) reach.0 holds.2 in
+    ap (λ (found : Option Node). step_to found ++ steps_to heap (slots_along place (kid_nth i kids))) holds.0
+    ∙ ap (λ (steps : List PathStep). step_of_owner owner ++ steps)
+    (steps_read plan heap (child_node plan node form i) (child_owner slot form i) (suc depth) place (kid_nth i kids) child
+    (leads_at (i ∷ []) place (at slot stored (begun_plot form kids)) leads)
+    ∙ ap (λ (t : Tree). step_as form i ∷ steps_in place t) (tree_of_nth i kids))
+steps_read plan heap node owner depth (i ∷ place) (at slot stored entered_plot) holds leads = absurd leads.1
+steps_read plan heap node owner depth (i ∷ place) (at slot stored (whole_plot v)) holds leads = absurd leads.1
+steps_read plan heap node owner depth (i ∷ place) gone holds leads = absurd leads
+steps_read plan heap node owner depth (i ∷ place) (there v) holds leads = absurd leads

@@ -1,0 +1,14 @@
+pub mod AbandonLaws
+pub mod BeginLaws
+pub mod EndLaws
+pub mod EnterLaws
+pub mod HoldLaws
+pub mod LeaveLaws
+pub mod MoveLaws
+pub mod Moves
+pub mod Numbers
+pub mod StandLaws
+pub mod Stands
+pub mod TopLaws
+pub mod WayLaws
+pub mod Ways

@@ -1,0 +1,194 @@
+-- Laws of moves, for proofs: putting something else at the top, and leaving it.
+use Rattle.std.proofs.Common.{◌≡◌, ◌≢◌, ℕ, ◌+◌, false, List, [], ◌∷◌, ◌++◌, append-nil, length, Option, Some, refl, sym, ◌∙◌, ap, subst, arith}
+use Rattle.std.specs.Prelude.{is_some, IsSomeAnd}
+use Rattle.fr_shape.specs.Released.{Room, RoseBy}
+use Rattle.fr_shape.specs.TokenLaws.{Room_same, RoseBy_same}
+use Rattle.fr_shape.specs.Tokens.{occurs}
+use Rattle.fr_shape.specs.Val.{Val}
+use Rattle.fr_model.specs.Places.{Place}
+use Rattle.fr_model.specs.Tree.{Tree, whole, change_at, tree_occurs}
+use Rattle.fr_plan.specs.TypePlan.{Plan}
+use Rattle.fr_frame.specs.declared.places.FrameOwner.{FrameOwner}
+use Rattle.fr_frame.specs.declared.places.Slot.{Slot}
+use Rattle.fr_frame.specs.Bodies.{Body, whole_body, body_occurs, IsClosed}
+use Rattle.fr_frame.specs.Changes.{IfInUse, IsInUse, Shows}
+use Rattle.fr_frame.specs.Heap.{Node, with_body, heap_of, slots_occur}
+use Rattle.fr_frame.specs.Kids.{Kid, at, Plot, whole_plot, tree_of, tree_in, body_in, kid_occurs, plot_occurs}
+use Rattle.fr_store.specs.Moves.{IsOpenAt, cursor_in, tree_in_slots, tree_here, tokens_here}
+use Rattle.fr_store.specs.Numbers.{IsLast}
+use Rattle.fr_store.specs.StandLaws.{open_from, cursor_is, tree_is}
+use Rattle.fr_store.specs.Stands.{Stands, IsOpen, kid_shown}
+use Rattle.fr_store.specs.TopLaws.{body_here, body_other, closed_occur, closed_marked, Top, top_of, top_replaced}
+use Rattle.fr_store.specs.Ways.{kid_at, put_at, slots_above, NoneStored, Leads, Reaches, node_along, owner_along}
+use Rattle.fr_store.specs.WayLaws.{leads_reach, marked_put_at, occurs_put_at, tree_put_at, tree_of_at, tree_tokens}
+
+-- Lists that end alike.
+
+last_or : List ℕ → ℕ → ℕ
+last_or [] d = d
+last_or (x ∷ xs) d = last_or xs x
+
+last_or_append : (xs : List ℕ) (x d : ℕ) → last_or (xs ++ x ∷ []) d ≡ x
+unfolding last_or
+last_or_append [] x d = refl
+last_or_append (y ∷ xs) x d = last_or_append xs x y
+
+front : List ℕ → List ℕ
+front [] = []
+front (x ∷ []) = []
+front (x ∷ y ∷ xs) = x ∷ front (y ∷ xs)
+
+front_append : (xs : List ℕ) (x : ℕ) → front (xs ++ x ∷ []) ≡ xs
+unfolding front
+front_append [] x = refl
+front_append (y ∷ []) x = refl
+front_append (y ∷ z ∷ xs) x = ap (λ (l : List ℕ). y ∷ l) (front_append (z ∷ xs) x)
+
+pub same_last : (xs ys : List ℕ) (x y : ℕ) → xs ++ x ∷ [] ≡ ys ++ y ∷ [] → x ≡ y
+same_last xs ys x y e =
+    sym (last_or_append xs x 0) ∙ ap (λ (l : List ℕ). last_or l 0) e ∙ last_or_append ys y 0
+
+pub same_front : (xs ys : List ℕ) (x y : ℕ) → xs ++ x ∷ [] ≡ ys ++ y ∷ [] → xs ≡ ys
+same_front xs ys x y e = sym (front_append xs x) ∙ ap front e ∙ front_append ys y
+
+-- What is known of an open builder's top.
+
+pub open_top : (plan : Plan) (slots : List Slot) (stack : List ℕ) (open_now : IsOpen plan slots stack)
+    → Top plan (heap_of slots) stack (cursor_in slots stack) (kid_shown (heap_of slots) stack)
+open_top plan slots stack open_now =
+    top_of plan (heap_of slots) stack (cursor_in slots stack) (kid_shown (heap_of slots) stack) open_now.stands
+    open_now.strict
+
+module _ (plan : Plan) (slots : List Slot) (stack : List ℕ) (open_now : IsOpen plan slots stack) (n : ℕ) (last : IsLast stack n) where
+  pub top_slot : (open_top plan slots stack open_now).slot ≡ n
+  top_slot =
+      same_last (slots_above (cursor_in slots stack) (kid_shown (heap_of slots) stack)) last.0
+      (open_top plan slots stack open_now).slot n
+      (sym (open_top plan slots stack open_now).last ∙ last.1)
+
+  -- what is in the last slot of the stack
+  unfoldable pub top_node : Node
+  top_node = record {
+    node = node_along plan plan.root (cursor_in slots stack) (kid_shown (heap_of slots) stack);
+    owner = owner_along FrameOwner.Root (cursor_in slots stack) (kid_shown (heap_of slots) stack);
+    stored = false;
+    depth = length (cursor_in slots stack);
+    body = body_in (open_top plan slots stack open_now).plot;
+  }
+
+  pub top_found : heap_of slots n ≡ Some top_node
+  unfolding top_node
+  top_found = ap (heap_of slots) (sym top_slot) ∙ (open_top plan slots stack open_now).here
+
+  pub top_in_use : IsInUse slots n
+  top_in_use = ap is_some top_found
+
+  -- what is said of the place in it holds of this
+  pub top_so : (So : Node → Type 0) → IfInUse slots n So → So top_node
+  top_so So so = subst (λ (found : Option Node). IsSomeAnd found So) top_found so
+
+  pub so_top : (So : Node → Type 0) → So top_node → IfInUse slots n So
+  so_top So so = subst (λ (found : Option Node). IsSomeAnd found So) (sym top_found) so
+
+  -- its tokens are those that stand at the cursor
+  pub top_tokens : (t : ℕ) → body_occurs top_node.body t ≡ tree_occurs (tree_here slots stack) t
+  unfolding top_node
+  top_tokens t =
+      let top = open_top plan slots stack open_now in
+      sym (closed_occur top.plot t top.closed)
+      ∙ ap (λ (k : Kid). kid_occurs k t) (sym top.is)
+      ∙ tree_tokens (kid_at (cursor_in slots stack) (kid_shown (heap_of slots) stack)) t
+      ∙ ap (λ (tree : Tree). tree_occurs tree t) (tree_of_at (cursor_in slots stack) (kid_shown (heap_of slots) stack))
+
+-- An open builder, from what stands.
+pub open_at_from : (plan : Plan) (slots : List Slot) (stack : List ℕ) (place : Place) (k : Kid) (tree : Tree)
+    → Stands plan (heap_of slots) stack place k → NoneStored k → ((t : ℕ) → slots_occur slots t ≡ kid_occurs k t)
+    → tree_of k ≡ tree → IsOpenAt plan slots stack place tree
+open_at_from plan slots stack place k tree stands strict tokens is = record {
+  open_still = open_from plan slots stack place k stands strict tokens;
+  cursor = cursor_is plan (heap_of slots) stack place k stands;
+  built = tree_is plan (heap_of slots) stack place k stands ∙ is;
+}
+
+-- Something else is put at the top.
+pub top_changed : (plan : Plan) (before after : List Slot) (stack : List ℕ) (open_now : IsOpen plan before stack) (n : ℕ)
+    → IsLast stack n → (change : Body → Body) (new : Plot)
+    → body_in new ≡ change (body_in (open_top plan before stack open_now).plot) → IsClosed (body_in new)
+    → Shows after (with_body (heap_of before) n change)
+    → ((t : ℕ) → slots_occur after t + plot_occurs (open_top plan before stack open_now).plot t
+    ≡ slots_occur before t + plot_occurs new t)
+    → IsOpenAt plan after stack (cursor_in before stack)
+    (change_at (cursor_in before stack) (λ old. tree_in new) (tree_in_slots before stack))
+top_changed plan before after stack open_now n last change new is closed shows tokens =
+    let k : Kid = kid_shown (heap_of before) stack in
+    let place : Place = cursor_in before stack in
+    let top = open_top plan before stack open_now in
+    let same : top.slot ≡ n = top_slot plan before stack open_now n last in
+    let here : heap_of after top.slot ≡ Some (record {
+      node = node_along plan plan.root place k;
+      owner = owner_along FrameOwner.Root place k;
+      stored = false;
+      depth = length place;
+      body = body_in new;
+    })
+    = shows top.slot ∙ ap (λ (m : ℕ). with_body (heap_of before) m change top.slot) (sym same)
+    ∙ body_here (heap_of before) top.slot change (record {
+      node = node_along plan plan.root place k;
+      owner = owner_along FrameOwner.Root place k;
+      stored = false;
+      depth = length place;
+      body = body_in top.plot;
+    }) top.here
+    ∙ ap (λ (b : Body). Some (record {
+      node = node_along plan plan.root place k;
+      owner = owner_along FrameOwner.Root place k;
+      stored = false;
+      depth = length place;
+      body = b;
+    })) (sym is) in
+    let beside : (m : ℕ) → m ≢ top.slot → heap_of after m ≡ heap_of before m
+    = λ m ne. shows m ∙ ap (λ (x : ℕ). with_body (heap_of before) x change m) (sym same)
+    ∙ body_other (heap_of before) top.slot change m ne in
+    let stands = top_replaced plan (heap_of before) (heap_of after) stack place k new open_now.stands top closed here beside in
+    let reach : Reaches place k
+    = leads_reach place [] k (subst (λ (p : Place). Leads p k) (sym (append-nil place)) open_now.stands.leads) in
+    open_at_from plan after stack place (put_at place (at top.slot false new) k)
+    (change_at place (λ old. tree_in new) (tree_of k)) stands
+    (marked_put_at false place (at top.slot false new) k open_now.strict (refl, closed_marked false new closed))
+    (λ t.
+    let was : kid_occurs (kid_at place k) t ≡ plot_occurs top.plot t = ap (λ (x : Kid). kid_occurs x t) top.is in
+    omega (arith, occurs_put_at place (at top.slot false new) k t reach, open_now.tokens t, tokens t))
+    (tree_put_at place (at top.slot false new) k)
+
+module _ (plan : Plan) (before : List Slot) (stack : List ℕ) (open_now : IsOpen plan before stack) (n : ℕ) (last : IsLast stack n) where
+  -- there is room to release what stands at the top
+  pub top_room : (ledger : List ℕ) → Room (tokens_here before stack) ledger
+      → IfInUse before n (λ (found : Node). Room (body_occurs found.body) ledger)
+  top_room ledger room =
+      so_top plan before stack open_now n last (λ (found : Node). Room (body_occurs found.body) ledger)
+      (Room_same (tokens_here before stack) (body_occurs (top_node plan before stack open_now n last).body) ledger
+      (λ t. sym (top_tokens plan before stack open_now n last t)) room)
+
+  -- what was released is what stood there
+  pub top_rose : (ledger after : List ℕ) → IfInUse before n (λ (found : Node). RoseBy (body_occurs found.body) ledger after)
+      → RoseBy (tokens_here before stack) ledger after
+  top_rose ledger after rose =
+      RoseBy_same (body_occurs (top_node plan before stack open_now n last).body) (tokens_here before stack) ledger after
+      (top_tokens plan before stack open_now n last)
+      (top_so plan before stack open_now n last (λ (found : Node). RoseBy (body_occurs found.body) ledger after) rose)
+
+  -- a whole value at the top
+  pub top_set : (after : List Slot) (v : Val) → Shows after (with_body (heap_of before) n (λ old. whole_body v))
+      → IfInUse before n (λ (found : Node). (t : ℕ) → slots_occur before t + occurs v t
+      ≡ slots_occur after t + body_occurs found.body t)
+      → IsOpenAt plan after stack (cursor_in before stack)
+      (change_at (cursor_in before stack) (λ old. whole v) (tree_in_slots before stack))
+  unfolding top_node
+  top_set after v shows tokens =
+      let top = open_top plan before stack open_now in
+      let so : (t : ℕ) → slots_occur before t + occurs v t ≡ slots_occur after t + body_occurs (body_in top.plot) t
+      = top_so plan before stack open_now n last
+      (λ (found : Node). (t : ℕ) → slots_occur before t + occurs v t
+      ≡ slots_occur after t + body_occurs found.body t) tokens in
+      top_changed plan before after stack open_now n last (λ old. whole_body v) (whole_plot v) refl tt shows
+      (λ t. omega (arith, so t, closed_occur top.plot t top.closed))

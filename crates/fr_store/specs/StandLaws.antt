@@ -1,0 +1,79 @@
+-- Laws of slots and stacks that stand for a tree, for proofs.
+use Rattle.std.proofs.Common.{◌≡◌, ℕ, ◌+◌, ◌≤◌, List, [], ◌∷◌, ◌++◌, map, refl, sym, ◌∙◌, ap, subst, arith}
+use Rattle.fr_path.specs.Order.{number}
+use Rattle.fr_model.specs.Paths.{steps_in}
+use Rattle.fr_model.specs.Places.{Place}
+use Rattle.fr_plan.specs.TypePlan.{Plan}
+use Rattle.fr_frame.specs.declared.places.FrameOwner.{FrameOwner}
+use Rattle.fr_frame.specs.declared.places.Slot.{Slot}
+use Rattle.fr_frame.specs.Heap.{Heap, depth_limit, heap_of, slots_occur}
+use Rattle.fr_frame.specs.Kids.{Kid, gone, there, at, tree_of, cell_of, kid_in, kid_from, kid_occurs}
+use Rattle.fr_store.specs.HoldLaws.{AgreeBeside, Replaces, replaces_at, read_back, steps_read}
+use Rattle.fr_store.specs.Stands.{Stands, kid_shown, tree_shown, steps_to, cursor_shown, IsOpen}
+use Rattle.fr_store.specs.Ways.{kid_at, put_at, slots_along, slots_above, uses, NoneStored, Leads}
+use Rattle.fr_store.specs.WayLaws.{leads_reach, leads_put_at, along_put_at, uses_put_at, numbers_in}
+
+-- One change. What lies at a place on the way is replaced: it stays in its slot, all beside it is as it was, the new is held where
+-- the old was, uses no slot twice and none that serves beside it, and the way goes on in it.
+pub stands_change : (plan : Plan) (heap other : Heap) (stack next : List ℕ) (place old below : Place) (new k : Kid)
+    → Stands plan heap stack (place ++ old) k → cell_of new ≡ cell_of (kid_at place k)
+    → AgreeBeside heap other k (kid_at place k) → Replaces plan heap other (kid_at place k) new
+    → ((n : ℕ) → uses k n + uses new n ≤ 1 + uses (kid_at place k) n) → Leads below new
+    → next ≡ slots_above place k ++ slots_along below new → Stands plan other next (place ++ below) (put_at place new k)
+stands_change plan heap other stack next place old below new k stands same agree replaces once leads along =
+    let reach = leads_reach place old k stands.leads in
+    record {
+      holds = replaces_at plan heap other place new k same agree replaces plan.root FrameOwner.Root 0 stands.holds;
+      once = λ n. omega (arith, uses_put_at place new k n reach, once n);
+      leads = leads_put_at place old below new k stands.leads leads;
+      along = along ∙ sym (along_put_at place below new k reach);
+    }
+
+-- What stands is what is read off slots and stack.
+
+kid_first : (heap : Heap) (place : Place) (k : Kid) → Leads place k
+    → kid_shown heap (slots_along place k) ≡ kid_in (kid_from depth_limit heap) (cell_of k)
+kid_first heap [] (at slot stored plot) leads = refl
+kid_first heap [] gone leads = absurd leads
+kid_first heap [] (there v) leads = absurd leads
+kid_first heap (i ∷ place) (at slot stored plot) leads = refl
+kid_first heap (i ∷ place) gone leads = absurd leads
+kid_first heap (i ∷ place) (there v) leads = absurd leads
+
+module _ (plan : Plan) (heap : Heap) (stack : List ℕ) (place : Place) (k : Kid) (stands : Stands plan heap stack place k) where
+  pub kid_is : kid_shown heap stack ≡ k
+  kid_is =
+      let deep : depth_limit + 0 ≡ depth_limit = omega arith in
+      ap (kid_shown heap) stands.along ∙ kid_first heap place k stands.leads
+      ∙ read_back plan heap plan.root FrameOwner.Root 0 depth_limit k deep stands.holds
+
+  pub tree_is : tree_shown heap stack ≡ tree_of k
+  tree_is = ap tree_of kid_is
+
+  -- the path that the owners tell is the path of the cursor
+  pub steps_are : steps_to heap stack ≡ steps_in place (tree_of k)
+  steps_are =
+      ap (steps_to heap) stands.along
+      ∙ steps_read plan heap plan.root FrameOwner.Root 0 place k stands.holds stands.leads
+
+  pub cursor_is : cursor_shown heap stack ≡ place
+  cursor_is = ap (map number) steps_are ∙ numbers_in place (tree_of k)
+
+-- what stands for something stands for what is shown
+pub stands_shown : (plan : Plan) (heap : Heap) (stack : List ℕ) (place : Place) (k : Kid) → Stands plan heap stack place k
+    → Stands plan heap stack (cursor_shown heap stack) (kid_shown heap stack)
+stands_shown plan heap stack place k stands =
+    subst (λ (p : Place). Stands plan heap stack p (kid_shown heap stack)) (sym (cursor_is plan heap stack place k stands))
+    (subst (λ (x : Kid). Stands plan heap stack place x) (sym (kid_is plan heap stack place k stands)) stands)
+
+-- a builder is open where its slots and its stack stand for something
+pub open_from : (plan : Plan) (slots : List Slot) (stack : List ℕ) (place : Place) (k : Kid)
+    → Stands plan (heap_of slots) stack place k → NoneStored k → ((t : ℕ) → slots_occur slots t ≡ kid_occurs k t)
+    → IsOpen plan slots stack
+open_from plan slots stack place k stands strict tokens =
+    let is = kid_is plan (heap_of slots) stack place k stands in
+    record {
+      stands = stands_shown plan (heap_of slots) stack place k stands;
+      strict = subst NoneStored (sym is) strict;
+      tokens = λ t. tokens t ∙ ap (λ (x : Kid). kid_occurs x t) (sym is);
+    }

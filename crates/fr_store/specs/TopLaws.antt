@@ -1,0 +1,231 @@
+-- Laws of the place on top of the stack, for proofs: what it is, and what a change of it does.
+use Rattle.std.proofs.Common.{◌≡◌, ◌≢◌, ◌⊎◌, ℕ, suc, ◌+◌, ◌<◌, ◌≤◌, Bool, true, false, List, [], ◌∷◌, ◌++◌, append-nil, length, nat_eq, option_map, Option, Some, inl, inr, refl, sym, ◌∙◌, ap, subst, arith}
+use Rattle.std.specs.Prelude.{if◌then◌else◌}
+use Rattle.std.proofs.lemmas.Grind.{common_steps}
+use Rattle.std.proofs.lemmas.Bool.Decides.{nat_tests}
+use Rattle.fr_model.specs.Places.{Place}
+use Rattle.fr_model.specs.Tree.{Form, Trees, begun, branch}
+use Rattle.fr_plan.specs.declared.nodes.NodeId.{NodeId}
+use Rattle.fr_plan.specs.TypePlan.{Plan}
+use Rattle.fr_frame.specs.declared.places.FrameOwner.{FrameOwner}
+use Rattle.fr_frame.specs.Bodies.{Body, body_occurs, IsClosed, AreUnplaced, own_tree, trees_of}
+use Rattle.fr_frame.specs.Cells.{cells_occur}
+use Rattle.fr_frame.specs.Heap.{Node, Heap, with_slot, with_body, depth_limit}
+use Rattle.fr_frame.specs.Kids.{Kid, gone, there, at, Plot, entered_plot, whole_plot, begun_plot, Kids, no_kids, kid, tree_of, tree_in, trees_in, cell_of, cells_in, body_in, plot_occurs, kids_occur, Holds, HoldsIn, HoldsAll}
+use Rattle.fr_store.specs.HoldLaws.{AgreeBeside, Replaces, holds_at}
+use Rattle.fr_store.specs.StandLaws.{stands_change}
+use Rattle.fr_store.specs.Stands.{Stands}
+use Rattle.fr_store.specs.Ways.{kid_at, put_at, slots_along, slots_above, counts_if, uses, uses_in, uses_among, AllMarked, AllMarkedIn, AllMarkedAmong, NoneStored, Leads, node_along, owner_along}
+use Rattle.fr_store.specs.WayLaws.{counts_same, same_or_other, leads_reach, leads_at, along_at, marked_at}
+
+-- Heaps.
+
+pub slot_here : (heap : Heap) (n : ℕ) (x : Option Node) → with_slot heap n x n ≡ x
+slot_here heap n x =
+    let e : nat_eq n n ≡ true = grind (arith, common_steps, nat_tests) in
+    ap (λ (b : Bool). if b then x else heap n) e
+
+pub slot_other : (heap : Heap) (n : ℕ) (x : Option Node) (m : ℕ) → m ≢ n → with_slot heap n x m ≡ heap m
+slot_other heap n x m ne =
+    let e : nat_eq m n ≡ false = grind (arith, common_steps, nat_tests) in
+    ap (λ (b : Bool). if b then x else heap m) e
+
+pub body_here : (heap : Heap) (n : ℕ) (change : Body → Body) (found : Node) → heap n ≡ Some found
+    → with_body heap n change n ≡ Some (record found { body = change found.body })
+body_here heap n change found is =
+    slot_here heap n (option_map (λ (x : Node). record x { body = change x.body }) (heap n))
+    ∙ ap (option_map (λ (x : Node). record x { body = change x.body })) is
+
+pub body_other : (heap : Heap) (n : ℕ) (change : Body → Body) (m : ℕ) → m ≢ n → with_body heap n change m ≡ heap m
+body_other heap n change m ne = slot_other heap n (option_map (λ (x : Node). record x { body = change x.body }) (heap n)) m ne
+
+-- Places none of whose children is in a slot.
+
+pub unplaced_uses : (ks : Kids) (n : ℕ) → AreUnplaced (cells_in ks) → uses_among ks n ≡ 0
+unplaced_uses no_kids n closed = refl
+unplaced_uses (kid gone ks) n closed = omega (arith, unplaced_uses ks n closed.1)
+unplaced_uses (kid (there v) ks) n closed = omega (arith, unplaced_uses ks n closed.1)
+unplaced_uses (kid (at slot stored plot) ks) n closed = absurd closed.0
+
+pub closed_uses : (plot : Plot) (n : ℕ) → IsClosed (body_in plot) → uses_in plot n ≡ 0
+closed_uses entered_plot n closed = refl
+closed_uses (whole_plot v) n closed = refl
+closed_uses (begun_plot form kids) n closed = unplaced_uses kids n closed
+
+pub unplaced_occur : (ks : Kids) (t : ℕ) → AreUnplaced (cells_in ks) → kids_occur ks t ≡ cells_occur (cells_in ks) t
+unplaced_occur no_kids t closed = refl
+unplaced_occur (kid gone ks) t closed = omega (arith, unplaced_occur ks t closed.1)
+unplaced_occur (kid (there v) ks) t closed = omega (arith, unplaced_occur ks t closed.1)
+unplaced_occur (kid (at slot stored plot) ks) t closed = absurd closed.0
+
+-- its tokens are its own
+pub closed_occur : (plot : Plot) (t : ℕ) → IsClosed (body_in plot) → plot_occurs plot t ≡ body_occurs (body_in plot) t
+closed_occur entered_plot t closed = refl
+closed_occur (whole_plot v) t closed = refl
+closed_occur (begun_plot form kids) t closed = unplaced_occur kids t closed
+
+unplaced_trees : (ks : Kids) → AreUnplaced (cells_in ks) → trees_in ks ≡ trees_of (cells_in ks)
+unplaced_trees no_kids closed = refl
+unplaced_trees (kid gone ks) closed = ap (λ (ts : Trees). branch (tree_of gone) ts) (unplaced_trees ks closed.1)
+unplaced_trees (kid (there v) ks) closed = ap (λ (ts : Trees). branch (tree_of (there v)) ts) (unplaced_trees ks closed.1)
+unplaced_trees (kid (at slot stored plot) ks) closed = absurd closed.0
+
+-- its tree is its own
+pub closed_tree : (plot : Plot) → IsClosed (body_in plot) → tree_in plot ≡ own_tree (body_in plot)
+closed_tree entered_plot closed = refl
+closed_tree (whole_plot v) closed = refl
+closed_tree (begun_plot form kids) closed = ap (λ (ts : Trees). begun form ts) (unplaced_trees kids closed)
+
+pub unplaced_marked : (mark : Bool) (ks : Kids) → AreUnplaced (cells_in ks) → AllMarkedAmong mark ks
+unplaced_marked mark no_kids closed = tt
+unplaced_marked mark (kid gone ks) closed = (tt, unplaced_marked mark ks closed.1)
+unplaced_marked mark (kid (there v) ks) closed = (tt, unplaced_marked mark ks closed.1)
+unplaced_marked mark (kid (at slot stored plot) ks) closed = absurd closed.0
+
+pub closed_marked : (mark : Bool) (plot : Plot) → IsClosed (body_in plot) → AllMarkedIn mark plot
+closed_marked mark entered_plot closed = tt
+closed_marked mark (whole_plot v) closed = tt
+closed_marked mark (begun_plot form kids) closed = unplaced_marked mark kids closed
+
+pub unplaced_holds : (plan : Plan) (heap : Heap) (node : NodeId) (slot : ℕ) (form : Form) (i depth : ℕ) (ks : Kids)
+    → AreUnplaced (cells_in ks) → HoldsAll plan heap node slot form i depth ks
+unplaced_holds plan heap node slot form i depth no_kids closed = tt
+unplaced_holds plan heap node slot form i depth (kid gone ks) closed =
+    (tt, unplaced_holds plan heap node slot form (suc i) depth ks closed.1)
+unplaced_holds plan heap node slot form i depth (kid (there v) ks) closed =
+    (tt, unplaced_holds plan heap node slot form (suc i) depth ks closed.1)
+unplaced_holds plan heap node slot form i depth (kid (at m stored plot) ks) closed = absurd closed.0
+
+pub closed_holds : (plan : Plan) (heap : Heap) (node : NodeId) (slot depth : ℕ) (plot : Plot) → IsClosed (body_in plot)
+    → HoldsIn plan heap node slot depth plot
+closed_holds plan heap node slot depth entered_plot closed = tt
+closed_holds plan heap node slot depth (whole_plot v) closed = tt
+closed_holds plan heap node slot depth (begun_plot form kids) closed =
+    unplaced_holds plan heap node slot form 0 depth kids closed
+
+-- nothing is both stored and not stored
+pub unplaced_by_marks : (ks : Kids) → AllMarkedAmong true ks → AllMarkedAmong false ks → AreUnplaced (cells_in ks)
+unplaced_by_marks no_kids marked unmarked = tt
+unplaced_by_marks (kid gone ks) marked unmarked = (tt, unplaced_by_marks ks marked.1 unmarked.1)
+unplaced_by_marks (kid (there v) ks) marked unmarked = (tt, unplaced_by_marks ks marked.1 unmarked.1)
+unplaced_by_marks (kid (at slot stored plot) ks) marked unmarked =
+    let apart : true ≡ false = sym marked.0.0 ∙ unmarked.0.0 in
+    cc
+
+pub closed_by_marks : (plot : Plot) → AllMarkedIn true plot → AllMarkedIn false plot → IsClosed (body_in plot)
+closed_by_marks entered_plot marked unmarked = tt
+closed_by_marks (whole_plot v) marked unmarked = tt
+closed_by_marks (begun_plot form kids) marked unmarked = unplaced_by_marks kids marked unmarked
+
+-- The top.
+
+-- The place at which a builder works, where nothing is stored: it is in the last slot of the stack, and has no child in a slot.
+pub record Top (plan : Plan) (heap : Heap) (stack : List ℕ) (place : Place) (k : Kid) : Type 0 where
+  pub slot : ℕ
+  pub plot : Plot
+  pub is : kid_at place k ≡ at slot false plot
+  pub last : stack ≡ slots_above place k ++ slot ∷ []
+  pub closed : IsClosed (body_in plot)
+  pub here :
+      heap slot ≡ Some (record {
+        node = node_along plan plan.root place k;
+        owner = owner_along FrameOwner.Root place k;
+        stored = false;
+        depth = length place;
+        body = body_in plot;
+      })
+  pub limit : length place < depth_limit
+
+pub top_of : (plan : Plan) (heap : Heap) (stack : List ℕ) (place : Place) (k : Kid) → Stands plan heap stack place k
+    → NoneStored k → Top plan heap stack place k
+top_of plan heap stack place k stands strict =
+    let leads : Leads (place ++ []) k = subst (λ (p : Place). Leads p k) (sym (append-nil place)) stands.leads in
+    let reach = leads_reach place [] k leads in
+    let along : stack ≡ slots_above place k ++ slots_along [] (kid_at place k)
+    = stands.along ∙ ap (λ (p : Place). slots_along p k) (sym (append-nil place)) ∙ along_at place [] k reach in
+    go along (kid_at place k) refl (leads_at place [] k leads) (marked_at false place k strict)
+    (holds_at plan heap plan.root FrameOwner.Root 0 place k stands.holds reach)
+  where
+    go : stack ≡ slots_above place k ++ slots_along [] (kid_at place k) → (x : Kid) → kid_at place k ≡ x → Leads [] x → AllMarked false x
+        → Holds plan heap (node_along plan plan.root place k) (owner_along FrameOwner.Root place k) (0 + length place)
+        (kid_at place k) → Top plan heap stack place k
+    go along gone e l unmarked holds = absurd l
+    go along (there v) e l unmarked holds = absurd l
+    go along (at slot stored plot) e l unmarked holds =
+        let same : 0 + length place ≡ length place = omega arith in
+        let found : Holds plan heap (node_along plan plan.root place k) (owner_along FrameOwner.Root place k) (length place)
+        (at slot false plot)
+        = subst
+        (λ (x : Kid). Holds plan heap (node_along plan plan.root place k) (owner_along FrameOwner.Root place k)
+        (length place) x)
+        (e ∙ ap (λ (b : Bool). at slot b plot) l.0)
+        (subst
+        (λ (d : ℕ). Holds plan heap (node_along plan plan.root place k) (owner_along FrameOwner.Root place k) d
+        (kid_at place k)) same holds) in
+        record {
+          slot = slot;
+          plot = plot;
+          is = e ∙ ap (λ (b : Bool). at slot b plot) l.0;
+          last = along ∙ ap (λ (x : Kid). slots_above place k ++ slots_along [] x) e;
+          closed = closed_by_marks plot l.1 unmarked.1;
+          here = found.0;
+          limit = found.1;
+        }
+
+-- Something else is put at the top: all other slots are as they were, and none of its children is in a slot.
+pub top_replaced : (plan : Plan) (heap other : Heap) (stack : List ℕ) (place : Place) (k : Kid) (new : Plot)
+    (stands : Stands plan heap stack place k) (top : Top plan heap stack place k) → IsClosed (body_in new)
+    → other top.slot ≡ Some (record {
+      node = node_along plan plan.root place k;
+      owner = owner_along FrameOwner.Root place k;
+      stored = false;
+      depth = length place;
+      body = body_in new;
+    })
+    → ((m : ℕ) → m ≢ top.slot → other m ≡ heap m)
+    → Stands plan other stack place (put_at place (at top.slot false new) k)
+top_replaced plan heap other stack place k new stands top closed here beside =
+    let longer : Stands plan heap stack (place ++ []) k
+    = subst (λ (p : Place). Stands plan heap stack p k) (sym (append-nil place)) stands in
+    subst (λ (p : Place). Stands plan other stack p (put_at place (at top.slot false new) k)) (append-nil place)
+    (stands_change plan heap other stack stack place [] [] (at top.slot false new) k longer
+    (ap cell_of (sym top.is)) agree replaces once (refl, closed_marked true new closed) top.last)
+  where
+    part : (n : ℕ) → uses (kid_at place k) n ≡ counts_if (nat_eq top.slot n)
+    part n = ap (λ (x : Kid). uses x n) top.is ∙ (omega (arith, closed_uses top.plot n top.closed))
+
+    agree : AgreeBeside heap other k (kid_at place k)
+    agree n h = go (same_or_other n top.slot)
+      where
+        go : (n ≡ top.slot) ⊎ (n ≢ top.slot) → other n ≡ heap n
+        go (inl e) =
+            let one : counts_if (nat_eq top.slot n) ≡ 1
+            = ap (λ (m : ℕ). counts_if (nat_eq top.slot m)) e ∙ counts_same top.slot in
+            absurd (omega (arith, part n, stands.once n))
+        go (inr ne) = beside n ne
+
+    replaces : Replaces plan heap other (kid_at place k) (at top.slot false new)
+    replaces node owner depth holds =
+        let was = subst (λ (x : Kid). Holds plan heap node owner depth x) top.is holds in
+        let same : Some (record {
+          node = node;
+          owner = owner;
+          stored = false;
+          depth = depth;
+          body = body_in top.plot;
+        }) ≡ Some (record {
+          node = node_along plan plan.root place k;
+          owner = owner_along FrameOwner.Root place k;
+          stored = false;
+          depth = length place;
+          body = body_in top.plot;
+        }) = sym was.0 ∙ top.here in (
+          here
+              ∙ sym (ap
+              (λ (found : Option Node). option_map (λ (x : Node). record x { body = body_in new }) found) same),
+          was.1,
+          closed_holds plan other node top.slot (suc depth) new closed,
+        )
+
+    once : (n : ℕ) → uses k n + uses (at top.slot false new) n ≤ 1 + uses (kid_at place k) n
+    once n = omega (arith, stands.once n, part n, closed_uses new n closed)

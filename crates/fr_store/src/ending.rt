@@ -1,0 +1,71 @@
+//! Going back from the place at which a builder works to the one above.
+ghost use Rattle.std.specs.Prelude.{◌≡◌, IsSome, Some, false};
+ghost use Rattle.fr_shape.specs.Val.{Val};
+ghost use Rattle.fr_model.specs.Places.{is_root, up};
+ghost use Rattle.fr_model.specs.Tree.{change_at, whole};
+ghost use Rattle.fr_frame.specs.Bodies.{value_of};
+ghost use Rattle.fr_frame.specs.Changes.{IfInUse};
+ghost use Rattle.fr_store.specs.Moves.{cursor_in, tree_in_slots, AtTop, IsNumbered, IsOpenAt, IsStepTo};
+ghost use Rattle.fr_store.specs.Stands.{IsOpen};
+
+use crate::Stack;
+use fr_frame::{FrameOwner, SlotId, Slots};
+use fr_path::PathStep;
+use fr_plan::TypePlanCore;
+use fr_shape::Ledger;
+
+/// The step to a field or an element.
+fn step_to(slots: &Slots, place: SlotId) -> PathStep
+    requires { IfInUse slots.now place.0 (λ at. IsNumbered at.owner) }
+    ensures { IfInUse slots.now place.0 (λ at. IsStepTo result at.owner) }
+{
+    let Some(found) = slots.place(place) else {
+        unreachable!()
+    };
+    match &found.owner {
+        FrameOwner::Child(_, PathStep::Field(i)) => PathStep::Field(*i),
+        FrameOwner::Child(_, PathStep::Index(i)) => PathStep::Index(*i),
+        FrameOwner::Root
+        | FrameOwner::Child(
+            _,
+            PathStep::Deref
+            | PathStep::Inner
+            | PathStep::OptionSome
+            | PathStep::Proxy
+            | PathStep::MapKey(_)
+            | PathStep::MapValue(_)
+            | PathStep::ResultOk
+            | PathStep::ResultErr
+            | PathStep::SetItem
+            | PathStep::Entry(_),
+        ) => unreachable!(),
+    }
+}
+
+impl Stack {
+    /// The value of the place on top goes into the place above, where the builder then works. Takes no memory.
+    pub fn end(&mut self, slots: &mut Slots, plan: &TypePlanCore, ledger: &mut Ledger)
+        requires is_open { IsOpen plan.now slots.old self.old }
+        requires below { is_root (cursor_in slots.old self.old) ≡ false }
+        requires complete { AtTop slots.old self.old (λ at. IsSome (value_of at.body)) }
+        ensures ended { AtTop slots.old self.old (λ at.
+            (v : Val) → value_of at.body ≡ Some v
+            → IsOpenAt plan.now slots.new self.new (up (cursor_in slots.old self.old))
+            (change_at (cursor_in slots.old self.old) (λ old. whole v)
+            (tree_in_slots slots.old self.old))) }
+        ensures ledger { ledger.new ≡ ledger.old }
+    {
+        let _plan = plan;
+        let Some(place) = self.pop() else {
+            unreachable!()
+        };
+        let step = step_to(slots, place);
+        let Ok(value) = place.into_value(slots, ledger) else {
+            unreachable!()
+        };
+        let Some(above) = self.top() else {
+            unreachable!()
+        };
+        above.put_child(slots, &step, value);
+    }
+}

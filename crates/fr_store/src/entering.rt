@@ -1,0 +1,101 @@
+//! Going on to a child of the place at which a builder works.
+ghost use Rattle.std.specs.Prelude.{◌≡◌, ◌∷◌, ◌++◌, [], ◌<◌, length, OnOk, OnErr};
+ghost use Rattle.fr_shape.specs.Look.{def_of};
+ghost use Rattle.fr_model.specs.Paths.{step_as};
+ghost use Rattle.fr_model.specs.Step.{enter, opened_as};
+ghost use Rattle.fr_model.specs.Tree.{change_at, change_child};
+ghost use Rattle.fr_frame.specs.Bodies.{MayOpen};
+ghost use Rattle.fr_frame.specs.Changes.{SameTokens, Shows};
+ghost use Rattle.fr_frame.specs.Completing.{shape_of};
+ghost use Rattle.fr_frame.specs.Heap.{as_form, heap_of};
+ghost use Rattle.fr_frame.specs.Kids.{child_node};
+ghost use Rattle.fr_store.specs.Moves.{cursor_in, node_here, tree_here, tree_in_slots, AtTop, HasChild, IsOpenAt};
+ghost use Rattle.fr_store.specs.Stands.{IsOpen};
+
+use crate::Stack;
+use fr_frame::{Form, FrameOwner, Slots};
+use fr_path::PathStep;
+use fr_plan::{NodeId, TypePlanCore};
+use fr_shape::{OutOfMemory, ShapeTable};
+
+/// The step to a child of a place that is begun so.
+fn step_of(form: Form, i: u32) -> PathStep
+    ensures { result ≡ step_as (as_form form) i }
+{
+    match form {
+        Form::Struct => PathStep::Field(i),
+        Form::Array => PathStep::Index(i),
+    }
+}
+
+impl Stack {
+    /// Begins the place on top, so that its children can be entered: an entered one has none of so many children yet, of a
+    /// whole one each has its part of the value, a begun one stays as it is.
+    pub fn begin(
+        &self,
+        slots: &mut Slots,
+        plan: &TypePlanCore,
+        form: Form,
+        count: usize,
+    ) -> Result<(), OutOfMemory>
+        requires is_open { IsOpen plan.now slots.old self.now }
+        requires may_open { AtTop slots.old self.now (λ at. MayOpen at.body) }
+        ensures begun { OnOk result (IsOpenAt plan.now slots.new self.now
+            (cursor_in slots.old self.now)
+            (change_at (cursor_in slots.old self.now) (opened_as (as_form form) count)
+            (tree_in_slots slots.old self.now))) }
+        ensures refused { OnErr result (Shows slots.new (heap_of slots.old)) }
+        ensures tokens { SameTokens slots.old slots.new }
+    {
+        let _plan = plan;
+        match self.top() {
+            Some(place) => place.begin(slots, form, count),
+            None => unreachable!(),
+        }
+    }
+
+    /// Enters child `i` of the place on top, which is begun: the child is on top then. One that holds something keeps it.
+    pub fn enter(
+        &mut self,
+        slots: &mut Slots,
+        table: &ShapeTable,
+        plan: &TypePlanCore,
+        node: NodeId,
+        form: Form,
+        i: u32,
+    ) -> Result<(), OutOfMemory>
+        requires is_open { IsOpen plan.now slots.old self.old }
+        requires child { HasChild (as_form form) i (tree_here slots.old self.old) }
+        requires node { node
+            ≡ child_node plan.now (node_here plan.now slots.old self.old) (as_form form) i }
+        requires planned { node.0 < length plan.now.nodes }
+        ensures entered { OnOk result (IsOpenAt plan.now slots.new self.new
+            (cursor_in slots.old self.old ++ i ∷ [])
+            (change_at (cursor_in slots.old self.old)
+            (change_child i (enter (def_of table.now (shape_of plan.now node))))
+            (tree_in_slots slots.old self.old))) }
+        ensures tokens { SameTokens slots.old slots.new }
+        ensures slots_kept { OnErr result (slots.new ≡ slots.old) }
+        ensures kept { OnErr result (self.new ≡ self.old) }
+    {
+        let Some(above) = self.top() else {
+            unreachable!()
+        };
+        self.push(above)?;
+        match slots.enter(
+            table,
+            plan,
+            node,
+            FrameOwner::Child(above, step_of(form, i)),
+        ) {
+            Ok(child) => {
+                self.put_top(child);
+                Ok(())
+            }
+            Err(refused) => {
+                self.pop();
+                Err(refused)
+            }
+        }
+    }
+}

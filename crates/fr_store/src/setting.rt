@@ -1,0 +1,29 @@
+//! A whole value at the place at which a builder works.
+ghost use Rattle.fr_shape.specs.Released.{Room, RoseBy};
+ghost use Rattle.fr_shape.specs.View.{view};
+ghost use Rattle.fr_model.specs.Tree.{change_at, whole};
+ghost use Rattle.fr_store.specs.Moves.{cursor_in, tokens_here, tree_in_slots, IsOpenAt};
+ghost use Rattle.fr_store.specs.Stands.{IsOpen};
+
+use crate::Stack;
+use fr_frame::Slots;
+use fr_plan::TypePlanCore;
+use fr_shape::{Ledger, Value};
+
+impl Stack {
+    /// Puts a value at the place on top, in the stead of all that was put there, whose tokens are released. Takes no memory.
+    pub fn set(&self, slots: &mut Slots, plan: &TypePlanCore, value: Value, ledger: &mut Ledger)
+        requires is_open { IsOpen plan.now slots.old self.now }
+        requires room { Room (tokens_here slots.old self.now) ledger.old }
+        ensures set { IsOpenAt plan.now slots.new self.now (cursor_in slots.old self.now)
+            (change_at (cursor_in slots.old self.now) (λ old. whole (view value))
+            (tree_in_slots slots.old self.now)) }
+        ensures released { RoseBy (tokens_here slots.old self.now) ledger.old ledger.new }
+    {
+        let _plan = plan;
+        match self.top() {
+            Some(place) => place.put(slots, value, ledger),
+            None => unreachable!(),
+        }
+    }
+}
