@@ -1,12 +1,12 @@
 -- What a place comes to, and its tokens.
-use Rattle.std.proofs.Common.{◌≡◌, ℕ, zero, suc, ◌+◌, List, [], ◌∷◌, replicate, Option, Some, None, IsSome, refl, sym, ◌∙◌, ap, subst, arith}
+use Rattle.std.proofs.Common.{◌≡◌, ℕ, zero, suc, ◌+◌, replicate, Option, Some, None, refl, sym, ◌∙◌, ap, arith}
 use Rattle.fr_shape.specs.Tokens.{occurs, vals_occur}
 use Rattle.fr_shape.specs.Val.{Val, Vals, product, no_vals, first}
 use Rattle.fr_model.specs.Complete.{made}
 use Rattle.fr_model.specs.Places.{parts_of, product_of}
 use Rattle.fr_model.specs.Tree.{Form, as_struct, as_array}
-use Rattle.fr_frame.specs.Bodies.{Body, entered_body, whole_body, begun_body, body_occurs, opened, opened_by, value_of, cells_of_vals, MayOpen}
-use Rattle.fr_frame.specs.Cells.{Cell, absent, cells_occur, values_of}
+use Rattle.fr_frame.specs.Bodies.{Body, entered_body, whole_body, begun_body, body_occurs, opened, opened_by, value_of, cells_of_vals}
+use Rattle.fr_frame.specs.Cells.{absent, cells_occur, values_of}
 use Rattle.fr_frame.proofs.CellLaws.{values_occur}
 
 pub product_of_struct : (form : Form) (values : Option Vals) → made form values ≡ product_of values

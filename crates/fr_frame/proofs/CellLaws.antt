@@ -1,5 +1,5 @@
 -- Children side by side: what a change of one value or of one bit does to the list that contracts see.
-use Rattle.std.proofs.Common.{◌≡◌, ◌≢◌, ℕ, zero, suc, ◌+◌, ◌-◌, ◌<◌, ◌≤◌, Bool, true, false, List, [], ◌∷◌, length, map, drop, replicate, Option, Some, None, IsSome, slice_get, slice_index, set, length-set, option_map, refl, sym, ◌∙◌, ap, subst, arith}
+use Rattle.std.proofs.Common.{◌≡◌, ◌≢◌, ℕ, zero, suc, ◌+◌, ◌-◌, ◌<◌, ◌≤◌, Bool, true, false, List, [], ◌∷◌, length, map, drop, replicate, Option, Some, None, IsSome, slice_get, slice_index, set, length-set, refl, sym, ◌∙◌, ap, subst, arith}
 use Rattle.std.specs.FinSet as finite
 use Rattle.std.specs.List.{All}
 use Rattle.std.specs.Option.{option_and_then}
@@ -9,10 +9,9 @@ use Rattle.std.proofs.lemmas.Bool.Decides.{nat_tests}
 use Rattle.fr_arena.specs.BitSets.{HasAllBelow}
 use Rattle.std.proofs.lemmas.List.Elements.{All-head, All-tail}
 use Rattle.fr_arena.specs.BitSets.{BitSet}
-use Rattle.fr_shape.specs.declared.value.Value.{Value, fold-roll-Value}
-use Rattle.fr_shape.specs.declared.value.Value.TheOpen.{Value-F}
+use Rattle.fr_shape.specs.declared.value.Value.{Value}
 use Rattle.fr_shape.specs.Val.{Val, Vals, unit, token, no_vals, first}
-use Rattle.fr_shape.specs.View.{view, view_step, vals_view}
+use Rattle.fr_shape.specs.View.{view, vals_view}
 use Rattle.fr_model.specs.Places.{one_more}
 use Rattle.fr_frame.specs.Cells.{Cell, absent, given, placed, in_slot, cell, cells_of, value_of_cell, slot_of_cell, value_at, slot_at, values_of, value_occurs, cell_occurs, cells_occur}
 use Rattle.fr_frame.specs.Bodies.{cells_of_vals}

@@ -1,14 +1,13 @@
 -- Lists of slots as heaps: what a change of one slot does.
-use Rattle.std.proofs.Common.{◌≡◌, ◌≢◌, ◌⊎◌, ℕ, zero, suc, ◌+◌, ◌<◌, ◌≤◌, Bool, true, false, List, [], ◌∷◌, ◌++◌, length, Option, Some, None, IsSome, slice_get, set, get_or, option_map, nat_eq, inl, inr, length-set, refl, sym, ◌∙◌, ap, subst, arith}
+use Rattle.std.proofs.Common.{◌≡◌, ◌≢◌, ◌⊎◌, ℕ, zero, suc, ◌+◌, ◌<◌, ◌≤◌, true, false, List, [], ◌∷◌, ◌++◌, length, Option, Some, None, slice_get, set, get_or, option_map, nat_eq, inl, inr, refl, sym, ◌∙◌, ap, arith}
 use Rattle.std.specs.Option.{option_and_then}
-use Rattle.std.specs.Prelude.{is_some, if◌then◌else◌}
+use Rattle.std.specs.Prelude.{if◌then◌else◌}
 use Rattle.std.proofs.lemmas.Grind.{common_steps}
 use Rattle.std.proofs.lemmas.Bool.Decides.{nat_tests}
-use Rattle.fr_frame.specs.declared.places.Place.{Place}
 use Rattle.fr_frame.specs.declared.places.Slot.{Slot}
 use Rattle.fr_frame.specs.declared.places.SlotId.{SlotId}
-use Rattle.fr_frame.specs.Bodies.{Body, body_occurs}
-use Rattle.fr_frame.specs.Heap.{Node, Heap, body_of, node_of, node_in, heap_of, slot_occurs, slots_occur, with_slot, with_body}
+use Rattle.fr_frame.specs.Bodies.{Body}
+use Rattle.fr_frame.specs.Heap.{Node, Heap, node_in, heap_of, slot_occurs, slots_occur, with_slot, with_body}
 use Rattle.fr_frame.specs.Changes.{Shows, IsInUse}
 
 -- Heaps.

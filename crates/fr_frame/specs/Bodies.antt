@@ -1,5 +1,5 @@
 -- What was put at a place, and what becomes of it where a child is entered or leaves.
-use Rattle.std.specs.Prelude.{ℕ, ◌+◌, List, [], ◌∷◌, map, replicate, slice_get, slice_set, Option, Some, None, IsSome, nat_eq, if◌then◌else◌}
+use Rattle.std.specs.Prelude.{ℕ, List, [], ◌∷◌, replicate, slice_get, slice_set, Option, Some, None, IsSome, nat_eq, if◌then◌else◌}
 use Rattle.std.specs.Option.{option_and_then}
 use Rattle.fr_shape.specs.declared.shape.Def.{Def}
 use Rattle.fr_shape.specs.Fills.{is_empty_struct}

@@ -3,7 +3,6 @@ use Rattle.std.specs.Prelude.{ℕ, suc, ◌+◌, Bool, false, List, [], ◌∷�
 use Rattle.std.specs.Option.{option_map, option_and_then}
 use Rattle.fr_shape.specs.declared.shape.Def.{Def}
 use Rattle.fr_shape.specs.View.{view}
-use Rattle.fr_path.specs.declared.path_steps.PathStep.{PathStep}
 use Rattle.fr_model.specs.Tree.{Form as TreeForm, as_struct, as_array}
 use Rattle.fr_plan.specs.declared.nodes.NodeId.{NodeId}
 use Rattle.fr_frame.specs.declared.places.Form.{Form}
@@ -11,8 +10,7 @@ use Rattle.fr_frame.specs.declared.places.FrameOwner.{FrameOwner}
 use Rattle.fr_frame.specs.declared.places.Piece.{Piece}
 use Rattle.fr_frame.specs.declared.places.Place.{Place}
 use Rattle.fr_frame.specs.declared.places.Slot.{Slot}
-use Rattle.fr_frame.specs.declared.places.SlotId.{SlotId}
-use Rattle.fr_frame.specs.Cells.{Cell, placed}
+use Rattle.fr_frame.specs.Cells.{Cell}
 use Rattle.fr_frame.specs.Bodies.{Body, entered_body, whole_body, begun_body, body_occurs, cell_at, taken_over, linked, unlinked}
 
 -- the place in a slot: the plan's node that it is built by, the place that it belongs to, whether it is stored, how deep it

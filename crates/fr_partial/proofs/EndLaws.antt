@@ -1,19 +1,19 @@
 -- Going up from a place, and building: what it means, and what it is refused for.
-use Rattle.std.proofs.Common.{◌≡◌, ◌⊎◌, ℕ, suc, Bool, true, false, List, [], ◌∷◌, length, Option, Some, None, IsSome, IsErr, Ok, Err, inl, inr, refl, sym, ◌∙◌, ap, subst, arith}
+use Rattle.std.proofs.Common.{◌≡◌, ℕ, suc, true, false, List, [], length, Option, Some, None, IsSome, IsErr, Ok, Err, refl, sym, ap, arith}
 use Rattle.fr_shape.specs.declared.error.Invariant.{Invariant}
 use Rattle.fr_shape.specs.declared.error.ReflectErrorKind.{ReflectErrorKind}
 use Rattle.fr_shape.specs.Hooks.{Meanings}
 use Rattle.fr_shape.specs.Look.{Table}
 use Rattle.fr_shape.specs.Val.{Val}
 use Rattle.fr_model.specs.Complete.{complete}
-use Rattle.fr_model.specs.Places.{Place, is_root}
-use Rattle.fr_model.specs.Step.{end, ended, build, built, cause, puts_and_leaves, violates}
-use Rattle.fr_model.specs.Tree.{Tree, State, cursor_tree}
+use Rattle.fr_model.specs.Places.{is_root}
+use Rattle.fr_model.specs.Step.{end, build, puts_and_leaves, violates}
+use Rattle.fr_model.specs.Tree.{State, cursor_tree}
 use Rattle.fr_plan.specs.TypePlan.{Plan}
 use Rattle.fr_frame.specs.declared.places.Slot.{Slot}
 use Rattle.fr_store.specs.Moves.{cursor_in}
 use Rattle.fr_store.specs.Stands.{IsOpen}
-use Rattle.fr_partial.specs.Ending.{IsLacking, NeedsMemory, WhyNot}
+use Rattle.fr_partial.specs.Ending.{IsLacking}
 use Rattle.fr_partial.proofs.StateLaws.{stack_length, at_root, below_root}
 
 -- by how many places are open

@@ -24,7 +24,7 @@ use Rattle.fr_frame.specs.Changes.{IfInUse, SameTokens}
 use Rattle.fr_frame.specs.Closed.{IsClosedAt}
 use Rattle.fr_frame.specs.Completing.{shape_of, takes_template, FillsAt, IsFull, IsOfValidator, IsPlanFor, MayComplete, WhyNot as WhyNotAt}
 use Rattle.fr_frame.specs.Heap.{Node, heap_of, with_slot}
-use Rattle.fr_frame.specs.Kids.{gone, there, Plot, tree_of, tree_in, trees_in, cells_in, body_in, kids_in, plot_in, plot_occurs}
+use Rattle.fr_frame.specs.Kids.{gone, Plot, tree_of, tree_in, trees_in, cells_in, body_in, kids_in, plot_in, plot_occurs}
 use Rattle.fr_store.specs.AbandonLaws.{slots_tokens}
 use Rattle.fr_store.specs.MoveLaws.{open_top, same_last, top_changed}
 use Rattle.fr_store.specs.Moves.{cursor_in, tree_here, tree_in_slots, AtTop, IsOpenAt}
@@ -305,10 +305,10 @@ module _ (plan : Plan) (before after : List Slot) (stack : List ℕ) (shown : Is
         let now : IsOpenAt plan slots next (up (cursor_in after stack))
         (change_at (cursor_in after stack) (λ old. whole v) (tree_in_slots after stack))
         = after_so
-            (λ (at : Node). (v : Val) → value_of at.body ≡ Some v
-            → IsOpenAt plan slots next (up (cursor_in after stack))
-            (change_at (cursor_in after stack) (λ old. whole v) (tree_in_slots after stack)))
-            (left n last) v held in
+        (λ (at : Node). (v : Val) → value_of at.body ≡ Some v
+        → IsOpenAt plan slots next (up (cursor_in after stack))
+        (change_at (cursor_in after stack) (λ old. whole v) (tree_in_slots after stack)))
+        (left n last) v held in
         record {
           value = v;
           meant = meant;

@@ -1,17 +1,16 @@
 -- Entering a child: the place may be begun, is begun around it, and the child's node is the plan's.
-use Rattle.std.proofs.Common.{◌≡◌, ℕ, zero, suc, ◌+◌, ◌<◌, Bool, true, false, List, [], ◌∷◌, length, Option, Some, None, IsSome, nat_lt, nat_le, if◌then◌else◌, option_map, unwrap_or, refl, sym, ◌∙◌, ap, subst, arith}
+use Rattle.std.proofs.Common.{◌≡◌, ℕ, zero, suc, ◌<◌, true, List, [], ◌∷◌, length, Option, Some, None, nat_lt, nat_le, if◌then◌else◌, option_map, unwrap_or, refl, sym, ◌∙◌, ap, subst, arith}
 use Rattle.std.specs.Option.{option_or}
-use Rattle.std.specs.Prelude.{IsSomeAnd, is_some}
+use Rattle.std.specs.Prelude.{is_some}
 use Rattle.fr_shape.specs.declared.error.Operation.{Operation}
 use Rattle.fr_shape.specs.declared.shape.Def.{Def}
 use Rattle.fr_shape.specs.declared.shape.Field.{Field}
-use Rattle.fr_shape.specs.declared.shape.ShapeId.{ShapeId}
 use Rattle.fr_shape.specs.declared.shape.StructDef.{StructDef}
 use Rattle.fr_shape.specs.Fits.{fits, fields_fit, count_vals}
 use Rattle.fr_shape.specs.Look.{Table, def_of, settled}
 use Rattle.fr_shape.specs.Val.{Val, Vals, unit, product, no_vals, first}
 use Rattle.fr_model.specs.Places.{Place, array_limit, child_shape, count_children, parts_of}
-use Rattle.fr_model.specs.Step.{field_refusal, enter, enter_child, opened, opened_as, opened_value}
+use Rattle.fr_model.specs.Step.{field_refusal, enter, enter_child, opened_as, opened_value}
 use Rattle.fr_model.specs.Tree.{Form, as_struct, as_array, form_of, child_as, Tree, hole, entered, whole, begun, Trees, no_trees, branch, tree_nth, change_nth, child_tree, tree_at, change_child, change_at, wholes, holes, count_trees}
 use Rattle.fr_model.specs.Well.{IsFullAs, Suits, DoneBut, Leads}
 use Rattle.fr_plan.specs.declared.nodes.NodeId.{NodeId}

@@ -1,5 +1,5 @@
 -- What a place of a served table lacks is a field or a value: never memory, and never a value that passes a validator.
-use Rattle.std.proofs.Common.{◌≡◌, ◌⊎◌, ℕ, zero, suc, Bool, true, false, List, [], ◌∷◌, Option, Some, None, IsSome, IsErr, Ok, Err, inl, inr, refl, sym, ◌∙◌, ap, subst}
+use Rattle.std.proofs.Common.{◌≡◌, ◌⊎◌, ℕ, zero, suc, Bool, true, false, Option, Some, None, IsSome, inl, inr, refl, sym, ◌∙◌, ap, subst}
 use Rattle.std.specs.Option.{option_or}
 use Rattle.fr_shape.specs.declared.shape.Def.{Def}
 use Rattle.fr_shape.specs.declared.error.ReflectErrorKind.{ReflectErrorKind}
@@ -10,11 +10,11 @@ use Rattle.fr_shape.specs.Served.{IsServed}
 use Rattle.fr_shape.specs.Val.{Val}
 use Rattle.fr_model.specs.Complete.{complete, lack, lack_among, lack_of_hole, lack_of_holes, lack_of_entered, lack_by, unless_there, missing_child, missing_value, hole_takes, failing_child}
 use Rattle.fr_model.specs.Places.{child_count}
-use Rattle.fr_model.specs.Step.{cause, or_missing}
+use Rattle.fr_model.specs.Step.{cause}
 use Rattle.fr_model.specs.Tree.{Form, as_struct, as_array, Tree, hole, entered, whole, begun, Trees, no_trees, branch, child_as}
 use Rattle.fr_frame.specs.Completing.{IsOfValidator}
 use Rattle.fr_partial.specs.Filling.{fills_nothing}
-use Rattle.fr_partial.specs.Ending.{IsLacking, NeedsMemory, WhyNot}
+use Rattle.fr_partial.specs.Ending.{WhyNot}
 use Rattle.fr_partial.proofs.TemplateLaws.{none_failing}
 
 -- a field or a value is lacking

@@ -1,9 +1,9 @@
 -- The place on top of the stack: its shape, and what stands there.
-use Rattle.std.proofs.Common.{◌≡◌, ℕ, ◌<◌, false, List, [], ◌∷◌, length, append-nil, Option, Some, None, refl, sym, ◌∙◌, ap, subst}
+use Rattle.std.proofs.Common.{◌≡◌, ℕ, ◌<◌, false, List, [], length, append-nil, Some, None, sym, ◌∙◌, ap, subst}
 use Rattle.fr_shape.specs.declared.shape.ShapeId.{ShapeId}
 use Rattle.fr_shape.specs.Look.{Table}
 use Rattle.fr_model.specs.Places.{Place}
-use Rattle.fr_model.specs.Tree.{Tree, tree_at, tree_occurs}
+use Rattle.fr_model.specs.Tree.{tree_occurs}
 use Rattle.fr_plan.specs.declared.nodes.TypePlanNode.{TypePlanNode}
 use Rattle.fr_plan.specs.Lookups.{node_at}
 use Rattle.fr_plan.specs.LookupLaws.{LookupsAgree, LookupPathsAgree}
@@ -14,7 +14,7 @@ use Rattle.fr_frame.specs.Bodies.{own_tree}
 use Rattle.fr_frame.specs.Heap.{Node, body_of, node_of, heap_of, slots_occur}
 use Rattle.fr_frame.specs.declared.places.FrameOwner.{FrameOwner}
 use Rattle.fr_frame.specs.Changes.{SameTokens, Shows}
-use Rattle.fr_frame.specs.Kids.{Kid, tree_of, tree_in, body_in}
+use Rattle.fr_frame.specs.Kids.{tree_of, tree_in, body_in}
 use Rattle.fr_store.specs.HoldLaws.{holds_frame}
 use Rattle.fr_store.specs.StandLaws.{open_from}
 use Rattle.fr_store.specs.MoveLaws.{open_top, top_slot}
@@ -22,7 +22,7 @@ use Rattle.fr_store.specs.Moves.{cursor_in, tree_in_slots, tree_here}
 use Rattle.fr_store.specs.Numbers.{IsLast}
 use Rattle.fr_store.specs.Stands.{IsOpen, kid_shown}
 use Rattle.fr_store.specs.TopLaws.{closed_tree}
-use Rattle.fr_store.specs.Ways.{kid_at, Leads, node_along, owner_along}
+use Rattle.fr_store.specs.Ways.{Leads, node_along, owner_along}
 use Rattle.fr_store.specs.WayLaws.{leads_reach, tree_of_at, tree_tokens}
 use Rattle.fr_partial.specs.Underway.{shape_here, IsReady}
 use Rattle.fr_partial.proofs.FitLaws.{is_there}

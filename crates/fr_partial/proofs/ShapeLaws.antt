@@ -1,23 +1,22 @@
 -- The shapes of the plan's nodes along a way through places in slots: those that the table has there.
-use Rattle.std.proofs.Common.{◌≡◌, ℕ, zero, suc, ◌+◌, ◌<◌, List, [], ◌∷◌, length, Option, Some, None, option_map, slice_get, unwrap_or, refl, sym, ◌∙◌, ap, subst, arith}
-use Rattle.std.specs.Option.{option_and_then}
+use Rattle.std.proofs.Common.{◌≡◌, ℕ, zero, suc, ◌+◌, ◌<◌, List, [], ◌∷◌, length, Option, Some, None, option_map, slice_get, refl, sym, ◌∙◌, ap, subst, arith}
 use Rattle.fr_shape.specs.declared.shape.Def.{Def}
 use Rattle.fr_shape.specs.declared.shape.Field.{Field}
 use Rattle.fr_shape.specs.declared.shape.Shape.{Shape}
 use Rattle.fr_shape.specs.declared.shape.ShapeId.{ShapeId}
 use Rattle.fr_shape.specs.declared.shape.StructDef.{StructDef}
 use Rattle.fr_shape.specs.Checked.{IsChecked}
-use Rattle.fr_shape.specs.Look.{Table, IsIn, def_of, def_or_other, field_in}
-use Rattle.fr_model.specs.Places.{Place, child_shape, shape_of_field}
-use Rattle.fr_model.specs.Tree.{Form, as_struct, as_array, Tree, hole, entered, whole, begun, Trees, no_trees, branch, tree_nth, tree_at, child_as, shapes_from, shape_in, count_trees}
+use Rattle.fr_shape.specs.Look.{Table, IsIn, def_of, def_or_other}
+use Rattle.fr_model.specs.Places.{Place, child_shape}
+use Rattle.fr_model.specs.Tree.{Form, as_struct, as_array, Tree, Trees, no_trees, branch, tree_nth, tree_at, child_as, shapes_from, shape_in, count_trees}
 use Rattle.fr_model.specs.Well.{IsFullAs, Suits, SuitAll}
 use Rattle.fr_plan.specs.declared.nodes.NodeId.{NodeId}
 use Rattle.fr_plan.specs.declared.nodes.TypePlanNode.{TypePlanNode}
-use Rattle.fr_plan.specs.Lookups.{node_at, by_id}
-use Rattle.fr_plan.specs.LookupLaws.{Step, struct_field_step, list_item_step, looked_up, child_in, child_of, shape_at, LookupsAgree, LookupPathsAgree}
+use Rattle.fr_plan.specs.Lookups.{node_at}
+use Rattle.fr_plan.specs.LookupLaws.{Step, struct_field_step, list_item_step, looked_up, child_in, shape_at, LookupsAgree, LookupPathsAgree}
 use Rattle.fr_plan.specs.TypePlan.{Plan, IsPlanOf}
-use Rattle.fr_frame.specs.Kids.{Kid, gone, there, at, Plot, entered_plot, whole_plot, begun_plot, Kids, no_kids, kid, tree_of, tree_in, trees_in, child_node}
-use Rattle.fr_store.specs.Ways.{count_kids, kid_nth, kid_at, Reaches, node_along}
+use Rattle.fr_frame.specs.Kids.{Kid, gone, there, at, entered_plot, whole_plot, begun_plot, Kids, no_kids, kid, tree_of, trees_in, child_node}
+use Rattle.fr_store.specs.Ways.{count_kids, kid_nth, Reaches, node_along}
 use Rattle.fr_store.specs.WayLaws.{tree_of_nth}
 
 -- a node of the plan, of shape s

@@ -1,6 +1,5 @@
 -- A builder as its slots and its stack give it: it is in order, and stays so from state to state.
 use Rattle.std.proofs.Common.{◌≡◌, ℕ, suc, ◌+◌, false, List, [], ◌∷◌, ◌++◌, length, None, Ok, refl, sym, ◌∙◌, ap, subst, arith}
-use Rattle.fr_shape.specs.declared.error.ReflectErrorKind.{ReflectErrorKind}
 use Rattle.fr_shape.specs.declared.shape.ShapeId.{ShapeId}
 use Rattle.fr_shape.specs.Checked.{IsChecked}
 use Rattle.fr_shape.specs.Hooks.{Meanings, no_hooks}
@@ -26,7 +25,7 @@ use Rattle.fr_store.specs.Stands.{IsOpen, kid_shown}
 use Rattle.fr_store.specs.Ways.{kid_nth, slots_along, Leads}
 use Rattle.fr_store.specs.WayLaws.{leads_at}
 use Rattle.fr_partial.specs.Builder.{Builder, here, holds}
-use Rattle.fr_partial.specs.Underway.{shape_here, state_of, IsReady, IsUnderway}
+use Rattle.fr_partial.specs.Underway.{shape_here, state_of, IsUnderway}
 
 abbrev pub builder_of : {H : Type 0} → H → Table → ℕ → List Slot → List ℕ → ℕ → Builder H
 builder_of h table root slots stack calls =

@@ -5,9 +5,8 @@ use Rattle.std.specs.Prelude.{option_to_list}
 use Rattle.fr_shape.specs.declared.shape.Shape.{Shape}
 use Rattle.fr_shape.specs.declared.shape.Def.{Def}
 use Rattle.fr_shape.specs.declared.shape.Field.{Field}
-use Rattle.fr_shape.specs.declared.shape.DefaultSource.{DefaultSource}
 use Rattle.fr_shape.specs.Checked.{IsChecked, is_template, default_is_template, fields_of}
-use Rattle.fr_shape.specs.Fills.{preset_of, strict_fill, takes_shape_default}
+use Rattle.fr_shape.specs.Fills.{preset_of}
 use Rattle.fr_shape.specs.Fits.{fits}
 use Rattle.fr_shape.specs.Hooks.{Meanings}
 use Rattle.fr_shape.specs.Look.{Table, def_of, field_in}
@@ -17,9 +16,8 @@ use Rattle.fr_shape.specs.Tokens.{tokens, times, occurs}
 use Rattle.fr_shape.specs.TokenLaws.{occurs_times}
 use Rattle.fr_shape.specs.Val.{Val}
 use Rattle.fr_model.specs.Complete.{failing_child}
-use Rattle.fr_model.specs.Places.{fill_at, child_shape}
 use Rattle.fr_model.specs.Tree.{Form, as_struct, as_array}
-use Rattle.fr_partial.proofs.FitLaws.{both_true, field_shape}
+use Rattle.fr_partial.proofs.FitLaws.{both_true}
 
 all_at : {X : Type 0} (p : X → Bool) (xs : List X) (i : ℕ) (x : X) → list_all p xs ≡ true → slice_get xs i ≡ Some x
     → p x ≡ true

@@ -1,6 +1,6 @@
 -- The path that a builder keeps, where it goes on and where it goes back.
-use Rattle.std.proofs.Common.{◌≡◌, ℕ, suc, List, [], ◌∷◌, ◌++◌, length, Option, Some, None, IsNone, IfSome, ◌↔◌, refl, sym, ◌∙◌, ap, arith}
-use Rattle.fr_shape.specs.Look.{Table, def_of}
+use Rattle.std.proofs.Common.{◌≡◌, ℕ, List, [], ◌∷◌, ◌++◌, length, Option, Some, None, IsNone, IfSome, ◌↔◌, refl, sym, ◌∙◌, ap}
+use Rattle.fr_shape.specs.Look.{def_of}
 use Rattle.fr_path.specs.declared.path_steps.PathStep.{PathStep}
 use Rattle.fr_shape.specs.Val.{Val}
 use Rattle.fr_model.specs.PathLaws.{EnteringAddsAStep, LeavingDropsAStep, PathIsAsDeep}

@@ -14,8 +14,8 @@ ghost use Rattle.fr_partial.specs.Entering.{Describes};
 ghost use Rattle.fr_partial.specs.Underway.{shape_here, IsReady};
 
 use crate::admitting::{Child, child_of};
-use crate::paths::{step_back, step_to};
 use crate::finishing::abandon;
+use crate::paths::{step_back, step_to};
 use crate::placing::shape_here;
 use crate::{Partial, ReflectError};
 use fr_frame::{Form, Slots};
@@ -139,8 +139,8 @@ fn enter_child(
     ensures entered { IfOk result (λ both. IsOpenAt plan.now both.0 both.1
         (cursor_in slots stack ++ i ∷ [])
         (change_at (cursor_in slots stack)
-            (enter_child table.now (shape_here table.now root.0 slots stack) i)
-            (tree_in_slots slots stack))) }
+        (enter_child table.now (shape_here table.now root.0 slots stack) i)
+        (tree_in_slots slots stack))) }
     ensures kept { OnOk result (ledger.new ≡ ledger.old) }
     ensures released { OnErr result
         (RoseBy (tree_occurs (tree_in_slots slots stack)) ledger.old ledger.new) }

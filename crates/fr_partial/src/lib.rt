@@ -15,7 +15,6 @@ mod reading;
 mod reflect_error;
 mod set;
 mod starting;
-
 #[cfg(test)]
 mod tests;
 

@@ -48,7 +48,7 @@ impl<'t, H> Model for Partial<'t, H> {
     } };
 
     ghost invariant = { λ p.
-      IsUnderway p.table.now p.root (plan_in p.plan) p.path p.slots p.stack p.calls };
+        IsUnderway p.table.now p.root (plan_in p.plan) p.path p.slots p.stack p.calls };
 }
 
 impl<'t, H: Hooks> Partial<'t, H> {

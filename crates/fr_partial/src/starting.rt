@@ -17,9 +17,7 @@ use fr_frame::{FrameOwner, Slots};
 use fr_model::law_well;
 use fr_path::Path;
 use fr_plan::{TypePlanCore, law_first_refusal, law_plan_lookups, law_plan_paths};
-use fr_shape::{
-    AllocError, Def, Hooks, OutOfMemory, PlanError, PlanFault, ShapeId, ShapeTable,
-};
+use fr_shape::{AllocError, Def, Hooks, OutOfMemory, PlanError, PlanFault, ShapeId, ShapeTable};
 use fr_store::Stack;
 use std::alloc::Global;
 

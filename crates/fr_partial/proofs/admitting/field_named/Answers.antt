@@ -1,4 +1,4 @@
-use Rattle.std.proofs.Common.{◌≡◌, ℕ, sym, ◌∙◌, subst}
+use Rattle.std.proofs.Common.{ℕ, sym, ◌∙◌, subst}
 use Rattle.fr_shape.specs.Plannable.{Reached, at_root}
 use Rattle.fr_store.specs.Moves.{cursor_in, tree_in_slots}
 use Rattle.fr_partial.proofs.ReachLaws.{reached_along}
@@ -8,9 +8,9 @@ pub returns-in-Some : goal.returns-in-Some
 returns-in-Some c =
     let ready = c.requires.ready in
     let reached =
-        subst (λ (n : ℕ). Reached c.args.table.now c.args.root.0 n) (sym c.requires.shape)
-        (reached_along c.args.table.now c.args.root.0 c.args.root.0 (cursor_in c.args.slots.now c.args.stack.now)
-        (tree_in_slots c.args.slots.now c.args.stack.now) at_root ready.suits ready.leads) in
+    subst (λ (n : ℕ). Reached c.args.table.now c.args.root.0 n) (sym c.requires.shape)
+    (reached_along c.args.table.now c.args.root.0 c.args.root.0 (cursor_in c.args.slots.now c.args.stack.now)
+    (tree_in_slots c.args.slots.now c.args.stack.now) at_root ready.suits ready.leads) in
     sym c.in-Some.is
     ∙ c.declared_field.ensures.first c.args.table.now c.args.root ready.checked ready.inside ready.planned reached
 
@@ -18,8 +18,8 @@ pub returns-in-None : goal.returns-in-None
 returns-in-None c =
     let ready = c.requires.ready in
     let reached =
-        subst (λ (n : ℕ). Reached c.args.table.now c.args.root.0 n) (sym c.requires.shape)
-        (reached_along c.args.table.now c.args.root.0 c.args.root.0 (cursor_in c.args.slots.now c.args.stack.now)
-        (tree_in_slots c.args.slots.now c.args.stack.now) at_root ready.suits ready.leads) in
+    subst (λ (n : ℕ). Reached c.args.table.now c.args.root.0 n) (sym c.requires.shape)
+    (reached_along c.args.table.now c.args.root.0 c.args.root.0 (cursor_in c.args.slots.now c.args.stack.now)
+    (tree_in_slots c.args.slots.now c.args.stack.now) at_root ready.suits ready.leads) in
     sym c.in-None.is
     ∙ c.declared_field.ensures.first c.args.table.now c.args.root ready.checked ready.inside ready.planned reached

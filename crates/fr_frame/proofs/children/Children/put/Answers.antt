@@ -1,8 +1,7 @@
-use Rattle.std.proofs.Common.{◌≡◌, ◌≢◌, ℕ, ◌<◌, Some, None, refl, sym, ◌∙◌, ap, subst, arith}
-use Rattle.fr_shape.specs.Val.{Val, token}
+use Rattle.std.proofs.Common.{◌∙◌, ap, arith}
 use Rattle.fr_shape.specs.View.{view}
-use Rattle.fr_frame.specs.Cells.{absent, given, placed, cell}
-use Rattle.fr_frame.proofs.CellLaws.{same_length, has_room, cells_put, cell_is, bit_set, bit_set_here, bit_unset, bit_unset_here, bit_below, value_here, no_value_here, slot_here}
+use Rattle.fr_frame.specs.Cells.{given, cell}
+use Rattle.fr_frame.proofs.CellLaws.{same_length, has_room, cells_put, bit_set, bit_set_here}
 use Rattle.fr_frame.proofs.children.Children.put.Goals as goal
 
 pub set-requires : goal.set-requires

@@ -1,17 +1,10 @@
-use Rattle.std.proofs.Common.{◌≡◌, ℕ, suc, ◌+◌, ◌-◌, ◌<◌, List, [], length, drop, Option, Some, None, option_map, refl, ap, sym, ◌∙◌, subst, arith}
-use Rattle.std.specs.Prelude.{Err, Result}
+use Rattle.std.proofs.Common.{◌≡◌, ap, ◌∙◌, arith}
+use Rattle.std.specs.Prelude.{Result}
 use Rattle.fr_shape.specs.declared.items.OutOfMemory.{OutOfMemory}
-use Rattle.fr_shape.specs.declared.error.ReflectErrorKind.{ReflectErrorKind}
-use Rattle.fr_shape.specs.Val.{Val}
-use Rattle.fr_shape.specs.View.{view}
-use Rattle.fr_model.specs.Complete.{failing_child, lack_of_hole, lack_of_holes, lack_among}
-use Rattle.fr_model.specs.Tree.{as_struct, as_array}
 use Rattle.fr_frame.specs.declared.places.Piece.{Piece}
-use Rattle.fr_frame.specs.Bodies.{Body, body_occurs, trees_of}
-use Rattle.fr_frame.specs.Cells.{Cell}
-use Rattle.fr_frame.specs.Completing.{shape_of}
+use Rattle.fr_frame.specs.Bodies.{Body, body_occurs}
 use Rattle.fr_frame.specs.Heap.{body_of}
-use Rattle.fr_frame.proofs.BodyLaws.{value_occurs_same, opened_occurs}
+use Rattle.fr_frame.proofs.BodyLaws.{opened_occurs}
 use Rattle.fr_frame.proofs.places.SlotId.begin.Goals as goal
 use Rattle.fr_frame.proofs.places.SlotId.begin.Goals.{in-Ok, in-Err}
 use Rattle.fr_frame.specs.Heap.{as_form}

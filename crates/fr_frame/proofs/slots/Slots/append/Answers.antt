@@ -1,7 +1,7 @@
-use Rattle.std.proofs.Common.{◌≡◌, ℕ, ◌+◌, List, Some, None, ap, sym, ◌∙◌, arith}
+use Rattle.std.proofs.Common.{List, None, ap, ◌∙◌}
 use Rattle.fr_frame.specs.declared.places.Slot.{Slot}
-use Rattle.fr_frame.specs.Heap.{slots_occur, slot_occurs, node_in}
-use Rattle.fr_frame.proofs.HeapLaws.{occur_set, occur_append, free_holds, free_there}
+use Rattle.fr_frame.specs.Heap.{slots_occur}
+use Rattle.fr_frame.proofs.HeapLaws.{occur_append}
 use Rattle.fr_frame.proofs.slots.Slots.append.Goals as goal
 
 pub returns-clause-tokens : goal.returns-clause-tokens

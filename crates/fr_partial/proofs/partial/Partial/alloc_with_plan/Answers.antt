@@ -32,11 +32,6 @@ start-requires-clause-plan g c =
     subst (λ (id : ShapeId). IsPlanOf c.args.table.now id c.args.plan.now)
     (sym (root_is g (goal.at.start-requires-clause-plan g c).After-root c.requires.plan)) c.requires.plan.planned
 
-pub start-requires-clause-inside : goal.start-requires-clause-inside
-start-requires-clause-inside g c =
-    subst (λ (n : ℕ). IsIn c.args.table.now n)
-    (sym (number_is g (goal.at.start-requires-clause-inside g c).After-root c.requires.plan)) c.requires.plan.inside
-
 pub returns-clause-root : goal.returns-clause-root
 returns-clause-root g c =
     if_ok c.start.result

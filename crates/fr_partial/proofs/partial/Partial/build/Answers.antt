@@ -1,13 +1,13 @@
-use Rattle.std.proofs.Common.{◌≡◌, ℕ, ◌+◌, length, slice_index, List, [], true, false, Some, None, IsErr, Ok, Err, inl, inr, refl, sym, ap, ◌∙◌, subst, arith}
+use Rattle.std.proofs.Common.{◌≡◌, length, slice_index, true, false, IsErr, Ok, Err, inl, inr, sym, ap, ◌∙◌, subst, arith}
 use Rattle.fr_shape.specs.declared.error.Invariant.{Invariant}
 use Rattle.fr_shape.specs.declared.error.ReflectErrorKind.{ReflectErrorKind}
 use Rattle.fr_shape.specs.Fits.{fits}
-use Rattle.fr_shape.specs.Released.{Room, RoseBy, Conserved}
+use Rattle.fr_shape.specs.Released.{Room, RoseBy}
 use Rattle.fr_shape.specs.Tokens.{occurs}
 use Rattle.fr_shape.specs.View.{view}
 use Rattle.fr_model.specs.Step.{violates}
-use Rattle.fr_model.specs.Tree.{State, cursor_tree, tree_occurs}
-use Rattle.fr_store.specs.Moves.{cursor_in, tree_in_slots}
+use Rattle.fr_model.specs.Tree.{cursor_tree, tree_occurs}
+use Rattle.fr_store.specs.Moves.{tree_in_slots}
 use Rattle.fr_partial.specs.Builder.{Builder, holds, meaning_of_build}
 use Rattle.fr_partial.specs.Filling.{fills_nothing}
 use Rattle.fr_partial.specs.Underway.{state_of}

@@ -1,4 +1,4 @@
-use Rattle.std.proofs.Common.{◌≡◌, ℕ, ◌+◌, length, slice_index, List, [], ◌∷◌, ◌++◌, None, Ok, refl, sym, ap, ◌∙◌, subst, arith}
+use Rattle.std.proofs.Common.{◌≡◌, ℕ, ◌+◌, length, slice_index, List, [], ◌∷◌, ◌++◌, Ok, sym, ap, ◌∙◌, subst, arith}
 use Rattle.fr_shape.specs.Hooks.{no_hooks}
 use Rattle.fr_shape.specs.Look.{def_of}
 use Rattle.fr_shape.specs.Released.{Room}
@@ -6,8 +6,8 @@ use Rattle.fr_path.specs.declared.path_steps.PathStep.{PathStep}
 use Rattle.fr_model.specs.Commands.{Call}
 use Rattle.fr_model.specs.Paths.{step_as, path_of}
 use Rattle.fr_frame.specs.Heap.{as_form}
-use Rattle.fr_model.specs.Step.{step, enters, field_refusal}
-use Rattle.fr_model.specs.Tree.{Form, Tree, State, form_of, cursor_tree, tree_occurs}
+use Rattle.fr_model.specs.Step.{enters, field_refusal}
+use Rattle.fr_model.specs.Tree.{Form, Tree, State, form_of, tree_occurs}
 use Rattle.fr_plan.specs.TypePlan.{Plan}
 use Rattle.fr_store.specs.Moves.{tree_here, tree_in_slots}
 use Rattle.fr_store.specs.Stands.{IsOpen}
@@ -15,7 +15,6 @@ use Rattle.fr_partial.specs.Builder.{Builder, here, holds}
 use Rattle.fr_partial.specs.Entering.{Describes}
 use Rattle.fr_partial.specs.Underway.{shape_here, state_of}
 use Rattle.fr_partial.proofs.BeginLaws.{admitted_within, begins}
-use Rattle.fr_partial.proofs.RemovedLaws.{all_released}
 use Rattle.fr_partial.proofs.StateLaws.{admitted_now, order, state_is, underway_after, order_after, tokens_after}
 use Rattle.fr_partial.proofs.partial.Partial.enter.Goals as goal
 
@@ -107,7 +106,7 @@ returns-in-Ok-enter_child-clause-tokens g c = record {
       let s : ℕ = shape_here c.self.inside.table.now c.self.inside.root.0 c.self.inside.slots c.self.inside.stack in
       let state : State = state_of c.self.inside.slots c.self.inside.stack c.self.inside.calls in
       let may = (admitted_now c.self.inside.table.now c.self.inside.root.0 c.self.inside.slots c.self.inside.stack c.self.inside.calls
-    c.args.self c.self.view_is c.args.i c.requires.admitted) in
+      c.args.self c.self.view_is c.args.i c.requires.admitted) in
       let all : holds c.args.self t ≡ tree_occurs state.tree t
       = ap (λ (b : Builder _). holds b t) (sym c.self.view_is) in
       let kept : tree_occurs state.tree t + 0 ≡ tree_occurs (enters c.self.inside.table.now s state c.args.i).tree t + 0

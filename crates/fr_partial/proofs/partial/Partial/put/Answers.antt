@@ -1,11 +1,11 @@
-use Rattle.std.proofs.Common.{◌≡◌, ℕ, ◌+◌, true, Ok, refl, sym, ◌∙◌, ap, subst, arith}
+use Rattle.std.proofs.Common.{◌≡◌, ℕ, ◌+◌, true, refl, sym, ◌∙◌, ap, subst, arith}
 use Rattle.fr_shape.specs.Fits.{fits}
 use Rattle.fr_shape.specs.Hooks.{no_hooks}
 use Rattle.fr_shape.specs.TokenLaws.{Room_fewer}
 use Rattle.fr_shape.specs.Tokens.{occurs}
 use Rattle.fr_shape.specs.View.{view}
 use Rattle.fr_model.specs.Commands.{Call}
-use Rattle.fr_model.specs.Step.{step, puts}
+use Rattle.fr_model.specs.Step.{puts}
 use Rattle.fr_model.specs.Tree.{Tree, State, tree_occurs}
 use Rattle.fr_plan.specs.TypePlan.{Plan}
 use Rattle.fr_store.specs.Moves.{tokens_here, tree_in_slots}
@@ -14,17 +14,20 @@ use Rattle.fr_partial.specs.Builder.{Builder, here, holds}
 use Rattle.fr_partial.specs.Underway.{shape_here, state_of}
 use Rattle.fr_partial.proofs.FitLaws.{fits_in}
 use Rattle.fr_partial.proofs.PutLaws.{set_admitted}
-use Rattle.fr_partial.proofs.StateLaws.{put_keeps, state_is, underway_after, order_after, tokens_after}
+use Rattle.fr_partial.proofs.StateLaws.{put_keeps, state_is, underway_after, order_after}
 use Rattle.fr_partial.proofs.partial.Partial.put.Goals as goal
 
 pub set-requires-clause-room : goal.set-requires-clause-room
 set-requires-clause-room g c =
     Room_fewer (tokens_here c.self.inside.slots c.self.inside.stack)
     (λ t. holds c.args.self t + occurs (view c.args.value) t) c.args.ledger.now
-    (λ t. omega (arith, put_keeps c.self.invariant c.self.view_is c.law_removed.ensures.step (view c.args.value) t
-    (set_admitted (shape_here c.self.inside.table.now c.self.inside.root.0 c.self.inside.slots c.self.inside.stack)
-    (shape_here c.self.inside.table.now c.self.inside.root.0 c.self.inside.slots c.self.inside.stack)
-    (state_of c.self.inside.slots c.self.inside.stack c.self.inside.calls) (view c.args.value) refl))) c.requires.room
+    (λ t. omega (
+      arith,
+      put_keeps c.self.invariant c.self.view_is c.law_removed.ensures.step (view c.args.value) t
+          (set_admitted (shape_here c.self.inside.table.now c.self.inside.root.0 c.self.inside.slots c.self.inside.stack)
+          (shape_here c.self.inside.table.now c.self.inside.root.0 c.self.inside.slots c.self.inside.stack)
+          (state_of c.self.inside.slots c.self.inside.stack c.self.inside.calls) (view c.args.value) refl),
+    )) c.requires.room
 
 pub invariant_of-result : goal.invariant_of-result
 invariant_of-result g c =
@@ -58,9 +61,9 @@ returns-clause-tokens g c = record {
       omega (
         arith,
         put_keeps c.self.invariant c.self.view_is c.law_removed.ensures.step (view c.args.value) t
-    (set_admitted (shape_here c.self.inside.table.now c.self.inside.root.0 c.self.inside.slots c.self.inside.stack)
-    (shape_here c.self.inside.table.now c.self.inside.root.0 c.self.inside.slots c.self.inside.stack)
-    (state_of c.self.inside.slots c.self.inside.stack c.self.inside.calls) (view c.args.value) refl),
+            (set_admitted (shape_here c.self.inside.table.now c.self.inside.root.0 c.self.inside.slots c.self.inside.stack)
+            (shape_here c.self.inside.table.now c.self.inside.root.0 c.self.inside.slots c.self.inside.stack)
+            (state_of c.self.inside.slots c.self.inside.stack c.self.inside.calls) (view c.args.value) refl),
         c.set.ensures.released.each t,
       );
   none_falls = λ t. omega (arith, c.set.ensures.released.each t);

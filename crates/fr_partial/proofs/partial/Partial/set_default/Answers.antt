@@ -9,8 +9,6 @@ use Rattle.fr_model.specs.Tree.{State}
 use Rattle.fr_partial.specs.Builder.{Builder, holds, here, left}
 use Rattle.fr_partial.proofs.PutLaws.{default_there, default_missing}
 use Rattle.fr_partial.proofs.TemplateLaws.{IsTemplate, preset_template, light_occurs}
-use Rattle.fr_shape.specs.declared.error.Operation.{Operation}
-use Rattle.fr_shape.specs.declared.error.ReflectErrorKind.{ReflectErrorKind}
 use Rattle.fr_model.specs.Commands.{Call}
 use Rattle.fr_partial.proofs.RemovedLaws.{rises_by_removed, all_released}
 use Rattle.fr_partial.proofs.StateLaws.{in_order}
@@ -57,7 +55,7 @@ put-requires-clause-room g c =
 pub returns-in-Ok-clause-step : goal.returns-in-Ok-clause-step
 returns-in-Ok-clause-step g c = (
   default_there c.self.inside.table.now c.self.inside.root.0 c.self.inside.slots c.self.inside.stack
-    c.self.inside.calls c.args.self c.self.view_is c.shape-shape.result c.shape-shape.ensures.shape c.in-Some.template.now
+      c.self.inside.calls c.args.self c.self.view_is c.shape-shape.result c.shape-shape.ensures.shape c.in-Some.template.now
       (sym c.in-Some.ensures.template)
       ∙ ap (λ (v : Val). Ok (puts c.args.self.state v)) (sym c.in-Ok.ensures.copy)
       ∙ ap (λ (s : State). Ok s) (sym c.put.ensures.state),
