@@ -11,6 +11,8 @@ pub data Call : Type 0 where
   Set : ℕ → Val → Call
   SetDefault : Call
   End : Call
+  BeginDeferred : Call
+  FinishDeferred : Call
 
 -- what a command stands for
 abbrev pub call_of : Command → Call
@@ -19,6 +21,8 @@ call_of (Command.BeginNthField i) = Call.BeginNthField i
 call_of (Command.Set shape v) = Call.Set shape.0 (view v)
 call_of Command.SetDefault = Call.SetDefault
 call_of Command.End = Call.End
+call_of Command.BeginDeferred = Call.BeginDeferred
+call_of Command.FinishDeferred = Call.FinishDeferred
 
 -- what a script stands for
 abbrev pub calls_of : List Command → List Call

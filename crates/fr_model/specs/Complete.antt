@@ -1,4 +1,5 @@
--- Completing a place in strict mode: the value that it makes, or what it lacks first.
+-- Completing a place: the value that it makes by the rules of either column, and what it lacks first in strict mode. What fails at
+-- the end of deferred mode is said in Failing.
 use Rattle.std.specs.Prelude.{ℕ, zero, suc, List, [], ◌∷◌, Option, Some, None, if◌then◌else◌}
 use Rattle.std.specs.Option.{option_or}
 use Rattle.fr_shape.specs.declared.shape.Def.{Def}
@@ -10,7 +11,7 @@ use Rattle.fr_shape.specs.Hooks.{Meanings}
 use Rattle.fr_shape.specs.Look.{Table, def_of, field_in}
 use Rattle.fr_shape.specs.Val.{Val, Vals, none, no_vals}
 use Rattle.fr_shape.specs.Validators.{passes_at, message}
-use Rattle.fr_model.specs.Places.{child_count, one_more, product_of, each_child, fill_at}
+use Rattle.fr_model.specs.Places.{Column, strict_column, child_count, one_more, product_of, each_child, fill_at}
 use Rattle.fr_model.specs.Tree.{Form, as_struct, as_array, Tree, hole, entered, whole, begun, Trees, no_trees, branch, for_hole, child_as}
 
 -- the refusals
@@ -61,9 +62,9 @@ abbrev pub valid_child : Meanings → Table → ℕ → Form → ℕ → Option 
 valid_child hooks table s form i value = unless_failing (failing_child hooks table s form i value) value
 
 -- what a hole takes as child i of a place of shape s that is begun so; an element of an array takes nothing
-abbrev pub hole_takes : Table → ℕ → Form → ℕ → Option Val
-hole_takes table s as_struct i = fill_at table s i
-hole_takes table s as_array i = None
+abbrev pub hole_takes : Column → Table → ℕ → Form → ℕ → Option Val
+hole_takes column table s as_struct i = fill_at column table s i
+hole_takes column table s as_array i = None
 
 -- what a begun place lacks where child i is a hole that takes nothing: a struct that field, an array its value
 abbrev pub missing_child : ℕ → Form → ℕ → ReflectErrorKind
@@ -78,9 +79,10 @@ made as_array values = product_of values
 -- The value of an entered place
 
 -- of a struct whose fields are all holes
-abbrev pub made_of_fills : Meanings → Table → ℕ → Option Val
-made_of_fills hooks table s =
-    made as_struct (each_child (λ i. valid_child hooks table s as_struct i (fill_at table s i)) (child_count table s) 0)
+abbrev pub made_of_fills : Column → Meanings → Table → ℕ → Option Val
+made_of_fills column hooks table s =
+    made as_struct
+    (each_child (λ i. valid_child hooks table s as_struct i (fill_at column table s i)) (child_count table s) 0)
 
 abbrev pub none_if_preset : Option Val → Option Val
 none_if_preset (Some v) = Some none
@@ -106,34 +108,34 @@ made_by Def.Other preset of_fills = None
 
 -- A struct with a default makes that, and no validator is asked; without one, what a struct of holes makes. An option
 -- with a default makes `None`. Anything else makes nothing.
-abbrev pub made_of_entered : Meanings → Table → ℕ → Option Val
-made_of_entered hooks table s = made_by (def_of table s) (preset_of table s) (made_of_fills hooks table s)
+abbrev pub made_of_entered : Column → Meanings → Table → ℕ → Option Val
+made_of_entered column hooks table s = made_by (def_of table s) (preset_of table s) (made_of_fills column hooks table s)
 
 -- The value that a place of shape s makes: a whole place its own; an entered place as above; a begun place what its form
 -- makes of its children's, of which a hole takes its fill, where each makes one that passes its validators. A hole by
 -- itself makes none.
 abbrev mutual
-  pub complete : Meanings → Table → ℕ → Tree → Option Val
-  complete hooks table s hole = None
-  complete hooks table s entered = made_of_entered hooks table s
-  complete hooks table s (whole v) = Some v
-  complete hooks table s (begun form ts) = made form (complete_all hooks table s form 0 ts)
+  pub complete : Column → Meanings → Table → ℕ → Tree → Option Val
+  complete column hooks table s hole = None
+  complete column hooks table s entered = made_of_entered column hooks table s
+  complete column hooks table s (whole v) = Some v
+  complete column hooks table s (begun form ts) = made form (complete_all column hooks table s form 0 ts)
 
-  pub complete_all : Meanings → Table → ℕ → Form → ℕ → Trees → Option Vals
-  complete_all hooks table s form i no_trees = Some no_vals
-  complete_all hooks table s form i (branch t ts) =
+  pub complete_all : Column → Meanings → Table → ℕ → Form → ℕ → Trees → Option Vals
+  complete_all column hooks table s form i no_trees = Some no_vals
+  complete_all column hooks table s form i (branch t ts) =
       one_more
       (valid_child hooks table s form i
-      (for_hole t (hole_takes table s form i) (complete hooks table (child_as table s form i) t)))
-      (complete_all hooks table s form (suc i) ts)
+      (for_hole t (hole_takes column table s form i) (complete column hooks table (child_as table s form i) t)))
+      (complete_all column hooks table s form (suc i) ts)
 
--- What is lacking
+-- What is lacking in strict mode
 
 -- of child i, a hole: its fill, or that the fill passes its validators
 abbrev pub lack_of_hole : Meanings → Table → ℕ → Form → ℕ → Option ReflectErrorKind
 lack_of_hole hooks table s form i =
-    option_or (unless_there (hole_takes table s form i) (missing_child s form i))
-    (failing_child hooks table s form i (hole_takes table s form i))
+    option_or (unless_there (hole_takes strict_column table s form i) (missing_child s form i))
+    (failing_child hooks table s form i (hole_takes strict_column table s form i))
 
 -- of so many children from number i on, all of them holes
 abbrev pub lack_of_holes : Meanings → Table → ℕ → Form → (count i : ℕ) → Option ReflectErrorKind
@@ -183,5 +185,5 @@ abbrev mutual
   lack_among hooks table s form i (branch t ts) =
       for_hole t (option_or (lack_of_hole hooks table s form i) (lack_among hooks table s form (suc i) ts))
       (option_or (lack hooks table (child_as table s form i) t)
-      (option_or (failing_child hooks table s form i (complete hooks table (child_as table s form i) t))
+      (option_or (failing_child hooks table s form i (complete strict_column hooks table (child_as table s form i) t))
       (lack_among hooks table s form (suc i) ts)))

@@ -7,7 +7,8 @@ use Rattle.fr_shape.specs.Look.{Table, def_of}
 use Rattle.fr_shape.specs.Val.{Val, product, no_vals}
 use Rattle.fr_model.specs.Commands.{Call}
 use Rattle.fr_shape.specs.Named.{field_named}
-use Rattle.fr_model.specs.Places.{Place, is_root, up, array_limit, child_count, child_shape, shape_at, part_at, product_of, each_child, fill_at}
+use Rattle.fr_model.specs.Places.{Place, is_root, up, array_limit, Column, strict_column, deferred_column, child_count, child_shape, shape_at, part_at, product_of, each_child, fill_at}
+use Rattle.fr_model.specs.Tree.{Mode, strict, deferred}
 
 -- a place was entered, or a value was written to it
 pub data Note : Type 0 where
@@ -97,9 +98,9 @@ by_entered Def.Other preset of_fills = None
 
 -- The value that a place of shape s makes where it was entered and nothing was put there: a struct's as above; an
 -- option's is its preset, if it has one; any other place makes none.
-abbrev pub entered_value : Table → ℕ → Option Val
-entered_value table s =
-    by_entered (def_of table s) (preset_of table s) (product_of (each_child (fill_at table s) (child_count table s) 0))
+abbrev pub entered_value : Column → Table → ℕ → Option Val
+entered_value column table s =
+    by_entered (def_of table s) (preset_of table s) (product_of (each_child (fill_at column table s) (child_count table s) 0))
 
 -- what a place of this definition makes of its parts: only a struct or an array has any
 abbrev pub by_parts : Def → (of_parts : Option Val) → Option Val
@@ -136,24 +137,25 @@ child_makes in_parts fill own = own
 -- The value that a place of shape s makes, or none. A place with a whole value makes it. A place with parts, which only
 -- a struct or an array has, makes the product of its children's values, of which an untouched one takes its fill, and none
 -- where one of them makes none. It goes down only at parts, so one step more than the longest place has is enough.
-abbrev pub completes_within : Table → ℕ → Journal → ℕ → Place → Option Val
-completes_within table zero notes s here = None
-completes_within table (suc steps) notes s here =
+abbrev pub completes_within : Column → Table → ℕ → Journal → ℕ → Place → Option Val
+completes_within column table zero notes s here = None
+completes_within column table (suc steps) notes s here =
     by_held (held notes here)
-    (by_parts (def_of table s) (product_of (each_child (λ i. child_makes (held notes (here ++ i ∷ [])) (fill_at table s i)
-    (completes_within table steps notes (child_shape table s i) (here ++ i ∷ []))) (child_count table s) 0)))
-    (entered_value table s)
+    (by_parts (def_of table s) (product_of (each_child (λ i. child_makes (held notes (here ++ i ∷ [])) (fill_at column table s i)
+    (completes_within column table steps notes (child_shape table s i) (here ++ i ∷ []))) (child_count table s) 0)))
+    (entered_value column table s)
 
-abbrev pub completes : Table → Journal → ℕ → Place → Option Val
-completes table notes s here = completes_within table (suc (longest notes)) notes s here
+abbrev pub completes : Column → Table → Journal → ℕ → Place → Option Val
+completes column table notes s here = completes_within column table (suc (longest notes)) notes s here
 
--- a run so far: its notes, and the place at which it works
+-- a run so far: its notes, the place at which it works, and its mode
 pub record Progress : Type 0 where
   pub notes : Journal
   pub cursor : Place
+  pub mode : Mode
 
 abbrev pub initial_progress : Progress
-initial_progress = record { notes = entered_at [] ∷ []; cursor = [] }
+initial_progress = record { notes = entered_at [] ∷ []; cursor = []; mode = strict }
 
 abbrev pub is_written : Held → Bool
 is_written (written v) = true
@@ -205,21 +207,106 @@ abbrev pub ends : Progress → Option Val → Option Progress
 ends run (Some v) = Some (record run { notes = wrote_at run.cursor v ∷ run.notes; cursor = up run.cursor })
 ends run None = None
 
--- The rules: `begin_nth_field` at a struct with a field of that number, or at an array with such an element that may be
--- entered, notes that the child was entered, and goes there; `begin_field` at a struct that declares the name does so with
--- the first such field; `set` of the place's own shape notes the value; `set_default` at a shape with a preset notes the
--- preset; `end` below the root notes the place's value, where it makes one, and goes up. Where no rule fits the command, the
+abbrev pub goes_up : Progress → Progress
+goes_up run = record run { cursor = up run.cursor }
+
+-- The end of deferred mode. What it notes is found in the journal as it was before.
+
+-- the notes of two, where both are there
+abbrev pub both_notes : Option Journal → Option Journal → Option Journal
+both_notes (Some some) (Some others) = Some (some ++ others)
+both_notes (Some some) None = None
+both_notes None others = None
+
+-- the notes of so many children, number i first
+abbrev pub each_notes : (ℕ → Option Journal) → (count i : ℕ) → Option Journal
+each_notes noted zero i = Some []
+each_notes noted (suc count) i = both_notes (noted i) (each_notes noted count (suc i))
+
+-- that the value, if there is one, is written to a place
+abbrev pub writing : Place → Option Val → Option Journal
+writing here (Some v) = Some (wrote_at here v ∷ [])
+writing here None = None
+
+-- what is noted of a child off the way: nothing, where it is untouched; else its value
+abbrev pub closing_by : Held → (value : Option Journal) → Option Journal
+closing_by untouched value = Some []
+closing_by just_entered value = value
+closing_by (written v) value = value
+closing_by in_parts value = value
+
+abbrev pub closing : Table → Journal → ℕ → Place → Option Journal
+closing table notes s here =
+    closing_by (held notes here) (writing here (completes deferred_column table notes s here))
+
+-- of all children, but the one on the way, of the place `above` of shape s
+abbrev pub closing_beside : Table → Journal → ℕ → (above : Place) → (on_way : ℕ) → Option Journal
+closing_beside table notes s above on_way =
+    each_notes (λ i. if i == on_way then Some [] else closing table notes (child_shape table s i) (above ++ i ∷ []))
+    (child_count table s) 0
+
+-- of all children of the place at which the run works, which has parts: an untouched one takes its fill
+abbrev pub closing_parts : Table → Journal → ℕ → (here : Place) → Option Journal
+closing_parts table notes s here =
+    each_notes (λ i. writing (here ++ i ∷ []) (child_makes (held notes (here ++ i ∷ [])) (fill_at deferred_column table s i)
+    (completes deferred_column table notes (child_shape table s i) (here ++ i ∷ [])))) (child_count table s) 0
+
+abbrev pub closing_here_by : Held → (of_parts of_itself : Option Journal) → Option Journal
+closing_here_by in_parts of_parts of_itself = of_parts
+closing_here_by (written v) of_parts of_itself = of_itself
+closing_here_by just_entered of_parts of_itself = of_itself
+closing_here_by untouched of_parts of_itself = of_itself
+
+-- of the place at which the run works: of its parts, where it has any; else its own value
+abbrev pub closing_here : Table → Journal → ℕ → (here : Place) → Option Journal
+closing_here table notes s here =
+    closing_here_by (held notes here) (closing_parts table notes s here)
+    (writing here (completes deferred_column table notes s here))
+
+-- What is noted from the place `above` of shape s on, the rest of the way leading to the place at which the run works: of each
+-- place above that one, of its children beside the way; and of that place. None, where a value that is asked for isn't there.
+abbrev pub finish_notes : Table → Journal → ℕ → (above rest : Place) → Option Journal
+finish_notes table notes s above [] = closing_here table notes s above
+finish_notes table notes s above (i ∷ rest) =
+    both_notes (closing_beside table notes s above i)
+    (finish_notes table notes (child_shape table s i) (above ++ i ∷ []) rest)
+
+abbrev pub finishes_with : Progress → Option Journal → Option Progress
+finishes_with run (Some added) = Some (record run { notes = added ++ run.notes; mode = strict })
+finishes_with run None = None
+
+-- `end` by the mode: in strict mode the place's value is noted, where it makes one; in deferred mode nothing is, and the place
+-- has to lie deeper than that at which deferred mode began
+abbrev pub end_rule : Table → ℕ → Progress → Mode → Option Progress
+end_rule table s run strict =
+    if is_root run.cursor then None else ends run (completes strict_column table run.notes s run.cursor)
+end_rule table s run (deferred start) = if nat_lt start (length run.cursor) then Some (goes_up run) else None
+
+abbrev pub begin_deferred_rule : Progress → Mode → Option Progress
+begin_deferred_rule run strict = Some (record run { mode = deferred (length run.cursor) })
+begin_deferred_rule run (deferred start) = None
+
+abbrev pub finish_rule : Table → (root : ℕ) → Progress → Mode → Option Progress
+finish_rule table root run strict = None
+finish_rule table root run (deferred start) = finishes_with run (finish_notes table run.notes root [] run.cursor)
+
+-- The rules, at a place of shape s: `begin_nth_field` at a struct with a field of that number, or at an array with such an element
+-- that may be entered, notes that the child was entered, and goes there; `begin_field` at a struct that declares the name does so
+-- with the first such field; `set` of the place's own shape notes the value; `set_default` at a shape with a preset notes the
+-- preset; `end` below the root goes up, in strict mode noting the place's value; `begin_deferred` in strict mode changes the mode
+-- alone; `finish_deferred` in deferred mode notes what was left, and the mode is strict again. Where no rule fits the command, the
 -- run is over and makes nothing.
-abbrev pub rule_at : Table → ℕ → Progress → Call → Option Progress
-rule_at table s run (Call.BeginField name) = goes_to_found table s run (field_named name (def_of table s))
-rule_at table s run (Call.BeginNthField i) = goes_to_found table s run (Some i)
-rule_at table s run (Call.Set given v) = writes run (if s == given then Some v else None)
-rule_at table s run Call.SetDefault = writes run (preset_of table s)
-rule_at table s run Call.End =
-    if is_root run.cursor then None else ends run (completes table run.notes s run.cursor)
+abbrev pub rule_at : Table → (root s : ℕ) → Progress → Call → Option Progress
+rule_at table root s run (Call.BeginField name) = goes_to_found table s run (field_named name (def_of table s))
+rule_at table root s run (Call.BeginNthField i) = goes_to_found table s run (Some i)
+rule_at table root s run (Call.Set given v) = writes run (if s == given then Some v else None)
+rule_at table root s run Call.SetDefault = writes run (preset_of table s)
+rule_at table root s run Call.End = end_rule table s run run.mode
+rule_at table root s run Call.BeginDeferred = begin_deferred_rule run run.mode
+rule_at table root s run Call.FinishDeferred = finish_rule table root run run.mode
 
 abbrev pub rule : Table → ℕ → Progress → Call → Option Progress
-rule table root run command = rule_at table (shape_at table root run.cursor) run command
+rule table root run command = rule_at table root (shape_at table root run.cursor) run command
 
 abbrev pub then_rules : Option Progress → (Progress → Option Progress) → Option Progress
 then_rules (Some run) rest = rest run
@@ -230,9 +317,14 @@ rules table root run [] = Some run
 rules table root run (command ∷ commands) =
     then_rules (rule table root run command) (λ next. rules table root next commands)
 
--- the value of the root, where the cursor has come back to it
+abbrev pub outcome_in : Table → ℕ → Progress → Mode → Option Val
+outcome_in table root run strict =
+    if is_root run.cursor then completes strict_column table run.notes root [] else None
+outcome_in table root run (deferred start) = None
+
+-- the value of the root, where the mode is strict and the cursor has come back to it
 abbrev pub outcome : Table → ℕ → Option Progress → Option Val
-outcome table root (Some run) = if is_root run.cursor then completes table run.notes root [] else None
+outcome table root (Some run) = outcome_in table root run run.mode
 outcome table root None = None
 
 -- what a script makes, by its journal alone

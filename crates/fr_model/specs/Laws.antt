@@ -1,38 +1,49 @@
 -- Laws of the tree and of the steps.
-use Rattle.std.specs.Prelude.{◌≡◌, ℕ, ◌+◌, ◌<◌, ◌≤◌, true, is_none, is_some, Some, Result, Ok, Err}
+use Rattle.std.specs.Prelude.{◌≡◌, ℕ, ◌+◌, ◌<◌, ◌≤◌, true, not, List, is_none, is_some, Some, Result, Ok, Err}
 use Rattle.fr_shape.specs.declared.error.ReflectErrorKind.{ReflectErrorKind}
 use Rattle.fr_shape.specs.Checked.{IsChecked}
 use Rattle.fr_shape.specs.Hooks.{Meanings}
+use Rattle.fr_shape.specs.Lists.{is_nil}
 use Rattle.fr_shape.specs.Look.{Table}
 use Rattle.fr_shape.specs.Val.{Val}
 use Rattle.fr_shape.specs.Fits.{fits}
 use Rattle.fr_shape.specs.Tokens.{occurs}
 use Rattle.fr_model.specs.Commands.{Call}
 use Rattle.fr_model.specs.Tree.{Tree, tree_occurs, State, initial}
+use Rattle.fr_path.specs.declared.path_steps.PathStep.{PathStep}
 use Rattle.fr_model.specs.Complete.{complete, lack}
+use Rattle.fr_model.specs.Failing.{failures}
+use Rattle.fr_model.specs.Finish.{closed}
+use Rattle.fr_model.specs.Places.{Column, strict_column}
 use Rattle.fr_model.specs.Step.{step, build}
 use Rattle.fr_model.specs.Scripts.{IsFitting, brings}
 use Rattle.fr_model.specs.Removed.{removed, removed_at_build}
 use Rattle.fr_model.specs.Well.{Suits, IsInOrder, AreDistinct, IsWell}
 
--- a place makes no value exactly where it lacks something
+-- a place makes no value in strict mode exactly where it lacks something
 abbrev pub CompletesOrLacks : Type 0
 CompletesOrLacks =
     (hooks : Meanings) (table : Table) (s : ℕ) (tree : Tree)
-    → is_none (complete hooks table s tree) ≡ is_some (lack hooks table s tree)
+    → is_none (complete strict_column hooks table s tree) ≡ is_some (lack hooks table s tree)
 
--- The value that a place makes, over a checked table and where each node suits its shape, holds each token as often as the
--- place does: what a hole or an entered place takes brings none.
+-- a place off the way can't be completed at the end of deferred mode exactly where it, or some place beneath it, fails
+abbrev pub CompletesOrFails : Type 0
+CompletesOrFails =
+    (hooks : Meanings) (table : Table) (s : ℕ) (path : List PathStep) (tree : Tree)
+    → is_none (closed hooks table s tree) ≡ not (is_nil (failures hooks table s path tree))
+
+-- The value that a place makes by either column, over a checked table and where each node suits its shape, holds each token as
+-- often as the place does: what a hole or an entered place takes brings none.
 abbrev pub CompletingKeepsTokens : Type 0
 CompletingKeepsTokens =
-    (hooks : Meanings) (table : Table) (s : ℕ) (tree : Tree) (v : Val) (t : ℕ) → IsChecked table
-    → Suits table s tree → complete hooks table s tree ≡ Some v → occurs v t ≡ tree_occurs tree t
+    (column : Column) (hooks : Meanings) (table : Table) (s : ℕ) (tree : Tree) (v : Val) (t : ℕ) → IsChecked table
+    → Suits table s tree → complete column hooks table s tree ≡ Some v → occurs v t ≡ tree_occurs tree t
 
 -- what a place makes, over a checked table and where each node suits its shape, fits its shape
 abbrev pub CompletingFits : Type 0
 CompletingFits =
-    (hooks : Meanings) (table : Table) (s : ℕ) (tree : Tree) (v : Val) → IsChecked table → Suits table s tree
-    → complete hooks table s tree ≡ Some v → fits table s v ≡ true
+    (column : Column) (hooks : Meanings) (table : Table) (s : ℕ) (tree : Tree) (v : Val) → IsChecked table
+    → Suits table s tree → complete column hooks table s tree ≡ Some v → fits table s v ≡ true
 
 -- Tokens: nothing is lost and nothing doubled
 

@@ -2,6 +2,9 @@ pub mod Agree
 pub mod Commands
 pub mod Complete
 pub mod Covering
+pub mod Failing
+pub mod Finish
+pub mod Finishing
 pub mod Journal
 pub mod Laws
 pub mod PathLaws

@@ -2,7 +2,7 @@
 use Rattle.std.specs.Prelude.{ℕ, zero, suc, Bool, true, false, List, [], ◌∷◌, length, slice_get, Option, Some, None, is_some}
 use Rattle.fr_shape.specs.declared.shape.Def.{Def}
 use Rattle.fr_shape.specs.declared.shape.Field.{Field}
-use Rattle.fr_shape.specs.Fills.{strict_fill}
+use Rattle.fr_shape.specs.Fills.{strict_fill, deferred_fill}
 use Rattle.fr_shape.specs.Look.{Table, def_of, field_in}
 use Rattle.fr_shape.specs.Val.{Val, Vals, unit, bool, char, int, nat, text, token, product, variant, none, some, ok, err, list_of, map_of, set_of, ptr, dyn, no_vals, first}
 
@@ -72,19 +72,29 @@ shape_of_child Def.Other i = 0
 abbrev pub child_shape : Table → ℕ → ℕ → ℕ
 child_shape table s i = shape_of_child (def_of table s) i
 
-abbrev pub fill_of_field : Table → ℕ → (of_variant : Bool) → Option Field → Option Val
-fill_of_field table s of_variant (Some field) = strict_fill table s of_variant field
-fill_of_field table s of_variant None = None
+-- The two columns of rules by which a place completes: the one of strict mode, and the one of the end of deferred mode.
+pub data Column : Type 0 where
+  strict_column : Column
+  deferred_column : Column
+
+-- what a hole takes as a field of a struct or of a variant of shape s, if it has a fill by the rules of this column
+abbrev pub fill_by : Column → Table → ℕ → (of_variant : Bool) → Field → Option Val
+fill_by strict_column table s of_variant field = strict_fill table s of_variant field
+fill_by deferred_column table s of_variant field = deferred_fill table s field
+
+abbrev pub fill_of_field : Column → Table → ℕ → (of_variant : Bool) → Option Field → Option Val
+fill_of_field column table s of_variant (Some field) = fill_by column table s of_variant field
+fill_of_field column table s of_variant None = None
 
 -- what field i takes where it is a hole, if it has a fill: of a struct of shape s, or of the variant of this number of an
 -- enum of shape s
-abbrev pub fill_in : Table → ℕ → (selected : Option ℕ) → ℕ → Option Val
-fill_in table s selected i = fill_of_field table s (is_some selected) (field_in (def_of table s) selected i)
+abbrev pub fill_in : Column → Table → ℕ → (selected : Option ℕ) → ℕ → Option Val
+fill_in column table s selected i = fill_of_field column table s (is_some selected) (field_in (def_of table s) selected i)
 
 -- what child i of a place of shape s takes where it is a hole: a struct's field its fill, if it has one; an element of an
 -- array never takes anything
-abbrev pub fill_at : Table → ℕ → ℕ → Option Val
-fill_at table s i = fill_in table s None i
+abbrev pub fill_at : Column → Table → ℕ → ℕ → Option Val
+fill_at column table s i = fill_in column table s None i
 
 -- the shape of the place that this way leads to, from a place of shape s
 abbrev pub shape_at : Table → ℕ → Place → ℕ

@@ -34,9 +34,10 @@ StandsFor def just_entered node = node ≡ (if is_empty_struct def then whole (p
 StandsFor def (written v) node = node ≡ whole v
 StandsFor def in_parts node = IsBegun def node
 
--- A state and a run are at the same place, and at each place of the tree stands what the journal holds of it.
+-- A state and a run are at the same place, in the same mode, and at each place of the tree stands what the journal holds of it.
 pub record IsRelated (table : Table) (root : ℕ) (state : State) (run : Progress) : Type 0 where
   pub same_cursor : run.cursor ≡ state.cursor
+  pub same_mode : run.mode ≡ state.mode
   pub each_place : (place : Place) → HasPlace place state.tree
       → StandsFor (def_of table (shape_at table root place)) (held run.notes place) (tree_at place state.tree)
 

@@ -21,6 +21,8 @@ replaced hooks table s state (Call.BeginNthField i) t = 0
 replaced hooks table s state (Call.Set given v) t = occurs_here state t
 replaced hooks table s state Call.SetDefault t = occurs_here state t
 replaced hooks table s state Call.End t = 0
+replaced hooks table s state Call.BeginDeferred t = 0
+replaced hooks table s state Call.FinishDeferred t = 0
 
 abbrev pub removed_by : Meanings → Table → (s : ℕ) → State → Call → Result State ReflectErrorKind → ℕ → ℕ
 removed_by hooks table s state command (Ok next) t = replaced hooks table s state command t

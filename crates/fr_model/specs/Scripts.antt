@@ -12,6 +12,8 @@ tokens_of (Call.BeginField name) = []
 tokens_of (Call.BeginNthField i) = []
 tokens_of Call.SetDefault = []
 tokens_of Call.End = []
+tokens_of Call.BeginDeferred = []
+tokens_of Call.FinishDeferred = []
 
 abbrev pub script_tokens : List Call → List ℕ
 script_tokens [] = []
@@ -24,6 +26,8 @@ brings (Call.BeginField name) t = 0
 brings (Call.BeginNthField i) t = 0
 brings Call.SetDefault t = 0
 brings Call.End t = 0
+brings Call.BeginDeferred t = 0
+brings Call.FinishDeferred t = 0
 
 abbrev pub brought : List Call → ℕ → ℕ
 brought [] t = 0
@@ -36,6 +40,8 @@ IsFitting table (Call.BeginField name) = Unit {0}
 IsFitting table (Call.BeginNthField i) = Unit {0}
 IsFitting table Call.SetDefault = Unit {0}
 IsFitting table Call.End = Unit {0}
+IsFitting table Call.BeginDeferred = Unit {0}
+IsFitting table Call.FinishDeferred = Unit {0}
 
 abbrev pub AllFitting : Table → List Call → Type 0
 AllFitting table [] = Unit {0}

@@ -1,10 +1,10 @@
 -- The code of a builder's state, for the models above: a tree is stored as a value that gives it back.
-use Rattle.std.specs.Prelude.{◌≡◌, ℕ, List, refl}
+use Rattle.std.specs.Prelude.{◌≡◌, ℕ, zero, suc, List, refl}
 use Rattle.std.specs.Coded.{Coded, code_by, coded×, coded_ℕ, coded_list}
 use mathlib.Core.Path.{ap, ◌∙◌}
 use Rattle.fr_shape.specs.Code.{val_code}
 use Rattle.fr_shape.specs.Val.{Val, Vals, unit, bool, char, int, nat, text, token, product, variant, none, some, ok, err, list_of, map_of, set_of, ptr, dyn, no_vals, first}
-use Rattle.fr_model.specs.Tree.{as_struct, as_array, Tree, hole, entered, whole, begun, Trees, no_trees, branch, State}
+use Rattle.fr_model.specs.Tree.{as_struct, as_array, Tree, hole, entered, whole, begun, Trees, no_trees, branch, Mode, strict, deferred, State}
 
 abbrev mutual
   pub stored : Tree → Val
@@ -59,7 +59,24 @@ abbrev mutual
 abbrev pub tree_code : Coded Tree
 tree_code = code_by Val val_code stored restored stored_comes_back
 
+-- a mode is stored as a number that gives it back
+abbrev pub mode_stored : Mode → ℕ
+mode_stored strict = 0
+mode_stored (deferred start) = suc start
+
+abbrev pub mode_restored : ℕ → Mode
+mode_restored zero = strict
+mode_restored (suc start) = deferred start
+
+abbrev pub mode_comes_back : (mode : Mode) → mode_restored (mode_stored mode) ≡ mode
+mode_comes_back strict = refl
+mode_comes_back (deferred start) = refl
+
+abbrev pub mode_code : Coded Mode
+mode_code = code_by ℕ coded_ℕ mode_stored mode_restored mode_comes_back
+
 abbrev pub state_code : Coded State
 state_code =
-    code_by (Tree × (List ℕ × ℕ)) (coded× tree_code (coded× (coded_list coded_ℕ) coded_ℕ))
-    (λ s. (s.tree, (s.cursor, s.calls))) (λ p. record { tree = p.0; cursor = p.1.0; calls = p.1.1 }) (λ s. refl)
+    code_by (Tree × (List ℕ × (Mode × ℕ))) (coded× tree_code (coded× (coded_list coded_ℕ) (coded× mode_code coded_ℕ)))
+    (λ s. (s.tree, (s.cursor, (s.mode, s.calls))))
+    (λ p. record { tree = p.0; cursor = p.1.0; mode = p.1.1.0; calls = p.1.1.1 }) (λ s. refl)

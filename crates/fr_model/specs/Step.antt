@@ -12,9 +12,10 @@ use Rattle.fr_shape.specs.Look.{Table, def_of}
 use Rattle.fr_shape.specs.Val.{Val, Vals}
 use Rattle.fr_model.specs.Commands.{Call}
 use Rattle.fr_shape.specs.Named.{field_named}
-use Rattle.fr_model.specs.Places.{is_root, up, array_limit, count_children, child_shape, parts_of}
-use Rattle.fr_model.specs.Tree.{Form, form_of, Tree, hole, entered, whole, begun, for_hole, wholes, holes, fresh, change_child, change_at, State, cursor_shape, cursor_tree, one_more_call}
+use Rattle.fr_model.specs.Places.{strict_column, is_root, up, array_limit, count_children, child_shape, parts_of}
+use Rattle.fr_model.specs.Tree.{Form, form_of, Tree, hole, entered, whole, begun, for_hole, wholes, holes, fresh, change_child, change_at, Mode, strict, deferred, State, cursor_shape, cursor_tree, one_more_call}
 use Rattle.fr_model.specs.Complete.{complete, lack, missing_value}
+use Rattle.fr_model.specs.Finish.{finished, finish_cause}
 
 -- the new state, unless there is something to refuse
 abbrev pub unless_refused : Option ReflectErrorKind → State → Result State ReflectErrorKind
@@ -165,7 +166,7 @@ abbrev pub or_missing : ℕ → Option ReflectErrorKind → ReflectErrorKind
 or_missing s (Some kind) = kind
 or_missing s None = missing_value s
 
--- why a place of shape s doesn't complete
+-- why a place of shape s doesn't complete in strict mode
 abbrev pub cause : Meanings → Table → ℕ → Tree → ReflectErrorKind
 cause hooks table s t = or_missing s (lack hooks table s t)
 
@@ -177,30 +178,78 @@ abbrev pub ended : Meanings → Table → ℕ → State → Option Val → Resul
 ended hooks table s state (Some v) = Ok (puts_and_leaves state v)
 ended hooks table s state None = Err (cause hooks table s (cursor_tree state))
 
--- end: not at the root; the place is completed and becomes whole, and the cursor goes up
+-- the cursor goes up, and what stands there is left as it is
+abbrev pub leaves : State → State
+leaves state = record state { cursor = up state.cursor; calls = one_more_call state.calls }
+
+-- in strict mode the place is completed and becomes whole; in deferred mode it is left as it is, where it lies deeper than
+-- the place at which that began
+abbrev pub end_in : Meanings → Table → ℕ → State → Mode → Result State ReflectErrorKind
+end_in hooks table s state strict = ended hooks table s state (complete strict_column hooks table s (cursor_tree state))
+end_in hooks table s state (deferred start) =
+    if nat_lt start (length state.cursor) then Ok (leaves state) else Err (violates Invariant.EndAtStart)
+
+-- end: not at the root; the cursor goes up
 abbrev pub end : Meanings → Table → ℕ → State → Result State ReflectErrorKind
 end hooks table s state =
-    if is_root state.cursor then Err (violates Invariant.EndAtRoot)
-    else ended hooks table s state (complete hooks table s (cursor_tree state))
+    if is_root state.cursor then Err (violates Invariant.EndAtRoot) else end_in hooks table s state state.mode
 
--- a command at a place of shape s
-abbrev pub step_at : Meanings → Table → ℕ → State → Call → Result State ReflectErrorKind
-step_at hooks table s state (Call.BeginField name) = begin_field table s state name
-step_at hooks table s state (Call.BeginNthField i) = begin_nth_field table s state i
-step_at hooks table s state (Call.Set given v) = set s state given v
-step_at hooks table s state Call.SetDefault = set_default table s state
-step_at hooks table s state Call.End = end hooks table s state
+-- Deferred mode
+
+abbrev pub begins_deferred : State → Mode → Result State ReflectErrorKind
+begins_deferred state strict = Ok (record state {
+  mode = deferred (length state.cursor);
+  calls = one_more_call state.calls;
+})
+begins_deferred state (deferred start) = Err (violates Invariant.AlreadyDeferred)
+
+-- begin_deferred: in strict mode alone; from now on places are left as they are
+abbrev pub begin_deferred : State → Result State ReflectErrorKind
+begin_deferred state = begins_deferred state state.mode
+
+-- the tree that the end of deferred mode makes, where it makes one; the cursor stays
+abbrev pub finishes : Meanings → Table → (root : ℕ) → State → Option Tree → Result State ReflectErrorKind
+finishes hooks table root state (Some tree) = Ok (record state {
+  tree = tree;
+  mode = strict;
+  calls = one_more_call state.calls;
+})
+finishes hooks table root state None = Err (finish_cause hooks table root state.cursor state.tree)
+
+abbrev pub finish_in : Meanings → Table → (root : ℕ) → State → Mode → Result State ReflectErrorKind
+finish_in hooks table root state strict = Err (violates Invariant.NotDeferred)
+finish_in hooks table root state (deferred start) =
+    finishes hooks table root state (finished hooks table root state.cursor state.tree)
+
+-- finish_deferred: in deferred mode alone; all that was left is completed, and the mode is strict again
+abbrev pub finish_deferred : Meanings → Table → (root : ℕ) → State → Result State ReflectErrorKind
+finish_deferred hooks table root state = finish_in hooks table root state state.mode
+
+-- a command at a place of shape s, the root having shape `root`
+abbrev pub step_at : Meanings → Table → (root s : ℕ) → State → Call → Result State ReflectErrorKind
+step_at hooks table root s state (Call.BeginField name) = begin_field table s state name
+step_at hooks table root s state (Call.BeginNthField i) = begin_nth_field table s state i
+step_at hooks table root s state (Call.Set given v) = set s state given v
+step_at hooks table root s state Call.SetDefault = set_default table s state
+step_at hooks table root s state Call.End = end hooks table s state
+step_at hooks table root s state Call.BeginDeferred = begin_deferred state
+step_at hooks table root s state Call.FinishDeferred = finish_deferred hooks table root state
 
 -- a command at the cursor, the root having shape `root`
 abbrev pub step : Meanings → Table → ℕ → State → Call → Result State ReflectErrorKind
-step hooks table root state command = step_at hooks table (cursor_shape table root state) state command
+step hooks table root state command = step_at hooks table root (cursor_shape table root state) state command
 
 abbrev pub built : Meanings → Table → ℕ → Tree → Option Val → Result Val ReflectErrorKind
 built hooks table root t (Some v) = Ok v
 built hooks table root t None = Err (cause hooks table root t)
 
--- build, the last step: the cursor is at the root, which is completed. (No served shape has an invariant to be asked.)
-abbrev pub build : Meanings → Table → ℕ → State → Result Val ReflectErrorKind
-build hooks table root state =
-    if is_root state.cursor then built hooks table root state.tree (complete hooks table root state.tree)
+abbrev pub build_in : Meanings → Table → ℕ → State → Mode → Result Val ReflectErrorKind
+build_in hooks table root state (deferred start) = Err (violates Invariant.BuildDeferred)
+build_in hooks table root state strict =
+    if is_root state.cursor then built hooks table root state.tree (complete strict_column hooks table root state.tree)
     else Err (violates Invariant.BuildOpenFrames)
+
+-- build, the last step: the mode is strict and the cursor is at the root, which is completed. (No served shape has an invariant
+-- to be asked.)
+abbrev pub build : Meanings → Table → ℕ → State → Result Val ReflectErrorKind
+build hooks table root state = build_in hooks table root state state.mode

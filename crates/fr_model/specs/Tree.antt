@@ -139,10 +139,17 @@ abbrev mutual
 abbrev pub most_calls : ℕ
 most_calls = 4294967295
 
--- A builder's state: the tree, the place at which it works, and how many of its calls have succeeded.
+-- How a builder works: in strict mode, where a place is completed as it is left; or in deferred mode, where it is left as it
+-- is, since the place at which the builder worked lay so deep.
+pub data Mode : Type 0 where
+  strict : Mode
+  deferred : (start : ℕ) → Mode
+
+-- A builder's state: the tree, the place at which it works, its mode, and how many of its calls have succeeded.
 pub record State : Type 0 where
   pub tree : Tree
   pub cursor : Place
+  pub mode : Mode
   pub calls : ℕ
 
 -- the shape of the place at the cursor, the root having shape `root`
@@ -163,4 +170,4 @@ fresh def = if is_empty_struct def then whole (product no_vals) else entered
 
 -- a builder of which nothing was asked yet, for a root of shape s
 abbrev pub initial : Table → ℕ → State
-initial table s = record { tree = fresh (def_of table s); cursor = []; calls = 0 }
+initial table s = record { tree = fresh (def_of table s); cursor = []; mode = strict; calls = 0 }

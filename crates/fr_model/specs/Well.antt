@@ -5,7 +5,7 @@ use Rattle.fr_shape.specs.Look.{Table, def_of}
 use Rattle.fr_shape.specs.Fits.{fits}
 use Rattle.fr_shape.specs.Fills.{is_empty_struct}
 use Rattle.fr_model.specs.Places.{Place, array_limit}
-use Rattle.fr_model.specs.Tree.{Form, as_struct, as_array, Tree, hole, entered, whole, begun, Trees, no_trees, branch, shapes_as, count_trees, tree_occurs, State}
+use Rattle.fr_model.specs.Tree.{Form, as_struct, as_array, Tree, hole, entered, whole, begun, Trees, no_trees, branch, shapes_as, count_trees, tree_occurs, Mode, strict, deferred, State}
 
 -- a place of this definition has all its children, begun so: a struct one for each field, an array one for each element
 abbrev pub IsFullAs : Def → Form → ℕ → Type 0
@@ -54,43 +54,51 @@ abbrev mutual
   SuitAll table (s ∷ shapes) no_trees = ⊥
   SuitAll table (s ∷ shapes) (branch t ts) = Suits table s t × SuitAll table shapes ts
 
--- a place away from the cursor is whole or a hole
-abbrev pub IsDone : Tree → Type 0
-IsDone hole = Unit {0}
-IsDone (whole v) = Unit {0}
-IsDone entered = ⊥
-IsDone (begun form ts) = ⊥
+-- in strict mode a place off the way to the cursor is whole or a hole; in deferred mode it may be half done
+abbrev pub IsOff : Mode → Tree → Type 0
+IsOff (deferred start) t = Unit {0}
+IsOff strict hole = Unit {0}
+IsOff strict (whole v) = Unit {0}
+IsOff strict entered = ⊥
+IsOff strict (begun form ts) = ⊥
 
-abbrev pub AllDone : Trees → Type 0
-AllDone no_trees = Unit {0}
-AllDone (branch t ts) = IsDone t × AllDone ts
+abbrev pub AllOff : Mode → Trees → Type 0
+AllOff mode no_trees = Unit {0}
+AllOff mode (branch t ts) = IsOff mode t × AllOff mode ts
 
--- at the cursor stands no hole, and of what is begun there each child is whole or a hole
-abbrev pub AtCursor : Tree → Type 0
-AtCursor hole = ⊥
-AtCursor entered = Unit {0}
-AtCursor (whole v) = Unit {0}
-AtCursor (begun form ts) = AllDone ts
+-- at the cursor stands no hole, and of what is begun there each child lies off the way
+abbrev pub AtCursor : Mode → Tree → Type 0
+AtCursor mode hole = ⊥
+AtCursor mode entered = Unit {0}
+AtCursor mode (whole v) = Unit {0}
+AtCursor mode (begun form ts) = AllOff mode ts
 
--- the children of a place but one are whole or holes, and of that one something holds
-abbrev pub DoneBut : ℕ → (Tree → Type 0) → Trees → Type 0
-DoneBut i Below no_trees = ⊥
-DoneBut zero Below (branch t ts) = Below t × AllDone ts
-DoneBut (suc i) Below (branch t ts) = IsDone t × DoneBut i Below ts
+-- the children of a place but one lie off the way, and of that one something holds
+abbrev pub OffBut : Mode → ℕ → (Tree → Type 0) → Trees → Type 0
+OffBut mode i Below no_trees = ⊥
+OffBut mode zero Below (branch t ts) = Below t × AllOff mode ts
+OffBut mode (suc i) Below (branch t ts) = IsOff mode t × OffBut mode i Below ts
 
--- The cursor leads to a place that is no hole, every place above it is begun, and every other place is whole or a hole.
-abbrev pub Leads : Place → Tree → Type 0
-Leads [] t = AtCursor t
-Leads (i ∷ place) hole = ⊥
-Leads (i ∷ place) entered = ⊥
-Leads (i ∷ place) (whole v) = ⊥
-Leads (i ∷ place) (begun form ts) = DoneBut i (λ child. Leads place child) ts
+-- The cursor leads to a place that is no hole, and every place above it is begun; in strict mode every other place is whole or a
+-- hole.
+abbrev pub Leads : Mode → Place → Tree → Type 0
+Leads mode [] t = AtCursor mode t
+Leads mode (i ∷ place) hole = ⊥
+Leads mode (i ∷ place) entered = ⊥
+Leads mode (i ∷ place) (whole v) = ⊥
+Leads mode (i ∷ place) (begun form ts) = OffBut mode i (λ child. Leads mode place child) ts
 
--- What a state is, whatever tokens it holds: each node suits its shape, of a root of shape `root`, and the cursor leads
--- to a place.
+-- deferred mode began no deeper than the cursor lies
+abbrev pub BeganAbove : Mode → Place → Type 0
+BeganAbove strict cursor = Unit {0}
+BeganAbove (deferred start) cursor = start ≤ length cursor
+
+-- What a state is, whatever tokens it holds: each node suits its shape, of a root of shape `root`, the cursor leads to a place,
+-- and deferred mode began at it or above it.
 pub record IsInOrder (table : Table) (root : ℕ) (state : State) : Type 0 where
   pub suits : Suits table root state.tree
-  pub leads : Leads state.cursor state.tree
+  pub leads : Leads state.mode state.cursor state.tree
+  pub began : BeganAbove state.mode state.cursor
 
 -- no token stands twice in a tree
 abbrev pub AreDistinct : Tree → Type 0

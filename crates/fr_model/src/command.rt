@@ -9,6 +9,8 @@ pub enum Command {
     Set(ShapeId, Value),
     SetDefault,
     End,
+    BeginDeferred,
+    FinishDeferred,
 }
 
 /// Calls in the order in which they are made.

@@ -1,8 +1,9 @@
 //! Laws of the definitions: each is the contract of a function that does nothing.
 ghost use Rattle.fr_model.specs.Agree.{MachineAgrees, StartIsRelated, StepKeepsRelated};
 ghost use Rattle.fr_model.specs.Covering.{ScanAgrees, WaysAgree};
-ghost use Rattle.fr_model.specs.Laws.{BuildKeepsTokens, CompletesOrLacks, CompletingFits, CompletingKeepsTokens, StartIsWell, StepKeepsDistinct, StepKeepsOrder, StepKeepsTokens};
-ghost use Rattle.fr_model.specs.PathLaws.{EnteringAddsAStep, LeavingDropsAStep, PathIsAsDeep, PuttingKeepsThePath};
+ghost use Rattle.fr_model.specs.Finishing.{NotesWhatIsDue, StuckOrNoted};
+ghost use Rattle.fr_model.specs.Laws.{BuildKeepsTokens, CompletesOrFails, CompletesOrLacks, CompletingFits, CompletingKeepsTokens, StartIsWell, StepKeepsDistinct, StepKeepsOrder, StepKeepsTokens};
+ghost use Rattle.fr_model.specs.PathLaws.{EnteringAddsAStep, FinishingKeepsThePath, LeavingAsItIs, LeavingDropsAStep, PathIsAsDeep, PuttingKeepsThePath};
 
 /// For every script of fitting values over a table that is plain for the root, whatever the hooks mean, the run of the
 /// commands gives a value exactly where the journal completes, and the same one. At the start, and after each command
@@ -19,21 +20,31 @@ pub fn law_covering()
     ensures ways { WaysAgree }
 {}
 
-/// A place completes unless it lacks something. Over a checked table, what completes of a tree that suits its shape fits
-/// that shape and keeps its tokens.
+/// In strict mode a place completes unless it lacks something, and at the end of deferred mode unless it or a place beneath it
+/// fails. Over a checked table, what completes of a tree that suits its shape fits that shape and keeps its tokens.
 pub fn law_completes()
     ensures or_lacks { CompletesOrLacks }
+    ensures or_fails { CompletesOrFails }
     ensures fits { CompletingFits }
     ensures tokens { CompletingKeepsTokens }
 {}
 
+/// What the end of deferred mode notes, and when it can't end, is what the three rules on places say.
+pub fn law_finishing()
+    ensures stuck { StuckOrNoted }
+    ensures noted { NotesWhatIsDue }
+{}
+
 /// The path of the place at which a builder works, from state to state. Entering a child, from a state that is in order,
-/// adds the step to that child. Putting a value keeps the path, or takes its last step away where the cursor goes up.
+/// adds the step to that child. Putting a value keeps the path, or takes its last step away where the cursor goes up. Leaving a
+/// place as it is takes it away too, and the end of deferred mode keeps the path.
 /// There are as many steps as the place lies deep, so that only the root has none.
 pub fn law_paths()
     ensures enter { EnteringAddsAStep }
     ensures put { PuttingKeepsThePath }
     ensures leave { LeavingDropsAStep }
+    ensures leave_as_it_is { LeavingAsItIs }
+    ensures finish { FinishingKeepsThePath }
     ensures deep { PathIsAsDeep }
 {}
 
