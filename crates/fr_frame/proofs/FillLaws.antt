@@ -85,11 +85,11 @@ field_light table s field v checked own e = go field.default refl
         subst (λ (u : Val). tokens u ≡ []) same (template_light table field.shape.0 w (rw mark at own))
 
 -- what a child takes where it is a hole
-pub fill_light : (table : Table) (s i : ℕ) (v : Val) → IsChecked table → fill_at table s i ≡ Some v → tokens v ≡ []
+pub fill_light : (table : Table) (s i : ℕ) (v : Val) → IsChecked table → fill_at strict_column table s i ≡ Some v → tokens v ≡ []
 fill_light table s i v checked e = go (slice_get table s) refl
   where
     go : (found : Option Shape) → slice_get table s ≡ found → tokens v ≡ []
-    go None h = let none : fill_at table s i ≡ None = rw h refl in absurd (cc)
+    go None h = let none : fill_at strict_column table s i ≡ None = rw h refl in absurd (cc)
     go (Some shape) h = at_def shape.def refl
       where
         defaults : list_all (λ (field : Field). default_is_template table field.shape.0 field.default) (fields_of shape.def) ≡ true
@@ -105,14 +105,14 @@ fill_light table s i v checked e = go (slice_get table s) refl
             def = rw (h, is) refl
 
             at_field : (found : Option Field) → slice_get struct.fields i ≡ found → tokens v ≡ []
-            at_field None at = let none : fill_at table s i ≡ None = rw (def, at) refl in absurd (cc)
+            at_field None at = let none : fill_at strict_column table s i ≡ None = rw (def, at) refl in absurd (cc)
             at_field (Some field) at =
                 let fill : strict_fill table s false field ≡ Some v = rw (def, at) at e in
                 let own : default_is_template table field.shape.0 field.default ≡ true
                 = all_at (λ (field : Field). default_is_template table field.shape.0 field.default) struct.fields i field
                 (rw is at defaults) at in
                 field_light table s field v checked own fill
-        at_def _ is = let none : fill_at table s i ≡ None = rw (h, is) refl in absurd (cc)
+        at_def _ is = let none : fill_at strict_column table s i ≡ None = rw (h, is) refl in absurd (cc)
 
 -- What the children are filled to.
 
@@ -124,32 +124,32 @@ both_there None values h = absurd (cc)
 module _ (table : Table) (s : ℕ) where
   -- a child that isn't there has a fill, where all are filled
   fill_there : (cs : List Cell) (j k : ℕ) → k < length cs → IsSome (filled table s as_struct j cs) → value_at cs k ≡ None
-      → IsSome (fill_at table s (j + k))
+      → IsSome (fill_at strict_column table s (j + k))
   fill_there [] j k h there none = absurd (omega arith)
   fill_there (c ∷ cs) j zero h there none =
       let here : j ≡ j + 0 = omega arith in
       let own : IsSome (child_value table s as_struct j (value_of_cell c))
       = (both_there (child_value table s as_struct j (value_of_cell c)) (filled table s as_struct (suc j) cs) there).0 in
-      subst (λ (n : ℕ). IsSome (fill_at table s n)) here
-      (subst (λ (o : Option Val). IsSome (option_or o (fill_at table s j))) none own)
+      subst (λ (n : ℕ). IsSome (fill_at strict_column table s n)) here
+      (subst (λ (o : Option Val). IsSome (option_or o (fill_at strict_column table s j))) none own)
   fill_there (c ∷ cs) j (suc k) h there none =
       let here : suc j + k ≡ j + suc k = omega arith in
-      subst (λ (n : ℕ). IsSome (fill_at table s n)) here
+      subst (λ (n : ℕ). IsSome (fill_at strict_column table s n)) here
       (fill_there cs (suc j) k (omega arith)
       (both_there (child_value table s as_struct j (value_of_cell c)) (filled table s as_struct (suc j) cs) there).1 none)
 
   -- putting its fill there changes nothing of that
-  filled_set : (cs : List Cell) (j k : ℕ) (v : Val) → k < length cs → value_at cs k ≡ None → fill_at table s (j + k) ≡ Some v
+  filled_set : (cs : List Cell) (j k : ℕ) (v : Val) → k < length cs → value_at cs k ≡ None → fill_at strict_column table s (j + k) ≡ Some v
       → filled table s as_struct j (set cs k (given v)) ≡ filled table s as_struct j cs
   filled_set [] j k v h none takes = absurd (omega arith)
   filled_set (c ∷ cs) j zero v h none takes =
       let here : j + 0 ≡ j = omega arith in
       ap (λ (o : Option Val). one_more o (filled table s as_struct (suc j) cs))
-      (sym takes ∙ ap (fill_at table s) here ∙ sym (ap (λ (o : Option Val). option_or o (fill_at table s j)) none))
+      (sym takes ∙ ap (fill_at strict_column table s) here ∙ sym (ap (λ (o : Option Val). option_or o (fill_at strict_column table s j)) none))
   filled_set (c ∷ cs) j (suc k) v h none takes =
       let here : suc j + k ≡ j + suc k = omega arith in
       ap (one_more (child_value table s as_struct j (value_of_cell c)))
-      (filled_set cs (suc j) k v (omega arith) none (ap (fill_at table s) here ∙ takes))
+      (filled_set cs (suc j) k v (omega arith) none (ap (fill_at strict_column table s) here ∙ takes))
 
   -- children that are all there are filled to their values
   filled_there : (cs : List Cell) (j : ℕ) → ((k : ℕ) → k < length cs → IsSome (value_at cs k))
@@ -159,7 +159,7 @@ module _ (table : Table) (s : ℕ) where
       ap (one_more (value_of_cell c)) (filled_there cs (suc j) (λ k h. there (suc k) (omega arith)))
       ∙ ap (λ (o : Option Val). one_more o (filled table s as_struct (suc j) cs)) (own (value_of_cell c) (there 0 (omega arith)))
     where
-      own : (o : Option Val) → IsSome o → o ≡ option_or o (fill_at table s j)
+      own : (o : Option Val) → IsSome o → o ≡ option_or o (fill_at strict_column table s j)
       own (Some v) h = refl
       own None h = absurd (cc)
 
@@ -205,22 +205,22 @@ module _ (table : Table) (s : ℕ) (initial now : List Cell) (i : ℕ) (so_far :
   }
 
   pub filling_light : IsChecked table → i < length now → IsSome (filled table s as_struct 0 initial) → value_at now i ≡ None
-      → IsLightFill (fill_at table s i)
-  filling_light checked h fills none = go (fill_at table s i) refl (fill_there table s now 0 i h (subst IsSome (sym so_far.same) fills) none)
+      → IsLightFill (fill_at strict_column table s i)
+  filling_light checked h fills none = go (fill_at strict_column table s i) refl (fill_there table s now 0 i h (subst IsSome (sym so_far.same) fills) none)
     where
-      go : (fill : Option Val) → fill_at table s i ≡ fill → IsSome (fill_at table s (0 + i)) → IsLightFill fill
+      go : (fill : Option Val) → fill_at strict_column table s i ≡ fill → IsSome (fill_at strict_column table s (0 + i)) → IsLightFill fill
       go (Some v) e there = fill_light table s i v checked e
       go None e there =
           let here : 0 + i ≡ i = omega arith in
-          let none_there : fill_at table s (0 + i) ≡ None = ap (fill_at table s) here ∙ e in
+          let none_there : fill_at strict_column table s (0 + i) ≡ None = ap (fill_at strict_column table s) here ∙ e in
           absurd (cc)
 
-  pub filling_set : (v : Val) → IsChecked table → i < length now → value_at now i ≡ None → fill_at table s i ≡ Some v
+  pub filling_set : (v : Val) → IsChecked table → i < length now → value_at now i ≡ None → fill_at strict_column table s i ≡ Some v
       → Filling table s initial (set now i (given v)) (i + 1)
   filling_set v checked h none takes =
       let here : 0 + i ≡ i = omega arith in
       record {
-        same = filled_set table s now 0 i v h none (ap (fill_at table s) here ∙ takes) ∙ so_far.same;
+        same = filled_set table s now 0 i v h none (ap (fill_at strict_column table s) here ∙ takes) ∙ so_far.same;
         there = λ k l. there_set now i v h k l (λ m. so_far.there k m);
         same_tokens = λ t.
             let light : occurs v t ≡ 0 = light_occurs v t (fill_light table s i v checked takes) in

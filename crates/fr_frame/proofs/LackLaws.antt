@@ -181,9 +181,9 @@ module _ (means : Meanings) (table : Table) (s : ℕ) (form : Form) where
   lack_step i (placed n) cs = refl
 
   made_step : (i : ℕ) (c : Cell) (cs : List Cell)
-      → complete_all means table s form i (trees_of (c ∷ cs))
+      → complete_all strict_column means table s form i (trees_of (c ∷ cs))
       ≡ one_more (valid_child means table s form i (child_value table s form i (value_of_cell c)))
-      (complete_all means table s form (suc i) (trees_of cs))
+      (complete_all strict_column means table s form (suc i) (trees_of cs))
   made_step i absent cs = refl
   made_step i (given v) cs = refl
   made_step i (placed n) cs = refl
@@ -197,7 +197,7 @@ module _ (means : Meanings) (table : Table) (s : ℕ) (form : Form) where
 
   -- children that lack nothing make what they are filled to
   pub made_whole : (i : ℕ) (cs : List Cell) → lack_among means table s form i (trees_of cs) ≡ None
-      → (complete_all means table s form i (trees_of cs) ≡ filled table s form i cs) × IsSome (filled table s form i cs)
+      → (complete_all strict_column means table s form i (trees_of cs) ≡ filled table s form i cs) × IsSome (filled table s form i cs)
   made_whole i [] h = (refl, refl)
   made_whole i (c ∷ cs) h =
       let both : (lack_of_child means table s form i (value_of_cell c) ≡ None)
@@ -207,17 +207,17 @@ module _ (means : Meanings) (table : Table) (s : ℕ) (form : Form) where
       let here : (valid_child means table s form i (child_value table s form i (value_of_cell c)) ≡ child_value table s form i (value_of_cell c))
       × IsSome (child_value table s form i (value_of_cell c))
       = value_there (missing_child s form i) (child_value table s form i (value_of_cell c)) (failing_child means table s form i) both.0 in
-      let rest : (complete_all means table s form (suc i) (trees_of cs) ≡ filled table s form (suc i) cs) × IsSome (filled table s form (suc i) cs)
+      let rest : (complete_all strict_column means table s form (suc i) (trees_of cs) ≡ filled table s form (suc i) cs) × IsSome (filled table s form (suc i) cs)
       = made_whole (suc i) cs both.1 in (
         made_step i c cs
-            ∙ ap (λ (value : Option Val). one_more value (complete_all means table s form (suc i) (trees_of cs))) here.0
+            ∙ ap (λ (value : Option Val). one_more value (complete_all strict_column means table s form (suc i) (trees_of cs))) here.0
             ∙ ap (one_more (child_value table s form i (value_of_cell c))) rest.0,
         more_there (child_value table s form i (value_of_cell c)) (filled table s form (suc i) cs) here.1 rest.1,
       )
 
   -- and none is made where something is lacking
   pub not_made : (i : ℕ) (cs : List Cell) (kind : ReflectErrorKind) → lack_among means table s form i (trees_of cs) ≡ Some kind
-      → complete_all means table s form i (trees_of cs) ≡ None
+      → complete_all strict_column means table s form i (trees_of cs) ≡ None
   not_made i [] kind h = absurd (cc)
   not_made i (c ∷ cs) kind h =
       made_step i c cs
@@ -225,11 +225,11 @@ module _ (means : Meanings) (table : Table) (s : ℕ) (form : Form) where
     where
       go : (here : Option ReflectErrorKind) → lack_of_child means table s form i (value_of_cell c) ≡ here
           → option_or (lack_of_child means table s form i (value_of_cell c)) (lack_among means table s form (suc i) (trees_of cs)) ≡ Some kind
-          → (lack_among means table s form (suc i) (trees_of cs) ≡ Some kind → complete_all means table s form (suc i) (trees_of cs) ≡ None)
+          → (lack_among means table s form (suc i) (trees_of cs) ≡ Some kind → complete_all strict_column means table s form (suc i) (trees_of cs) ≡ None)
           → one_more (valid_child means table s form i (child_value table s form i (value_of_cell c)))
-          (complete_all means table s form (suc i) (trees_of cs)) ≡ None
+          (complete_all strict_column means table s form (suc i) (trees_of cs)) ≡ None
       go (Some cause) e all rest =
-          ap (λ (value : Option Val). one_more value (complete_all means table s form (suc i) (trees_of cs)))
+          ap (λ (value : Option Val). one_more value (complete_all strict_column means table s form (suc i) (trees_of cs)))
           (value_lacks (missing_child s form i) (child_value table s form i (value_of_cell c)) (failing_child means table s form i) cause e)
       go None e all rest =
           ap (one_more (valid_child means table s form i (child_value table s form i (value_of_cell c))))
@@ -251,11 +251,11 @@ holes_next means table s count left i e = ap (λ (n : ℕ). lack_of_holes means 
 
 module _ (means : Meanings) (table : Table) (s : ℕ) where
   no_children_made : (count i : ℕ)
-      → each_child (λ k. valid_child means table s as_struct k (fill_at table s k)) count i
-      ≡ complete_all means table s as_struct i (trees_of (replicate count absent))
+      → each_child (λ k. valid_child means table s as_struct k (fill_at strict_column table s k)) count i
+      ≡ complete_all strict_column means table s as_struct i (trees_of (replicate count absent))
   no_children_made zero i = refl
   no_children_made (suc count) i =
-      ap (one_more (valid_child means table s as_struct i (fill_at table s i))) (no_children_made count (suc i))
+      ap (one_more (valid_child means table s as_struct i (fill_at strict_column table s i))) (no_children_made count (suc i))
 
   abbrev holes : List Cell
   holes = replicate (child_count table s) absent
@@ -278,7 +278,7 @@ module _ (means : Meanings) (table : Table) (s : ℕ) where
   by_def_lacks (Def.Option t) None lacking made_up kind h so = refl
   by_def_lacks _ preset lacking made_up kind h so = refl
 
-  made_up_is : made_of_fills means table s ≡ made as_struct (complete_all means table s as_struct 0 (trees_of holes))
+  made_up_is : made_of_fills strict_column means table s ≡ made as_struct (complete_all strict_column means table s as_struct 0 (trees_of holes))
   made_up_is = ap (made as_struct) (no_children_made (child_count table s) 0)
 
   made_there : (form : Form) (values : Option Vals) → IsSome values → IsSome (made form values)
@@ -292,26 +292,26 @@ module _ (means : Meanings) (table : Table) (s : ℕ) where
 
   -- a place that lacks nothing makes what it is filled to
   pub body_whole : (body : Body) → lack means table s (own_tree body) ≡ None
-      → (complete means table s (own_tree body) ≡ filled_body table s body) × IsSome (filled_body table s body)
+      → (complete strict_column means table s (own_tree body) ≡ filled_body table s body) × IsSome (filled_body table s body)
   body_whole entered_body h =
       by_def_whole (def_of table s) (preset_of table s) (lack_of_holes means table s as_struct (child_count table s) 0)
-      (made_of_fills means table s) (made as_struct (filled table s as_struct 0 holes)) h
+      (made_of_fills strict_column means table s) (made as_struct (filled table s as_struct 0 holes)) h
       (λ e.
-      let so : (complete_all means table s as_struct 0 (trees_of holes) ≡ filled table s as_struct 0 holes) × IsSome (filled table s as_struct 0 holes)
+      let so : (complete_all strict_column means table s as_struct 0 (trees_of holes) ≡ filled table s as_struct 0 holes) × IsSome (filled table s as_struct 0 holes)
       = made_whole means table s as_struct 0 holes (sym (no_children_lack means table s as_struct (child_count table s) 0) ∙ e) in
       (made_up_is ∙ ap (made as_struct) so.0, made_there as_struct (filled table s as_struct 0 holes) so.1))
   body_whole (whole_body v) h = (refl, refl)
   body_whole (begun_body form cells) h =
-      let so : (complete_all means table s form 0 (trees_of cells) ≡ filled table s form 0 cells) × IsSome (filled table s form 0 cells)
+      let so : (complete_all strict_column means table s form 0 (trees_of cells) ≡ filled table s form 0 cells) × IsSome (filled table s form 0 cells)
       = made_whole means table s form 0 cells h in
       (ap (made form) so.0, made_there form (filled table s form 0 cells) so.1)
 
   -- and one that lacks something makes nothing
   pub body_lacks : (body : Body) (kind : ReflectErrorKind) → lack means table s (own_tree body) ≡ Some kind
-      → complete means table s (own_tree body) ≡ None
+      → complete strict_column means table s (own_tree body) ≡ None
   body_lacks entered_body kind h =
       by_def_lacks (def_of table s) (preset_of table s) (lack_of_holes means table s as_struct (child_count table s) 0)
-      (made_of_fills means table s) kind h
+      (made_of_fills strict_column means table s) kind h
       (λ e.
       made_up_is
       ∙ ap (made as_struct)

@@ -57,10 +57,10 @@ module _ (means : Meanings) (table : Table) (s : ℕ) (body : Body) where
   })
 
   pub is_filled : (new : Body) → lack means table s (own_tree body) ≡ None → value_of new ≡ filled_body table s body
-      → IsFilled means table s body new
+      → IsFilled strict_column means table s body new
   is_filled new nothing holds = go (filled_body table s body) refl (body_whole means table s body nothing).1
     where
-      go : (made : Option Val) → filled_body table s body ≡ made → IsSome made → IsFilled means table s body new
+      go : (made : Option Val) → filled_body table s body ≡ made → IsSome made → IsFilled strict_column means table s body new
       go None e some = absurd (cc)
       go (Some v) e some = record {
         value = v;

@@ -3,7 +3,7 @@ use Rattle.std.specs.Prelude.{◌≡◌, ℕ, List, Some, IsSome, IsSomeAnd}
 use Rattle.fr_frame.specs.declared.places.FrameOwner.{FrameOwner}
 use Rattle.fr_frame.specs.declared.places.Slot.{Slot}
 use Rattle.fr_frame.specs.Bodies.{Body}
-use Rattle.fr_frame.specs.Heap.{Node, Heap, heap_of, slots_occur, with_slot}
+use Rattle.fr_frame.specs.Heap.{Node, Heap, heap_of, marked, slots_occur, with_slot}
 
 -- the slots are in use as this heap says
 abbrev pub Shows : List Slot → Heap → Type 0
@@ -29,3 +29,7 @@ Becomes before after n at body = Shows after (with_slot (heap_of before) n (Some
 -- no token came or went
 abbrev pub SameTokens : (before after : List Slot) → Type 0
 SameTokens before after = (t : ℕ) → slots_occur after t ≡ slots_occur before t
+
+-- which places are stored is as it was
+abbrev pub SameMarks : (before after : List Slot) → Type 0
+SameMarks before after = (n : ℕ) → marked (heap_of after) n ≡ marked (heap_of before) n

@@ -7,6 +7,7 @@ use Rattle.fr_shape.specs.Hooks.{Meanings}
 use Rattle.fr_shape.specs.Look.{Table, IsIn, def_of}
 use Rattle.fr_shape.specs.Val.{Val}
 use Rattle.fr_model.specs.Complete.{complete}
+use Rattle.fr_model.specs.Places.{Column, strict_column}
 use Rattle.fr_model.specs.Step.{cause}
 use Rattle.fr_model.specs.Well.{IsFullAs}
 use Rattle.fr_plan.specs.declared.nodes.NodeId.{NodeId}
@@ -40,16 +41,16 @@ pub record MayComplete (table : Table) (plan : Plan) (at : Node) : Type 0 where
   pub full : IsFull table (shape_of plan at.node) at.body
   pub closed : IsClosed at.body
 
--- a place of shape s makes a value, and the other body holds that value
-pub record IsFilled (means : Meanings) (table : Table) (s : ℕ) (old new : Body) : Type 0 where
+-- a place of shape s makes a value by the rules of the column, and the other body holds that value
+pub record IsFilled (column : Column) (means : Meanings) (table : Table) (s : ℕ) (old new : Body) : Type 0 where
   pub value : Val
-  pub meant : complete means table s (own_tree old) ≡ Some value
+  pub meant : complete column means table s (own_tree old) ≡ Some value
   pub held : value_of new ≡ Some value
 
 -- the place in this slot holds the value that it makes, and all else is as it was
-pub record FillsAt (means : Meanings) (table : Table) (plan : Plan) (before after : List Slot) (n : ℕ) (at : Node) : Type 0 where
+pub record FillsAt (column : Column) (means : Meanings) (table : Table) (plan : Plan) (before after : List Slot) (n : ℕ) (at : Node) : Type 0 where
   pub body : Body
-  pub filled : IsFilled means table (shape_of plan at.node) at.body body
+  pub filled : IsFilled column means table (shape_of plan at.node) at.body body
   pub becomes : Becomes before after n at body
 
 -- completing the place takes a template: it is just entered, or begun with some child's value not there
@@ -60,7 +61,7 @@ takes_template (begun_body form cells) = is_none (values_of cells)
 
 -- the place makes no value, and this is the cause
 pub record IsLacking (means : Meanings) (table : Table) (s : ℕ) (body : Body) (kind : ReflectErrorKind) : Type 0 where
-  pub incomplete : complete means table s (own_tree body) ≡ None
+  pub incomplete : complete strict_column means table s (own_tree body) ≡ None
   pub lacks : kind ≡ cause means table s (own_tree body)
 
 -- there is something to be said of a value that fails
@@ -71,8 +72,8 @@ IsOfValidator kind = (field : FieldRef) × (text : List ℕ) × (kind ≡ Reflec
 pub record IsOutOfMemory (means : Meanings) (table : Table) (s : ℕ) (body : Body) (kind : ReflectErrorKind) : Type 0 where
   pub memory : kind ≡ ReflectErrorKind.OutOfMemory
   pub needed :
-      (IsSome (complete means table s (own_tree body)) × (takes_template body ≡ true))
-      ⊎ ((complete means table s (own_tree body) ≡ None) × IsOfValidator (cause means table s (own_tree body)))
+      (IsSome (complete strict_column means table s (own_tree body)) × (takes_template body ≡ true))
+      ⊎ ((complete strict_column means table s (own_tree body) ≡ None) × IsOfValidator (cause means table s (own_tree body)))
 
 abbrev pub WhyNot : Meanings → Table → ℕ → Body → ReflectErrorKind → Type 0
 WhyNot means table s body kind = IsLacking means table s body kind ⊎ IsOutOfMemory means table s body kind

@@ -15,7 +15,7 @@ use Rattle.fr_rules.specs.declared.validators.PrecomputedValidator.{PrecomputedV
 use Rattle.fr_rules.specs.FillRules.{fill_told}
 use Rattle.fr_rules.specs.Validators.{passes_held, validator_of}
 use Rattle.fr_model.specs.Complete.{failing_child, hole_takes, made, made_by, missing_child, unless_there}
-use Rattle.fr_model.specs.Places.{child_count, fill_at, one_more}
+use Rattle.fr_model.specs.Places.{strict_column, child_count, fill_at, one_more}
 use Rattle.fr_model.specs.Tree.{Form, as_struct}
 use Rattle.fr_model.specs.Well.{IsFullAs}
 use Rattle.fr_plan.specs.declared.plans.FieldPlan.{FieldPlan}
@@ -33,7 +33,7 @@ pub record IsTold (table : Table) (plan : Plan) (s i : ℕ) (told : FieldPlan) :
   pub field : Field
   pub here : field_in (def_of table s) None i ≡ Some field
   pub meant : told.field ≡ record { shape = record { 0 = s }; variant = None; index = i }
-  pub fill : fill_told table told.fill_rule ≡ fill_at table s i
+  pub fill : fill_told table told.fill_rule ≡ fill_at strict_column table s i
   pub validators : Names plan.lists.validators told.validators (validators_of table field)
 
 -- the same, or there is no such field
@@ -54,7 +54,7 @@ IsLightFill fill = IsSomeAnd fill (λ v. tokens v ≡ [])
 
 -- a child's value, or what it takes where it isn't there
 abbrev pub child_value : Table → ℕ → Form → ℕ → (own : Option Val) → Option Val
-child_value table s form i own = option_or own (hole_takes table s form i)
+child_value table s form i own = option_or own (hole_takes strict_column table s form i)
 
 -- the values of the children from number i on, where each has one
 abbrev pub filled : Table → ℕ → Form → ℕ → List Cell → Option Vals

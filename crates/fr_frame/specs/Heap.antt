@@ -115,3 +115,17 @@ with_entered def heap node owner n = with_slot (links owner n heap) n (Some (ent
 -- slot n is free again, and its owner's child isn't there
 abbrev pub without : Heap → ℕ → FrameOwner → Heap
 without heap n owner = unlinks owner n (with_slot heap n None)
+
+-- Marks.
+
+abbrev pub stored_in : Option Node → Bool
+stored_in (Some at) = at.stored
+stored_in None = false
+
+-- a place is in this slot, and stored
+abbrev pub marked : Heap → ℕ → Bool
+marked heap n = stored_in (heap n)
+
+-- the place in this slot is now marked so
+abbrev pub with_mark : Heap → ℕ → Bool → Heap
+with_mark heap n stored = with_slot heap n (option_map (λ (at : Node). record at { stored = stored }) (heap n))

@@ -3,6 +3,7 @@ pub mod Cells
 pub mod Changes
 pub mod Closed
 pub mod Completing
+pub mod Defaults
 pub mod Filling
 pub mod Heap
 pub mod Kids

@@ -3,6 +3,7 @@
 ghost use Rattle.std.specs.Prelude.{◌≡◌, ◌≢◌, ◌⊎◌, ℕ, ◌<◌, length, IfErr, OnOk};
 ghost use Rattle.fr_shape.specs.Checked.{IsChecked};
 ghost use Rattle.fr_shape.specs.declared.error.ReflectErrorKind.{ReflectErrorKind as Kind};
+ghost use Rattle.fr_model.specs.Places.{strict_column};
 ghost use Rattle.fr_frame.specs.Bodies.{body_occurs, IsClosed};
 ghost use Rattle.fr_frame.specs.Changes.{IfInUse, IsInUse, SameTokens, Shows};
 ghost use Rattle.fr_frame.specs.Closed.{IsClosedAt};
@@ -33,7 +34,7 @@ pub(crate) fn fill_piece<H: Hooks>(
     requires inside { node.0 < length plan.now.nodes }
     requires full { IsFull table.now (shape_of plan.now node) (body_of piece.old) }
     requires closed { IsClosed (body_of piece.old) }
-    ensures filled { OnOk result (IsFilled (H.means hooks.now) table.now (shape_of plan.now node)
+    ensures filled { OnOk result (IsFilled strict_column (H.means hooks.now) table.now (shape_of plan.now node)
         (body_of piece.old) (body_of piece.new)) }
     ensures why { IfErr result (WhyNot (H.means hooks.now) table.now (shape_of plan.now node)
         (body_of piece.old)) }
@@ -66,7 +67,7 @@ impl SlotId {
         requires checked { IsChecked table.now }
         requires plan { IsPlanFor table.now plan.now }
         requires place { IfInUse slots.old self.0 (MayComplete table.now plan.now) }
-        ensures filled { OnOk result (IfInUse slots.old self.0 (FillsAt (H.means hooks.now)
+        ensures filled { OnOk result (IfInUse slots.old self.0 (FillsAt strict_column (H.means hooks.now)
             table.now plan.now slots.old slots.new self.0)) }
         ensures why { IfErr result (λ kind. IfInUse slots.old self.0 (λ at.
             WhyNot (H.means hooks.now) table.now (shape_of plan.now at.node) at.body kind)) }

@@ -7,6 +7,7 @@
 mod changing;
 mod children;
 mod completing;
+mod defaulting;
 mod entering;
 mod field_plans;
 mod filling;
@@ -16,6 +17,7 @@ mod linking;
 mod pieces;
 mod places;
 mod slots;
+mod storing;
 #[cfg(test)]
 mod tests;
 

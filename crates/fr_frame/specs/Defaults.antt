@@ -1,0 +1,136 @@
+-- What becomes of one place by the rules of the end of deferred mode, its children being whole or not there.
+use Rattle.std.specs.Prelude.{◌≡◌, ◌⊎◌, ℕ, zero, suc, true, List, [], ◌∷◌, replicate, Option, Some, None, IsSomeAnd}
+use Rattle.fr_shape.specs.declared.shape.Def.{Def}
+use Rattle.fr_shape.specs.declared.error.ReflectErrorKind.{ReflectErrorKind}
+use Rattle.fr_shape.specs.Fills.{preset_of}
+use Rattle.fr_shape.specs.Hooks.{Meanings}
+use Rattle.fr_shape.specs.Look.{Table, def_of}
+use Rattle.fr_shape.specs.Val.{Val, none}
+use Rattle.fr_model.specs.Complete.{complete, hole_takes, missing_child, missing_value}
+use Rattle.fr_model.specs.Failing.{first_unmet, first_invalid, own_lack}
+use Rattle.fr_model.specs.Places.{deferred_column, child_count}
+use Rattle.fr_model.specs.Tree.{Form, as_struct, holes}
+use Rattle.fr_frame.specs.Bodies.{Body, entered_body, whole_body, begun_body, own_tree, trees_of}
+use Rattle.fr_frame.specs.Cells.{Cell, absent, given, placed}
+use Rattle.fr_frame.specs.Completing.{IsOfValidator, takes_template}
+
+-- Filling holes.
+
+-- a child that isn't there takes this, if it takes anything
+abbrev pub defaulted_cell : (fill : Option Val) → Cell → Cell
+defaulted_cell (Some v) absent = given v
+defaulted_cell None absent = absent
+defaulted_cell fill (given v) = given v
+defaulted_cell fill (placed n) = placed n
+
+-- the children from number i on of a place of shape s that is begun so, each that isn't there with its fill, if it has one
+abbrev pub defaulted_cells : Table → ℕ → Form → ℕ → List Cell → List Cell
+defaulted_cells table s form i [] = []
+defaulted_cells table s form i (c ∷ cs) =
+    defaulted_cell (hole_takes deferred_column table s form i) c ∷ defaulted_cells table s form (suc i) cs
+
+-- a struct of this shape none of whose fields is there
+abbrev pub defaulted_struct : Table → ℕ → Body
+defaulted_struct table s =
+    begun_body as_struct (defaulted_cells table s as_struct 0 (replicate (child_count table s) absent))
+
+-- an entered place of this definition: a struct with a default holds that, and without one is begun with its fills; an option with
+-- a default holds `None`; any other stays as it is
+abbrev pub defaulted_by : Def → (preset : Option Val) → (of_fills : Body) → Body
+defaulted_by (Def.Struct struct) (Some v) of_fills = whole_body v
+defaulted_by (Def.Struct struct) None of_fills = of_fills
+defaulted_by (Def.Option t) (Some v) of_fills = whole_body none
+defaulted_by (Def.Option t) None of_fills = entered_body
+defaulted_by (Def.Scalar kind) preset of_fills = entered_body
+defaulted_by Def.Str preset of_fills = entered_body
+defaulted_by Def.Opaque preset of_fills = entered_body
+defaulted_by (Def.Enum enumeration) preset of_fills = entered_body
+defaulted_by (Def.Result t e) preset of_fills = entered_body
+defaulted_by (Def.List t) preset of_fills = entered_body
+defaulted_by (Def.Map key item) preset of_fills = entered_body
+defaulted_by (Def.Set t) preset of_fills = entered_body
+defaulted_by (Def.Array t n) preset of_fills = entered_body
+defaulted_by (Def.Pointer pointer) preset of_fills = entered_body
+defaulted_by (Def.Slice t) preset of_fills = entered_body
+defaulted_by Def.Dynamic preset of_fills = entered_body
+defaulted_by Def.Undefined preset of_fills = entered_body
+defaulted_by Def.Other preset of_fills = entered_body
+
+-- a place of shape s with all fills taken
+abbrev pub defaulted : Table → ℕ → Body → Body
+defaulted table s entered_body = defaulted_by (def_of table s) (preset_of table s) (defaulted_struct table s)
+defaulted table s (whole_body v) = whole_body v
+defaulted table s (begun_body form cells) = begun_body form (defaulted_cells table s form 0 cells)
+
+-- of an entered place only a struct without a default has fields that are asked
+abbrev pub unmet_entered : Def → (preset : Option Val) → (of_holes : Option ReflectErrorKind) → Option ReflectErrorKind
+unmet_entered (Def.Struct struct) (Some v) of_holes = None
+unmet_entered (Def.Struct struct) None of_holes = of_holes
+unmet_entered (Def.Scalar kind) preset of_holes = None
+unmet_entered Def.Str preset of_holes = None
+unmet_entered Def.Opaque preset of_holes = None
+unmet_entered (Def.Enum enumeration) preset of_holes = None
+unmet_entered (Def.Option t) preset of_holes = None
+unmet_entered (Def.Result t e) preset of_holes = None
+unmet_entered (Def.List t) preset of_holes = None
+unmet_entered (Def.Map key item) preset of_holes = None
+unmet_entered (Def.Set t) preset of_holes = None
+unmet_entered (Def.Array t n) preset of_holes = None
+unmet_entered (Def.Pointer pointer) preset of_holes = None
+unmet_entered (Def.Slice t) preset of_holes = None
+unmet_entered Def.Dynamic preset of_holes = None
+unmet_entered Def.Undefined preset of_holes = None
+unmet_entered Def.Other preset of_holes = None
+
+-- the first field, if any, that isn't there and is marked to take a default that there isn't
+abbrev pub unmet : Table → ℕ → Body → Option ReflectErrorKind
+unmet table s entered_body =
+    unmet_entered (def_of table s) (preset_of table s) (first_unmet table s as_struct 0 (holes (child_count table s)))
+unmet table s (whole_body v) = None
+unmet table s (begun_body form cells) = first_unmet table s form 0 (trees_of cells)
+
+-- What is left.
+
+-- the first child, from number i on, that isn't there
+abbrev pub first_absent : ℕ → Form → ℕ → List Cell → Option ReflectErrorKind
+first_absent s form i [] = None
+first_absent s form i (absent ∷ cs) = Some (missing_child s form i)
+first_absent s form i (given v ∷ cs) = first_absent s form (suc i) cs
+first_absent s form i (placed n ∷ cs) = first_absent s form (suc i) cs
+
+-- the value of an entered place, the first hole of a begun one
+abbrev pub left_out : ℕ → Body → Option ReflectErrorKind
+left_out s entered_body = Some (missing_value s)
+left_out s (whole_body v) = None
+left_out s (begun_body form cells) = first_absent s form 0 cells
+
+-- Validators.
+
+-- the first field of a begun place whose value doesn't pass its validators
+abbrev pub invalid : Meanings → Table → ℕ → Body → Option ReflectErrorKind
+invalid means table s entered_body = None
+invalid means table s (whole_body v) = None
+invalid means table s (begun_body form cells) = first_invalid means table s form 0 (trees_of cells)
+
+-- All three.
+
+-- the place makes no value at the end of deferred mode, and this is what it lacks
+pub record IsLackingDefault (means : Meanings) (table : Table) (s : ℕ) (body : Body) (kind : ReflectErrorKind) : Type 0 where
+  pub incomplete : complete deferred_column means table s (own_tree body) ≡ None
+  pub lacks : own_lack means table s (own_tree body) ≡ Some kind
+
+-- there was no memory: for a template that it takes, or to say why a value fails
+pub record WantsMemory (means : Meanings) (table : Table) (s : ℕ) (body : Body) (kind : ReflectErrorKind) : Type 0 where
+  pub memory : kind ≡ ReflectErrorKind.OutOfMemory
+  pub needed : (takes_template body ≡ true) ⊎ IsSomeAnd (own_lack means table s (own_tree body)) IsOfValidator
+
+abbrev pub WhyNotDefault : Meanings → Table → ℕ → Body → ReflectErrorKind → Type 0
+WhyNotDefault means table s body kind = IsLackingDefault means table s body kind ⊎ WantsMemory means table s body kind
+
+-- a begun place stays begun in the same form, and a whole one as it is
+abbrev pub KeepsForm : (old new : Body) → Type 0
+KeepsForm entered_body new = Unit {0}
+KeepsForm (whole_body v) new = new ≡ whole_body v
+KeepsForm (begun_body form cells) entered_body = ⊥
+KeepsForm (begun_body form cells) (whole_body v) = ⊥
+KeepsForm (begun_body form cells) (begun_body as_after others) = as_after ≡ form
