@@ -6,6 +6,7 @@ pub mod Completing
 pub mod Covering
 pub mod Cursor
 pub mod DefaultRows
+pub mod Failing
 pub mod Moves
 pub mod Opening
 pub mod Paths
