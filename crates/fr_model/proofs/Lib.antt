@@ -7,6 +7,7 @@ pub mod Covering
 pub mod Cursor
 pub mod DefaultRows
 pub mod Failing
+pub mod Finishes
 pub mod Moves
 pub mod Opening
 pub mod Paths
