@@ -297,3 +297,119 @@ finish_keeps_path hooks table s (i ∷ place) (begun form ts) next e =
         (on_way_is hooks table s form i (λ (shape : ℕ) (t : Tree). finished hooks table shape place t)
         (λ t u. steps_in place u ≡ steps_in place t) 0 ts to.from refl
         (λ shape t u is. finish_keeps_path hooks table shape place t u is) to.is))
+
+-- Something to refuse
+
+kind_there : (found : Option Failure) → is_some (kind_of found) ≡ is_some found
+kind_there (Some failure) = refl
+kind_there None = refl
+
+-- there is a first exactly of a list that isn't empty
+pub first_there : (failures : List Failure) → is_some (first_by_walk failures) ≡ not (is_nil failures)
+first_there [] = refl
+first_there (failure ∷ failures) = refl
+
+none_more_tree : (o : Option Tree) (os : Option Trees) → is_none (one_more_tree o os) ≡ (is_none o || is_none os)
+none_more_tree None os = refl
+none_more_tree (Some t) None = refl
+none_more_tree (Some t) (Some ts) = refl
+
+or_aside : (a b c : Bool) → ((a || b) || c) ≡ ((a || c) || b)
+or_aside true b c = refl
+or_aside false true true = refl
+or_aside false true false = refl
+or_aside false false true = refl
+or_aside false false false = refl
+
+or_within : (a b c : Bool) → (a || (b || c)) ≡ ((a || b) || c)
+or_within true b c = refl
+or_within false b c = refl
+
+closed_all_or_fail : (hooks : Meanings) (table : Table) (s : ℕ) (form : Form) (i : ℕ) (path : List PathStep) (ts : Trees)
+    → is_none (closed_all hooks table s form i ts) ≡ not (is_nil (failures_among hooks table s form i path ts))
+closed_all_or_fail hooks table s form i path no_trees = refl
+closed_all_or_fail hooks table s form i path (branch t ts) =
+    none_more_tree (closed hooks table (child_as table s form i) t) (closed_all hooks table s form (suc i) ts)
+    ∙ ap₂ (λ (a b : Bool). a || b)
+    (completes_or_fails hooks table (child_as table s form i) (path ++ step_as form i ∷ []) t)
+    (closed_all_or_fail hooks table s form (suc i) path ts)
+    ∙ sym (joined_there (failures hooks table (child_as table s form i) (path ++ step_as form i ∷ []) t)
+    (failures_among hooks table s form (suc i) path ts))
+
+-- The children of a place above the cursor: child i, as many further on as `on_way`, lies on the way.
+closed_but_or_refused : (hooks : Meanings) (table : Table) (s : ℕ) (form : Form) (on_way : ℕ)
+    (becomes : ℕ → Tree → Option Tree) (below : ℕ → List PathStep → Tree → List Failure) (lacking : ℕ → Tree → Bool)
+    (mode : Mode) (Below : Tree → Type 0) (k : ℕ) (path : List PathStep) (ts : Trees) (i : ℕ) → i ≡ k + on_way
+    → ((shape : ℕ) (to : List PathStep) (t : Tree) → Below t
+    → is_none (becomes shape t) ≡ (not (is_nil (below shape to t)) || lacking shape t))
+    → OffBut mode on_way Below ts
+    → is_none (closed_but hooks table s form on_way becomes k ts)
+    ≡ (not (is_nil (failures_but hooks table s form on_way below k path ts))
+    || lacking (child_as table s form i) (tree_nth on_way ts))
+closed_but_or_refused hooks table s form on_way becomes below lacking mode Below k path no_trees i is step off = absurd off
+closed_but_or_refused hooks table s form zero becomes below lacking mode Below k path (branch t ts) i is step off =
+    subst (λ (m : ℕ). is_none (closed_but hooks table s form zero becomes k (branch t ts))
+    ≡ (not (is_nil (failures_but hooks table s form zero below k path (branch t ts)))
+    || lacking (child_as table s form m) t)) here
+    (none_more_tree (becomes (child_as table s form k) t) (closed_all hooks table s form (suc k) ts)
+    ∙ ap₂ (λ (a b : Bool). a || b) (step (child_as table s form k) (path ++ step_as form k ∷ []) t off.0)
+    (closed_all_or_fail hooks table s form (suc k) path ts)
+    ∙ or_aside (not (is_nil (below (child_as table s form k) (path ++ step_as form k ∷ []) t)))
+    (lacking (child_as table s form k) t) (not (is_nil (failures_among hooks table s form (suc k) path ts)))
+    ∙ ap (λ (b : Bool). b || lacking (child_as table s form k) t)
+    (sym (joined_there (below (child_as table s form k) (path ++ step_as form k ∷ []) t)
+    (failures_among hooks table s form (suc k) path ts))))
+  where
+    here : k ≡ i
+    here = omega arith
+closed_but_or_refused hooks table s form (suc on_way) becomes below lacking mode Below k path (branch t ts) i is step off =
+    none_more_tree (closed hooks table (child_as table s form k) t)
+    (closed_but hooks table s form on_way becomes (suc k) ts)
+    ∙ ap₂ (λ (a b : Bool). a || b)
+    (completes_or_fails hooks table (child_as table s form k) (path ++ step_as form k ∷ []) t)
+    (closed_but_or_refused hooks table s form on_way becomes below lacking mode Below (suc k) path ts i (omega arith) step
+    off.1)
+    ∙ or_within (not (is_nil (failures hooks table (child_as table s form k) (path ++ step_as form k ∷ []) t)))
+    (not (is_nil (failures_but hooks table s form on_way below (suc k) path ts)))
+    (lacking (child_as table s form i) (tree_nth on_way ts))
+    ∙ ap (λ (b : Bool). b || lacking (child_as table s form i) (tree_nth on_way ts))
+    (sym (joined_there (failures hooks table (child_as table s form k) (path ++ step_as form k ∷ []) t)
+    (failures_but hooks table s form on_way below (suc k) path ts)))
+
+-- what the place at the cursor lacks
+abbrev lacks_at : Meanings → Table → Place → ℕ → Tree → Bool
+lacks_at hooks table cursor s tree = is_some (own_lack hooks table (shape_in table s cursor tree) (tree_at cursor tree))
+
+finished_or_refused : (hooks : Meanings) (table : Table) (s : ℕ) (path : List PathStep) (mode : Mode) (cursor : Place)
+    (tree : Tree) → Leads mode cursor tree
+    → is_none (finished hooks table s cursor tree)
+    ≡ (not (is_nil (failures_off hooks table s path cursor tree)) || lacks_at hooks table cursor s tree)
+finished_or_refused hooks table s path mode [] hole leads = absurd leads
+finished_or_refused hooks table s path mode [] entered leads =
+    none_mapped whole (complete deferred_column hooks table s entered) ∙ entered_lacks hooks table s
+finished_or_refused hooks table s path mode [] (whole v) leads = refl
+finished_or_refused hooks table s path mode [] (begun form ts) leads =
+    none_mapped (begun_with form) (complete_all deferred_column hooks table s form 0 ts)
+    ∙ all_complete_or_fail hooks table s form 0 path ts
+finished_or_refused hooks table s path mode (i ∷ place) (begun form ts) leads =
+    none_mapped (begun form)
+    (closed_but hooks table s form i (λ (shape : ℕ) (t : Tree). finished hooks table shape place t) 0 ts)
+    ∙ closed_but_or_refused hooks table s form i (λ (shape : ℕ) (t : Tree). finished hooks table shape place t)
+    (λ (shape : ℕ) (to : List PathStep) (t : Tree). failures_off hooks table shape to place t)
+    (λ (shape : ℕ) (t : Tree). lacks_at hooks table place shape t) mode (λ child. Leads mode place child) 0 path ts i
+    (omega arith) (λ shape to t below. finished_or_refused hooks table shape to mode place t below) leads
+finished_or_refused hooks table s path mode (i ∷ place) _ leads = absurd leads
+
+-- Deferred mode can't end exactly where a place off the way fails, or else the one at the cursor lacks something.
+pub finishes_or_refuses : (hooks : Meanings) (table : Table) (s : ℕ) (path : List PathStep) (mode : Mode) (cursor : Place)
+    (tree : Tree) → Leads mode cursor tree
+    → is_none (finished hooks table s cursor tree)
+    ≡ is_some (option_or (kind_of (first_by_walk (failures_off hooks table s path cursor tree)))
+    (own_lack hooks table (shape_in table s cursor tree) (tree_at cursor tree)))
+finishes_or_refuses hooks table s path mode cursor tree leads =
+    finished_or_refused hooks table s path mode cursor tree leads
+    ∙ ap (λ (b : Bool). b || lacks_at hooks table cursor s tree)
+    (sym (kind_there (first_by_walk (failures_off hooks table s path cursor tree))
+    ∙ first_there (failures_off hooks table s path cursor tree)))
+    ∙ sym (some_or (kind_of (first_by_walk (failures_off hooks table s path cursor tree)))
+    (own_lack hooks table (shape_in table s cursor tree) (tree_at cursor tree)))
