@@ -14,8 +14,7 @@ use Rattle.fr_model.specs.FinishLaws.{Closes, closed_at, ClosingKeepsCompletion,
 use Rattle.fr_model.specs.Finishing.{IsOffTheWay}
 use Rattle.fr_model.specs.Paths.{step_as}
 use Rattle.fr_model.specs.Places.{Place, deferred_column, one_more}
-use Rattle.fr_model.specs.Relation.{HasPlace}
-use Rattle.fr_model.specs.Tree.{Form, Tree, hole, entered, whole, begun, Trees, no_trees, branch, for_hole, tree_nth, change_nth, tree_at, child_as, shape_in, count_trees}
+use Rattle.fr_model.specs.Tree.{Form, Tree, hole, entered, whole, begun, Trees, no_trees, branch, for_hole, tree_nth, change_nth, child_as, count_trees}
 use Rattle.fr_model.proofs.Failing.{completes_or_fails}
 
 -- Two trees, of which neither is a hole, make the same and the same fails in them. So it may be of the children of two places.
@@ -164,3 +163,119 @@ closing_keeps_completion hooks table s here v tree closes = (closing_alike hooks
 
 pub closing_keeps_failures : ClosingKeepsFailures
 closing_keeps_failures hooks table s path here v tree closes = (closing_alike hooks table s here v tree closes).fails path
+
+-- The end of deferred mode
+
+-- of children of which one lies on the way
+record AreAlikeBut (hooks : Meanings) (table : Table) (s : ℕ) (form : Form) (on_way : ℕ) (becomes : ℕ → Tree → Option Tree)
+    (beneath : ℕ → List PathStep → Tree → List Failure) (k : ℕ) (ts us : Trees) : Type 0 where
+  pub become : closed_but hooks table s form on_way becomes k us ≡ closed_but hooks table s form on_way becomes k ts
+  pub fail : (path : List PathStep) → failures_but hooks table s form on_way beneath k path us
+      ≡ failures_but hooks table s form on_way beneath k path ts
+
+-- of a place, with a cursor beneath it
+pub record FinishAlike (hooks : Meanings) (table : Table) (s : ℕ) (cursor : Place) (t u : Tree) : Type 0 where
+  pub become : finished hooks table s cursor u ≡ finished hooks table s cursor t
+  pub fail : (path : List PathStep) → failures_off hooks table s path cursor u ≡ failures_off hooks table s path cursor t
+
+-- one of them is changed to one alike, and where it lies on the way the same becomes of it
+but_alike : (hooks : Meanings) (table : Table) (s : ℕ) (form : Form) (on_way : ℕ) (becomes : ℕ → Tree → Option Tree)
+    (beneath : ℕ → List PathStep → Tree → List Failure) (d k : ℕ) (ts : Trees) (i : ℕ) (change : Tree → Tree)
+    → i ≡ k + d → d < count_trees ts
+    → IsAlike hooks table (child_as table s form i) (tree_nth d ts) (change (tree_nth d ts))
+    → (on_way ≡ d → (becomes (child_as table s form i) (change (tree_nth d ts))
+    ≡ becomes (child_as table s form i) (tree_nth d ts))
+    × ((path : List PathStep) → beneath (child_as table s form i) path (change (tree_nth d ts))
+    ≡ beneath (child_as table s form i) path (tree_nth d ts)))
+    → AreAlikeBut hooks table s form on_way becomes beneath k ts (change_nth d change ts)
+but_alike hooks table s form on_way becomes beneath d k no_trees i change is within alike on = absurd (omega arith)
+but_alike hooks table s form zero becomes beneath zero k (branch t ts) i change is within alike on = record {
+  become = ap (λ (o : Option Tree). one_more_tree o (closed_all hooks table s form (suc k) ts))
+      (subst (λ (m : ℕ). becomes (child_as table s form m) (change t) ≡ becomes (child_as table s form m) t) here (on refl).0);
+  fail = λ path. ap (λ (fs : List Failure). fs ++ failures_among hooks table s form (suc k) path ts)
+      (subst (λ (m : ℕ). beneath (child_as table s form m) (path ++ step_as form k ∷ []) (change t)
+      ≡ beneath (child_as table s form m) (path ++ step_as form k ∷ []) t) here ((on refl).1 (path ++ step_as form k ∷ [])));
+}
+  where
+    here : i ≡ k
+    here = omega arith
+but_alike hooks table s form zero becomes beneath (suc d) k (branch t ts) i change is within alike on =
+    let rest : AreAlike hooks table s form (suc k) ts (change_nth d change ts)
+    = alike_nth hooks table s form d (suc k) ts i change (omega arith) (omega arith) alike in
+    record {
+      become = ap (one_more_tree (becomes (child_as table s form k) t)) rest.close;
+      fail = λ path. ap (λ (fs : List Failure). beneath (child_as table s form k) (path ++ step_as form k ∷ []) t ++ fs)
+          (rest.fail path);
+    }
+but_alike hooks table s form (suc on_way) becomes beneath zero k (branch t ts) i change is within alike on =
+    record {
+      become = ap (λ (o : Option Tree). one_more_tree o (closed_but hooks table s form on_way becomes (suc k) ts))
+          (closed_alike hooks table (child_as table s form k) t (change t) first);
+      fail = λ path. ap (λ (fs : List Failure). fs ++ failures_but hooks table s form on_way beneath (suc k) path ts)
+          (first.fails (path ++ step_as form k ∷ []));
+    }
+  where
+    first : IsAlike hooks table (child_as table s form k) t (change t)
+    first = let here : i ≡ k = omega arith in
+        subst (λ (m : ℕ). IsAlike hooks table (child_as table s form m) t (change t)) here alike
+but_alike hooks table s form (suc on_way) becomes beneath (suc d) k (branch t ts) i change is within alike on =
+    let rest : AreAlikeBut hooks table s form on_way becomes beneath (suc k) ts (change_nth d change ts)
+    = but_alike hooks table s form on_way becomes beneath d (suc k) ts i change (omega arith) (omega arith) alike
+        (λ same. on (ap suc same)) in
+    record {
+      become = ap (one_more_tree (closed hooks table (child_as table s form k) t)) rest.become;
+      fail = λ path. ap (λ (fs : List Failure).
+          failures hooks table (child_as table s form k) (path ++ step_as form k ∷ []) t ++ fs) (rest.fail path);
+    }
+
+-- the place at the cursor, with such a child
+here_alike : (hooks : Meanings) (table : Table) (s : ℕ) (form : Form) (ts us : Trees) → AreAlike hooks table s form 0 ts us
+    → FinishAlike hooks table s [] (begun form ts) (begun form us)
+here_alike hooks table s form ts us alike = record {
+  become = ap (λ (values : Option Vals). option_map (begun_with form) values) alike.make;
+  fail = alike.fail;
+}
+
+-- a place above the cursor
+above_alike : (hooks : Meanings) (table : Table) (s : ℕ) (form : Form) (i : ℕ) (cursor : Place) (ts us : Trees)
+    → AreAlikeBut hooks table s form i (λ (shape : ℕ) (t : Tree). finished hooks table shape cursor t)
+    (λ (shape : ℕ) (to : List PathStep) (t : Tree). failures_off hooks table shape to cursor t) 0 ts us
+    → FinishAlike hooks table s (i ∷ cursor) (begun form ts) (begun form us)
+above_alike hooks table s form i cursor ts us alike = record {
+  become = ap (λ (children : Option Trees). option_map (begun form) children) alike.become;
+  fail = alike.fail;
+}
+
+off_beneath : (c i : ℕ) (cursor here : Place) → c ≡ i → IsOffTheWay (c ∷ cursor) (i ∷ here) → IsOffTheWay cursor here
+off_beneath c i cursor here same off way e = off way (ap₂ (λ (k : ℕ) (rest : Place). k ∷ rest) same e)
+
+pub finish_alike : (hooks : Meanings) (table : Table) (s : ℕ) (cursor here : Place) (v : Val) (tree : Tree)
+    → Closes hooks table s here v tree → IsOffTheWay cursor here
+    → FinishAlike hooks table s cursor tree (closed_at here v tree)
+finish_alike hooks table s cursor [] v tree closes off = absurd (off cursor refl)
+finish_alike hooks table s [] (i ∷ here) v (begun form ts) closes off =
+    here_alike hooks table s form ts (change_nth i (λ child. closed_at here v child) ts)
+    (alike_nth hooks table s form i 0 ts i (λ child. closed_at here v child) (omega arith) closes.place.0
+    (closing_alike hooks table (child_as table s form i) here v (tree_nth i ts)
+    (below hooks table s i here v form ts closes)))
+finish_alike hooks table s (c ∷ cursor) (i ∷ here) v (begun form ts) closes off =
+    above_alike hooks table s form c cursor ts (change_nth i (λ child. closed_at here v child) ts)
+    (but_alike hooks table s form c (λ (shape : ℕ) (t : Tree). finished hooks table shape cursor t)
+    (λ (shape : ℕ) (to : List PathStep) (t : Tree). failures_off hooks table shape to cursor t) i 0 ts i
+    (λ child. closed_at here v child) (omega arith) closes.place.0
+    (closing_alike hooks table (child_as table s form i) here v (tree_nth i ts)
+    (below hooks table s i here v form ts closes))
+    (λ same. let child : FinishAlike hooks table (child_as table s form i) cursor (tree_nth i ts)
+        (closed_at here v (tree_nth i ts))
+    = finish_alike hooks table (child_as table s form i) cursor here v (tree_nth i ts)
+        (below hooks table s i here v form ts closes) (off_beneath c i cursor here same off) in
+    (child.become, child.fail)))
+finish_alike hooks table s cursor (i ∷ here) v _ closes off = absurd closes.place
+
+pub closing_keeps_finish : ClosingKeepsFinish
+closing_keeps_finish hooks table s cursor here v tree closes off =
+    (finish_alike hooks table s cursor here v tree closes off).become
+
+pub closing_keeps_failures_off : ClosingKeepsFailuresOff
+closing_keeps_failures_off hooks table s path cursor here v tree closes off =
+    (finish_alike hooks table s cursor here v tree closes off).fail path

@@ -1,9 +1,6 @@
 use Rattle.fr_model.specs.Tree.{tree_occurs}
 use Rattle.fr_model.proofs.Completing.{Made, completes_or_lacks, completing_makes}
 use Rattle.fr_model.proofs.Failing.{completes_or_fails}
-use Rattle.fr_model.proofs.Finishes.{finishes_or_refuses}
-use Rattle.fr_model.proofs.FirstFailure.{first_is}
-use Rattle.fr_model.proofs.Closing.{closing_keeps_failures}
 use Rattle.fr_model.proofs.laws.law_completes.Goals as goal
 
 pub returns-clause-or_lacks : goal.returns-clause-or_lacks
