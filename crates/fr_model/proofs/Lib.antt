@@ -2,10 +2,14 @@ pub mod Agreement
 pub mod ArrayRows
 pub mod Beneath
 pub mod Children
+pub mod Closing
 pub mod Completing
 pub mod Covering
 pub mod Cursor
 pub mod DefaultRows
+pub mod Failing
+pub mod Finishes
+pub mod FirstFailure
 pub mod Moves
 pub mod Opening
 pub mod Paths
