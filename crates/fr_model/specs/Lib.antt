@@ -3,6 +3,7 @@ pub mod Commands
 pub mod Complete
 pub mod Covering
 pub mod Failing
+pub mod FailingLaws
 pub mod Finish
 pub mod FinishLaws
 pub mod Finishing

@@ -1,6 +1,8 @@
 //! Laws of the definitions: each is the contract of a function that does nothing.
 ghost use Rattle.fr_model.specs.Agree.{MachineAgrees, StartIsRelated, StepKeepsRelated};
 ghost use Rattle.fr_model.specs.Covering.{ScanAgrees, WaysAgree};
+ghost use Rattle.fr_model.specs.FailingLaws.{FailuresLieThere, FinishesOrRefuses, FinishOfDone, FirstByWalkIs, LackingFails, NothingFailsOfDone};
+ghost use Rattle.fr_model.specs.FinishLaws.{ClosingKeepsCompletion, ClosingKeepsFailures, ClosingKeepsFailuresOff, ClosingKeepsFinish};
 ghost use Rattle.fr_model.specs.Finishing.{NotesWhatIsDue, StuckOrNoted};
 ghost use Rattle.fr_model.specs.Laws.{BuildKeepsTokens, CompletesOrFails, CompletesOrLacks, CompletingFits, CompletingKeepsTokens, StartIsWell, StepKeepsDistinct, StepKeepsOrder, StepKeepsTokens};
 ghost use Rattle.fr_model.specs.PathLaws.{EnteringAddsAStep, FinishingKeepsThePath, LeavingAsItIs, LeavingDropsAStep, PathIsAsDeep, PuttingKeepsThePath};
@@ -20,6 +22,15 @@ pub fn law_covering()
     ensures ways { WaysAgree }
 {}
 
+/// Where a place off the way makes a value and becomes whole with it, the tree still makes what it made, what fails in it still
+/// fails, and the end of deferred mode is what it was.
+pub fn law_closing()
+    ensures completion { ClosingKeepsCompletion }
+    ensures failures { ClosingKeepsFailures }
+    ensures finish { ClosingKeepsFinish }
+    ensures failures_off { ClosingKeepsFailuresOff }
+{}
+
 /// In strict mode a place completes unless it lacks something, and at the end of deferred mode unless it or a place beneath it
 /// fails. Over a checked table, what completes of a tree that suits its shape fits that shape and keeps its tokens.
 pub fn law_completes()
@@ -27,6 +38,18 @@ pub fn law_completes()
     ensures or_fails { CompletesOrFails }
     ensures fits { CompletingFits }
     ensures tokens { CompletingKeepsTokens }
+{}
+
+/// What fails at the end of deferred mode is half done and lies off the way, and a place that lacks something by itself fails, its
+/// children being whole or holes. That end is refused exactly where something fails, or the place at which the builder works lacks
+/// something. Once every place off the way is whole or a hole, only that place is left to be finished.
+pub fn law_failing()
+    ensures lie { FailuresLieThere }
+    ensures lacking { LackingFails }
+    ensures first { FirstByWalkIs }
+    ensures refuses { FinishesOrRefuses }
+    ensures nothing { NothingFailsOfDone }
+    ensures done { FinishOfDone }
 {}
 
 /// What the end of deferred mode notes, and when it can't end, is what the three rules on places say.

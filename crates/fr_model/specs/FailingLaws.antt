@@ -1,0 +1,80 @@
+-- Which places fail at the end of deferred mode, and what that end is once nothing is left.
+use Rattle.std.specs.Prelude.{◌≡◌, ◌⊎◌, ℕ, List, [], ◌++◌, is_none, is_some, Some}
+use Rattle.std.specs.List.{Contains}
+use Rattle.std.specs.Option.{option_map, option_or}
+use Rattle.std.specs.declared.cmp.Ordering.{Ordering}
+use Rattle.fr_shape.specs.declared.error.ReflectErrorKind.{ReflectErrorKind}
+use Rattle.fr_shape.specs.Hooks.{Meanings}
+use Rattle.fr_shape.specs.Look.{Table}
+use Rattle.fr_path.specs.declared.path_steps.PathStep.{PathStep}
+use Rattle.fr_path.specs.Order.{walk_order}
+use Rattle.fr_model.specs.Failing.{Failure, first_by_walk, own_lack}
+use Rattle.fr_model.specs.Finish.{finished, finished_here, failures_off, kind_of}
+use Rattle.fr_model.specs.Finishing.{IsOffTheWay}
+use Rattle.fr_model.specs.Paths.{steps_in}
+use Rattle.fr_model.specs.Places.{Place}
+use Rattle.fr_model.specs.Relation.{HasPlace}
+use Rattle.fr_model.specs.Tree.{Mode, strict, Tree, hole, entered, whole, begun, tree_at, change_at, shape_in}
+use Rattle.fr_model.specs.Well.{AtCursor, Leads}
+
+-- a place is neither a hole nor whole
+abbrev pub IsHalfDone : Tree → Type 0
+IsHalfDone hole = ⊥
+IsHalfDone entered = Unit {0}
+IsHalfDone (whole v) = ⊥
+IsHalfDone (begun form children) = Unit {0}
+
+-- a failure is that of a place of the tree, off the way, that is half done
+pub record LiesThere (path : List PathStep) (cursor : Place) (tree : Tree) (failure : Failure) : Type 0 where
+  pub here : Place
+  pub place : HasPlace here tree
+  pub off : IsOffTheWay cursor here
+  pub half : IsHalfDone (tree_at here tree)
+  pub at : failure.path ≡ path ++ steps_in here tree
+
+abbrev pub FailuresLieThere : Type 0
+FailuresLieThere =
+    (hooks : Meanings) (table : Table) (s : ℕ) (path : List PathStep) (cursor : Place) (tree : Tree) (failure : Failure)
+    → Contains (failures_off hooks table s path cursor tree) failure → LiesThere path cursor tree failure
+
+-- a half done place off the way, whose children are whole or holes, fails with what it lacks by itself
+abbrev pub LackingFails : Type 0
+LackingFails =
+    (hooks : Meanings) (table : Table) (s : ℕ) (path : List PathStep) (mode : Mode) (cursor here : Place) (tree : Tree)
+    (kind : ReflectErrorKind)
+    → Leads mode cursor tree → HasPlace here tree → IsOffTheWay cursor here → IsHalfDone (tree_at here tree)
+    → AtCursor strict (tree_at here tree) → own_lack hooks table (shape_in table s here tree) (tree_at here tree) ≡ Some kind
+    → Contains (failures_off hooks table s path cursor tree) (record { path = path ++ steps_in here tree; kind = kind })
+
+-- the failure with which one starts is the first of some, or comes before the other
+abbrev pub IsOrAfter : Failure → Failure → Type 0
+IsOrAfter first other = (other ≡ first) ⊎ (walk_order first.path other.path ≡ Ordering.Less)
+
+-- one of some failures that all others come after in the order of the walk is the first of them
+abbrev pub FirstByWalkIs : Type 0
+FirstByWalkIs =
+    (failures : List Failure) (first : Failure) → Contains failures first
+    → ((other : Failure) → Contains failures other → IsOrAfter first other) → first_by_walk failures ≡ Some first
+
+-- deferred mode can't end exactly where a place off the way fails, or that at which the builder works lacks something
+abbrev pub FinishesOrRefuses : Type 0
+FinishesOrRefuses =
+    (hooks : Meanings) (table : Table) (s : ℕ) (path : List PathStep) (mode : Mode) (cursor : Place) (tree : Tree)
+    → Leads mode cursor tree
+    → is_none (finished hooks table s cursor tree)
+    ≡ is_some (option_or (kind_of (first_by_walk (failures_off hooks table s path cursor tree)))
+    (own_lack hooks table (shape_in table s cursor tree) (tree_at cursor tree)))
+
+-- where every place off the way is whole or a hole, none of them fails
+abbrev pub NothingFailsOfDone : Type 0
+NothingFailsOfDone =
+    (hooks : Meanings) (table : Table) (s : ℕ) (path : List PathStep) (cursor : Place) (tree : Tree)
+    → Leads strict cursor tree → failures_off hooks table s path cursor tree ≡ []
+
+-- and only the place at which the builder works is still to be finished
+abbrev pub FinishOfDone : Type 0
+FinishOfDone =
+    (hooks : Meanings) (table : Table) (s : ℕ) (cursor : Place) (tree : Tree) → Leads strict cursor tree
+    → finished hooks table s cursor tree
+    ≡ option_map (λ (here : Tree). change_at cursor (λ old. here) tree)
+    (finished_here hooks table (shape_in table s cursor tree) (tree_at cursor tree))
