@@ -6,6 +6,8 @@ pub mod Completing
 pub mod Covering
 pub mod Cursor
 pub mod DefaultRows
+pub mod FinishAgreement
+pub mod FinishNotes
 pub mod Moves
 pub mod Opening
 pub mod Paths
