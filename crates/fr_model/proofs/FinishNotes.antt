@@ -159,7 +159,8 @@ means_each Due noted each (suc count) i =
 -- The notes along the way
 
 -- of child j of the place `above` of shape s, which isn't on the way
-pub record IsBeside (table : Table) (notes : Journal) (s : ℕ) (above : Place) (on_way j : ℕ) (here : Place) (value : Option Val) : Type 0 where
+pub record IsBeside (table : Table) (notes : Journal) (s : ℕ) (above : Place) (on_way j : ℕ) (here : Place) (value : Option Val)
+    : Type 0 where
   pub apart : j ≢ on_way
   pub touched : held notes (above ++ j ∷ []) ≢ untouched
   pub child : here ≡ above ++ j ∷ []
