@@ -7,14 +7,14 @@ use Rattle.fr_shape.specs.declared.shape.StructDef.{StructDef}
 use Rattle.fr_shape.specs.declared.shape.Field.{Field}
 use Rattle.fr_shape.specs.declared.shape.DefaultSource.{DefaultSource}
 use Rattle.fr_shape.specs.Checked.{IsChecked, fields_of, is_template, default_is_template, is_none_val}
-use Rattle.fr_shape.specs.Fills.{preset_in, preset_of, strict_by_mark, takes_shape_default, by_strict_rule, strict_fill}
+use Rattle.fr_shape.specs.Fills.{preset_in, preset_of, has_default, strict_by_mark, takes_shape_default, by_strict_rule, deferred_by_mark, takes_deferred_default, by_deferred_rule}
 use Rattle.fr_shape.specs.Look.{Table, def_or_other, def_of, field_in}
 use Rattle.fr_shape.specs.Lists.{is_nil}
 use Rattle.fr_shape.specs.Val.{Val, none}
 use Rattle.fr_shape.specs.Fits.{fits}
 use Rattle.fr_shape.specs.Tokens.{tokens, times, occurs}
 use Rattle.fr_shape.specs.TokenLaws.{occurs_times}
-use Rattle.fr_model.specs.Places.{child_shape, fill_of_field, fill_at}
+use Rattle.fr_model.specs.Places.{Column, strict_column, deferred_column, child_shape, fill_by, fill_of_field, fill_at}
 
 -- lists and tests
 
@@ -124,10 +124,10 @@ default_template table s struct i field v checked is at marked =
         (list_all (λ (f : Field). default_is_template table f.shape.0 f.default) (fields_of here.shape.def))
         (checked.templates s here.shape here.is)).1) at
 
-field_template : (table : Table) (s : ℕ) (struct : StructDef) (i : ℕ) (field : Field) (v : Val) → IsChecked table
-    → def_of table s ≡ Def.Struct struct → slice_get struct.fields i ≡ Some field
-    → strict_fill table s false field ≡ Some v → IsTemplate table field.shape.0 v
-field_template table s struct i field v checked is at e =
+field_template : (column : Column) (table : Table) (s : ℕ) (struct : StructDef) (i : ℕ) (field : Field) (v : Val)
+    → IsChecked table → def_of table s ≡ Def.Struct struct → slice_get struct.fields i ≡ Some field
+    → fill_by column table s false field ≡ Some v → IsTemplate table field.shape.0 v
+field_template strict_column table s struct i field v checked is at e =
     go field.default (takes_shape_default table s false field) refl e
   where
     go : (mark : Option DefaultSource) (unmarked : Bool) → field.default ≡ mark
@@ -138,20 +138,32 @@ field_template table s struct i field v checked is at e =
     go (Some DefaultSource.FromTrait) unmarked marked e = preset_template table field.shape.0 v checked e
     go None true marked e = preset_template table field.shape.0 v checked e
     go None false marked e = cc
+field_template deferred_column table s struct i field v checked is at e =
+    go field.default (has_default table field.shape.0) (takes_deferred_default table s field) refl e
+  where
+    go : (mark : Option DefaultSource) (has unmarked : Bool) → field.default ≡ mark
+        → by_deferred_rule table field (deferred_by_mark mark has unmarked) ≡ Some v → IsTemplate table field.shape.0 v
+    go (Some (DefaultSource.Custom value)) has unmarked marked e =
+        let same : value ≡ v = cc in
+        rw (← same) (default_template table s struct i field value checked is at marked)
+    go (Some DefaultSource.FromTrait) true unmarked marked e = preset_template table field.shape.0 v checked e
+    go (Some DefaultSource.FromTrait) false unmarked marked e = cc
+    go None has true marked e = preset_template table field.shape.0 v checked e
+    go None has false marked e = cc
 
 -- what a hole takes
-pub fill_template : (table : Table) (s i : ℕ) (v : Val) → IsChecked table → fill_at table s i ≡ Some v
-    → IsTemplate table (child_shape table s i) v
-fill_template table s i v checked e = go (def_of table s) refl e
+pub fill_template : (column : Column) (table : Table) (s i : ℕ) (v : Val) → IsChecked table
+    → fill_at column table s i ≡ Some v → IsTemplate table (child_shape table s i) v
+fill_template column table s i v checked e = go (def_of table s) refl e
   where
     of_field : (struct : StructDef) (found : Option Field) → def_of table s ≡ Def.Struct struct
-        → slice_get struct.fields i ≡ found → fill_of_field table s false found ≡ Some v
+        → slice_get struct.fields i ≡ found → fill_of_field column table s false found ≡ Some v
         → IsTemplate table (child_shape table s i) v
     of_field struct (Some field) is at e =
-        rw (is, at) (field_template table s struct i field v checked is at e)
+        rw (is, at) (field_template column table s struct i field v checked is at e)
     of_field struct None is at e = cc
 
-    go : (def : Def) → def_of table s ≡ def → fill_of_field table s false (field_in def None i) ≡ Some v
+    go : (def : Def) → def_of table s ≡ def → fill_of_field column table s false (field_in def None i) ≡ Some v
         → IsTemplate table (child_shape table s i) v
     go (Def.Struct struct) is e = of_field struct (slice_get struct.fields i) is refl e
     go _ is e = cc

@@ -6,10 +6,10 @@ pub returns-clause-or_lacks : goal.returns-clause-or_lacks
 returns-clause-or_lacks c hooks table s tree = completes_or_lacks hooks table s tree
 
 pub returns-clause-fits : goal.returns-clause-fits
-returns-clause-fits c hooks table s tree v checked suits e =
-    let made : Made table s (λ t. tree_occurs tree t) v = completing_makes hooks table tree s v checked suits e in made.fit
+returns-clause-fits c column hooks table s tree v checked suits e =
+    let made : Made table s (λ t. tree_occurs tree t) v = completing_makes column hooks table tree s v checked suits e in made.fit
 
 pub returns-clause-tokens : goal.returns-clause-tokens
-returns-clause-tokens c hooks table s tree v t checked suits e =
-    let made : Made table s (λ t. tree_occurs tree t) v = completing_makes hooks table tree s v checked suits e in
+returns-clause-tokens c column hooks table s tree v t checked suits e =
+    let made : Made table s (λ t. tree_occurs tree t) v = completing_makes column hooks table tree s v checked suits e in
     made.hold t
