@@ -1,1 +1,140 @@
--- later
+-- The end of deferred mode does the same to the tree and to the journal.
+use Rattle.std.proofs.Common.{◌≡◌, ◌≢◌, ℕ, zero, suc, ◌+◌, ◌<◌, ◌≤◌, Bool, true, false, ◌==◌, eq-eqb, if◌then◌else◌, List, [], ◌∷◌, ◌++◌, map, append_assoc, append-nil, Option, Some, None, refl, sym, ◌∙◌, ap, ap₂, subst, arith}
+use Rattle.std.specs.Option.{option_map}
+use Rattle.std.proofs.lemmas.List.{map-append}
+use Rattle.fr_shape.specs.Checked.{IsChecked}
+use Rattle.fr_shape.specs.Hooks.{Meanings}
+use Rattle.fr_shape.specs.Look.{Table, def_of}
+use Rattle.fr_shape.specs.Val.{Val, Vals}
+use Rattle.fr_model.specs.Complete.{complete, complete_all, hole_takes, valid_child}
+use Rattle.fr_model.specs.Finish.{closed, one_more_tree, closed_all, closed_but, begun_with, finished_here, finished}
+use Rattle.fr_model.specs.Journal.{Note, entered_at, wrote_at, Journal, Held, in_parts, written, just_entered, untouched, held, longest, child_makes, completes, both_notes, each_notes, writing, closing_by, closing, closing_beside, closing_parts, closing_here_by, closing_here, finish_notes}
+use Rattle.fr_model.specs.Places.{Place, Column, deferred_column, child_count, child_shape, one_more, fill_at}
+use Rattle.fr_model.specs.Tree.{Form, Tree, hole, entered, whole, begun, Trees, no_trees, branch, for_hole, tree_nth, child_as, count_trees, wholes, Mode, State}
+use Rattle.fr_model.specs.Well.{IsBegunAs, Suits, AtCursor, Leads, IsInOrder}
+use Rattle.fr_model.proofs.Agreement.{IsWhole, by_value, by_entry, Agrees, AgreeAll, agree_nth, begun_count, child_as_is, completes_tree, in_child, under, under_wrote, down_same, down_other, leads_child, leads_within}
+use Rattle.fr_model.proofs.Beneath.{down, along, held_down, held_along, completes_along, longest_along}
+use Rattle.fr_model.proofs.Plain.{AllPlain, plain_child, valid_same}
+use Rattle.fr_model.proofs.Structs.{SuitFrom, suit_nth}
+
+-- journals that are joined, and notes at children
+
+pub down_append : (i : ℕ) (some others : Journal) → down i (some ++ others) ≡ down i some ++ down i others
+down_append i [] others = refl
+down_append i (entered_at [] ∷ some) others = down_append i some others
+down_append i (entered_at (j ∷ place) ∷ some) others =
+    elim (j == i) as (λ b. (if b then entered_at place ∷ down i (some ++ others) else down i (some ++ others))
+    ≡ (if b then entered_at place ∷ down i some else down i some) ++ down i others) [
+      | true ↦ ap (λ (notes : Journal). entered_at place ∷ notes) (down_append i some others)
+      | false ↦ down_append i some others
+    ]
+down_append i (wrote_at [] v ∷ some) others =
+    ap (λ (notes : Journal). wrote_at [] _ ∷ notes) (down_append i some others)
+down_append i (wrote_at (j ∷ place) v ∷ some) others =
+    elim (j == i) as (λ b. (if b then wrote_at place v ∷ down i (some ++ others) else down i (some ++ others))
+    ≡ (if b then wrote_at place v ∷ down i some else down i some) ++ down i others) [
+      | true ↦ ap (λ (notes : Journal). wrote_at place v ∷ notes) (down_append i some others)
+      | false ↦ down_append i some others
+    ]
+
+-- notes, at places counted from the parent of child i on
+abbrev all_in_child : ℕ → Journal → Journal
+all_in_child i notes = map (in_child i) notes
+
+-- notes, at places counted from as far above
+abbrev all_under : Place → Journal → Journal
+all_under above notes = map (under above) notes
+
+down_in : (i : ℕ) (notes : Journal) → down i (all_in_child i notes) ≡ notes
+down_in i [] = refl
+down_in i (note ∷ notes) =
+    down_same i note (all_in_child i notes) ∙ ap (λ (some : Journal). note ∷ some) (down_in i notes)
+
+down_beside : (i j : ℕ) (notes : Journal) → (j ≡ i → ⊥) → down j (all_in_child i notes) ≡ []
+down_beside i j [] apart = refl
+down_beside i j (note ∷ notes) apart = down_other i j note (all_in_child i notes) apart ∙ down_beside i j notes apart
+
+along_on : (above : Place) (i : ℕ) (notes : Journal) → along (above ++ i ∷ []) notes ≡ down i (along above notes)
+along_on [] i notes = refl
+along_on (j ∷ above) i notes = along_on above i (down j notes)
+
+under_on : (above : Place) (i : ℕ) (note : Note) → under (above ++ i ∷ []) note ≡ under above (in_child i note)
+under_on [] i note = refl
+under_on (j ∷ above) i note = ap (in_child j) (under_on above i note)
+
+all_under_on : (above : Place) (i : ℕ) (notes : Journal)
+    → all_under (above ++ i ∷ []) notes ≡ all_under above (all_in_child i notes)
+all_under_on above i [] = refl
+all_under_on above i (note ∷ notes) =
+    ap₂ (λ (first : Note) (rest : Journal). first ∷ rest) (under_on above i note) (all_under_on above i notes)
+
+-- notes at children leave parts where there were parts
+parts_stay : (i : ℕ) (some notes : Journal) → held notes [] ≡ in_parts → held (all_in_child i some ++ notes) [] ≡ in_parts
+parts_stay i [] notes parts = parts
+parts_stay i (entered_at place ∷ some) notes parts = refl
+parts_stay i (wrote_at place v ∷ some) notes parts = refl
+
+-- what becomes of a place and of its children
+
+-- Of a place of shape s that is here: a tree and notes, counted from here on, with which it agrees, before what the journal says of
+-- the place; or neither is there.
+pub data BothEnd (table : Table) (s : ℕ) (here : Place) (seen : Journal) (tree : Option Tree) (found : Option Journal) : Type 0 where
+  both_end : (after : Tree) (added : Journal) → tree ≡ Some after → found ≡ Some (all_under here added)
+      → Agrees table s (added ++ seen) after → BothEnd table s here seen tree found
+  neither : tree ≡ None → found ≡ None → BothEnd table s here seen tree found
+
+-- the same of the children from number k on
+pub data AllEnd (table : Table) (s : ℕ) (form : Form) (above : Place) (seen : Journal) (k : ℕ) (trees : Option Trees) (found : Option Journal) : Type 0 where
+  all_end : (after : Trees) (added : Journal) → trees ≡ Some after → found ≡ Some (all_under above added)
+      → ((j : ℕ) → j < k → down j added ≡ [])
+      → ((notes : Journal) → held notes [] ≡ in_parts → held (added ++ notes) [] ≡ in_parts)
+      → AgreeAll table s form (added ++ seen) k after → AllEnd table s form above seen k trees found
+  one_fails : trees ≡ None → found ≡ None → AllEnd table s form above seen k trees found
+
+agree_seen : (table : Table) (s : ℕ) (form : Form) (ts : Trees) (k : ℕ) (notes after : Journal)
+    → ((j : ℕ) → k ≤ j → down j after ≡ down j notes) → AgreeAll table s form notes k ts → AgreeAll table s form after k ts
+agree_seen table s form no_trees k notes after same agrees = tt
+agree_seen table s form (branch t ts) k notes after same agrees = (
+  subst (λ (seen : Journal). Agrees table (child_as table s form k) seen t) (sym (same k (omega arith))) agrees.0,
+  agree_seen table s form ts (suc k) notes after (λ j h. same j (omega arith)) agrees.1,
+)
+
+module _ (table : Table) (s : ℕ) (form : Form) (above : Place) (seen : Journal) where
+  -- no child is left
+  none_left : (k : ℕ) → AllEnd table s form above seen k (Some no_trees) (Some [])
+  none_left k = all_end no_trees [] refl refl (λ j below. refl) (λ notes parts. parts) tt
+
+  -- child k and the ones after it
+  one_more_ends : (k : ℕ) (tree : Option Tree) (trees : Option Trees) (found others : Option Journal)
+      → BothEnd table (child_as table s form k) (above ++ k ∷ []) (down k seen) tree found
+      → AllEnd table s form above seen (suc k) trees others
+      → AllEnd table s form above seen k (one_more_tree tree trees) (both_notes found others)
+  one_more_ends k tree trees found others (neither no_tree no_note) rest = rw (no_tree, no_note) (one_fails refl refl)
+  one_more_ends k tree trees found others (both_end after added is noted agrees) (one_fails no_trees no_notes) =
+      rw (is, noted, no_trees, no_notes) (one_fails refl refl)
+  one_more_ends k tree trees found others (both_end after added is noted agrees)
+      (all_end afters addeds are all_noted lower parts agree) =
+      all_end (branch after afters) (all_in_child k added ++ addeds) (rw (is, are) refl)
+      (rw (noted, all_noted)
+      (ap Some
+      (ap (λ (some : Journal). some ++ all_under above addeds) (all_under_on above k added)
+      ∙ sym (map-append (under above) (all_in_child k added) addeds))))
+      (λ j below. down_append j (all_in_child k added) addeds
+      ∙ ap₂ (λ (some others : Journal). some ++ others) (down_beside k j added (λ same. omega arith)) (lower j (omega arith)))
+      (λ notes has. subst (λ (all : Journal). held all [] ≡ in_parts) (sym (append_assoc (all_in_child k added) addeds notes))
+      (parts_stay k added (addeds ++ notes) (parts notes has)))
+      (subst (λ (all : Journal). AgreeAll table s form all k (branch after afters))
+      (sym (append_assoc (all_in_child k added) addeds seen))
+      (subst (λ (all : Journal). Agrees table (child_as table s form k) all after) (sym at_k) agrees,
+      agree_seen table s form afters (suc k) (addeds ++ seen) (all_in_child k added ++ (addeds ++ seen)) (λ j above. at_later j above) agree))
+    where
+      at_k : down k (all_in_child k added ++ (addeds ++ seen)) ≡ added ++ down k seen
+      at_k =
+          down_append k (all_in_child k added) (addeds ++ seen)
+          ∙ ap₂ (λ (some others : Journal). some ++ others) (down_in k added)
+          (down_append k addeds seen ∙ ap (λ (some : Journal). some ++ down k seen) (lower k (omega arith)))
+
+      at_later : (j : ℕ) → suc k ≤ j → down j (all_in_child k added ++ (addeds ++ seen)) ≡ down j (addeds ++ seen)
+      at_later j later =
+          down_append j (all_in_child k added) (addeds ++ seen)
+          ∙ ap (λ (some : Journal). some ++ down j (addeds ++ seen)) (down_beside k j added (λ same. omega arith))
