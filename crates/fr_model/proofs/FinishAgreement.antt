@@ -9,7 +9,7 @@ use Rattle.fr_shape.specs.Val.{Val, Vals}
 use Rattle.fr_model.specs.Complete.{complete, complete_all, hole_takes, valid_child}
 use Rattle.fr_model.specs.Finish.{closed, one_more_tree, closed_all, closed_but, begun_with, finished_here, finished}
 use Rattle.fr_model.specs.Journal.{Note, entered_at, wrote_at, Journal, Held, in_parts, written, just_entered, untouched, held, longest, child_makes, completes, both_notes, each_notes, writing, closing_by, closing, closing_beside, closing_parts, closing_here_by, closing_here, finish_notes}
-use Rattle.fr_model.specs.Places.{Place, Column, deferred_column, child_count, child_shape, one_more, fill_at}
+use Rattle.fr_model.specs.Places.{Place, Column, deferred_column, child_count, child_shape, part, one_more, part, fill_at}
 use Rattle.fr_model.specs.Tree.{Form, Tree, hole, entered, whole, begun, Trees, no_trees, branch, for_hole, tree_nth, child_as, count_trees, wholes, Mode, State}
 use Rattle.fr_model.specs.Well.{IsBegunAs, Suits, AtCursor, Leads, IsInOrder}
 use Rattle.fr_model.proofs.Agreement.{IsWhole, by_value, by_entry, Agrees, AgreeAll, agree_nth, begun_count, child_as_is, completes_tree, in_child, under, under_wrote, down_same, down_other, leads_child, leads_within}
@@ -29,7 +29,7 @@ down_append i (entered_at (j ∷ place) ∷ some) others =
       | false ↦ down_append i some others
     ]
 down_append i (wrote_at [] v ∷ some) others =
-    ap (λ (notes : Journal). wrote_at [] _ ∷ notes) (down_append i some others)
+    ap (λ (notes : Journal). wrote_at [] (part v i) ∷ notes) (down_append i some others)
 down_append i (wrote_at (j ∷ place) v ∷ some) others =
     elim (j == i) as (λ b. (if b then wrote_at place v ∷ down i (some ++ others) else down i (some ++ others))
     ≡ (if b then wrote_at place v ∷ down i some else down i some) ++ down i others) [
@@ -138,3 +138,56 @@ module _ (table : Table) (s : ℕ) (form : Form) (above : Place) (seen : Journal
       at_later j later =
           down_append j (all_in_child k added) (addeds ++ seen)
           ∙ ap (λ (some : Journal). some ++ down j (addeds ++ seen)) (down_beside k j added (λ same. omega arith))
+
+-- a value that is written to a place, if it is there
+write_ends : (table : Table) (s : ℕ) (here : Place) (seen : Journal) (tree value : Option Val) → value ≡ tree
+    → BothEnd table s here seen (option_map whole tree) (writing here value)
+write_ends table s here seen None value same = rw same (neither refl refl)
+write_ends table s here seen (Some v) value same =
+    rw same
+    (both_end (whole v) (wrote_at [] v ∷ []) refl (ap (λ (note : Note). Some (note ∷ [])) (sym (under_wrote here v))) (by_value refl))
+
+module _ (hooks : Meanings) (table : Table) (checked : IsChecked table) (notes : Journal) where
+  -- what a place makes, by the journal and by the tree
+  value_at : (s : ℕ) (here : Place) (t : Tree) → AllPlain table s → Suits table s t → Agrees table s (along here notes) t
+      → completes deferred_column table notes s here ≡ complete deferred_column hooks table s t
+  value_at s here t plain suits agrees =
+      completes_along deferred_column table (suc (longest notes)) notes s here
+      ∙ completes_tree deferred_column hooks table t (longest notes) s (along here notes) checked plain suits agrees
+      (omega (arith, longest_along here notes))
+
+  -- a place off the way
+  closed_ends : (s : ℕ) (here : Place) (seen : Journal) (t : Tree) → seen ≡ along here notes → AllPlain table s → Suits table s t
+      → Agrees table s (along here notes) t
+      → BothEnd table s here seen (closed hooks table s t) (closing table notes s here)
+  closed_ends s here seen hole same plain suits agrees =
+      both_end hole [] refl
+      (ap (λ (h : Held). closing_by h (writing here (completes deferred_column table notes s here)))
+      (held_along notes here ∙ agrees))
+      (ap (λ (some : Journal). held some []) same ∙ agrees)
+  closed_ends s here seen entered same plain suits agrees =
+      subst (λ (h : Held). BothEnd table s here seen (closed hooks table s entered)
+      (closing_by h (writing here (completes deferred_column table notes s here))))
+      (sym (held_along notes here ∙ agrees))
+      (write_ends table s here seen _ _ (value_at s here entered plain suits agrees))
+  closed_ends s here seen (whole v) same plain suits agrees = go agrees
+    where
+      own : BothEnd table s here seen (closed hooks table s (whole v))
+          (writing here (completes deferred_column table notes s here))
+      own = write_ends table s here seen (Some v) _ (value_at s here (whole v) plain suits agrees)
+
+      go : IsWhole table s v (held (along here notes) [])
+          → BothEnd table s here seen (closed hooks table s (whole v)) (closing table notes s here)
+      go (by_value e) =
+          subst (λ (h : Held). BothEnd table s here seen (closed hooks table s (whole v))
+          (closing_by h (writing here (completes deferred_column table notes s here))))
+          (sym (held_along notes here ∙ e)) own
+      go (by_entry e empty is) =
+          subst (λ (h : Held). BothEnd table s here seen (closed hooks table s (whole v))
+          (closing_by h (writing here (completes deferred_column table notes s here))))
+          (sym (held_along notes here ∙ e)) own
+  closed_ends s here seen (begun form ts) same plain suits agrees =
+      subst (λ (h : Held). BothEnd table s here seen (closed hooks table s (begun form ts))
+      (closing_by h (writing here (completes deferred_column table notes s here))))
+      (sym (held_along notes here ∙ agrees.0))
+      (write_ends table s here seen _ _ (value_at s here (begun form ts) plain suits agrees))
