@@ -91,6 +91,13 @@ pub data AllEnd (table : Table) (s : ℕ) (form : Form) (above : Place) (seen : 
       → AgreeAll table s form (added ++ seen) k after → AllEnd table s form above seen k trees found
   one_fails : trees ≡ None → found ≡ None → AllEnd table s form above seen k trees found
 
+-- a tree that isn't a hole
+abbrev IsTouched : Tree → Type 0
+IsTouched hole = ⊥
+IsTouched entered = Unit {0}
+IsTouched (whole v) = Unit {0}
+IsTouched (begun form ts) = Unit {0}
+
 agree_seen : (table : Table) (s : ℕ) (form : Form) (ts : Trees) (k : ℕ) (notes after : Journal)
     → ((j : ℕ) → k ≤ j → down j after ≡ down j notes) → AgreeAll table s form notes k ts → AgreeAll table s form after k ts
 agree_seen table s form no_trees k notes after same agrees = tt
@@ -101,8 +108,8 @@ agree_seen table s form (branch t ts) k notes after same agrees = (
 
 module _ (table : Table) (s : ℕ) (form : Form) (above : Place) (seen : Journal) where
   -- no child is left
-  none_left : (k : ℕ) → AllEnd table s form above seen k (Some no_trees) (Some [])
-  none_left k = all_end no_trees [] refl refl (λ j below. refl) (λ notes parts. parts) tt
+  nothing_left : (k : ℕ) → AllEnd table s form above seen k (Some no_trees) (Some [])
+  nothing_left k = all_end no_trees [] refl refl (λ j below. refl) (λ notes parts. parts) tt
 
   -- child k and the ones after it
   one_more_ends : (k : ℕ) (tree : Option Tree) (trees : Option Trees) (found others : Option Journal)
@@ -110,8 +117,8 @@ module _ (table : Table) (s : ℕ) (form : Form) (above : Place) (seen : Journal
       → AllEnd table s form above seen (suc k) trees others
       → AllEnd table s form above seen k (one_more_tree tree trees) (both_notes found others)
   one_more_ends k tree trees found others (neither no_tree no_note) rest = rw (no_tree, no_note) (one_fails refl refl)
-  one_more_ends k tree trees found others (both_end after added is noted agrees) (one_fails no_trees no_notes) =
-      rw (is, noted, no_trees, no_notes) (one_fails refl refl)
+  one_more_ends k tree trees found others (both_end after added is noted agrees) (one_fails none_left none_noted) =
+      rw (is, noted, none_left, none_noted) (one_fails refl refl)
   one_more_ends k tree trees found others (both_end after added is noted agrees)
       (all_end afters addeds are all_noted lower parts agree) =
       all_end (branch after afters) (all_in_child k added ++ addeds) (rw (is, are) refl)
@@ -139,6 +146,15 @@ module _ (table : Table) (s : ℕ) (form : Form) (above : Place) (seen : Journal
           down_append j (all_in_child k added) (addeds ++ seen)
           ∙ ap (λ (some : Journal). some ++ down j (addeds ++ seen)) (down_beside k j added (λ same. omega arith))
 
+-- a child that isn't a hole gets its own value
+closes_own : (table : Table) (s : ℕ) (t : Tree) (notes : Journal) (own : Option Journal) → IsTouched t
+    → Agrees table s notes t → closing_by (held notes []) own ≡ own
+closes_own table s hole notes own touched agrees = absurd touched
+closes_own table s entered notes own touched agrees = rw agrees refl
+closes_own table s (whole v) notes own touched (by_value e) = rw e refl
+closes_own table s (whole v) notes own touched (by_entry e empty is) = rw e refl
+closes_own table s (begun form ts) notes own touched agrees = rw agrees.0 refl
+
 -- a value that is written to a place, if it is there
 write_ends : (table : Table) (s : ℕ) (here : Place) (seen : Journal) (tree value : Option Val) → value ≡ tree
     → BothEnd table s here seen (option_map whole tree) (writing here value)
@@ -156,6 +172,17 @@ module _ (hooks : Meanings) (table : Table) (checked : IsChecked table) (notes :
       ∙ completes_tree deferred_column hooks table t (longest notes) s (along here notes) checked plain suits agrees
       (omega (arith, longest_along here notes))
 
+  left_ends : (s : ℕ) (here : Place) (seen : Journal) (t : Tree) → IsTouched t
+      → completes deferred_column table notes s here ≡ complete deferred_column hooks table s t
+      → Agrees table s (along here notes) t
+      → BothEnd table s here seen (option_map whole (complete deferred_column hooks table s t)) (closing table notes s here)
+  left_ends s here seen t touched value agrees =
+      subst (λ (found : Option Journal).
+      BothEnd table s here seen (option_map whole (complete deferred_column hooks table s t)) found)
+      (sym (ap (λ (h : Held). closing_by h (writing here (completes deferred_column table notes s here))) (held_along notes here)
+      ∙ closes_own table s t (along here notes) _ touched agrees))
+      (write_ends table s here seen _ _ value)
+
   -- a place off the way
   closed_ends : (s : ℕ) (here : Place) (seen : Journal) (t : Tree) → seen ≡ along here notes → AllPlain table s → Suits table s t
       → Agrees table s (along here notes) t
@@ -166,28 +193,8 @@ module _ (hooks : Meanings) (table : Table) (checked : IsChecked table) (notes :
       (held_along notes here ∙ agrees))
       (ap (λ (some : Journal). held some []) same ∙ agrees)
   closed_ends s here seen entered same plain suits agrees =
-      subst (λ (h : Held). BothEnd table s here seen (closed hooks table s entered)
-      (closing_by h (writing here (completes deferred_column table notes s here))))
-      (sym (held_along notes here ∙ agrees))
-      (write_ends table s here seen _ _ (value_at s here entered plain suits agrees))
-  closed_ends s here seen (whole v) same plain suits agrees = go agrees
-    where
-      own : BothEnd table s here seen (closed hooks table s (whole v))
-          (writing here (completes deferred_column table notes s here))
-      own = write_ends table s here seen (Some v) _ (value_at s here (whole v) plain suits agrees)
-
-      go : IsWhole table s v (held (along here notes) [])
-          → BothEnd table s here seen (closed hooks table s (whole v)) (closing table notes s here)
-      go (by_value e) =
-          subst (λ (h : Held). BothEnd table s here seen (closed hooks table s (whole v))
-          (closing_by h (writing here (completes deferred_column table notes s here))))
-          (sym (held_along notes here ∙ e)) own
-      go (by_entry e empty is) =
-          subst (λ (h : Held). BothEnd table s here seen (closed hooks table s (whole v))
-          (closing_by h (writing here (completes deferred_column table notes s here))))
-          (sym (held_along notes here ∙ e)) own
+      left_ends s here seen entered tt (value_at s here entered plain suits agrees) agrees
+  closed_ends s here seen (whole v) same plain suits agrees =
+      left_ends s here seen (whole v) tt (value_at s here (whole v) plain suits agrees) agrees
   closed_ends s here seen (begun form ts) same plain suits agrees =
-      subst (λ (h : Held). BothEnd table s here seen (closed hooks table s (begun form ts))
-      (closing_by h (writing here (completes deferred_column table notes s here))))
-      (sym (held_along notes here ∙ agrees.0))
-      (write_ends table s here seen _ _ (value_at s here (begun form ts) plain suits agrees))
+      left_ends s here seen (begun form ts) tt (value_at s here (begun form ts) plain suits agrees) agrees
