@@ -14,6 +14,7 @@ use Rattle.fr_model.specs.Tree.{Form, Tree, hole, entered, whole, begun, Trees, 
 use Rattle.fr_model.specs.Well.{IsBegunAs, Suits, AtCursor, Leads, IsInOrder}
 use Rattle.fr_model.proofs.Agreement.{IsWhole, by_value, by_entry, Agrees, AgreeAll, agree_nth, begun_count, child_as_is, completes_tree, in_child, under, under_wrote, down_same, down_other, leads_child, leads_within}
 use Rattle.fr_model.proofs.Beneath.{down, along, held_down, held_along, completes_along, longest_along}
+use Rattle.fr_model.proofs.FinishNotes.{hole_makes, touched_makes}
 use Rattle.fr_model.proofs.Plain.{AllPlain, plain_child, valid_same}
 use Rattle.fr_model.proofs.Structs.{SuitFrom, suit_nth}
 
@@ -106,6 +107,9 @@ agree_seen table s form (branch t ts) k notes after same agrees = (
   agree_seen table s form ts (suc k) notes after (λ j h. same j (omega arith)) agrees.1,
 )
 
+not_same : (j k : ℕ) → j ≢ k → (j == k) ≡ false
+not_same j k other = grind arith
+
 module _ (table : Table) (s : ℕ) (form : Form) (above : Place) (seen : Journal) where
   -- no child is left
   nothing_left : (k : ℕ) → AllEnd table s form above seen k (Some no_trees) (Some [])
@@ -146,14 +150,20 @@ module _ (table : Table) (s : ℕ) (form : Form) (above : Place) (seen : Journal
           down_append j (all_in_child k added) (addeds ++ seen)
           ∙ ap (λ (some : Journal). some ++ down j (addeds ++ seen)) (down_beside k j added (λ same. omega arith))
 
--- a child that isn't a hole gets its own value
-closes_own : (table : Table) (s : ℕ) (t : Tree) (notes : Journal) (own : Option Journal) → IsTouched t
-    → Agrees table s notes t → closing_by (held notes []) own ≡ own
-closes_own table s hole notes own touched agrees = absurd touched
-closes_own table s entered notes own touched agrees = rw agrees refl
-closes_own table s (whole v) notes own touched (by_value e) = rw e refl
-closes_own table s (whole v) notes own touched (by_entry e empty is) = rw e refl
-closes_own table s (begun form ts) notes own touched agrees = rw agrees.0 refl
+-- what a journal that agrees holds of such a tree
+touched_held : (table : Table) (s : ℕ) (t : Tree) (notes : Journal) → IsTouched t → Agrees table s notes t
+    → held notes [] ≢ untouched
+touched_held table s hole notes touched agrees e = touched
+touched_held table s entered notes touched agrees e = cc
+touched_held table s (whole v) notes touched (by_value is) e = cc
+touched_held table s (whole v) notes touched (by_entry is empty same) e = cc
+touched_held table s (begun form ts) notes touched agrees e = let parts = agrees.0 in cc
+
+touched_closes : (h : Held) (own : Option Journal) → h ≢ untouched → closing_by h own ≡ own
+touched_closes untouched own touched = absurd (touched refl)
+touched_closes just_entered own touched = refl
+touched_closes (written v) own touched = refl
+touched_closes in_parts own touched = refl
 
 -- a value that is written to a place, if it is there
 write_ends : (table : Table) (s : ℕ) (here : Place) (seen : Journal) (tree value : Option Val) → value ≡ tree
@@ -180,7 +190,7 @@ module _ (hooks : Meanings) (table : Table) (checked : IsChecked table) (notes :
       subst (λ (found : Option Journal).
       BothEnd table s here seen (option_map whole (complete deferred_column hooks table s t)) found)
       (sym (ap (λ (h : Held). closing_by h (writing here (completes deferred_column table notes s here))) (held_along notes here)
-      ∙ closes_own table s t (along here notes) _ touched agrees))
+      ∙ touched_closes (held (along here notes) []) _ (touched_held table s t (along here notes) touched agrees)))
       (write_ends table s here seen _ _ value)
 
   -- a place off the way
@@ -198,3 +208,59 @@ module _ (hooks : Meanings) (table : Table) (checked : IsChecked table) (notes :
       left_ends s here seen (whole v) tt (value_at s here (whole v) plain suits agrees) agrees
   closed_ends s here seen (begun form ts) same plain suits agrees =
       left_ends s here seen (begun form ts) tt (value_at s here (begun form ts) plain suits agrees) agrees
+
+  -- the children of a place that is begun, all but the one on the way
+  module _ (s : ℕ) (form : Form) (above : Place) (plain : AllPlain table s) (on_way : ℕ) (base : Journal)
+      (apart : (j : ℕ) → j ≢ on_way → down j base ≡ down j (along above notes)) where
+    abbrev beside : ℕ → Option Journal
+    beside j = if j == on_way then Some [] else closing table notes (child_shape table s j) (above ++ j ∷ [])
+
+    off_ends : (k : ℕ) (t : Tree) → k ≢ on_way → k < child_count table s → Suits table (child_as table s form k) t
+        → Agrees table (child_as table s form k) (down k (along above notes)) t
+        → BothEnd table (child_as table s form k) (above ++ k ∷ []) (down k base) (closed hooks table (child_as table s form k) t)
+        (beside k)
+    off_ends k t other there suits agrees =
+        subst (λ (b : Bool). BothEnd table (child_as table s form k) (above ++ k ∷ []) (down k base)
+        (closed hooks table (child_as table s form k) t)
+        (if b then Some [] else closing table notes (child_shape table s k) (above ++ k ∷ [])))
+        (sym (not_same k on_way other))
+        (subst (λ (m : ℕ). BothEnd table (child_as table s form k) (above ++ k ∷ []) (down k base)
+        (closed hooks table (child_as table s form k) t) (closing table notes m (above ++ k ∷ [])))
+        (child_as_is table s form k)
+        (closed_ends (child_as table s form k) (above ++ k ∷ []) (down k base) t
+        (apart k other ∙ sym (along_on above k notes)) (plain_child table s form k there plain) suits
+        (subst (λ (some : Journal). Agrees table (child_as table s form k) some t) (sym (along_on above k notes)) agrees)))
+
+    all_closed : (ts : Trees) (k : ℕ) → on_way < k → k + count_trees ts ≡ child_count table s → SuitFrom table s form k ts
+        → AgreeAll table s form (along above notes) k ts
+        → AllEnd table s form above base k (closed_all hooks table s form k ts) (each_notes beside (count_trees ts) k)
+    all_closed no_trees k past count suits agrees = nothing_left table s form above base k
+    all_closed (branch t ts) k past count suits agrees =
+        one_more_ends table s form above base k (closed hooks table (child_as table s form k) t)
+        (closed_all hooks table s form (suc k) ts) (beside k) (each_notes beside (count_trees ts) (suc k))
+        (off_ends k t (λ same. omega arith) (omega arith) suits.0 agrees.0)
+        (all_closed ts (suc k) (omega arith) (omega arith) suits.1 agrees.1)
+
+    but_closed : (d : ℕ) (ts : Trees) (k : ℕ) (becomes : ℕ → Tree → Option Tree) → on_way ≡ k + d → d < count_trees ts
+        → k + count_trees ts ≡ child_count table s → SuitFrom table s form k ts
+        → AgreeAll table s form (along above notes) k ts
+        → BothEnd table (child_as table s form on_way) (above ++ on_way ∷ []) (down on_way base)
+        (becomes (child_as table s form on_way) (tree_nth d ts)) (Some [])
+        → AllEnd table s form above base k (closed_but hooks table s form d becomes k ts) (each_notes beside (count_trees ts) k)
+    but_closed d no_trees k becomes at within count suits agrees child = absurd (omega arith)
+    but_closed zero (branch t ts) k becomes at within count suits agrees child =
+        let here : on_way ≡ k = omega arith in
+        one_more_ends table s form above base k (becomes (child_as table s form k) t) (closed_all hooks table s form (suc k) ts)
+        (beside k) (each_notes beside (count_trees ts) (suc k))
+        (subst (λ (b : Bool). BothEnd table (child_as table s form k) (above ++ k ∷ []) (down k base)
+        (becomes (child_as table s form k) t)
+        (if b then Some [] else closing table notes (child_shape table s k) (above ++ k ∷ [])))
+        (sym (eq-eqb k on_way (sym here)))
+        (subst (λ (m : ℕ). BothEnd table (child_as table s form m) (above ++ m ∷ []) (down m base)
+        (becomes (child_as table s form m) t) (Some [])) here child))
+        (all_closed ts (suc k) (omega arith) (omega arith) suits.1 agrees.1)
+    but_closed (suc d) (branch t ts) k becomes at within count suits agrees child =
+        one_more_ends table s form above base k (closed hooks table (child_as table s form k) t)
+        (closed_but hooks table s form d becomes (suc k) ts) (beside k) (each_notes beside (count_trees ts) (suc k))
+        (off_ends k t (λ same. omega arith) (omega arith) suits.0 agrees.0)
+        (but_closed d ts (suc k) becomes (omega arith) (omega arith) (omega arith) suits.1 agrees.1 child)

@@ -276,10 +276,10 @@ never_back (k ∷ above) j way e = let on : above ≡ above ++ j ∷ way = cc in
 from_zero : (k count : ℕ) → k < count → k < 0 + count
 from_zero k count below = omega arith
 
-hole_makes : (h : Held) (fill own : Option Val) → h ≡ untouched → child_makes h fill own ≡ fill
+pub hole_makes : (h : Held) (fill own : Option Val) → h ≡ untouched → child_makes h fill own ≡ fill
 hole_makes h fill own e = rw e refl
 
-touched_makes : (h : Held) (fill own : Option Val) → h ≢ untouched → child_makes h fill own ≡ own
+pub touched_makes : (h : Held) (fill own : Option Val) → h ≢ untouched → child_makes h fill own ≡ own
 touched_makes untouched fill own touched = absurd (touched refl)
 touched_makes just_entered fill own touched = refl
 touched_makes (written v) fill own touched = refl
