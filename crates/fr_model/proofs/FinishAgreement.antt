@@ -264,3 +264,67 @@ module _ (hooks : Meanings) (table : Table) (checked : IsChecked table) (notes :
         (closed_but hooks table s form d becomes (suc k) ts) (beside k) (each_notes beside (count_trees ts) (suc k))
         (off_ends k t (λ same. omega arith) (omega arith) suits.0 agrees.0)
         (but_closed d ts (suc k) becomes (omega arith) (omega arith) (omega arith) suits.1 agrees.1 child)
+
+  -- the children of the place at which a builder works, which is begun
+  module _ (s : ℕ) (form : Form) (above : Place) (plain : AllPlain table s)
+      (takes : (k : ℕ) → fill_at deferred_column table s k ≡ hole_takes deferred_column table s form k) where
+    abbrev seen : Journal
+    seen = along above notes
+
+    -- what child k makes, by the journal and by the tree
+    abbrev part_value : ℕ → Option Val
+    part_value k =
+        child_makes (held notes (above ++ k ∷ [])) (fill_at deferred_column table s k)
+        (completes deferred_column table notes (child_shape table s k) (above ++ k ∷ []))
+
+    abbrev part_made : ℕ → Tree → Option Val
+    part_made k t =
+        valid_child hooks table s form k
+        (for_hole t (hole_takes deferred_column table s form k) (complete deferred_column hooks table (child_as table s form k) t))
+
+    held_part : (k : ℕ) → held notes (above ++ k ∷ []) ≡ held (down k seen) []
+    held_part k = held_along notes (above ++ k ∷ []) ∙ ap (λ (some : Journal). held some []) (along_on above k notes)
+
+    touched_part : (k : ℕ) (t : Tree) → IsTouched t → k < child_count table s → Suits table (child_as table s form k) t
+        → Agrees table (child_as table s form k) (down k seen) t
+        → part_value k ≡ valid_child hooks table s form k (complete deferred_column hooks table (child_as table s form k) t)
+    touched_part k t touched there suits agrees =
+        touched_makes (held notes (above ++ k ∷ [])) _ _
+        (λ e. touched_held table (child_as table s form k) t (down k seen) touched agrees (sym (held_part k) ∙ e))
+        ∙ ap (λ (m : ℕ). completes deferred_column table notes m (above ++ k ∷ [])) (sym (child_as_is table s form k))
+        ∙ value_at (child_as table s form k) (above ++ k ∷ []) t (plain_child table s form k there plain) suits
+        (subst (λ (some : Journal). Agrees table (child_as table s form k) some t) (sym (along_on above k notes)) agrees)
+        ∙ sym (valid_same hooks table s form k _ plain)
+
+    part_same : (k : ℕ) (t : Tree) → k < child_count table s → Suits table (child_as table s form k) t
+        → Agrees table (child_as table s form k) (down k seen) t → part_value k ≡ part_made k t
+    part_same k hole there suits agrees =
+        hole_makes (held notes (above ++ k ∷ [])) _ _ (held_part k ∙ agrees) ∙ takes k
+        ∙ sym (valid_same hooks table s form k _ plain)
+    part_same k entered there suits agrees = touched_part k entered tt there suits agrees
+    part_same k (whole v) there suits agrees = touched_part k (whole v) tt there suits agrees
+    part_same k (begun made ts) there suits agrees = touched_part k (begun made ts) tt there suits agrees
+
+    whole_parts : (value : Option Val) (values : Option Vals)
+        → one_more_tree (option_map whole value) (option_map wholes values) ≡ option_map wholes (one_more value values)
+    whole_parts None values = refl
+    whole_parts (Some v) None = refl
+    whole_parts (Some v) (Some vs) = refl
+
+    parts_end : (ts : Trees) (k : ℕ) → k + count_trees ts ≡ child_count table s → SuitFrom table s form k ts
+        → AgreeAll table s form seen k ts
+        → AllEnd table s form above seen k (option_map wholes (complete_all deferred_column hooks table s form k ts))
+        (each_notes (λ j. writing (above ++ j ∷ []) (part_value j)) (count_trees ts) k)
+    parts_end no_trees k count suits agrees = nothing_left table s form above seen k
+    parts_end (branch t ts) k count suits agrees =
+        subst (λ (trees : Option Trees). AllEnd table s form above seen k trees
+        (both_notes (writing (above ++ k ∷ []) (part_value k))
+        (each_notes (λ j. writing (above ++ j ∷ []) (part_value j)) (count_trees ts) (suc k))))
+        (whole_parts (part_made k t) (complete_all deferred_column hooks table s form (suc k) ts))
+        (one_more_ends table s form above seen k (option_map whole (part_made k t))
+        (option_map wholes (complete_all deferred_column hooks table s form (suc k) ts))
+        (writing (above ++ k ∷ []) (part_value k))
+        (each_notes (λ j. writing (above ++ j ∷ []) (part_value j)) (count_trees ts) (suc k))
+        (write_ends table (child_as table s form k) (above ++ k ∷ []) (down k seen) (part_made k t) (part_value k)
+        (part_same k t (omega arith) suits.0 agrees.0))
+        (parts_end ts (suc k) (omega arith) suits.1 agrees.1))
