@@ -3,14 +3,15 @@ use Rattle.std.proofs.Common.{◌≡◌, ◌≢◌, ℕ, zero, suc, ◌+◌, ◌
 use Rattle.std.specs.Option.{option_map}
 use Rattle.std.proofs.lemmas.List.{map-append}
 use Rattle.fr_shape.specs.Checked.{IsChecked}
+use Rattle.fr_shape.specs.declared.shape.Def.{Def}
 use Rattle.fr_shape.specs.Hooks.{Meanings}
-use Rattle.fr_shape.specs.Look.{Table, def_of}
+use Rattle.fr_shape.specs.Look.{Table, def_of, field_in}
 use Rattle.fr_shape.specs.Val.{Val, Vals}
 use Rattle.fr_model.specs.Complete.{complete, complete_all, hole_takes, valid_child}
 use Rattle.fr_model.specs.Finish.{closed, one_more_tree, closed_all, closed_but, begun_with, finished_here, finished}
 use Rattle.fr_model.specs.Journal.{Note, entered_at, wrote_at, Journal, Held, in_parts, written, just_entered, untouched, held, longest, child_makes, completes, both_notes, each_notes, writing, closing_by, closing, closing_beside, closing_parts, closing_here_by, closing_here, finish_notes}
 use Rattle.fr_model.specs.Places.{Place, Column, deferred_column, child_count, child_shape, part, one_more, part, fill_at}
-use Rattle.fr_model.specs.Tree.{Form, Tree, hole, entered, whole, begun, Trees, no_trees, branch, for_hole, tree_nth, child_as, count_trees, wholes, Mode, State}
+use Rattle.fr_model.specs.Tree.{Form, as_struct, as_array, Tree, hole, entered, whole, begun, Trees, no_trees, branch, for_hole, tree_nth, child_as, count_trees, wholes, Mode, State}
 use Rattle.fr_model.specs.Well.{IsBegunAs, Suits, AtCursor, Leads, IsInOrder}
 use Rattle.fr_model.proofs.Agreement.{IsWhole, by_value, by_entry, Agrees, AgreeAll, agree_nth, begun_count, child_as_is, completes_tree, in_child, under, under_wrote, down_same, down_other, leads_child, leads_within}
 use Rattle.fr_model.proofs.Beneath.{down, along, held_down, held_along, completes_along, longest_along}
@@ -173,6 +174,51 @@ write_ends table s here seen (Some v) value same =
     rw same
     (both_end (whole v) (wrote_at [] v ∷ []) refl (ap (λ (note : Note). Some (note ∷ [])) (sym (under_wrote here v))) (by_value refl))
 
+-- a hole takes what the journal says of an untouched child
+hole_fill : (table : Table) (s : ℕ) (form : Form) (count : ℕ) → IsBegunAs (def_of table s) form count → (k : ℕ)
+    → fill_at deferred_column table s k ≡ hole_takes deferred_column table s form k
+hole_fill table s as_struct count begun_as k = refl
+hole_fill table s as_array count begun_as k = go (def_of table s) begun_as
+  where
+    go : (def : Def) → IsBegunAs def as_array count
+        → fill_of_field deferred_column table s false (field_in def None k) ≡ None
+    go (Def.Array t n) begun_as = refl
+    go _ begun_as = absurd begun_as.0
+
+-- the place at which a builder works has parts, or a value of its own
+closes_itself : (h : Held) (of_parts of_itself : Option Journal) → h ≢ in_parts
+    → closing_here_by h of_parts of_itself ≡ of_itself
+closes_itself in_parts of_parts of_itself no_parts = absurd (no_parts refl)
+closes_itself (written v) of_parts of_itself no_parts = refl
+closes_itself just_entered of_parts of_itself no_parts = refl
+closes_itself untouched of_parts of_itself no_parts = refl
+
+whole_held : (table : Table) (s : ℕ) (v : Val) (h : Held) → IsWhole table s v h → h ≢ in_parts
+whole_held table s v h (by_value is) e = cc
+whole_held table s v h (by_entry is empty same) e = cc
+
+-- where the child on the way has no end, neither have the children
+child_fails : (hooks : Meanings) (table : Table) (s : ℕ) (form : Form) (on_way d k : ℕ) (ts : Trees)
+    (becomes : ℕ → Tree → Option Tree) → on_way ≡ k + d → d < count_trees ts
+    → becomes (child_as table s form on_way) (tree_nth d ts) ≡ None → closed_but hooks table s form d becomes k ts ≡ None
+child_fails hooks table s form on_way d k no_trees becomes at within fails = absurd (omega arith)
+child_fails hooks table s form on_way zero k (branch t ts) becomes at within fails =
+    let here : on_way ≡ k = omega arith in
+    let none : becomes (child_as table s form k) t ≡ None
+    = subst (λ (m : ℕ). becomes (child_as table s form m) t ≡ None) here fails in
+    rw none refl
+child_fails hooks table s form on_way (suc d) k (branch t ts) becomes at within fails =
+    rw (child_fails hooks table s form on_way d (suc k) ts becomes (omega arith) (omega arith) fails)
+    (none_after (closed hooks table (child_as table s form k) t))
+  where
+    none_after : (tree : Option Tree) → one_more_tree tree None ≡ None
+    none_after None = refl
+    none_after (Some t) = refl
+
+none_noted : (found : Option Journal) → both_notes found None ≡ None
+none_noted None = refl
+none_noted (Some some) = refl
+
 module _ (hooks : Meanings) (table : Table) (checked : IsChecked table) (notes : Journal) where
   -- what a place makes, by the journal and by the tree
   value_at : (s : ℕ) (here : Place) (t : Tree) → AllPlain table s → Suits table s t → Agrees table s (along here notes) t
@@ -328,3 +374,58 @@ module _ (hooks : Meanings) (table : Table) (checked : IsChecked table) (notes :
         (write_ends table (child_as table s form k) (above ++ k ∷ []) (down k seen) (part_made k t) (part_value k)
         (part_same k t (omega arith) suits.0 agrees.0))
         (parts_end ts (suc k) (omega arith) suits.1 agrees.1))
+
+  -- the place at which a builder works
+  ends_here : (mode : Mode) (t : Tree) (s : ℕ) (here : Place) → AllPlain table s → AtCursor mode t → Suits table s t
+      → Agrees table s (along here notes) t
+      → BothEnd table s here (along here notes) (finished_here hooks table s t) (closing_here table notes s here)
+  ends_here mode hole s here plain leads suits agrees = absurd leads
+  ends_here mode entered s here plain leads suits agrees =
+      subst (λ (found : Option Journal). BothEnd table s here (along here notes) (finished_here hooks table s entered) found)
+      (sym (closes_itself (held notes here) (closing_parts table notes s here) _ (λ e. apart (sym (held_along notes here) ∙ e))))
+      (write_ends table s here (along here notes) _ _ (value_at s here entered plain suits agrees))
+    where
+      apart : held (along here notes) [] ≢ in_parts
+      apart e = cc
+  ends_here mode (whole v) s here plain leads suits agrees =
+      subst (λ (found : Option Journal). BothEnd table s here (along here notes) (finished_here hooks table s (whole v)) found)
+      (sym (closes_itself (held notes here) (closing_parts table notes s here) _ (λ e.
+          whole_held table s v (held (along here notes) []) agrees (sym (held_along notes here) ∙ e))))
+      (write_ends table s here (along here notes) (Some v) _ (value_at s here (whole v) plain suits agrees))
+  ends_here mode (begun form ts) s here plain leads suits agrees =
+      subst (λ (h : Held). BothEnd table s here (along here notes) (finished_here hooks table s (begun form ts))
+      (closing_here_by h (closing_parts table notes s here) (writing here (completes deferred_column table notes s here))))
+      (sym (held_along notes here ∙ agrees.0))
+      (go (complete_all deferred_column hooks table s form 0 ts) (closing_parts table notes s here)
+      (subst (λ (n : ℕ). AllEnd table s form here (along here notes) 0
+      (option_map wholes (complete_all deferred_column hooks table s form 0 ts))
+      (each_notes (λ j. writing (here ++ j ∷ []) (part_value s form here plain takes j)) n 0))
+      (begun_count (def_of table s) form (count_trees ts) suits.0)
+      (parts_end s form here plain takes ts 0
+      (let count : count_trees ts ≡ child_count table s = begun_count (def_of table s) form (count_trees ts) suits.0 in omega arith)
+      suits.1 agrees.1)))
+    where
+      takes : (k : ℕ) → fill_at deferred_column table s k ≡ hole_takes deferred_column table s form k
+      takes = hole_fill table s form (count_trees ts) suits.0
+
+      go : (values : Option Vals) (found : Option Journal)
+          → AllEnd table s form here (along here notes) 0 (option_map wholes values) found
+          → BothEnd table s here (along here notes) (option_map (begun_with form) values) found
+      go None found (one_fails none none_found) = neither refl none_found
+      go None found (all_end after added is noted lower parts agree) = cc
+      go (Some vs) found (one_fails none none_found) = cc
+      go (Some vs) found (all_end after added is noted lower parts agree) =
+          let same : wholes vs ≡ after = cc in
+          both_end (begun form (wholes vs)) added refl noted
+          (parts (along here notes) agrees.0,
+          subst (λ (all : Trees). AgreeAll table s form (added ++ along here notes) 0 all) (sym same) agree)
+
+  -- from a place above it, or it, on
+  ends_from : (mode : Mode) (cursor : Place) (t : Tree) (s : ℕ) (above : Place) → AllPlain table s → Leads mode cursor t
+      → Suits table s t → Agrees table s (along above notes) t
+      → BothEnd table s above (along above notes) (finished hooks table s cursor t) (finish_notes table notes s above cursor)
+  ends_from mode [] t s above plain leads suits agrees = ends_here mode t s above plain leads suits agrees
+  ends_from mode (i ∷ cursor) hole s above plain leads suits agrees = absurd leads
+  ends_from mode (i ∷ cursor) entered s above plain leads suits agrees = absurd leads
+  ends_from mode (i ∷ cursor) (whole v) s above plain leads suits agrees = absurd leads
+  ends_from mode (i ∷ cursor) (begun form ts) s above plain leads suits agrees = ?
