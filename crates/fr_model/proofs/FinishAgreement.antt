@@ -420,6 +420,52 @@ module _ (hooks : Meanings) (table : Table) (checked : IsChecked table) (notes :
           (parts (along here notes) agrees.0,
           subst (λ (all : Trees). AgreeAll table s form (added ++ along here notes) 0 all) (sym same) agree)
 
+  -- a place above it, by what becomes of the child on the way
+  way_ends : (form : Form) (ts : Trees) (s i : ℕ) (above : Place) (becomes : ℕ → Tree → Option Tree) (found : Option Journal)
+      → AllPlain table s → i < count_trees ts → Suits table s (begun form ts) → Agrees table s (along above notes) (begun form ts)
+      → BothEnd table (child_as table s form i) (above ++ i ∷ []) (along (above ++ i ∷ []) notes)
+      (becomes (child_as table s form i) (tree_nth i ts)) found
+      → BothEnd table s above (along above notes) (option_map (begun form) (closed_but hooks table s form i becomes 0 ts))
+      (both_notes (closing_beside table notes s above i) found)
+  way_ends form ts s i above becomes found plain within suits agrees (neither none none_found) =
+      rw (child_fails hooks table s form i i 0 ts becomes (omega arith) within none, none_found)
+      (neither refl (none_noted (closing_beside table notes s above i)))
+  way_ends form ts s i above becomes found plain within suits agrees (both_end after added is noted agree) =
+      go (closed_but hooks table s form i becomes 0 ts) (closing_beside table notes s above i)
+      (subst (λ (n : ℕ). AllEnd table s form above base 0 (closed_but hooks table s form i becomes 0 ts)
+      (each_notes (beside s form above plain i base apart) n 0))
+      (begun_count (def_of table s) form (count_trees ts) suits.0)
+      (but_closed s form above plain i base apart i ts 0 becomes (omega arith) within
+      (let count : count_trees ts ≡ child_count table s = begun_count (def_of table s) form (count_trees ts) suits.0 in omega arith)
+      suits.1 agrees.1
+      (both_end after [] is refl (subst (λ (all : Journal). Agrees table (child_as table s form i) all after) (sym at_child) agree))))
+    where
+      base : Journal
+      base = all_in_child i added ++ along above notes
+
+      apart : (j : ℕ) → j ≢ i → down j base ≡ down j (along above notes)
+      apart j other =
+          down_append j (all_in_child i added) (along above notes)
+          ∙ ap (λ (some : Journal). some ++ down j (along above notes)) (down_beside i j added other)
+
+      at_child : down i base ≡ added ++ along (above ++ i ∷ []) notes
+      at_child =
+          down_append i (all_in_child i added) (along above notes)
+          ∙ ap₂ (λ (some others : Journal). some ++ others) (down_in i added) (sym (along_on above i notes))
+
+      go : (trees : Option Trees) (others : Option Journal) → AllEnd table s form above base 0 trees others
+          → BothEnd table s above (along above notes) (option_map (begun form) trees) (both_notes others found)
+      go trees others (one_fails none none_others) = rw (none, none_others) (neither refl refl)
+      go trees others (all_end afters addeds are all_noted lower parts all) =
+          both_end (begun form afters) (addeds ++ all_in_child i added) (rw are refl)
+          (rw (all_noted, noted)
+          (ap Some
+          (ap (λ (some : Journal). all_under above addeds ++ some) (all_under_on above i added)
+          ∙ sym (map-append (under above) addeds (all_in_child i added)))))
+          (subst (λ (some : Journal). Agrees table s some (begun form afters))
+          (sym (append_assoc addeds (all_in_child i added) (along above notes)))
+          (parts base (parts_stay i added (along above notes) agrees.0), all))
+
   -- from a place above it, or it, on
   ends_from : (mode : Mode) (cursor : Place) (t : Tree) (s : ℕ) (above : Place) → AllPlain table s → Leads mode cursor t
       → Suits table s t → Agrees table s (along above notes) t
@@ -428,4 +474,42 @@ module _ (hooks : Meanings) (table : Table) (checked : IsChecked table) (notes :
   ends_from mode (i ∷ cursor) hole s above plain leads suits agrees = absurd leads
   ends_from mode (i ∷ cursor) entered s above plain leads suits agrees = absurd leads
   ends_from mode (i ∷ cursor) (whole v) s above plain leads suits agrees = absurd leads
-  ends_from mode (i ∷ cursor) (begun form ts) s above plain leads suits agrees = ?
+  ends_from mode (i ∷ cursor) (begun form ts) s above plain leads suits agrees =
+      let within : i < count_trees ts = leads_within mode i (λ child. Leads mode cursor child) ts leads in
+      let count : count_trees ts ≡ child_count table s = begun_count (def_of table s) form (count_trees ts) suits.0 in
+      way_ends form ts s i above (λ shape child. finished hooks table shape cursor child)
+      (finish_notes table notes (child_shape table s i) (above ++ i ∷ []) cursor) plain within suits agrees
+      (subst (λ (m : ℕ). BothEnd table (child_as table s form i) (above ++ i ∷ []) (along (above ++ i ∷ []) notes)
+      (finished hooks table (child_as table s form i) cursor (tree_nth i ts)) (finish_notes table notes m (above ++ i ∷ []) cursor))
+      (child_as_is table s form i)
+      (ends_from mode cursor (tree_nth i ts) (child_as table s form i) (above ++ i ∷ [])
+      (plain_child table s form i (omega arith) plain) (leads_child mode i (λ child. Leads mode cursor child) ts leads)
+      (suit_nth table s form i 0 ts i (omega arith) suits.1)
+      (subst (λ (some : Journal). Agrees table (child_as table s form i) some (tree_nth i ts)) (sym (along_on above i notes))
+      (agree_nth table s form i 0 ts i (along above notes) (omega arith) within agrees.1))))
+
+-- The tree that is finished and the notes that are added agree again, or neither is there.
+abbrev pub BothFinish : Table → ℕ → Journal → Option Tree → Option Journal → Type 0
+BothFinish table root notes (Some tree) (Some added) = Agrees table root (added ++ notes) tree
+BothFinish table root notes (Some tree) None = ⊥
+BothFinish table root notes None (Some added) = ⊥
+BothFinish table root notes None None = Unit {0}
+
+all_under_root : (notes : Journal) → all_under [] notes ≡ notes
+all_under_root [] = refl
+all_under_root (note ∷ notes) = ap (λ (some : Journal). note ∷ some) (all_under_root notes)
+
+-- over a checked table that is plain for the root, whatever the hooks mean
+pub finish_agrees : (hooks : Meanings) (table : Table) (root : ℕ) (state : State) (notes : Journal) → IsChecked table
+    → AllPlain table root → IsInOrder table root state → Agrees table root notes state.tree
+    → BothFinish table root notes (finished hooks table root state.cursor state.tree)
+    (finish_notes table notes root [] state.cursor)
+finish_agrees hooks table root state notes checked plain order agrees =
+    go (finished hooks table root state.cursor state.tree) (finish_notes table notes root [] state.cursor)
+    (ends_from hooks table checked notes state.mode state.cursor state.tree root [] plain order.leads order.suits agrees)
+  where
+    go : (tree : Option Tree) (found : Option Journal) → BothEnd table root [] notes tree found
+        → BothFinish table root notes tree found
+    go tree found (both_end after added is noted agree) =
+        rw (is, noted, all_under_root added) agree
+    go tree found (neither none none_found) = rw (none, none_found) tt
