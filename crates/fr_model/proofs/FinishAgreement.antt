@@ -1,5 +1,5 @@
 -- The end of deferred mode does the same to the tree and to the journal.
-use Rattle.std.proofs.Common.{◌≡◌, ◌≢◌, ℕ, zero, suc, ◌+◌, ◌<◌, ◌≤◌, Bool, true, false, ◌==◌, eq-eqb, if◌then◌else◌, List, [], ◌∷◌, ◌++◌, map, append_assoc, append-nil, Option, Some, None, refl, sym, ◌∙◌, ap, ap₂, subst, arith}
+use Rattle.std.proofs.Common.{◌≡◌, ◌≢◌, ℕ, zero, suc, ◌+◌, ◌<◌, ◌≤◌, Bool, true, false, ◌==◌, eq-eqb, if◌then◌else◌, [], ◌∷◌, ◌++◌, map, append_assoc, Option, Some, None, refl, sym, ◌∙◌, ap, ap₂, subst, arith}
 use Rattle.std.specs.Option.{option_map}
 use Rattle.std.proofs.lemmas.List.{map-append}
 use Rattle.fr_shape.specs.Checked.{IsChecked}
@@ -10,11 +10,11 @@ use Rattle.fr_shape.specs.Val.{Val, Vals}
 use Rattle.fr_model.specs.Complete.{complete, complete_all, hole_takes, valid_child}
 use Rattle.fr_model.specs.Finish.{closed, one_more_tree, closed_all, closed_but, begun_with, finished_here, finished}
 use Rattle.fr_model.specs.Journal.{Note, entered_at, wrote_at, Journal, Held, in_parts, written, just_entered, untouched, held, longest, child_makes, completes, both_notes, each_notes, writing, closing_by, closing, closing_beside, closing_parts, closing_here_by, closing_here, finish_notes}
-use Rattle.fr_model.specs.Places.{Place, Column, deferred_column, child_count, child_shape, part, one_more, part, fill_at}
+use Rattle.fr_model.specs.Places.{Place, deferred_column, child_count, child_shape, part, one_more, fill_of_field, fill_at}
 use Rattle.fr_model.specs.Tree.{Form, as_struct, as_array, Tree, hole, entered, whole, begun, Trees, no_trees, branch, for_hole, tree_nth, child_as, count_trees, wholes, Mode, State}
 use Rattle.fr_model.specs.Well.{IsBegunAs, Suits, AtCursor, Leads, IsInOrder}
 use Rattle.fr_model.proofs.Agreement.{IsWhole, by_value, by_entry, Agrees, AgreeAll, agree_nth, begun_count, child_as_is, completes_tree, in_child, under, under_wrote, down_same, down_other, leads_child, leads_within}
-use Rattle.fr_model.proofs.Beneath.{down, along, held_down, held_along, completes_along, longest_along}
+use Rattle.fr_model.proofs.Beneath.{down, along, held_along, completes_along, longest_along}
 use Rattle.fr_model.proofs.FinishNotes.{hole_makes, touched_makes}
 use Rattle.fr_model.proofs.Plain.{AllPlain, plain_child, valid_same}
 use Rattle.fr_model.proofs.Structs.{SuitFrom, suit_nth}
@@ -78,15 +78,17 @@ parts_stay i (wrote_at place v ∷ some) notes parts = refl
 
 -- what becomes of a place and of its children
 
--- Of a place of shape s that is here: a tree and notes, counted from here on, with which it agrees, before what the journal says of
--- the place; or neither is there.
-pub data BothEnd (table : Table) (s : ℕ) (here : Place) (seen : Journal) (tree : Option Tree) (found : Option Journal) : Type 0 where
+-- Of a place of shape s, of which the journal says what is seen: there are a tree and notes, counted from the place on, and the
+-- notes before what is seen agree with the tree; or neither is there.
+pub data BothEnd (table : Table) (s : ℕ) (here : Place) (seen : Journal) (tree : Option Tree) (found : Option Journal)
+    : Type 0 where
   both_end : (after : Tree) (added : Journal) → tree ≡ Some after → found ≡ Some (all_under here added)
       → Agrees table s (added ++ seen) after → BothEnd table s here seen tree found
   neither : tree ≡ None → found ≡ None → BothEnd table s here seen tree found
 
 -- the same of the children from number k on
-pub data AllEnd (table : Table) (s : ℕ) (form : Form) (above : Place) (seen : Journal) (k : ℕ) (trees : Option Trees) (found : Option Journal) : Type 0 where
+pub data AllEnd (table : Table) (s : ℕ) (form : Form) (above : Place) (seen : Journal) (k : ℕ) (trees : Option Trees)
+    (found : Option Journal) : Type 0 where
   all_end : (after : Trees) (added : Journal) → trees ≡ Some after → found ≡ Some (all_under above added)
       → ((j : ℕ) → j < k → down j added ≡ [])
       → ((notes : Journal) → held notes [] ≡ in_parts → held (added ++ notes) [] ≡ in_parts)
@@ -136,9 +138,11 @@ module _ (table : Table) (s : ℕ) (form : Form) (above : Place) (seen : Journal
       (λ notes has. subst (λ (all : Journal). held all [] ≡ in_parts) (sym (append_assoc (all_in_child k added) addeds notes))
       (parts_stay k added (addeds ++ notes) (parts notes has)))
       (subst (λ (all : Journal). AgreeAll table s form all k (branch after afters))
-      (sym (append_assoc (all_in_child k added) addeds seen))
-      (subst (λ (all : Journal). Agrees table (child_as table s form k) all after) (sym at_k) agrees,
-      agree_seen table s form afters (suc k) (addeds ++ seen) (all_in_child k added ++ (addeds ++ seen)) (λ j above. at_later j above) agree))
+      (sym (append_assoc (all_in_child k added) addeds seen)) (
+        subst (λ (all : Journal). Agrees table (child_as table s form k) all after) (sym at_k) agrees,
+        agree_seen table s form afters (suc k) (addeds ++ seen) (all_in_child k added ++ (addeds ++ seen))
+            (λ j above. at_later j above) agree,
+      ))
     where
       at_k : down k (all_in_child k added ++ (addeds ++ seen)) ≡ added ++ down k seen
       at_k =
@@ -172,7 +176,14 @@ write_ends : (table : Table) (s : ℕ) (here : Place) (seen : Journal) (tree val
 write_ends table s here seen None value same = rw same (neither refl refl)
 write_ends table s here seen (Some v) value same =
     rw same
-    (both_end (whole v) (wrote_at [] v ∷ []) refl (ap (λ (note : Note). Some (note ∷ [])) (sym (under_wrote here v))) (by_value refl))
+    (both_end (whole v) (wrote_at [] v ∷ []) refl
+    (ap (λ (note : Note). Some (note ∷ [])) (sym (under_wrote here v))) (by_value refl))
+
+-- what is begun has as many trees as its shape has children
+all_of_them : (table : Table) (s : ℕ) (form : Form) (ts : Trees) → IsBegunAs (def_of table s) form (count_trees ts)
+    → 0 + count_trees ts ≡ child_count table s
+all_of_them table s form ts begun_as =
+    let count : count_trees ts ≡ child_count table s = begun_count (def_of table s) form (count_trees ts) begun_as in omega arith
 
 -- a hole takes what the journal says of an untouched child
 hole_fill : (table : Table) (s : ℕ) (form : Form) (count : ℕ) → IsBegunAs (def_of table s) form count → (k : ℕ)
@@ -326,7 +337,8 @@ module _ (hooks : Meanings) (table : Table) (checked : IsChecked table) (notes :
     abbrev part_made : ℕ → Tree → Option Val
     part_made k t =
         valid_child hooks table s form k
-        (for_hole t (hole_takes deferred_column table s form k) (complete deferred_column hooks table (child_as table s form k) t))
+        (for_hole t (hole_takes deferred_column table s form k)
+        (complete deferred_column hooks table (child_as table s form k) t))
 
     held_part : (k : ℕ) → held notes (above ++ k ∷ []) ≡ held (down k seen) []
     held_part k = held_along notes (above ++ k ∷ []) ∙ ap (λ (some : Journal). held some []) (along_on above k notes)
@@ -390,7 +402,7 @@ module _ (hooks : Meanings) (table : Table) (checked : IsChecked table) (notes :
   ends_here mode (whole v) s here plain leads suits agrees =
       subst (λ (found : Option Journal). BothEnd table s here (along here notes) (finished_here hooks table s (whole v)) found)
       (sym (closes_itself (held notes here) (closing_parts table notes s here) _ (λ e.
-          whole_held table s v (held (along here notes) []) agrees (sym (held_along notes here) ∙ e))))
+      whole_held table s v (held (along here notes) []) agrees (sym (held_along notes here) ∙ e))))
       (write_ends table s here (along here notes) (Some v) _ (value_at s here (whole v) plain suits agrees))
   ends_here mode (begun form ts) s here plain leads suits agrees =
       subst (λ (h : Held). BothEnd table s here (along here notes) (finished_here hooks table s (begun form ts))
@@ -402,7 +414,7 @@ module _ (hooks : Meanings) (table : Table) (checked : IsChecked table) (notes :
       (each_notes (λ j. writing (here ++ j ∷ []) (part_value s form here plain takes j)) n 0))
       (begun_count (def_of table s) form (count_trees ts) suits.0)
       (parts_end s form here plain takes ts 0
-      (let count : count_trees ts ≡ child_count table s = begun_count (def_of table s) form (count_trees ts) suits.0 in omega arith)
+      (all_of_them table s form ts suits.0)
       suits.1 agrees.1)))
     where
       takes : (k : ℕ) → fill_at deferred_column table s k ≡ hole_takes deferred_column table s form k
@@ -416,9 +428,10 @@ module _ (hooks : Meanings) (table : Table) (checked : IsChecked table) (notes :
       go (Some vs) found (one_fails none none_found) = cc
       go (Some vs) found (all_end after added is noted lower parts agree) =
           let same : wholes vs ≡ after = cc in
-          both_end (begun form (wholes vs)) added refl noted
-          (parts (along here notes) agrees.0,
-          subst (λ (all : Trees). AgreeAll table s form (added ++ along here notes) 0 all) (sym same) agree)
+          both_end (begun form (wholes vs)) added refl noted (
+            parts (along here notes) agrees.0,
+            subst (λ (all : Trees). AgreeAll table s form (added ++ along here notes) 0 all) (sym same) agree,
+          )
 
   -- a place above it, by what becomes of the child on the way
   way_ends : (form : Form) (ts : Trees) (s i : ℕ) (above : Place) (becomes : ℕ → Tree → Option Tree) (found : Option Journal)
@@ -436,9 +449,10 @@ module _ (hooks : Meanings) (table : Table) (checked : IsChecked table) (notes :
       (each_notes (beside s form above plain i base apart) n 0))
       (begun_count (def_of table s) form (count_trees ts) suits.0)
       (but_closed s form above plain i base apart i ts 0 becomes (omega arith) within
-      (let count : count_trees ts ≡ child_count table s = begun_count (def_of table s) form (count_trees ts) suits.0 in omega arith)
+      (all_of_them table s form ts suits.0)
       suits.1 agrees.1
-      (both_end after [] is refl (subst (λ (all : Journal). Agrees table (child_as table s form i) all after) (sym at_child) agree))))
+      (both_end after [] is refl
+      (subst (λ (all : Journal). Agrees table (child_as table s form i) all after) (sym at_child) agree))))
     where
       base : Journal
       base = all_in_child i added ++ along above notes
@@ -480,7 +494,8 @@ module _ (hooks : Meanings) (table : Table) (checked : IsChecked table) (notes :
       way_ends form ts s i above (λ shape child. finished hooks table shape cursor child)
       (finish_notes table notes (child_shape table s i) (above ++ i ∷ []) cursor) plain within suits agrees
       (subst (λ (m : ℕ). BothEnd table (child_as table s form i) (above ++ i ∷ []) (along (above ++ i ∷ []) notes)
-      (finished hooks table (child_as table s form i) cursor (tree_nth i ts)) (finish_notes table notes m (above ++ i ∷ []) cursor))
+      (finished hooks table (child_as table s form i) cursor (tree_nth i ts))
+      (finish_notes table notes m (above ++ i ∷ []) cursor))
       (child_as_is table s form i)
       (ends_from mode cursor (tree_nth i ts) (child_as table s form i) (above ++ i ∷ [])
       (plain_child table s form i (omega arith) plain) (leads_child mode i (λ child. Leads mode cursor child) ts leads)

@@ -1,4 +1,3 @@
-use Rattle.fr_model.proofs.FinishAgreement
 use Rattle.fr_model.proofs.FinishNotes.{stuck_or_noted, notes_what_is_due}
 use Rattle.fr_model.proofs.laws.law_finishing.Goals as goal
 
