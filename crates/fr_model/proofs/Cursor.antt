@@ -72,7 +72,7 @@ off_change : (mode : Mode) (i : ℕ) (Below After : Tree → Type 0) (change : T
     → OffBut mode i After (change_nth i change ts)
 off_change mode i Below After change no_trees step off = absurd off
 off_change mode zero Below After change (branch t ts) step off = (step off.0, off.1)
-off_change mode (suc i) Below After change (branch t ts) step done =
+off_change mode (suc i) Below After change (branch t ts) step off =
     (off.0, off_change mode i Below After change ts step off.1)
 
 -- the cursor goes on from there
