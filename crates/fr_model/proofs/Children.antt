@@ -67,7 +67,7 @@ pub data ChildCase (def : Def) (i : ℕ) (t : Tree) : Type 0 where
   no_child : (operation : Operation) → field_refusal def t i ≡ Some operation
       → ((h : Held) → SeesWhole def t h → may_enter_by def i h ≡ false) → ChildCase def i t
 
-nothing_below : (i : ℕ) → nat_lt i 0 ≡ false
+pub nothing_below : (i : ℕ) → nat_lt i 0 ≡ false
 nothing_below i = le-ltb i 0 (omega arith)
 
 struct_case : (struct : StructDef) (i : ℕ) (t : Tree) (b : Bool) → nat_lt i (length struct.fields) ≡ b
