@@ -6,7 +6,7 @@ use Rattle.fr_shape.specs.Look.{Table, def_of}
 use Rattle.fr_shape.specs.Val.{Val}
 use Rattle.fr_shape.specs.Fits.{fits}
 use Rattle.fr_model.specs.Places.{Place, Column, up, child_count, child_shape, shape_at}
-use Rattle.fr_model.specs.Tree.{as_struct, as_array, Tree, hole, entered, whole, begun, Trees, no_trees, branch, tree_nth, change_nth, tree_at, change_at, shape_in, child_as, count_trees, tree_occurs, Mode, strict, deferred, State, cursor_shape, cursor_tree, one_more_call}
+use Rattle.fr_model.specs.Tree.{as_struct, as_array, Tree, hole, entered, whole, begun, Trees, no_trees, branch, tree_nth, change_nth, tree_at, change_at, shape_in, child_as, count_trees, tree_occurs, Mode, strict, deferred, State, cursor_shape, cursor_tree, one_more_call, initial}
 use Rattle.fr_model.specs.Complete.{complete}
 use Rattle.fr_model.specs.Step.{enter_child, enters, puts, puts_and_leaves, leaves}
 use Rattle.fr_model.specs.Well.{IsBegunAs, Suits, AllOff, AtCursor, OffBut, Leads, BeganAbove, IsInOrder}
@@ -14,7 +14,7 @@ use Rattle.fr_model.proofs.Agreement.{begun_count, leads_within, leads_child}
 use Rattle.fr_model.proofs.Completing.{Made, completing_makes}
 use Rattle.fr_model.proofs.Plain.{AllPlain, plain_child}
 use Rattle.fr_model.proofs.Structs.{count_change, suit_change, suit_nth}
-use Rattle.fr_model.proofs.Opening.{Enterable, Entry, entry, whole_off, all_deferred}
+use Rattle.fr_model.proofs.Opening.{Enterable, Entry, entry, fresh_suits, fresh_at_cursor, whole_off, all_deferred}
 
 -- what stands at the cursor
 
@@ -157,6 +157,9 @@ began_strict strict here is = tt
 began_strict (deferred start) here is = cc
 
 -- states in order
+
+pub start_in_order : (table : Table) (root : ℕ) → IsInOrder table root (initial table root)
+start_in_order table root = record { suits = fresh_suits table root; leads = fresh_at_cursor strict (def_of table root); began = tt }
 
 pub entry_at : (table : Table) (root : ℕ) (state : State) (i : ℕ)
     → Enterable table (cursor_shape table root state) i (cursor_tree state) → IsInOrder table root state

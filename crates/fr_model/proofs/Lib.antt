@@ -15,6 +15,7 @@ pub mod Plain
 pub mod Plannable
 pub mod Relating
 pub mod Rows
+pub mod Runs
 pub mod Steps
 pub mod Structs
 pub mod Templates

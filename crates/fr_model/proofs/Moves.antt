@@ -19,9 +19,9 @@ use Rattle.fr_model.specs.Laws.{held_after, built_occurs, IsFresh}
 use Rattle.fr_model.specs.Well.{Suits, Leads, IsInOrder, AreDistinct, IsWell}
 use Rattle.fr_model.proofs.Children.{enterable, ChildCase, a_child, no_child, child_case, NamedCase, a_named, no_such_name, no_names, named_case}
 use Rattle.fr_model.proofs.Completing.{Made, completing_makes}
-use Rattle.fr_model.proofs.Cursor.{made_at, begun_in_order, put_in_order, ended_in_order, left_in_order, defers, deferred_in_order}
+use Rattle.fr_model.proofs.Cursor.{made_at, start_in_order, begun_in_order, put_in_order, ended_in_order, left_in_order, defers, deferred_in_order}
 use Rattle.fr_model.proofs.Opening.{Enterable}
-use Rattle.fr_model.proofs.Steps.{start_in_order, finishes_as, finished_in_order}
+use Rattle.fr_model.proofs.Steps.{finishes_as, finished_in_order}
 use Rattle.fr_model.proofs.Templates.{IsTemplate, preset_template, template_holds}
 use Rattle.fr_model.proofs.Tokens.{fresh_holds, enter_child_holds, change_holds}
 
