@@ -161,8 +161,8 @@ touched_child column hooks table s form i t notes steps plain touched agrees e =
     ∙ sym (valid_same hooks table s form i (complete column hooks table (child_as table s form i) t) plain)
 
 mutual
-  pub completes_tree : (column : Column) (hooks : Meanings) (table : Table) (t : Tree) (steps s : ℕ) (notes : Journal) → IsChecked table
-      → AllPlain table s → Suits table s t → Agrees table s notes t → longest notes < suc steps
+  pub completes_tree : (column : Column) (hooks : Meanings) (table : Table) (t : Tree) (steps s : ℕ) (notes : Journal)
+      → IsChecked table → AllPlain table s → Suits table s t → Agrees table s notes t → longest notes < suc steps
       → completes_within column table (suc steps) notes s [] ≡ complete column hooks table s t
   completes_tree column hooks table hole steps s notes checked plain suits agrees long =
       by_untouched (held notes []) _ _ agrees
@@ -189,18 +189,21 @@ mutual
   children_complete column hooks table no_trees steps s form i notes checked plain count takes suits agrees some long = refl
   children_complete column hooks table (branch t ts) zero s form i notes checked plain count takes suits agrees some long =
       absurd (omega arith)
-  children_complete column hooks table (branch hole ts) (suc steps) s form i notes checked plain count takes suits agrees some long =
+  children_complete column hooks table (branch hole ts) (suc steps) s form i notes checked plain count takes suits agrees some
+      long =
       ap₂ one_more
       (hole_makes (held notes (i ∷ [])) (fill_at column table s i) _ (held_down i notes [] ∙ agrees.0)
       ∙ takes i ∙ sym (valid_same hooks table s form i (hole_takes column table s form i) plain))
-      (children_complete column hooks table ts (suc steps) s form (suc i) notes checked plain (omega arith) takes suits.1 agrees.1 some long)
+      (children_complete column hooks table ts (suc steps) s form (suc i) notes checked plain (omega arith) takes suits.1 agrees.1 some
+      long)
   children_complete column hooks table (branch t ts) (suc steps) s form i notes checked plain count takes suits agrees some long =
       let below : longest (down i notes) < suc steps = omega (arith, longest_down i notes) in
       ap₂ one_more
       (touched_child column hooks table s form i t notes (suc steps) plain tt agrees.0
       (completes_tree column hooks table t steps (child_as table s form i) (down i notes) checked
       (plain_child table s form i (omega arith) plain) suits.0 agrees.0 below))
-      (children_complete column hooks table ts (suc steps) s form (suc i) notes checked plain (omega arith) takes suits.1 agrees.1 some long)
+      (children_complete column hooks table ts (suc steps) s form (suc i) notes checked plain (omega arith) takes suits.1 agrees.1 some
+      long)
 
 -- one child that agrees with something else
 
@@ -298,8 +301,8 @@ agree_along mode table s (i ∷ here) (begun form ts) notes leads agrees =
 agree_along mode table s (i ∷ here) _ notes leads agrees = absurd leads
 
 -- a note at the place to which the cursor leads, and the tree changed there alike, agree again
-pub follow : (mode : Mode) (table : Table) (s : ℕ) (here : Place) (t : Tree) (notes : Journal) (note : Note) (change : Tree → Tree)
-    → Leads mode here t → Agrees table s notes t
+pub follow : (mode : Mode) (table : Table) (s : ℕ) (here : Place) (t : Tree) (notes : Journal) (note : Note)
+    (change : Tree → Tree) → Leads mode here t → Agrees table s notes t
     → (Agrees table (shape_in table s here t) (along here notes) (tree_at here t)
     → Agrees table (shape_in table s here t) (note ∷ along here notes) (change (tree_at here t)))
     → Agrees table s (under here note ∷ notes) (change_at here change t)
@@ -318,8 +321,8 @@ follow mode table s (i ∷ here) (begun form ts) notes note change leads agrees 
 follow mode table s (i ∷ here) _ notes note change leads agrees step = absurd leads
 
 -- what the place at the cursor completes to, by the journal and by the tree
-pub completes_at : (mode : Mode) (column : Column) (hooks : Meanings) (table : Table) (s : ℕ) (here : Place) (t : Tree) (notes : Journal)
-    → IsChecked table → AllPlain table (shape_in table s here t) → Leads mode here t
+pub completes_at : (mode : Mode) (column : Column) (hooks : Meanings) (table : Table) (s : ℕ) (here : Place) (t : Tree)
+    (notes : Journal) → IsChecked table → AllPlain table (shape_in table s here t) → Leads mode here t
     → Suits table (shape_in table s here t) (tree_at here t) → Agrees table s notes t
     → completes column table notes (shape_in table s here t) here
     ≡ complete column hooks table (shape_in table s here t) (tree_at here t)

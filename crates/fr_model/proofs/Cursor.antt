@@ -21,14 +21,16 @@ use Rattle.fr_model.proofs.Opening.{Enterable, Entry, entry, fresh_suits, fresh_
 pub at_cursor : (mode : Mode) (here : Place) (t : Tree) → Leads mode here t → AtCursor mode (tree_at here t)
 at_cursor mode [] t leads = leads
 at_cursor mode (i ∷ here) (begun form ts) leads =
-    at_cursor mode here (tree_nth i ts) (leads_child mode i (λ child. Leads mode here child) ts leads)
+    at_cursor mode here (tree_nth i ts)
+    (leads_child mode i (λ child. Leads mode here child) ts leads)
 at_cursor mode (i ∷ here) _ leads = absurd leads
 
 pub suits_at : (mode : Mode) (table : Table) (s : ℕ) (here : Place) (t : Tree) → Leads mode here t → Suits table s t
     → Suits table (shape_in table s here t) (tree_at here t)
 suits_at mode table s [] t leads suits = suits
 suits_at mode table s (i ∷ here) (begun form ts) leads suits =
-    suits_at mode table (child_as table s form i) here (tree_nth i ts) (leads_child mode i (λ child. Leads mode here child) ts leads)
+    suits_at mode table (child_as table s form i) here (tree_nth i ts)
+    (leads_child mode i (λ child. Leads mode here child) ts leads)
     (suit_nth table s form i 0 ts i (omega arith) suits.1)
 suits_at mode table s (i ∷ here) _ leads suits = absurd leads
 
@@ -36,19 +38,22 @@ pub same_shape : (mode : Mode) (table : Table) (s : ℕ) (here : Place) (t : Tre
     → shape_at table s here ≡ shape_in table s here t
 same_shape mode table s [] t leads = refl
 same_shape mode table s (i ∷ here) (begun as_struct ts) leads =
-    same_shape mode table (child_shape table s i) here (tree_nth i ts) (leads_child mode i (λ child. Leads mode here child) ts leads)
+    same_shape mode table (child_shape table s i) here (tree_nth i ts)
+    (leads_child mode i (λ child. Leads mode here child) ts leads)
 same_shape mode table s (i ∷ here) (begun as_array ts) leads =
-    same_shape mode table (child_shape table s i) here (tree_nth i ts) (leads_child mode i (λ child. Leads mode here child) ts leads)
+    same_shape mode table (child_shape table s i) here (tree_nth i ts)
+    (leads_child mode i (λ child. Leads mode here child) ts leads)
 same_shape mode table s (i ∷ here) _ leads = absurd leads
 
 -- and each shape that the place's shape reaches is plain
-pub plain_at : (mode : Mode) (table : Table) (s : ℕ) (here : Place) (t : Tree) → Leads mode here t → Suits table s t → AllPlain table s
-    → AllPlain table (shape_in table s here t)
+pub plain_at : (mode : Mode) (table : Table) (s : ℕ) (here : Place) (t : Tree) → Leads mode here t → Suits table s t
+    → AllPlain table s → AllPlain table (shape_in table s here t)
 plain_at mode table s [] t leads suits plain = plain
 plain_at mode table s (i ∷ here) (begun form ts) leads suits plain =
     let count : count_trees ts ≡ child_count table s = begun_count (def_of table s) form (count_trees ts) suits.0 in
     let within : i < count_trees ts = leads_within mode i (λ child. Leads mode here child) ts leads in
-    plain_at mode table (child_as table s form i) here (tree_nth i ts) (leads_child mode i (λ child. Leads mode here child) ts leads)
+    plain_at mode table (child_as table s form i) here (tree_nth i ts)
+    (leads_child mode i (λ child. Leads mode here child) ts leads)
     (suit_nth table s form i 0 ts i (omega arith) suits.1) (plain_child table s form i (omega arith) plain)
 plain_at mode table s (i ∷ here) _ leads suits plain = absurd leads
 
@@ -159,7 +164,11 @@ began_strict (deferred start) here is = cc
 -- states in order
 
 pub start_in_order : (table : Table) (root : ℕ) → IsInOrder table root (initial table root)
-start_in_order table root = record { suits = fresh_suits table root; leads = fresh_at_cursor strict (def_of table root); began = tt }
+start_in_order table root = record {
+  suits = fresh_suits table root;
+  leads = fresh_at_cursor strict (def_of table root);
+  began = tt;
+}
 
 pub entry_at : (table : Table) (root : ℕ) (state : State) (i : ℕ)
     → Enterable table (cursor_shape table root state) i (cursor_tree state) → IsInOrder table root state

@@ -247,7 +247,8 @@ pub record Entry (mode : Mode) (table : Table) (s i : ℕ) (t after : Tree) : Ty
 
 entry_opened : (mode : Mode) (table : Table) (s : ℕ) (form : Form) (i : ℕ) (t : Tree) → Opening mode table s form t
     → i < child_count table s
-    → Entry mode table s i t (change_child i (enter (def_of table (child_as table s form i))) (opened_as form (child_count table s) t))
+    → Entry mode table s i t
+    (change_child i (enter (def_of table (child_as table s form i))) (opened_as form (child_count table s) t))
 entry_opened mode table s form i t place below =
     subst (λ (u : Tree). Entry mode table s i t (change_child i (enter (def_of table (child_as table s form i))) u))
     (sym place.is) (record {

@@ -117,7 +117,8 @@ module _ (hooks : Meanings) (table : Table) (checked : IsChecked table) (root : 
   sees : SeesWhole (def_of table at_here) (cursor_tree state) (held notes state.cursor)
   sees =
       subst (λ (h : Held). SeesWhole (def_of table at_here) (cursor_tree state) h) (sym (held_along notes state.cursor))
-      (sees_whole state.mode table at_here (cursor_tree state) (along state.cursor notes) (at_cursor state.mode state.cursor state.tree order.leads)
+      (sees_whole state.mode table at_here (cursor_tree state) (along state.cursor notes)
+      (at_cursor state.mode state.cursor state.tree order.leads)
       (agree_along state.mode table root state.cursor state.tree notes order.leads agrees))
 
   -- a child is entered
@@ -126,7 +127,8 @@ module _ (hooks : Meanings) (table : Table) (checked : IsChecked table) (root : 
   entered_alike i child = record {
     in_order = begun_in_order table root state i (enterable table at_here i (cursor_tree state) child) order;
     agrees = rw (← under_entered state.cursor (i ∷ []))
-        (follow state.mode table root state.cursor state.tree notes (entered_at (i ∷ [])) (enter_child table at_here i) order.leads agrees
+        (follow state.mode table root state.cursor state.tree notes (entered_at (i ∷ [])) (enter_child table at_here i)
+        order.leads agrees
         ((entry_at table root state i (enterable table at_here i (cursor_tree state) child) order).agrees (along state.cursor notes)));
     same_cursor = refl;
     same_mode = refl;
@@ -181,11 +183,13 @@ module _ (hooks : Meanings) (table : Table) (checked : IsChecked table) (root : 
 
   -- a value is put
   put_alike : (v : Val) → fits table at_here v ≡ true
-      → Alike table root (puts state v) (record { notes = wrote_at state.cursor v ∷ notes; cursor = state.cursor; mode = state.mode })
+      → Alike table root (puts state v)
+      (record { notes = wrote_at state.cursor v ∷ notes; cursor = state.cursor; mode = state.mode })
   put_alike v fit = record {
     in_order = put_in_order table root state v fit order;
     agrees = rw (← under_wrote state.cursor v)
-        (follow state.mode table root state.cursor state.tree notes (wrote_at [] v) (λ old. whole v) order.leads agrees (λ old. by_value refl));
+        (follow state.mode table root state.cursor state.tree notes (wrote_at [] v) (λ old. whole v) order.leads agrees
+        (λ old. by_value refl));
     same_cursor = refl;
     same_mode = refl;
   }

@@ -75,7 +75,8 @@ pub change_holds : (mode : Mode) (here : Place) (tree : Tree) (change : Tree →
     ≡ tree_occurs tree t + tree_occurs (change (tree_at here tree)) t
 change_holds mode [] tree change t leads = omega arith
 change_holds mode (i ∷ here) (begun form trees) change t leads =
-    let below = change_holds mode here (tree_nth i trees) change t (leads_child mode i (λ child. Leads mode here child) trees leads) in
+    let below = change_holds mode here (tree_nth i trees) change t
+    (leads_child mode i (λ child. Leads mode here child) trees leads) in
     let beside = nth_holds i (λ child. change_at here change child) trees t
     (leads_within mode i (λ child. Leads mode here child) trees leads) in
     omega arith
