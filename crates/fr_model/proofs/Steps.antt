@@ -18,12 +18,13 @@ use Rattle.fr_model.specs.Complete.{complete}
 use Rattle.fr_model.specs.Finish.{finished}
 use Rattle.fr_model.specs.Step.{unless_refused, field_refusal, named_refusal, at_shape, enter_child, enters, begins_named, puts, set_refusal, puts_default, violates, ended, leaves, end_in, begins_deferred, finishes, finish_in, step}
 use Rattle.fr_model.specs.Scripts.{IsFitting}
-use Rattle.fr_model.specs.Well.{Suits, Leads, IsInOrder}
+use Rattle.fr_model.specs.Well.{IsInOrder}
 use Rattle.fr_model.proofs.Plain.{AllPlain}
 use Rattle.fr_model.proofs.Beneath.{along, held_along}
 use Rattle.fr_model.proofs.Agreement.{by_value, Agrees, agree_along, completes_at, under_entered, under_wrote, follow}
 use Rattle.fr_model.proofs.Children.{nothing_below, SeesWhole, sees_whole, may_enter_by, ChildOf, enterable, ChildCase, a_child, no_child, child_case, NamedCase, a_named, no_such_name, no_names, named_case}
 use Rattle.fr_model.proofs.Cursor.{at_cursor, suits_at, plain_at, same_shape, entry_at, begun_in_order, put_in_order, ended_in_order, left_in_order, deferred_in_order}
+use Rattle.fr_model.proofs.Finishes.{Kept, finish_keeps, finish_leads}
 use Rattle.fr_model.proofs.Templates.{preset_template}
 
 -- a builder's state and a run of the rules that have come equally far
@@ -86,19 +87,17 @@ finish_agrees_here : (hooks : Meanings) (table : Table) (root : ℕ) (state : St
     (finish_notes table notes root [] state.cursor)
 finish_agrees_here hooks table root state notes checked plain order agrees = ?
 
--- TODO: from Finishes
-finish_order_here : (hooks : Meanings) (table : Table) (root : ℕ) (state : State) (tree : Tree) → IsChecked table
-    → IsInOrder table root state → finished hooks table root state.cursor state.tree ≡ Some tree
-    → Suits table root tree × Leads strict state.cursor tree
-finish_order_here hooks table root state tree checked order is = ?
-
 pub finished_in_order : (hooks : Meanings) (table : Table) (root : ℕ) (state : State) (tree : Tree) → IsChecked table
     → IsInOrder table root state → finished hooks table root state.cursor state.tree ≡ Some tree
     → IsInOrder table root (finishes_as state tree)
 finished_in_order hooks table root state tree checked order is =
-    let ends : Suits table root tree × Leads strict state.cursor tree
-    = finish_order_here hooks table root state tree checked order is in
-    record { suits = ends.0; leads = ends.1; began = tt }
+    let kept : Kept table root state.tree tree
+    = finish_keeps hooks table root state.cursor state.tree tree checked order.suits is in
+    record {
+      suits = kept.suits;
+      leads = finish_leads hooks table root state.mode state.cursor state.tree tree order.leads is;
+      began = tt;
+    }
 
 -- each command, at a tree and a journal that agree
 module _ (hooks : Meanings) (table : Table) (checked : IsChecked table) (root : ℕ) (plain : AllPlain table root)
