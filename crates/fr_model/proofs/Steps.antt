@@ -24,6 +24,7 @@ use Rattle.fr_model.proofs.Beneath.{along, held_along}
 use Rattle.fr_model.proofs.Agreement.{by_value, Agrees, agree_along, completes_at, under_entered, under_wrote, follow}
 use Rattle.fr_model.proofs.Children.{nothing_below, SeesWhole, sees_whole, may_enter_by, ChildOf, enterable, ChildCase, a_child, no_child, child_case, NamedCase, a_named, no_such_name, no_names, named_case}
 use Rattle.fr_model.proofs.Cursor.{at_cursor, suits_at, plain_at, same_shape, entry_at, begun_in_order, put_in_order, ended_in_order, left_in_order, deferred_in_order}
+use Rattle.fr_model.proofs.FinishAgreement.{BothFinish, finish_agrees}
 use Rattle.fr_model.proofs.Finishes.{Kept, finish_keeps, finish_leads}
 use Rattle.fr_model.proofs.Templates.{preset_template}
 
@@ -70,22 +71,9 @@ named_none table root s t state None found run is = rw is tt
 
 -- the end of deferred mode
 
--- the tree that is finished and the notes that are added agree again, or neither is there
-abbrev pub BothFinish : Table → ℕ → Journal → Option Tree → Option Journal → Type 0
-BothFinish table root notes (Some tree) (Some added) = Agrees table root (added ++ notes) tree
-BothFinish table root notes None None = Unit {0}
-BothFinish table root notes _ _ = ⊥
-
 -- the state in which deferred mode has ended
 abbrev pub finishes_as : State → Tree → State
 finishes_as state tree = record state { tree = tree; mode = strict; calls = one_more_call state.calls }
-
--- TODO: from FinishAgreement
-finish_agrees_here : (hooks : Meanings) (table : Table) (root : ℕ) (state : State) (notes : Journal) → IsChecked table
-    → AllPlain table root → IsInOrder table root state → Agrees table root notes state.tree
-    → BothFinish table root notes (finished hooks table root state.cursor state.tree)
-    (finish_notes table notes root [] state.cursor)
-finish_agrees_here hooks table root state notes checked plain order agrees = ?
 
 pub finished_in_order : (hooks : Meanings) (table : Table) (root : ℕ) (state : State) (tree : Tree) → IsChecked table
     → IsInOrder table root state → finished hooks table root state.cursor state.tree ≡ Some tree
@@ -311,7 +299,7 @@ module _ (hooks : Meanings) (table : Table) (checked : IsChecked table) (root : 
   finish_alike strict = tt
   finish_alike (deferred start) =
       finished_alike (finished hooks table root state.cursor state.tree) (finish_notes table notes root [] state.cursor) refl
-      (finish_agrees_here hooks table root state notes checked plain order agrees)
+      (finish_agrees hooks table root state notes checked plain order agrees)
 
   pub steps_alike : (command : Call) → IsFitting table command
       → BothStep table root (step hooks table root state command) (rule table root run command)
