@@ -78,23 +78,24 @@ holes_or_lack hooks table s (suc count) i =
     (lack_of_hole hooks table s as_struct i) (lack_of_holes hooks table s as_struct count (suc i))
     (hole_or_lacks hooks table s as_struct i) (holes_or_lack hooks table s count (suc i))
 
+-- an entered place of this definition makes no value exactly where it lacks something, whatever its fills lack
+pub made_or_lacks : (def : Def) (preset of_fills : Option Val) (of_holes : Option ReflectErrorKind)
+    (missing : ReflectErrorKind) → is_none of_fills ≡ is_some of_holes
+    → is_none (made_by def preset of_fills) ≡ is_some (lack_by def preset of_holes missing)
+made_or_lacks (Def.Struct struct) (Some v) of_fills of_holes missing e = refl
+made_or_lacks (Def.Struct struct) None of_fills of_holes missing e = e
+made_or_lacks (Def.Option t) (Some v) of_fills of_holes missing e = refl
+made_or_lacks (Def.Option t) None of_fills of_holes missing e = refl
+made_or_lacks _ preset of_fills of_holes missing e = refl
+
 entered_or_lacks : (hooks : Meanings) (table : Table) (s : ℕ)
     → is_none (complete strict_column hooks table s entered) ≡ is_some (lack hooks table s entered)
 entered_or_lacks hooks table s =
-    go (def_of table s) (preset_of table s) (made_of_fills strict_column hooks table s)
-    (lack_of_holes hooks table s as_struct (child_count table s) 0)
+    made_or_lacks (def_of table s) (preset_of table s) (made_of_fills strict_column hooks table s)
+    (lack_of_holes hooks table s as_struct (child_count table s) 0) (missing_value s)
     (no_made as_struct
     (each_child (λ k. valid_child hooks table s as_struct k (fill_at strict_column table s k)) (child_count table s) 0)
     ∙ holes_or_lack hooks table s (child_count table s) 0)
-  where
-    go : (def : Def) (preset of_fills : Option Val) (of_holes : Option ReflectErrorKind)
-        → is_none of_fills ≡ is_some of_holes
-        → is_none (made_by def preset of_fills) ≡ is_some (lack_by def preset of_holes (missing_value s))
-    go (Def.Struct struct) (Some v) of_fills of_holes e = refl
-    go (Def.Struct struct) None of_fills of_holes e = e
-    go (Def.Option t) (Some v) of_fills of_holes e = refl
-    go (Def.Option t) None of_fills of_holes e = refl
-    go _ preset of_fills of_holes e = refl
 
 first_grouped : (a b c : Option ReflectErrorKind) → option_or (option_or a b) c ≡ option_or a (option_or b c)
 first_grouped (Some kind) b c = refl
@@ -246,7 +247,8 @@ entered_makes column hooks table s v checked e = go (def_of table s) (preset_of 
 
 mutual
   pub completing_makes : (column : Column) (hooks : Meanings) (table : Table) (tree : Tree) (s : ℕ) (v : Val)
-      → IsChecked table → Suits table s tree → complete column hooks table s tree ≡ Some v → Made table s (λ t. tree_occurs tree t) v
+      → IsChecked table → Suits table s tree → complete column hooks table s tree ≡ Some v
+      → Made table s (λ t. tree_occurs tree t) v
   completing_makes column hooks table hole s v checked suits e = cc
   completing_makes column hooks table entered s v checked suits e = entered_makes column hooks table s v checked e
   completing_makes column hooks table (whole u) s v checked suits e =
@@ -256,7 +258,7 @@ mutual
       (complete_all column hooks table s form 0 trees) v (begun_full (def_of table s) form (count_trees trees) suits.0)
       (λ vs. all_completing_make column hooks table trees s form 0 vs checked suits.1) e
 
-  all_completing_make : (column : Column) (hooks : Meanings) (table : Table) (trees : Trees) (s : ℕ) (form : Form) (i : ℕ)
+  pub all_completing_make : (column : Column) (hooks : Meanings) (table : Table) (trees : Trees) (s : ℕ) (form : Form) (i : ℕ)
       (vs : Vals) → IsChecked table → SuitFrom table s form i trees → complete_all column hooks table s form i trees ≡ Some vs
       → Children table s form i (count_trees trees) (λ t. trees_occur trees t) vs
   all_completing_make column hooks table no_trees s form i vs checked suits e = no_children table s form i vs e

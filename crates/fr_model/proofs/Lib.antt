@@ -6,8 +6,10 @@ pub mod Completing
 pub mod Covering
 pub mod Cursor
 pub mod DefaultRows
+pub mod Failing
 pub mod FinishAgreement
 pub mod FinishNotes
+pub mod Finishes
 pub mod Moves
 pub mod Opening
 pub mod Paths

@@ -20,6 +20,7 @@ use Rattle.fr_model.specs.Well.{Suits, Leads, IsInOrder, AreDistinct, IsWell}
 use Rattle.fr_model.proofs.Children.{enterable, ChildCase, a_child, no_child, child_case, NamedCase, a_named, no_such_name, no_names, named_case}
 use Rattle.fr_model.proofs.Completing.{Made, completing_makes}
 use Rattle.fr_model.proofs.Cursor.{made_at, start_in_order, begun_in_order, put_in_order, ended_in_order, left_in_order, defers, deferred_in_order}
+use Rattle.fr_model.proofs.Finishes.{Kept, finish_keeps}
 use Rattle.fr_model.proofs.Opening.{Enterable}
 use Rattle.fr_model.proofs.Steps.{finishes_as, finished_in_order}
 use Rattle.fr_model.proofs.Templates.{IsTemplate, preset_template, template_holds}
@@ -168,12 +169,6 @@ module _ (hooks : Meanings) (table : Table) (root : ℕ) (state next : State) wh
 
 -- tokens
 
--- TODO: from Finishes
-finish_tokens_here : (hooks : Meanings) (table : Table) (root : ℕ) (state : State) (tree : Tree) (t : ℕ) → IsChecked table
-    → IsInOrder table root state → finished hooks table root state.cursor state.tree ≡ Some tree
-    → tree_occurs tree t ≡ tree_occurs state.tree t
-finish_tokens_here hooks table root state tree t checked order is = ?
-
 entering_moves : (table : Table) (s i : ℕ) (state : State) (t : ℕ)
     → Leads state.mode state.cursor state.tree
     → tree_occurs state.tree t + 0 ≡ tree_occurs (change_at state.cursor (enter_child table s i) state.tree) t + 0
@@ -207,7 +202,10 @@ moves_tokens hooks table root state next command t checked order (ends v is_stri
 moves_tokens hooks table root state next command t checked order (is_left start is deeper) = refl
 moves_tokens hooks table root state next command t checked order (defers_there is) = refl
 moves_tokens hooks table root state next command t checked order (is_finished tree is) =
-    let same = finish_tokens_here hooks table root state tree t checked order is in omega arith
+    let kept : Kept table root state.tree tree
+    = finish_keeps hooks table root state.cursor state.tree tree checked order.suits is in
+    let same = kept.hold t in
+    omega arith
 
 -- whatever comes of a command: nothing is lost and nothing doubled
 pub step_keeps_tokens : (hooks : Meanings) (table : Table) (root : ℕ) (state : State) (command : Call)

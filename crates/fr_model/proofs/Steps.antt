@@ -1,5 +1,5 @@
 -- One command does the same to the journal and to the tree.
-use Rattle.std.proofs.Common.{◌≡◌, ℕ, ◌+◌, ◌<◌, ◌==◌, eqb-true, ltb-true, Bool, true, false, if◌then◌else◌, List, [], ◌∷◌, ◌++◌, length, nat_lt, Option, Some, None, Result, Ok, Err, refl, sym, ◌∙◌, ap, subst}
+use Rattle.std.proofs.Common.{◌≡◌, ℕ, ◌<◌, ◌==◌, eqb-true, ltb-true, Bool, true, false, if◌then◌else◌, List, [], ◌∷◌, ◌++◌, length, nat_lt, Option, Some, None, Result, Ok, Err, refl, sym, ◌∙◌, ap, subst}
 use Rattle.fr_shape.specs.declared.error.ReflectErrorKind.{ReflectErrorKind}
 use Rattle.fr_shape.specs.declared.error.Operation.{Operation}
 use Rattle.fr_shape.specs.declared.error.Invariant.{Invariant}
@@ -18,12 +18,14 @@ use Rattle.fr_model.specs.Complete.{complete}
 use Rattle.fr_model.specs.Finish.{finished}
 use Rattle.fr_model.specs.Step.{unless_refused, field_refusal, named_refusal, at_shape, enter_child, enters, begins_named, puts, set_refusal, puts_default, violates, ended, leaves, end_in, begins_deferred, finishes, finish_in, step}
 use Rattle.fr_model.specs.Scripts.{IsFitting}
-use Rattle.fr_model.specs.Well.{Suits, Leads, IsInOrder}
+use Rattle.fr_model.specs.Well.{IsInOrder}
 use Rattle.fr_model.proofs.Plain.{AllPlain}
 use Rattle.fr_model.proofs.Beneath.{along, held_along}
 use Rattle.fr_model.proofs.Agreement.{by_value, Agrees, agree_along, completes_at, under_entered, under_wrote, follow}
 use Rattle.fr_model.proofs.Children.{nothing_below, SeesWhole, sees_whole, may_enter_by, ChildOf, enterable, ChildCase, a_child, no_child, child_case, NamedCase, a_named, no_such_name, no_names, named_case}
 use Rattle.fr_model.proofs.Cursor.{at_cursor, suits_at, plain_at, same_shape, entry_at, begun_in_order, put_in_order, ended_in_order, left_in_order, deferred_in_order}
+use Rattle.fr_model.proofs.FinishAgreement.{BothFinish, finish_agrees}
+use Rattle.fr_model.proofs.Finishes.{Kept, finish_keeps, finish_leads}
 use Rattle.fr_model.proofs.Templates.{preset_template}
 
 -- a builder's state and a run of the rules that have come equally far
@@ -69,36 +71,21 @@ named_none table root s t state None found run is = rw is tt
 
 -- the end of deferred mode
 
--- the tree that is finished and the notes that are added agree again, or neither is there
-abbrev pub BothFinish : Table → ℕ → Journal → Option Tree → Option Journal → Type 0
-BothFinish table root notes (Some tree) (Some added) = Agrees table root (added ++ notes) tree
-BothFinish table root notes None None = Unit {0}
-BothFinish table root notes _ _ = ⊥
-
 -- the state in which deferred mode has ended
 abbrev pub finishes_as : State → Tree → State
 finishes_as state tree = record state { tree = tree; mode = strict; calls = one_more_call state.calls }
-
--- TODO: from FinishAgreement
-finish_agrees_here : (hooks : Meanings) (table : Table) (root : ℕ) (state : State) (notes : Journal) → IsChecked table
-    → AllPlain table root → IsInOrder table root state → Agrees table root notes state.tree
-    → BothFinish table root notes (finished hooks table root state.cursor state.tree)
-    (finish_notes table notes root [] state.cursor)
-finish_agrees_here hooks table root state notes checked plain order agrees = ?
-
--- TODO: from Finishes
-finish_order_here : (hooks : Meanings) (table : Table) (root : ℕ) (state : State) (tree : Tree) → IsChecked table
-    → IsInOrder table root state → finished hooks table root state.cursor state.tree ≡ Some tree
-    → Suits table root tree × Leads strict state.cursor tree
-finish_order_here hooks table root state tree checked order is = ?
 
 pub finished_in_order : (hooks : Meanings) (table : Table) (root : ℕ) (state : State) (tree : Tree) → IsChecked table
     → IsInOrder table root state → finished hooks table root state.cursor state.tree ≡ Some tree
     → IsInOrder table root (finishes_as state tree)
 finished_in_order hooks table root state tree checked order is =
-    let ends : Suits table root tree × Leads strict state.cursor tree
-    = finish_order_here hooks table root state tree checked order is in
-    record { suits = ends.0; leads = ends.1; began = tt }
+    let kept : Kept table root state.tree tree
+    = finish_keeps hooks table root state.cursor state.tree tree checked order.suits is in
+    record {
+      suits = kept.suits;
+      leads = finish_leads hooks table root state.mode state.cursor state.tree tree order.leads is;
+      began = tt;
+    }
 
 -- each command, at a tree and a journal that agree
 module _ (hooks : Meanings) (table : Table) (checked : IsChecked table) (root : ℕ) (plain : AllPlain table root)
@@ -312,7 +299,7 @@ module _ (hooks : Meanings) (table : Table) (checked : IsChecked table) (root : 
   finish_alike strict = tt
   finish_alike (deferred start) =
       finished_alike (finished hooks table root state.cursor state.tree) (finish_notes table notes root [] state.cursor) refl
-      (finish_agrees_here hooks table root state notes checked plain order agrees)
+      (finish_agrees hooks table root state notes checked plain order agrees)
 
   pub steps_alike : (command : Call) → IsFitting table command
       → BothStep table root (step hooks table root state command) (rule table root run command)
