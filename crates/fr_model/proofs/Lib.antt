@@ -2,6 +2,7 @@ pub mod Agreement
 pub mod ArrayRows
 pub mod Beneath
 pub mod Children
+pub mod Closing
 pub mod Completing
 pub mod Covering
 pub mod Cursor
@@ -10,6 +11,7 @@ pub mod Failing
 pub mod FinishAgreement
 pub mod FinishNotes
 pub mod Finishes
+pub mod FirstFailure
 pub mod Moves
 pub mod Opening
 pub mod Paths

@@ -4,6 +4,7 @@ pub mod Complete
 pub mod Covering
 pub mod Failing
 pub mod Finish
+pub mod FinishLaws
 pub mod Finishing
 pub mod Journal
 pub mod Laws
