@@ -10,11 +10,11 @@ use Rattle.fr_shape.specs.Hooks.{Meanings}
 use Rattle.fr_shape.specs.Look.{Table, def_of, field_in}
 use Rattle.fr_shape.specs.Lists.{is_nil}
 use Rattle.fr_shape.specs.Val.{Val, product, no_vals}
-use Rattle.fr_model.specs.Places.{Place, count_children, child_count, one_more, product_of, each_child, child_shape, fill_of_field, fill_at}
+use Rattle.fr_model.specs.Places.{Place, Column, count_children, child_count, one_more, product_of, each_child, child_shape, fill_of_field, fill_at}
 use Rattle.fr_model.specs.Journal.{Note, entered_at, wrote_at, Journal, Held, in_parts, written, just_entered, untouched, held, longest, entered_struct, by_entered, entered_value, by_held, by_parts, child_makes, completes_within, completes}
-use Rattle.fr_model.specs.Tree.{Form, as_struct, as_array, Tree, hole, entered, whole, begun, Trees, no_trees, branch, tree_nth, change_nth, tree_at, change_at, shape_in, child_as, count_trees}
+use Rattle.fr_model.specs.Tree.{Form, as_struct, as_array, Tree, hole, entered, whole, begun, Trees, no_trees, branch, tree_nth, change_nth, tree_at, change_at, shape_in, child_as, count_trees, Mode}
 use Rattle.fr_model.specs.Complete.{complete, complete_all, valid_child, hole_takes, made, made_by, made_of_entered}
-use Rattle.fr_model.specs.Well.{IsBegunAs, Suits, DoneBut, Leads}
+use Rattle.fr_model.specs.Well.{IsBegunAs, Suits, OffBut, Leads}
 use Rattle.fr_model.proofs.Beneath.{down, along, each_same, child_value, held_down, completes_down, completes_along, longest_down, longest_along, parts_long}
 use Rattle.fr_model.proofs.Structs.{made_product, SuitFrom}
 use Rattle.fr_model.proofs.Templates.{option_preset}
@@ -67,26 +67,26 @@ begun_makes (Def.Array t m) as_array n of_parts begun_as = refl
 begun_makes _ _ n of_parts begun_as = absurd begun_as.0
 
 -- a hole takes what the journal says of an untouched child
-begun_takes : (table : Table) (s : ℕ) (form : Form) (n : ℕ) → IsBegunAs (def_of table s) form n → (k : ℕ)
-    → fill_at table s k ≡ hole_takes table s form k
-begun_takes table s as_struct n count k = refl
-begun_takes table s as_array n count k = go (def_of table s) count
+begun_takes : (column : Column) (table : Table) (s : ℕ) (form : Form) (n : ℕ) → IsBegunAs (def_of table s) form n → (k : ℕ)
+    → fill_at column table s k ≡ hole_takes column table s form k
+begun_takes column table s as_struct n count k = refl
+begun_takes column table s as_array n count k = go (def_of table s) count
   where
-    go : (def : Def) → IsBegunAs def as_array n → fill_of_field table s false (field_in def None k) ≡ None
+    go : (def : Def) → IsBegunAs def as_array n → fill_of_field column table s false (field_in def None k) ≡ None
     go (Def.Array t m) count = refl
     go _ count = absurd count.0
 
 -- an entered place
 
-entered_same : (hooks : Meanings) (table : Table) (s : ℕ) → IsChecked table → AllPlain table s
-    → is_empty_struct (def_of table s) ≡ false → entered_value table s ≡ made_of_entered hooks table s
-entered_same hooks table s checked plain fields =
+entered_same : (column : Column) (hooks : Meanings) (table : Table) (s : ℕ) → IsChecked table → AllPlain table s
+    → is_empty_struct (def_of table s) ≡ false → entered_value column table s ≡ made_of_entered column hooks table s
+entered_same column hooks table s checked plain fields =
     go (def_of table s) (preset_of table s) refl refl
-    (product_of (each_child (λ k. fill_at table s k) (child_count table s) 0))
-    (product_of (each_child (λ k. valid_child hooks table s as_struct k (fill_at table s k)) (child_count table s) 0))
+    (product_of (each_child (λ k. fill_at column table s k) (child_count table s) 0))
+    (product_of (each_child (λ k. valid_child hooks table s as_struct k (fill_at column table s k)) (child_count table s) 0))
     (ap product_of
-    (each_same (λ k. fill_at table s k) (λ k. valid_child hooks table s as_struct k (fill_at table s k))
-    (child_count table s) 0 (λ k. sym (valid_same hooks table s as_struct k (fill_at table s k) plain)))) fields
+    (each_same (λ k. fill_at column table s k) (λ k. valid_child hooks table s as_struct k (fill_at column table s k))
+    (child_count table s) 0 (λ k. sym (valid_same hooks table s as_struct k (fill_at column table s k) plain)))) fields
   where
     with_fields : (all : List Field) (preset fills valid : Option Val) → fills ≡ valid → is_nil all ≡ false
         → entered_struct (length all) preset fills ≡ option_or preset valid
@@ -103,11 +103,11 @@ entered_same hooks table s checked plain fields =
     go _ preset is there fills valid e some = refl
 
 -- a struct without fields makes the empty product
-entered_empty : (table : Table) (s : ℕ) → is_empty_struct (def_of table s) ≡ true
-    → entered_value table s ≡ Some (product no_vals)
-entered_empty table s none =
+entered_empty : (column : Column) (table : Table) (s : ℕ) → is_empty_struct (def_of table s) ≡ true
+    → entered_value column table s ≡ Some (product no_vals)
+entered_empty column table s none =
     go (def_of table s) (preset_of table s)
-    (product_of (each_child (λ k. fill_at table s k) (child_count table s) 0)) none
+    (product_of (each_child (λ k. fill_at column table s k) (child_count table s) 0)) none
   where
     without_fields : (all : List Field) (preset fills : Option Val) → is_nil all ≡ true
         → entered_struct (length all) preset fills ≡ Some (product no_vals)
@@ -119,11 +119,11 @@ entered_empty table s none =
     go (Def.Struct struct) preset fills none = without_fields struct.fields preset fills none
     go _ preset fills none = cc
 
-whole_same : (table : Table) (s : ℕ) (v : Val) (h : Held) (parts : Option Val) → IsWhole table s v h
-    → by_held h parts (entered_value table s) ≡ Some v
-whole_same table s v h parts (by_value e) = by_written h parts (entered_value table s) v e
-whole_same table s v h parts (by_entry e none is) =
-    by_just_entered h parts (entered_value table s) e ∙ entered_empty table s none ∙ ap Some (sym is)
+whole_same : (column : Column) (table : Table) (s : ℕ) (v : Val) (h : Held) (parts : Option Val) → IsWhole table s v h
+    → by_held h parts (entered_value column table s) ≡ Some v
+whole_same column table s v h parts (by_value e) = by_written h parts (entered_value column table s) v e
+whole_same column table s v h parts (by_entry e none is) =
+    by_just_entered h parts (entered_value column table s) e ∙ entered_empty column table s none ∙ ap Some (sym is)
 
 -- a child that isn't a hole makes its own value
 
@@ -146,61 +146,64 @@ pub child_as_is : (table : Table) (s : ℕ) (form : Form) (i : ℕ) → child_as
 child_as_is table s as_struct i = refl
 child_as_is table s as_array i = refl
 
-touched_child : (hooks : Meanings) (table : Table) (s : ℕ) (form : Form) (i : ℕ) (t : Tree) (notes : Journal)
+touched_child : (column : Column) (hooks : Meanings) (table : Table) (s : ℕ) (form : Form) (i : ℕ) (t : Tree) (notes : Journal)
     (steps : ℕ) → AllPlain table s → IsTouched t → Agrees table (child_as table s form i) (down i notes) t
-    → completes_within table steps (down i notes) (child_as table s form i) []
-    ≡ complete hooks table (child_as table s form i) t
-    → child_value table steps notes s [] i
-    ≡ valid_child hooks table s form i (complete hooks table (child_as table s form i) t)
-touched_child hooks table s form i t notes steps plain touched agrees e =
-    ap₂ (λ (h : Held) (own : Option Val). child_makes h (fill_at table s i) own) (held_down i notes [])
-    (completes_down table steps notes (child_shape table s i) i []
-    ∙ ap (λ (m : ℕ). completes_within table steps (down i notes) m []) (sym (child_as_is table s form i)) ∙ e)
-    ∙ makes_own table (child_as table s form i) t (down i notes) (fill_at table s i)
-    (complete hooks table (child_as table s form i) t) touched agrees
-    ∙ sym (valid_same hooks table s form i (complete hooks table (child_as table s form i) t) plain)
+    → completes_within column table steps (down i notes) (child_as table s form i) []
+    ≡ complete column hooks table (child_as table s form i) t
+    → child_value column table steps notes s [] i
+    ≡ valid_child hooks table s form i (complete column hooks table (child_as table s form i) t)
+touched_child column hooks table s form i t notes steps plain touched agrees e =
+    ap₂ (λ (h : Held) (own : Option Val). child_makes h (fill_at column table s i) own) (held_down i notes [])
+    (completes_down column table steps notes (child_shape table s i) i []
+    ∙ ap (λ (m : ℕ). completes_within column table steps (down i notes) m []) (sym (child_as_is table s form i)) ∙ e)
+    ∙ makes_own table (child_as table s form i) t (down i notes) (fill_at column table s i)
+    (complete column hooks table (child_as table s form i) t) touched agrees
+    ∙ sym (valid_same hooks table s form i (complete column hooks table (child_as table s form i) t) plain)
 
 mutual
-  pub completes_tree : (hooks : Meanings) (table : Table) (t : Tree) (steps s : ℕ) (notes : Journal) → IsChecked table
-      → AllPlain table s → Suits table s t → Agrees table s notes t → longest notes < suc steps
-      → completes_within table (suc steps) notes s [] ≡ complete hooks table s t
-  completes_tree hooks table hole steps s notes checked plain suits agrees long =
+  pub completes_tree : (column : Column) (hooks : Meanings) (table : Table) (t : Tree) (steps s : ℕ) (notes : Journal)
+      → IsChecked table → AllPlain table s → Suits table s t → Agrees table s notes t → longest notes < suc steps
+      → completes_within column table (suc steps) notes s [] ≡ complete column hooks table s t
+  completes_tree column hooks table hole steps s notes checked plain suits agrees long =
       by_untouched (held notes []) _ _ agrees
-  completes_tree hooks table entered steps s notes checked plain suits agrees long =
-      by_just_entered (held notes []) _ _ agrees ∙ entered_same hooks table s checked plain suits
-  completes_tree hooks table (whole v) steps s notes checked plain suits agrees long =
-      whole_same table s v (held notes []) _ agrees
-  completes_tree hooks table (begun form ts) steps s notes checked plain suits agrees long =
+  completes_tree column hooks table entered steps s notes checked plain suits agrees long =
+      by_just_entered (held notes []) _ _ agrees ∙ entered_same column hooks table s checked plain suits
+  completes_tree column hooks table (whole v) steps s notes checked plain suits agrees long =
+      whole_same column table s v (held notes []) _ agrees
+  completes_tree column hooks table (begun form ts) steps s notes checked plain suits agrees long =
       by_in_parts (held notes []) _ _ agrees.0
       ∙ begun_makes (def_of table s) form (count_trees ts) _ suits.0
-      ∙ ap (λ (n : ℕ). product_of (each_child (child_value table steps notes s []) n 0))
+      ∙ ap (λ (n : ℕ). product_of (each_child (child_value column table steps notes s []) n 0))
       (sym (begun_count (def_of table s) form (count_trees ts) suits.0))
-      ∙ sym (made_product form (each_child (child_value table steps notes s []) (count_trees ts) 0))
+      ∙ sym (made_product form (each_child (child_value column table steps notes s []) (count_trees ts) 0))
       ∙ ap (made form)
-      (children_complete hooks table ts steps s form 0 notes checked plain
+      (children_complete column hooks table ts steps s form 0 notes checked plain
       (let count : count_trees ts ≡ child_count table s = begun_count (def_of table s) form (count_trees ts) suits.0 in omega arith)
-      (begun_takes table s form (count_trees ts) suits.0) suits.1 agrees.1 (parts_long notes agrees.0) (omega arith))
+      (begun_takes column table s form (count_trees ts) suits.0) suits.1 agrees.1 (parts_long notes agrees.0) (omega arith))
 
-  children_complete : (hooks : Meanings) (table : Table) (ts : Trees) (steps s : ℕ) (form : Form) (i : ℕ)
+  children_complete : (column : Column) (hooks : Meanings) (table : Table) (ts : Trees) (steps s : ℕ) (form : Form) (i : ℕ)
       (notes : Journal) → IsChecked table → AllPlain table s → i + count_trees ts ≡ child_count table s
-      → ((k : ℕ) → fill_at table s k ≡ hole_takes table s form k) → SuitFrom table s form i ts
+      → ((k : ℕ) → fill_at column table s k ≡ hole_takes column table s form k) → SuitFrom table s form i ts
       → AgreeAll table s form notes i ts → 1 ≤ longest notes → longest notes ≤ steps
-      → each_child (child_value table steps notes s []) (count_trees ts) i ≡ complete_all hooks table s form i ts
-  children_complete hooks table no_trees steps s form i notes checked plain count takes suits agrees some long = refl
-  children_complete hooks table (branch t ts) zero s form i notes checked plain count takes suits agrees some long =
+      → each_child (child_value column table steps notes s []) (count_trees ts) i ≡ complete_all column hooks table s form i ts
+  children_complete column hooks table no_trees steps s form i notes checked plain count takes suits agrees some long = refl
+  children_complete column hooks table (branch t ts) zero s form i notes checked plain count takes suits agrees some long =
       absurd (omega arith)
-  children_complete hooks table (branch hole ts) (suc steps) s form i notes checked plain count takes suits agrees some long =
+  children_complete column hooks table (branch hole ts) (suc steps) s form i notes checked plain count takes suits agrees some
+      long =
       ap₂ one_more
-      (hole_makes (held notes (i ∷ [])) (fill_at table s i) _ (held_down i notes [] ∙ agrees.0)
-      ∙ takes i ∙ sym (valid_same hooks table s form i (hole_takes table s form i) plain))
-      (children_complete hooks table ts (suc steps) s form (suc i) notes checked plain (omega arith) takes suits.1 agrees.1 some long)
-  children_complete hooks table (branch t ts) (suc steps) s form i notes checked plain count takes suits agrees some long =
+      (hole_makes (held notes (i ∷ [])) (fill_at column table s i) _ (held_down i notes [] ∙ agrees.0)
+      ∙ takes i ∙ sym (valid_same hooks table s form i (hole_takes column table s form i) plain))
+      (children_complete column hooks table ts (suc steps) s form (suc i) notes checked plain (omega arith) takes suits.1 agrees.1 some
+      long)
+  children_complete column hooks table (branch t ts) (suc steps) s form i notes checked plain count takes suits agrees some long =
       let below : longest (down i notes) < suc steps = omega (arith, longest_down i notes) in
       ap₂ one_more
-      (touched_child hooks table s form i t notes (suc steps) plain tt agrees.0
-      (completes_tree hooks table t steps (child_as table s form i) (down i notes) checked
+      (touched_child column hooks table s form i t notes (suc steps) plain tt agrees.0
+      (completes_tree column hooks table t steps (child_as table s form i) (down i notes) checked
       (plain_child table s form i (omega arith) plain) suits.0 agrees.0 below))
-      (children_complete hooks table ts (suc steps) s form (suc i) notes checked plain (omega arith) takes suits.1 agrees.1 some long)
+      (children_complete column hooks table ts (suc steps) s form (suc i) notes checked plain (omega arith) takes suits.1 agrees.1 some
+      long)
 
 -- one child that agrees with something else
 
@@ -278,33 +281,33 @@ held_above i (wrote_at place v) notes = refl
 
 -- the place to which a cursor leads
 
-pub leads_within : (i : ℕ) (Below : Tree → Type 0) (ts : Trees) → DoneBut i Below ts → i < count_trees ts
-leads_within i Below no_trees done = absurd done
-leads_within zero Below (branch t ts) done = omega arith
-leads_within (suc i) Below (branch t ts) done = let rest = leads_within i Below ts done.1 in omega arith
+pub leads_within : (mode : Mode) (i : ℕ) (Below : Tree → Type 0) (ts : Trees) → OffBut mode i Below ts → i < count_trees ts
+leads_within mode i Below no_trees off = absurd off
+leads_within mode zero Below (branch t ts) off = omega arith
+leads_within mode (suc i) Below (branch t ts) off = let rest = leads_within mode i Below ts off.1 in omega arith
 
-pub leads_child : (i : ℕ) (Below : Tree → Type 0) (ts : Trees) → DoneBut i Below ts → Below (tree_nth i ts)
-leads_child i Below no_trees done = absurd done
-leads_child zero Below (branch t ts) done = done.0
-leads_child (suc i) Below (branch t ts) done = leads_child i Below ts done.1
+pub leads_child : (mode : Mode) (i : ℕ) (Below : Tree → Type 0) (ts : Trees) → OffBut mode i Below ts → Below (tree_nth i ts)
+leads_child mode i Below no_trees off = absurd off
+leads_child mode zero Below (branch t ts) off = off.0
+leads_child mode (suc i) Below (branch t ts) off = leads_child mode i Below ts off.1
 
-pub agree_along : (table : Table) (s : ℕ) (here : Place) (t : Tree) (notes : Journal) → Leads here t
+pub agree_along : (mode : Mode) (table : Table) (s : ℕ) (here : Place) (t : Tree) (notes : Journal) → Leads mode here t
     → Agrees table s notes t → Agrees table (shape_in table s here t) (along here notes) (tree_at here t)
-agree_along table s [] t notes leads agrees = agrees
-agree_along table s (i ∷ here) (begun form ts) notes leads agrees =
-    agree_along table (child_as table s form i) here (tree_nth i ts) (down i notes)
-    (leads_child i (λ child. Leads here child) ts leads)
-    (agree_nth table s form i 0 ts i notes (omega arith) (leads_within i (λ child. Leads here child) ts leads) agrees.1)
-agree_along table s (i ∷ here) _ notes leads agrees = absurd leads
+agree_along mode table s [] t notes leads agrees = agrees
+agree_along mode table s (i ∷ here) (begun form ts) notes leads agrees =
+    agree_along mode table (child_as table s form i) here (tree_nth i ts) (down i notes)
+    (leads_child mode i (λ child. Leads mode here child) ts leads)
+    (agree_nth table s form i 0 ts i notes (omega arith) (leads_within mode i (λ child. Leads mode here child) ts leads) agrees.1)
+agree_along mode table s (i ∷ here) _ notes leads agrees = absurd leads
 
 -- a note at the place to which the cursor leads, and the tree changed there alike, agree again
-pub follow : (table : Table) (s : ℕ) (here : Place) (t : Tree) (notes : Journal) (note : Note) (change : Tree → Tree)
-    → Leads here t → Agrees table s notes t
+pub follow : (mode : Mode) (table : Table) (s : ℕ) (here : Place) (t : Tree) (notes : Journal) (note : Note)
+    (change : Tree → Tree) → Leads mode here t → Agrees table s notes t
     → (Agrees table (shape_in table s here t) (along here notes) (tree_at here t)
     → Agrees table (shape_in table s here t) (note ∷ along here notes) (change (tree_at here t)))
     → Agrees table s (under here note ∷ notes) (change_at here change t)
-follow table s [] t notes note change leads agrees step = step agrees
-follow table s (i ∷ here) (begun form ts) notes note change leads agrees step = (
+follow mode table s [] t notes note change leads agrees step = step agrees
+follow mode table s (i ∷ here) (begun form ts) notes note change leads agrees step = (
   held_above i (under here note) notes,
   agree_change table s form i 0 ts i notes (in_child i (under here note) ∷ notes)
       (λ child. change_at here change child) (omega arith) (λ j apart. down_other i j (under here note) notes apart)
@@ -312,18 +315,18 @@ follow table s (i ∷ here) (begun form ts) notes note change leads agrees step 
       (λ child. subst
       (λ (seen : Journal). Agrees table (child_as table s form i) seen (change_at here change (tree_nth i ts)))
       (sym (down_same i (under here note) notes))
-      (follow table (child_as table s form i) here (tree_nth i ts) (down i notes) note change
-      (leads_child i (λ c. Leads here c) ts leads) child step)),
+      (follow mode table (child_as table s form i) here (tree_nth i ts) (down i notes) note change
+      (leads_child mode i (λ c. Leads mode here c) ts leads) child step)),
 )
-follow table s (i ∷ here) _ notes note change leads agrees step = absurd leads
+follow mode table s (i ∷ here) _ notes note change leads agrees step = absurd leads
 
 -- what the place at the cursor completes to, by the journal and by the tree
-pub completes_at : (hooks : Meanings) (table : Table) (s : ℕ) (here : Place) (t : Tree) (notes : Journal)
-    → IsChecked table → AllPlain table (shape_in table s here t) → Leads here t
+pub completes_at : (mode : Mode) (column : Column) (hooks : Meanings) (table : Table) (s : ℕ) (here : Place) (t : Tree)
+    (notes : Journal) → IsChecked table → AllPlain table (shape_in table s here t) → Leads mode here t
     → Suits table (shape_in table s here t) (tree_at here t) → Agrees table s notes t
-    → completes table notes (shape_in table s here t) here
-    ≡ complete hooks table (shape_in table s here t) (tree_at here t)
-completes_at hooks table s here t notes checked plain leads suits agrees =
-    completes_along table (suc (longest notes)) notes (shape_in table s here t) here
-    ∙ completes_tree hooks table (tree_at here t) (longest notes) (shape_in table s here t) (along here notes) checked
-    plain suits (agree_along table s here t notes leads agrees) (omega (arith, longest_along here notes))
+    → completes column table notes (shape_in table s here t) here
+    ≡ complete column hooks table (shape_in table s here t) (tree_at here t)
+completes_at mode column hooks table s here t notes checked plain leads suits agrees =
+    completes_along column table (suc (longest notes)) notes (shape_in table s here t) here
+    ∙ completes_tree column hooks table (tree_at here t) (longest notes) (shape_in table s here t) (along here notes) checked
+    plain suits (agree_along mode table s here t notes leads agrees) (omega (arith, longest_along here notes))

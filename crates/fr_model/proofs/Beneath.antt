@@ -2,7 +2,7 @@
 use Rattle.std.proofs.Common.{◌≡◌, ℕ, zero, suc, ◌-◌, ◌≤◌, true, false, ◌==◌, if◌then◌else◌, [], ◌∷◌, ◌++◌, Option, refl, ◌∙◌, ap, ap₂, arith}
 use Rattle.fr_shape.specs.Look.{Table, def_of}
 use Rattle.fr_shape.specs.Val.{Val, Vals}
-use Rattle.fr_model.specs.Places.{Place, child_count, child_shape, part, part_at, one_more, product_of, each_child, fill_at}
+use Rattle.fr_model.specs.Places.{Place, Column, child_count, child_shape, part, part_at, one_more, product_of, each_child, fill_at}
 use Rattle.fr_model.specs.Journal.{entered_at, wrote_at, Journal, beside, standing, Held, in_parts, written, just_entered, untouched, after_write, at_least_entered, after_entry, held, longest, entered_value, by_held, by_parts, child_makes, completes_within}
 
 -- the notes that bear on child i: those at it or beneath it, and what was written above it
@@ -43,27 +43,27 @@ each_same f g zero i same = refl
 each_same f g (suc count) i same = ap₂ one_more (same i) (each_same f g count (suc i) same)
 
 -- the value of child k of a place of shape s
-abbrev pub child_value : Table → ℕ → Journal → ℕ → Place → ℕ → Option Val
-child_value table steps notes s here k =
-    child_makes (held notes (here ++ k ∷ [])) (fill_at table s k)
-    (completes_within table steps notes (child_shape table s k) (here ++ k ∷ []))
+abbrev pub child_value : Column → Table → ℕ → Journal → ℕ → Place → ℕ → Option Val
+child_value column table steps notes s here k =
+    child_makes (held notes (here ++ k ∷ [])) (fill_at column table s k)
+    (completes_within column table steps notes (child_shape table s k) (here ++ k ∷ []))
 
-pub completes_down : (table : Table) (steps : ℕ) (notes : Journal) (s i : ℕ) (here : Place)
-    → completes_within table steps notes s (i ∷ here) ≡ completes_within table steps (down i notes) s here
-completes_down table zero notes s i here = refl
-completes_down table (suc steps) notes s i here =
-    ap₂ (λ (h : Held) (parts : Option Val). by_held h parts (entered_value table s)) (held_down i notes here)
+pub completes_down : (column : Column) (table : Table) (steps : ℕ) (notes : Journal) (s i : ℕ) (here : Place)
+    → completes_within column table steps notes s (i ∷ here) ≡ completes_within column table steps (down i notes) s here
+completes_down column table zero notes s i here = refl
+completes_down column table (suc steps) notes s i here =
+    ap₂ (λ (h : Held) (parts : Option Val). by_held h parts (entered_value column table s)) (held_down i notes here)
     (ap (λ (values : Option Vals). by_parts (def_of table s) (product_of values))
-    (each_same (child_value table steps notes s (i ∷ here)) (child_value table steps (down i notes) s here)
+    (each_same (child_value column table steps notes s (i ∷ here)) (child_value column table steps (down i notes) s here)
     (child_count table s) 0
-    (λ k. ap₂ (λ (h : Held) (own : Option Val). child_makes h (fill_at table s k) own)
-    (held_down i notes (here ++ k ∷ [])) (completes_down table steps notes (child_shape table s k) i (here ++ k ∷ [])))))
+    (λ k. ap₂ (λ (h : Held) (own : Option Val). child_makes h (fill_at column table s k) own)
+    (held_down i notes (here ++ k ∷ [])) (completes_down column table steps notes (child_shape table s k) i (here ++ k ∷ [])))))
 
-pub completes_along : (table : Table) (steps : ℕ) (notes : Journal) (s : ℕ) (here : Place)
-    → completes_within table steps notes s here ≡ completes_within table steps (along here notes) s []
-completes_along table steps notes s [] = refl
-completes_along table steps notes s (i ∷ here) =
-    completes_down table steps notes s i here ∙ completes_along table steps (down i notes) s here
+pub completes_along : (column : Column) (table : Table) (steps : ℕ) (notes : Journal) (s : ℕ) (here : Place)
+    → completes_within column table steps notes s here ≡ completes_within column table steps (along here notes) s []
+completes_along column table steps notes s [] = refl
+completes_along column table steps notes s (i ∷ here) =
+    completes_down column table steps notes s i here ∙ completes_along column table steps (down i notes) s here
 
 pub held_along : (notes : Journal) (here : Place) → held notes here ≡ held (along here notes) []
 held_along notes [] = refl

@@ -11,7 +11,7 @@ use Rattle.fr_shape.specs.Val.{Val}
 use Rattle.fr_shape.specs.Named.{first_declared, field_named}
 use Rattle.fr_model.specs.Places.{array_limit, count_children}
 use Rattle.fr_model.specs.Journal.{Journal, Held, held, is_written, may_enter_children}
-use Rattle.fr_model.specs.Tree.{Tree, hole, entered, whole, begun}
+use Rattle.fr_model.specs.Tree.{Tree, hole, entered, whole, begun, Mode}
 use Rattle.fr_model.specs.Step.{field_refusal, named_refusal}
 use Rattle.fr_model.specs.Well.{AtCursor}
 use Rattle.fr_model.proofs.Agreement.{IsWhole, by_value, by_entry, Agrees}
@@ -27,16 +27,16 @@ abbrev pub SeesWhole : Def → Tree → Held → Type 0
 SeesWhole (Def.Array item n) t h = is_written h ≡ is_whole t
 SeesWhole _ t h = Unit {0}
 
-pub sees_whole : (table : Table) (s : ℕ) (t : Tree) (notes : Journal) → AtCursor t → Agrees table s notes t
+pub sees_whole : (mode : Mode) (table : Table) (s : ℕ) (t : Tree) (notes : Journal) → AtCursor mode t → Agrees table s notes t
     → SeesWhole (def_of table s) t (held notes [])
-sees_whole table s t notes at agrees = go (def_of table s) refl
+sees_whole mode table s t notes at agrees = go (def_of table s) refl
   where
     array_whole : (item : ShapeId) (n : ℕ) (v : Val) → def_of table s ≡ Def.Array item n
         → IsWhole table s v (held notes []) → is_written (held notes []) ≡ true
     array_whole item n v is (by_value e) = ap is_written e
     array_whole item n v is (by_entry e empty same) = let none = rw is at empty in cc
 
-    array : (item : ShapeId) (n : ℕ) (t : Tree) → def_of table s ≡ Def.Array item n → AtCursor t
+    array : (item : ShapeId) (n : ℕ) (t : Tree) → def_of table s ≡ Def.Array item n → AtCursor mode t
         → Agrees table s notes t → is_written (held notes []) ≡ is_whole t
     array item n hole is at agrees = absurd at
     array item n entered is at agrees = ap is_written agrees
@@ -67,7 +67,7 @@ pub data ChildCase (def : Def) (i : ℕ) (t : Tree) : Type 0 where
   no_child : (operation : Operation) → field_refusal def t i ≡ Some operation
       → ((h : Held) → SeesWhole def t h → may_enter_by def i h ≡ false) → ChildCase def i t
 
-nothing_below : (i : ℕ) → nat_lt i 0 ≡ false
+pub nothing_below : (i : ℕ) → nat_lt i 0 ≡ false
 nothing_below i = le-ltb i 0 (omega arith)
 
 struct_case : (struct : StructDef) (i : ℕ) (t : Tree) (b : Bool) → nat_lt i (length struct.fields) ≡ b

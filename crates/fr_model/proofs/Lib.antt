@@ -8,6 +8,8 @@ pub mod Covering
 pub mod Cursor
 pub mod DefaultRows
 pub mod Failing
+pub mod FinishAgreement
+pub mod FinishNotes
 pub mod Finishes
 pub mod FirstFailure
 pub mod Moves
@@ -17,6 +19,7 @@ pub mod Plain
 pub mod Plannable
 pub mod Relating
 pub mod Rows
+pub mod Runs
 pub mod Steps
 pub mod Structs
 pub mod Templates

@@ -1,5 +1,5 @@
 -- What an admitted command does, and what it keeps.
-use Rattle.std.proofs.Common.{◌≡◌, ℕ, zero, suc, ◌+◌, ◌≤◌, ◌==◌, eqb-true, Bool, true, false, if◌then◌else◌, List, Option, Some, None, Result, Ok, Err, refl, ◌∙◌, ap, subst, arith}
+use Rattle.std.proofs.Common.{◌≡◌, ℕ, zero, suc, ◌+◌, ◌<◌, ◌≤◌, ◌==◌, eqb-true, ltb-true, nat_lt, Bool, true, false, if◌then◌else◌, List, length, Option, Some, None, Result, Ok, Err, refl, ◌∙◌, ap, subst, arith}
 use Rattle.fr_shape.specs.declared.error.ReflectErrorKind.{ReflectErrorKind}
 use Rattle.fr_shape.specs.declared.error.Invariant.{Invariant}
 use Rattle.fr_shape.specs.Checked.{IsChecked}
@@ -8,23 +8,25 @@ use Rattle.fr_shape.specs.Hooks.{Meanings}
 use Rattle.fr_shape.specs.Look.{Table, def_of}
 use Rattle.fr_shape.specs.Val.{Val}
 use Rattle.fr_model.specs.Commands.{Call}
-use Rattle.fr_model.specs.Places.{is_root}
-use Rattle.fr_model.specs.Tree.{whole, change_at, State, cursor_shape, cursor_tree, initial, tree_occurs}
+use Rattle.fr_model.specs.Places.{strict_column, is_root}
+use Rattle.fr_model.specs.Tree.{Tree, whole, change_at, Mode, strict, deferred, State, cursor_shape, cursor_tree, initial, tree_occurs}
 use Rattle.fr_model.specs.Complete.{complete}
-use Rattle.fr_model.specs.Step.{violates, enter_child, enters, puts, puts_default, puts_and_leaves, ended, step, cause, built, build}
+use Rattle.fr_model.specs.Finish.{finished}
+use Rattle.fr_model.specs.Step.{violates, enter_child, enters, puts, puts_default, puts_and_leaves, ended, leaves, end_in, begins_deferred, finishes, finish_in, step, cause, built, build_in, build}
 use Rattle.fr_model.specs.Scripts.{IsFitting, brings}
 use Rattle.fr_model.specs.Removed.{removed, removed_by, replaced, removed_at_build, removed_by_build}
 use Rattle.fr_model.specs.Laws.{held_after, built_occurs, IsFresh}
 use Rattle.fr_model.specs.Well.{Suits, Leads, IsInOrder, AreDistinct, IsWell}
 use Rattle.fr_model.proofs.Children.{enterable, ChildCase, a_child, no_child, child_case, NamedCase, a_named, no_such_name, no_names, named_case}
 use Rattle.fr_model.proofs.Completing.{Made, completing_makes}
-use Rattle.fr_model.proofs.Cursor.{made_at, begun_in_order, put_in_order, ended_in_order}
+use Rattle.fr_model.proofs.Cursor.{made_at, start_in_order, begun_in_order, put_in_order, ended_in_order, left_in_order, defers, deferred_in_order}
+use Rattle.fr_model.proofs.Finishes.{Kept, finish_keeps}
 use Rattle.fr_model.proofs.Opening.{Enterable}
-use Rattle.fr_model.proofs.Steps.{start_in_order}
+use Rattle.fr_model.proofs.Steps.{finishes_as, finished_in_order}
 use Rattle.fr_model.proofs.Templates.{IsTemplate, preset_template, template_holds}
 use Rattle.fr_model.proofs.Tokens.{fresh_holds, enter_child_holds, change_holds}
 
--- the five ways in which a command is admitted
+-- the ways in which a command is admitted
 pub data Admits (hooks : Meanings) (table : Table) (root : ℕ) (state : State) : Call → State → Type 0 where
   begins : (i : ℕ) → Enterable table (cursor_shape table root state) i (cursor_tree state)
       → Admits hooks table root state (Call.BeginNthField i) (enters table (cursor_shape table root state) state i)
@@ -35,9 +37,14 @@ pub data Admits (hooks : Meanings) (table : Table) (root : ℕ) (state : State) 
       → Admits hooks table root state (Call.Set given v) (puts state v)
   defaults : (v : Val) → preset_of table (cursor_shape table root state) ≡ Some v
       → Admits hooks table root state Call.SetDefault (puts state v)
-  ends : (v : Val)
-      → complete hooks table (cursor_shape table root state) (cursor_tree state) ≡ Some v
+  ends : (v : Val) → state.mode ≡ strict
+      → complete strict_column hooks table (cursor_shape table root state) (cursor_tree state) ≡ Some v
       → Admits hooks table root state Call.End (puts_and_leaves state v)
+  is_left : (start : ℕ) → state.mode ≡ deferred start → start < length state.cursor
+      → Admits hooks table root state Call.End (leaves state)
+  defers_there : state.mode ≡ strict → Admits hooks table root state Call.BeginDeferred (defers state)
+  is_finished : (tree : Tree) → finished hooks table root state.cursor state.tree ≡ Some tree
+      → Admits hooks table root state Call.FinishDeferred (finishes_as state tree)
 
 ok_is : (a b : State) → ◌≡◌ {A = Result State ReflectErrorKind} (Ok a) (Ok b) → a ≡ b
 ok_is a b e = cc
@@ -95,20 +102,60 @@ module _ (hooks : Meanings) (table : Table) (root : ℕ) (state next : State) wh
       go None is h = cc
 
   ends_so : step hooks table root state Call.End ≡ Ok next → Admits hooks table root state Call.End next
-  ends_so e =
-      go (is_root state.cursor)
-      (complete hooks table (cursor_shape table root state) (cursor_tree state)) refl e
+  ends_so e = go (is_root state.cursor) state.mode refl e
     where
-      go : (b : Bool) (value : Option Val)
-          → complete hooks table (cursor_shape table root state) (cursor_tree state) ≡ value
-          → (if b then Err (violates Invariant.EndAtRoot)
-          else ended hooks table (cursor_shape table root state) state value) ≡ Ok next
+      ended_so : (value : Option Val) → state.mode ≡ strict
+          → complete strict_column hooks table (cursor_shape table root state) (cursor_tree state) ≡ value
+          → ended hooks table (cursor_shape table root state) state value ≡ Ok next
           → Admits hooks table root state Call.End next
-      go true value is h = cc
-      go false None is h = cc
-      go false (Some v) is h =
+      ended_so (Some v) is_strict is h =
           subst (λ (after : State). Admits hooks table root state Call.End after)
-          (ok_is (puts_and_leaves state v) next h) (ends v is)
+          (ok_is (puts_and_leaves state v) next h) (ends v is_strict is)
+      ended_so None is_strict is h = cc
+
+      left_so : (start : ℕ) (b : Bool) → state.mode ≡ deferred start → nat_lt start (length state.cursor) ≡ b
+          → (if b then Ok (leaves state) else Err (violates Invariant.EndAtStart)) ≡ Ok next
+          → Admits hooks table root state Call.End next
+      left_so start true is deeper h =
+          subst (λ (after : State). Admits hooks table root state Call.End after) (ok_is (leaves state) next h)
+          (is_left start is (ltb-true start (length state.cursor) deeper))
+      left_so start false is deeper h = cc
+
+      go : (b : Bool) (mode : Mode) → state.mode ≡ mode
+          → (if b then Err (violates Invariant.EndAtRoot)
+          else end_in hooks table (cursor_shape table root state) state mode) ≡ Ok next
+          → Admits hooks table root state Call.End next
+      go true mode is h = cc
+      go false strict is h =
+          ended_so (complete strict_column hooks table (cursor_shape table root state) (cursor_tree state)) is refl h
+      go false (deferred start) is h = left_so start (nat_lt start (length state.cursor)) is refl h
+
+  defers_so : step hooks table root state Call.BeginDeferred ≡ Ok next
+      → Admits hooks table root state Call.BeginDeferred next
+  defers_so e = go state.mode refl e
+    where
+      go : (mode : Mode) → state.mode ≡ mode → begins_deferred state mode ≡ Ok next
+          → Admits hooks table root state Call.BeginDeferred next
+      go strict is h =
+          subst (λ (after : State). Admits hooks table root state Call.BeginDeferred after)
+          (ok_is (defers state) next h) (defers_there is)
+      go (deferred start) is h = cc
+
+  finishes_so : step hooks table root state Call.FinishDeferred ≡ Ok next
+      → Admits hooks table root state Call.FinishDeferred next
+  finishes_so e = go state.mode e
+    where
+      finished_so : (tree : Option Tree) → finished hooks table root state.cursor state.tree ≡ tree
+          → finishes hooks table root state tree ≡ Ok next → Admits hooks table root state Call.FinishDeferred next
+      finished_so (Some tree) is h =
+          subst (λ (after : State). Admits hooks table root state Call.FinishDeferred after)
+          (ok_is (finishes_as state tree) next h) (is_finished tree is)
+      finished_so None is h = cc
+
+      go : (mode : Mode) → finish_in hooks table root state mode ≡ Ok next
+          → Admits hooks table root state Call.FinishDeferred next
+      go strict h = cc
+      go (deferred start) h = finished_so (finished hooks table root state.cursor state.tree) refl h
 
   pub admits : (command : Call) → step hooks table root state command ≡ Ok next
       → Admits hooks table root state command next
@@ -117,13 +164,16 @@ module _ (hooks : Meanings) (table : Table) (root : ℕ) (state next : State) wh
   admits (Call.Set given v) e = sets_so given v e
   admits Call.SetDefault e = defaults_so e
   admits Call.End e = ends_so e
+  admits Call.BeginDeferred e = defers_so e
+  admits Call.FinishDeferred e = finishes_so e
 
 -- tokens
 
-entering_moves : (table : Table) (s i : ℕ) (state : State) (t : ℕ) → Leads state.cursor state.tree
+entering_moves : (table : Table) (s i : ℕ) (state : State) (t : ℕ)
+    → Leads state.mode state.cursor state.tree
     → tree_occurs state.tree t + 0 ≡ tree_occurs (change_at state.cursor (enter_child table s i) state.tree) t + 0
 entering_moves table s i state t leads =
-    let there = change_holds state.cursor state.tree (enter_child table s i) t leads in
+    let there = change_holds state.mode state.cursor state.tree (enter_child table s i) t leads in
     let same = enter_child_holds table s i (cursor_tree state) t in
     omega arith
 
@@ -136,18 +186,25 @@ moves_tokens hooks table root state next command t checked order (begins i enter
 moves_tokens hooks table root state next command t checked order (names name i enterable) =
     entering_moves table (cursor_shape table root state) i state t order.leads
 moves_tokens hooks table root state next command t checked order (sets given v same) =
-    let there = change_holds state.cursor state.tree (λ old. whole v) t order.leads in omega arith
+    let there = change_holds state.mode state.cursor state.tree (λ old. whole v) t order.leads in omega arith
 moves_tokens hooks table root state next command t checked order (defaults v is) =
-    let there = change_holds state.cursor state.tree (λ old. whole v) t order.leads in
+    let there = change_holds state.mode state.cursor state.tree (λ old. whole v) t order.leads in
     let template : IsTemplate table (cursor_shape table root state) v
     = preset_template table (cursor_shape table root state) v checked is in
     let none = template_holds table (cursor_shape table root state) v t template in
     omega arith
-moves_tokens hooks table root state next command t checked order (ends v is) =
-    let there = change_holds state.cursor state.tree (λ old. whole v) t order.leads in
+moves_tokens hooks table root state next command t checked order (ends v is_strict is) =
+    let there = change_holds state.mode state.cursor state.tree (λ old. whole v) t order.leads in
     let made : Made table (cursor_shape table root state) (λ k. tree_occurs (cursor_tree state) k) v
-    = made_at hooks table root state v checked is order in
+    = made_at strict_column hooks table root state v checked is order in
     let same = made.hold t in
+    omega arith
+moves_tokens hooks table root state next command t checked order (is_left start is deeper) = refl
+moves_tokens hooks table root state next command t checked order (defers_there is) = refl
+moves_tokens hooks table root state next command t checked order (is_finished tree is) =
+    let kept : Kept table root state.tree tree
+    = finish_keeps hooks table root state.cursor state.tree tree checked order.suits is in
+    let same = kept.hold t in
     omega arith
 
 -- whatever comes of a command: nothing is lost and nothing doubled
@@ -171,25 +228,31 @@ pub build_keeps_tokens : (hooks : Meanings) (table : Table) (root : ℕ) (state 
     → tree_occurs state.tree t
     ≡ built_occurs (build hooks table root state) t + removed_at_build hooks table root state t
 build_keeps_tokens hooks table root state checked suits t =
-    go (is_root state.cursor) (complete hooks table root state.tree) refl
+    by_mode state.mode
   where
     kept : (outcome : Result Val ReflectErrorKind)
-        → ((v : Val) → outcome ≡ Ok v → complete hooks table root state.tree ≡ Some v)
+        → ((v : Val) → outcome ≡ Ok v → complete strict_column hooks table root state.tree ≡ Some v)
         → tree_occurs state.tree t ≡ built_occurs outcome t + removed_by_build state outcome t
     kept (Ok v) is =
         let made : Made table root (λ k. tree_occurs state.tree k) v
-        = completing_makes hooks table state.tree root v checked suits (is v refl) in
+        = completing_makes strict_column hooks table state.tree root v checked suits (is v refl) in
         let same = made.hold t in
         omega arith
     kept (Err kind) is = omega arith
 
-    go : (b : Bool) (value : Option Val) → complete hooks table root state.tree ≡ value
+    go : (b : Bool) (value : Option Val) → complete strict_column hooks table root state.tree ≡ value
         → tree_occurs state.tree t
         ≡ built_occurs (if b then built hooks table root state.tree value else Err (violates Invariant.BuildOpenFrames)) t
         + removed_by_build state (if b then built hooks table root state.tree value else Err (violates Invariant.BuildOpenFrames)) t
     go true (Some v) is = kept (Ok v) (λ u e. is ∙ ap Some cc)
     go true None is = kept (Err (cause hooks table root state.tree)) (λ u e. cc)
     go false value is = kept (Err (violates Invariant.BuildOpenFrames)) (λ u e. cc)
+
+    by_mode : (mode : Mode)
+        → tree_occurs state.tree t
+        ≡ built_occurs (build_in hooks table root state mode) t + removed_by_build state (build_in hooks table root state mode) t
+    by_mode strict = go (is_root state.cursor) (complete strict_column hooks table root state.tree) refl
+    by_mode (deferred start) = kept (Err (violates Invariant.BuildDeferred)) (λ u e. cc)
 
 -- states stay well
 
@@ -206,8 +269,14 @@ moves_in_order hooks table root state next command checked fit order (defaults v
     let template : IsTemplate table (cursor_shape table root state) v
     = preset_template table (cursor_shape table root state) v checked is in
     put_in_order table root state v template.fit order
-moves_in_order hooks table root state next command checked fit order (ends v is) =
-    ended_in_order hooks table root state v checked is order
+moves_in_order hooks table root state next command checked fit order (ends v is_strict is) =
+    ended_in_order strict_column hooks table root state v checked is_strict is order
+moves_in_order hooks table root state next command checked fit order (is_left start is deeper) =
+    left_in_order table root start state is deeper order
+moves_in_order hooks table root state next command checked fit order (defers_there is) =
+    deferred_in_order table root state is order
+moves_in_order hooks table root state next command checked fit order (is_finished tree is) =
+    finished_in_order hooks table root state tree checked order is
 
 pub step_keeps_order : (hooks : Meanings) (table : Table) (root : ℕ) (state next : State) (command : Call)
     → IsChecked table → IsInOrder table root state → IsFitting table command

@@ -11,9 +11,9 @@ use Rattle.fr_shape.specs.Val.{Val, Vals, unit, product, no_vals, first}
 use Rattle.fr_shape.specs.Fits.{fits, fields_fit}
 use Rattle.fr_model.specs.Places.{array_limit, child_count, vals_nth}
 use Rattle.fr_model.specs.Journal.{entered_at, Journal, Held, written, just_entered, untouched, at_least_entered, held}
-use Rattle.fr_model.specs.Tree.{Form, as_struct, as_array, form_of, Tree, hole, entered, whole, begun, Trees, no_trees, branch, tree_nth, change_nth, change_child, child_as, count_trees, holes, wholes, fresh}
+use Rattle.fr_model.specs.Tree.{Form, as_struct, as_array, form_of, Tree, hole, entered, whole, begun, Trees, no_trees, branch, tree_nth, change_nth, change_child, child_as, count_trees, holes, wholes, fresh, Mode, strict, deferred}
 use Rattle.fr_model.specs.Step.{opened_as, enter, enter_child}
-use Rattle.fr_model.specs.Well.{IsBegunAs, Suits, IsDone, AllDone, AtCursor, DoneBut, Leads}
+use Rattle.fr_model.specs.Well.{IsBegunAs, Suits, IsOff, AllOff, AtCursor, OffBut, Leads}
 use Rattle.fr_model.proofs.Beneath.{down, held_down, IsLow, untouched_below, written_below}
 use Rattle.fr_model.proofs.Agreement.{IsWhole, by_value, by_entry, Agrees, AgreeAll, agree_change, begun_count, child_as_is, down_same, down_other}
 use Rattle.fr_model.proofs.Structs.{SuitFrom, settled_struct, all_from, WholesSuit, wholes_suit, count_change, count_holes, holes_suit, suit_change}
@@ -47,19 +47,23 @@ begun_form (Def.Array item m) as_array n h = refl
 begun_form _ _ n h = absurd h.0
 
 -- the children that a place has, or gets when one of them is entered
-pub record Opening (table : Table) (s : ℕ) (form : Form) (t : Tree) : Type 0 where
+pub record Opening (mode : Mode) (table : Table) (s : ℕ) (form : Form) (t : Tree) : Type 0 where
   pub children : Trees
   pub is : opened_as form (child_count table s) t ≡ begun form children
   pub begun_as : IsBegunAs (def_of table s) form (count_trees children)
   pub suit : SuitFrom table s form 0 children
-  pub done : AllDone children
+  pub off : AllOff mode children
   pub agree : (notes : Journal) → Agrees table s notes t → AgreeAll table s form notes 0 children
 
 -- holes
 
-holes_done : (n : ℕ) → AllDone (holes n)
-holes_done zero = tt
-holes_done (suc n) = (tt, holes_done n)
+hole_off : (mode : Mode) → IsOff mode hole
+hole_off strict = tt
+hole_off (deferred start) = tt
+
+holes_off : (mode : Mode) (n : ℕ) → AllOff mode (holes n)
+holes_off mode zero = tt
+holes_off mode (suc n) = (hole_off mode, holes_off mode n)
 
 holes_agree : (table : Table) (s : ℕ) (form : Form) (n i : ℕ) (notes : Journal)
     → ((j : ℕ) → held (down j notes) [] ≡ untouched) → AgreeAll table s form notes i (holes n)
@@ -68,9 +72,13 @@ holes_agree table s form (suc n) i notes none = (none i, holes_agree table s for
 
 -- whole children
 
-wholes_done : (vs : Vals) → AllDone (wholes vs)
-wholes_done no_vals = tt
-wholes_done (first v vs) = (tt, wholes_done vs)
+pub whole_off : (mode : Mode) (v : Val) → IsOff mode (whole v)
+whole_off strict v = tt
+whole_off (deferred start) v = tt
+
+pub wholes_off : (mode : Mode) (vs : Vals) → AllOff mode (wholes vs)
+wholes_off mode no_vals = tt
+wholes_off mode (first v vs) = (whole_off mode v, wholes_off mode vs)
 
 wholes_agree : (table : Table) (s : ℕ) (form : Form) (vs : Vals) (i : ℕ) (notes : Journal)
     → ((d j : ℕ) → j ≡ i + d → held (down j notes) [] ≡ written (vals_nth vs d))
@@ -83,14 +91,14 @@ wholes_agree table s form (first v vs) i notes each = (
 
 -- all that may stand at the cursor
 
-opening_entered : (table : Table) (s : ℕ) (form : Form) → IsBegunAs (def_of table s) form (child_count table s)
-    → Opening table s form entered
-opening_entered table s form begun_as = record {
+opening_entered : (mode : Mode) (table : Table) (s : ℕ) (form : Form) → IsBegunAs (def_of table s) form (child_count table s)
+    → Opening mode table s form entered
+opening_entered mode table s form begun_as = record {
   children = holes (child_count table s);
   is = refl;
   begun_as = subst (λ (n : ℕ). IsBegunAs (def_of table s) form n) (sym (count_holes (child_count table s))) begun_as;
   suit = holes_suit table s form 0 (child_count table s);
-  done = holes_done (child_count table s);
+  off = holes_off mode (child_count table s);
   agree = λ notes agrees. holes_agree table s form (child_count table s) 0 notes
       (λ j. sym (held_down j notes []) ∙ untouched_below j notes [] (subst IsLow (sym agrees) tt));
 }
@@ -104,9 +112,9 @@ product_agrees table s vs notes (by_value is) =
 product_agrees table s no_vals notes (by_entry is empty same) = tt
 product_agrees table s (first v vs) notes (by_entry is empty same) = cc
 
-opening_product : (table : Table) (s i : ℕ) (struct : StructDef) (vs : Vals) → def_of table s ≡ Def.Struct struct
-    → i < length struct.fields → fields_fit table struct.fields vs ≡ true → Opening table s as_struct (whole (product vs))
-opening_product table s i struct vs is below fit =
+opening_product : (mode : Mode) (table : Table) (s i : ℕ) (struct : StructDef) (vs : Vals) → def_of table s ≡ Def.Struct struct
+    → i < length struct.fields → fields_fit table struct.fields vs ≡ true → Opening mode table s as_struct (whole (product vs))
+opening_product mode table s i struct vs is below fit =
     let suits : WholesSuit table s 0 struct.fields vs
     = wholes_suit table s struct is 0 struct.fields vs (all_from struct.fields) fit in
     record {
@@ -114,40 +122,40 @@ opening_product table s i struct vs is below fit =
       is = refl;
       begun_as = rw is (suits.count, omega (arith, suits.count));
       suit = suits.suit;
-      done = wholes_done vs;
+      off = wholes_off mode vs;
       agree = product_agrees table s vs;
     }
 
-opening_whole : (table : Table) (s i : ℕ) (struct : StructDef) (v : Val) → def_of table s ≡ Def.Struct struct
-    → i < length struct.fields → fits table s v ≡ true → Opening table s as_struct (whole v)
-opening_whole table s i struct (product vs) is below fit =
-    opening_product table s i struct vs is below (rw (settled_struct table s struct is) at fit)
-opening_whole table s i struct unit is below fit = cc
-opening_whole table s i struct _ is below fit = let none = rw (settled_struct table s struct is) at fit in cc
+opening_whole : (mode : Mode) (table : Table) (s i : ℕ) (struct : StructDef) (v : Val) → def_of table s ≡ Def.Struct struct
+    → i < length struct.fields → fits table s v ≡ true → Opening mode table s as_struct (whole v)
+opening_whole mode table s i struct (product vs) is below fit =
+    opening_product mode table s i struct vs is below (rw (settled_struct table s struct is) at fit)
+opening_whole mode table s i struct unit is below fit = cc
+opening_whole mode table s i struct _ is below fit = let none = rw (settled_struct table s struct is) at fit in cc
 
-opening_begun : (table : Table) (s : ℕ) (form : Form) (ts : Trees) → AllDone ts → Suits table s (begun form ts)
-    → Opening table s form (begun form ts)
-opening_begun table s form ts done suits = record {
+opening_begun : (mode : Mode) (table : Table) (s : ℕ) (form : Form) (ts : Trees) → AllOff mode ts → Suits table s (begun form ts)
+    → Opening mode table s form (begun form ts)
+opening_begun mode table s form ts off suits = record {
   children = ts;
   is = refl;
   begun_as = suits.0;
   suit = suits.1;
-  done = done;
+  off = off;
   agree = λ notes agrees. agrees.1;
 }
 
-pub opening : (table : Table) (s i : ℕ) (t : Tree) → Enterable table s i t → AtCursor t → Suits table s t
-    → Opening table s (form_of (def_of table s)) t
-opening table s i hole enterable at suits = absurd at
-opening table s i entered enterable at suits =
-    opening_entered table s (form_of (def_of table s)) (begins_as table s i entered (child_count table s) enterable refl)
-opening table s i (whole v) (a_field struct is below) at suits =
-    subst (λ (form : Form). Opening table s form (whole v)) (sym (ap form_of is))
-    (opening_whole table s i struct v is below suits)
-opening table s i (whole v) (an_element item n is below few not_whole) at suits = absurd not_whole
-opening table s i (begun form ts) enterable at suits =
-    subst (λ (known : Form). Opening table s known (begun form ts))
-    (begun_form (def_of table s) form (count_trees ts) suits.0) (opening_begun table s form ts at suits)
+pub opening : (mode : Mode) (table : Table) (s i : ℕ) (t : Tree) → Enterable table s i t → AtCursor mode t → Suits table s t
+    → Opening mode table s (form_of (def_of table s)) t
+opening mode table s i hole enterable at suits = absurd at
+opening mode table s i entered enterable at suits =
+    opening_entered mode table s (form_of (def_of table s)) (begins_as table s i entered (child_count table s) enterable refl)
+opening mode table s i (whole v) (a_field struct is below) at suits =
+    subst (λ (form : Form). Opening mode table s form (whole v)) (sym (ap form_of is))
+    (opening_whole mode table s i struct v is below suits)
+opening mode table s i (whole v) (an_element item n is below few not_whole) at suits = absurd not_whole
+opening mode table s i (begun form ts) enterable at suits =
+    subst (λ (known : Form). Opening mode table s known (begun form ts))
+    (begun_form (def_of table s) form (count_trees ts) suits.0) (opening_begun mode table s form ts at suits)
 
 -- a fresh place
 
@@ -171,10 +179,10 @@ fresh_suits table s = go (is_empty_struct (def_of table s)) refl
     go true e = of_def (def_of table s) refl e
     go false e = e
 
-pub fresh_at_cursor : (def : Def) → AtCursor (fresh def)
-fresh_at_cursor def = go (is_empty_struct def)
+pub fresh_at_cursor : (mode : Mode) (def : Def) → AtCursor mode (fresh def)
+fresh_at_cursor mode def = go (is_empty_struct def)
   where
-    go : (b : Bool) → AtCursor (if b then whole (product no_vals) else entered)
+    go : (b : Bool) → AtCursor mode (if b then whole (product no_vals) else entered)
     go true = tt
     go false = tt
 
@@ -195,16 +203,23 @@ enter_suits table s entered suits = suits
 enter_suits table s (whole v) suits = suits
 enter_suits table s (begun form ts) suits = suits
 
-enter_at_cursor : (def : Def) (t : Tree) → IsDone t → AtCursor (enter def t)
-enter_at_cursor def hole done = fresh_at_cursor def
-enter_at_cursor def (whole v) done = tt
-enter_at_cursor def _ done = absurd done
+-- in deferred mode whatever stands off the way may be half done
+pub all_deferred : (start : ℕ) (ts : Trees) → AllOff (deferred start) ts
+all_deferred start no_trees = tt
+all_deferred start (branch t ts) = (tt, all_deferred start ts)
 
-enter_leads : (def : Def) (i : ℕ) (ts : Trees) → AllDone ts → i < count_trees ts
-    → DoneBut i AtCursor (change_nth i (enter def) ts)
-enter_leads def i no_trees done within = absurd (omega arith)
-enter_leads def zero (branch t ts) done within = (enter_at_cursor def t done.0, done.1)
-enter_leads def (suc i) (branch t ts) done within = (done.0, enter_leads def i ts done.1 (omega arith))
+enter_at_cursor : (mode : Mode) (def : Def) (t : Tree) → IsOff mode t → AtCursor mode (enter def t)
+enter_at_cursor mode def hole off = fresh_at_cursor mode def
+enter_at_cursor mode def entered off = tt
+enter_at_cursor mode def (whole v) off = tt
+enter_at_cursor strict def (begun form ts) off = absurd off
+enter_at_cursor (deferred start) def (begun form ts) off = all_deferred start ts
+
+enter_leads : (mode : Mode) (def : Def) (i : ℕ) (ts : Trees) → AllOff mode ts → i < count_trees ts
+    → OffBut mode i (λ child. AtCursor mode child) (change_nth i (enter def) ts)
+enter_leads mode def i no_trees off within = absurd (omega arith)
+enter_leads mode def zero (branch t ts) off within = (enter_at_cursor mode def t off.0, off.1)
+enter_leads mode def (suc i) (branch t ts) off within = (off.0, enter_leads mode def i ts off.1 (omega arith))
 
 whole_entered : (table : Table) (s : ℕ) (v : Val) (h : Held) → IsWhole table s v h
     → IsWhole table s v (at_least_entered h)
@@ -225,16 +240,17 @@ enter_agrees table s (begun form ts) notes agrees = (ap at_least_entered agrees.
     seen_alike (branch t ts) i notes agrees = (agrees.0, seen_alike ts (suc i) notes agrees.1)
 
 -- child i entered: the place suits as before, the cursor may go there, and notes agree
-pub record Entry (table : Table) (s i : ℕ) (t after : Tree) : Type 0 where
+pub record Entry (mode : Mode) (table : Table) (s i : ℕ) (t after : Tree) : Type 0 where
   pub suits : Suits table s after
-  pub leads : Leads (i ∷ []) after
+  pub leads : Leads mode (i ∷ []) after
   pub agrees : (notes : Journal) → Agrees table s notes t → Agrees table s (entered_at (i ∷ []) ∷ notes) after
 
-entry_opened : (table : Table) (s : ℕ) (form : Form) (i : ℕ) (t : Tree) → Opening table s form t
+entry_opened : (mode : Mode) (table : Table) (s : ℕ) (form : Form) (i : ℕ) (t : Tree) → Opening mode table s form t
     → i < child_count table s
-    → Entry table s i t (change_child i (enter (def_of table (child_as table s form i))) (opened_as form (child_count table s) t))
-entry_opened table s form i t place below =
-    subst (λ (u : Tree). Entry table s i t (change_child i (enter (def_of table (child_as table s form i))) u))
+    → Entry mode table s i t
+    (change_child i (enter (def_of table (child_as table s form i))) (opened_as form (child_count table s) t))
+entry_opened mode table s form i t place below =
+    subst (λ (u : Tree). Entry mode table s i t (change_child i (enter (def_of table (child_as table s form i))) u))
     (sym place.is) (record {
       suits = (
         subst (λ (n : ℕ). IsBegunAs (def_of table s) form n)
@@ -242,7 +258,7 @@ entry_opened table s form i t place below =
         suit_change table s form i 0 place.children i (enter (def_of table (child_as table s form i))) (omega arith)
             place.suit (λ h. enter_suits table (child_as table s form i) (tree_nth i place.children) h),
       );
-      leads = enter_leads (def_of table (child_as table s form i)) i place.children place.done
+      leads = enter_leads mode (def_of table (child_as table s form i)) i place.children place.off
           (omega (arith, begun_count (def_of table s) form (count_trees place.children) place.begun_as));
       agrees = λ notes agrees. (
         refl,
@@ -257,12 +273,12 @@ entry_opened table s form i t place below =
       );
     })
 
-pub entry : (table : Table) (s i : ℕ) (t : Tree) → Enterable table s i t → AtCursor t → Suits table s t
-    → Entry table s i t (enter_child table s i t)
-entry table s i t enterable at suits =
+pub entry : (mode : Mode) (table : Table) (s i : ℕ) (t : Tree) → Enterable table s i t → AtCursor mode t → Suits table s t
+    → Entry mode table s i t (enter_child table s i t)
+entry mode table s i t enterable at suits =
     subst
-    (λ (m : ℕ). Entry table s i t
+    (λ (m : ℕ). Entry mode table s i t
     (change_child i (enter (def_of table m)) (opened_as (form_of (def_of table s)) (child_count table s) t)))
     (child_as_is table s (form_of (def_of table s)) i)
-    (entry_opened table s (form_of (def_of table s)) i t (opening table s i t enterable at suits)
+    (entry_opened mode table s (form_of (def_of table s)) i t (opening mode table s i t enterable at suits)
     (within table s i t enterable))

@@ -19,7 +19,7 @@ use Rattle.fr_path.specs.declared.path_steps.PathStep.{PathStep}
 use Rattle.fr_model.specs.Commands.{Call}
 use Rattle.fr_model.specs.Journal.{journal_run}
 use Rattle.fr_model.specs.Run.{Refusal, full_run}
-use Rattle.fr_model.specs.Tree.{whole}
+use Rattle.fr_model.specs.Tree.{whole, strict}
 use Rattle.fr_model.specs.Removed.{removed}
 
 -- to write tables and scripts
@@ -202,7 +202,8 @@ journal_keeps_second : journal_run opaque 2 (set 2 (cell 0 1) ∷ set 2 (cell 1 
 journal_keeps_second = refl
 
 -- and the first one's token is dropped
-second_drops_first : removed no_hooks opaque 2 (record { tree = whole (cell 0 1); cursor = []; calls = 1 }) (set 2 (cell 1 2)) 0 ≡ 1
+second_drops_first
+    : removed no_hooks opaque 2 (record { tree = whole (cell 0 1); cursor = []; mode = strict; calls = 1 }) (set 2 (cell 1 2)) 0 ≡ 1
 second_drops_first = refl
 
 cell_fits : fits opaque 2 (cell 0 1) ≡ true

@@ -1,7 +1,5 @@
--- One command does the same to the journal and to the tree, and so does a whole script.
-use Rattle.std.proofs.Common.{◌≡◌, ℕ, ◌+◌, ◌==◌, eqb-true, Bool, true, false, if◌then◌else◌, List, [], ◌∷◌, ◌++◌, Option, Some, None, Result, Ok, Err, refl, sym, ◌∙◌, ap, subst, arith}
-use Rattle.std.specs.Result.{result_ok}
-use Rattle.fr_shape.specs.declared.error.AllocError.{AllocError}
+-- One command does the same to the journal and to the tree.
+use Rattle.std.proofs.Common.{◌≡◌, ℕ, ◌<◌, ◌==◌, eqb-true, ltb-true, Bool, true, false, if◌then◌else◌, List, [], ◌∷◌, ◌++◌, length, nat_lt, Option, Some, None, Result, Ok, Err, refl, sym, ◌∙◌, ap, subst}
 use Rattle.fr_shape.specs.declared.error.ReflectErrorKind.{ReflectErrorKind}
 use Rattle.fr_shape.specs.declared.error.Operation.{Operation}
 use Rattle.fr_shape.specs.declared.error.Invariant.{Invariant}
@@ -10,27 +8,24 @@ use Rattle.fr_shape.specs.Fills.{preset_of}
 use Rattle.fr_shape.specs.Fits.{fits}
 use Rattle.fr_shape.specs.Hooks.{Meanings}
 use Rattle.fr_shape.specs.Look.{Table, def_of}
-use Rattle.fr_shape.specs.Plannable.{IsPlain}
 use Rattle.fr_shape.specs.Val.{Val}
 use Rattle.fr_model.specs.Commands.{Call}
 use Rattle.fr_shape.specs.Named.{field_named}
-use Rattle.fr_model.specs.Places.{Place, is_root, shape_at}
-use Rattle.fr_model.specs.Journal.{entered_at, wrote_at, Journal, Held, held, longest, completes, Progress, initial_progress, may_enter, goes_to_child, goes_to_found, writes, ends, rule, then_rules, rules, outcome, journal_run}
-use Rattle.fr_model.specs.Tree.{Tree, whole, State, cursor_shape, cursor_tree, initial}
+use Rattle.fr_model.specs.Places.{Place, Column, strict_column, is_root, shape_at}
+use Rattle.fr_model.specs.Journal.{entered_at, wrote_at, Journal, Held, held, completes, Progress, may_enter, goes_to_child, goes_to_found, writes, ends, goes_up, end_rule, begin_deferred_rule, finishes_with, finish_rule, finish_notes, rule}
+use Rattle.fr_model.specs.Tree.{Tree, whole, Mode, strict, deferred, State, cursor_shape, cursor_tree, one_more_call}
 use Rattle.fr_model.specs.Complete.{complete}
-use Rattle.fr_model.specs.Step.{unless_refused, field_refusal, named_refusal, at_shape, enter_child, enters, begins_named, puts, set_refusal, puts_default, violates, ended, step, built}
-use Rattle.fr_model.specs.Relation.{IsRelated, BothGoOn}
-use Rattle.fr_model.specs.Run.{Refusal, numbered, and_then, run_from, unless_alloc, full_run}
-use Rattle.fr_model.specs.Scripts.{IsFitting, AllFitting}
+use Rattle.fr_model.specs.Finish.{finished}
+use Rattle.fr_model.specs.Step.{unless_refused, field_refusal, named_refusal, at_shape, enter_child, enters, begins_named, puts, set_refusal, puts_default, violates, ended, leaves, end_in, begins_deferred, finishes, finish_in, step}
+use Rattle.fr_model.specs.Scripts.{IsFitting}
 use Rattle.fr_model.specs.Well.{IsInOrder}
 use Rattle.fr_model.proofs.Plain.{AllPlain}
-use Rattle.fr_model.proofs.Plannable.{none_refused}
 use Rattle.fr_model.proofs.Beneath.{along, held_along}
-use Rattle.fr_model.proofs.Agreement.{by_value, Agrees, agree_along, completes_tree, completes_at, under_entered, under_wrote, follow}
-use Rattle.fr_model.proofs.Children.{SeesWhole, sees_whole, may_enter_by, ChildOf, enterable, ChildCase, a_child, no_child, child_case, NamedCase, a_named, no_such_name, no_names, named_case}
-use Rattle.fr_model.proofs.Cursor.{at_cursor, suits_at, plain_at, same_shape, entry_at, begun_in_order, put_in_order, ended_in_order}
-use Rattle.fr_model.proofs.Relating.{agrees_each, each_stands}
-use Rattle.fr_model.proofs.Opening.{fresh_suits, fresh_at_cursor, fresh_agrees}
+use Rattle.fr_model.proofs.Agreement.{by_value, Agrees, agree_along, completes_at, under_entered, under_wrote, follow}
+use Rattle.fr_model.proofs.Children.{nothing_below, SeesWhole, sees_whole, may_enter_by, ChildOf, enterable, ChildCase, a_child, no_child, child_case, NamedCase, a_named, no_such_name, no_names, named_case}
+use Rattle.fr_model.proofs.Cursor.{at_cursor, suits_at, plain_at, same_shape, entry_at, begun_in_order, put_in_order, ended_in_order, left_in_order, deferred_in_order}
+use Rattle.fr_model.proofs.FinishAgreement.{BothFinish, finish_agrees}
+use Rattle.fr_model.proofs.Finishes.{Kept, finish_keeps, finish_leads}
 use Rattle.fr_model.proofs.Templates.{preset_template}
 
 -- a builder's state and a run of the rules that have come equally far
@@ -38,6 +33,7 @@ pub record Alike (table : Table) (root : ℕ) (state : State) (run : Progress) :
   pub in_order : IsInOrder table root state
   pub agrees : Agrees table root run.notes state.tree
   pub same_cursor : run.cursor ≡ state.cursor
+  pub same_mode : run.mode ≡ state.mode
 
 -- both go on alike, or neither does
 abbrev pub BothStep : Table → ℕ → Result State ReflectErrorKind → Option Progress → Type 0
@@ -48,7 +44,7 @@ BothStep table root _ _ = ⊥
 -- where a child is entered
 
 abbrev entered_run : Progress → ℕ → Progress
-entered_run run i = record { notes = entered_at (run.cursor ++ i ∷ []) ∷ run.notes; cursor = run.cursor ++ i ∷ [] }
+entered_run run i = record run { notes = entered_at (run.cursor ++ i ∷ []) ∷ run.notes; cursor = run.cursor ++ i ∷ [] }
 
 begun_both : (table : Table) (root s i : ℕ) (refusal : Option Operation) (may : Bool) (next : State) (run : Progress)
     → refusal ≡ None → may ≡ true → Alike table root next (entered_run run i)
@@ -73,25 +69,44 @@ named_none : (table : Table) (root s t : ℕ) (state : State) (refusal : Option 
 named_none table root s t state (Some kind) found run is = rw is tt
 named_none table root s t state None found run is = rw is tt
 
+-- the end of deferred mode
+
+-- the state in which deferred mode has ended
+abbrev pub finishes_as : State → Tree → State
+finishes_as state tree = record state { tree = tree; mode = strict; calls = one_more_call state.calls }
+
+pub finished_in_order : (hooks : Meanings) (table : Table) (root : ℕ) (state : State) (tree : Tree) → IsChecked table
+    → IsInOrder table root state → finished hooks table root state.cursor state.tree ≡ Some tree
+    → IsInOrder table root (finishes_as state tree)
+finished_in_order hooks table root state tree checked order is =
+    let kept : Kept table root state.tree tree
+    = finish_keeps hooks table root state.cursor state.tree tree checked order.suits is in
+    record {
+      suits = kept.suits;
+      leads = finish_leads hooks table root state.mode state.cursor state.tree tree order.leads is;
+      began = tt;
+    }
+
 -- each command, at a tree and a journal that agree
 module _ (hooks : Meanings) (table : Table) (checked : IsChecked table) (root : ℕ) (plain : AllPlain table root)
     (state : State) (notes : Journal) (order : IsInOrder table root state) (agrees : Agrees table root notes state.tree) where
   abbrev run : Progress
-  run = record { notes = notes; cursor = state.cursor }
+  run = record { notes = notes; cursor = state.cursor; mode = state.mode }
 
   -- the shape of the place at the cursor
   abbrev at_here : ℕ
   at_here = cursor_shape table root state
 
   same : shape_at table root state.cursor ≡ at_here
-  same = same_shape table root state.cursor state.tree order.leads
+  same = same_shape state.mode table root state.cursor state.tree order.leads
 
   -- what the journal knows of the place at the cursor
   sees : SeesWhole (def_of table at_here) (cursor_tree state) (held notes state.cursor)
   sees =
       subst (λ (h : Held). SeesWhole (def_of table at_here) (cursor_tree state) h) (sym (held_along notes state.cursor))
-      (sees_whole table at_here (cursor_tree state) (along state.cursor notes) (at_cursor state.cursor state.tree order.leads)
-      (agree_along table root state.cursor state.tree notes order.leads agrees))
+      (sees_whole state.mode table at_here (cursor_tree state) (along state.cursor notes)
+      (at_cursor state.mode state.cursor state.tree order.leads)
+      (agree_along state.mode table root state.cursor state.tree notes order.leads agrees))
 
   -- a child is entered
   entered_alike : (i : ℕ) → ChildOf (def_of table at_here) i (cursor_tree state)
@@ -99,9 +114,11 @@ module _ (hooks : Meanings) (table : Table) (checked : IsChecked table) (root : 
   entered_alike i child = record {
     in_order = begun_in_order table root state i (enterable table at_here i (cursor_tree state) child) order;
     agrees = rw (← under_entered state.cursor (i ∷ []))
-        (follow table root state.cursor state.tree notes (entered_at (i ∷ [])) (enter_child table at_here i) order.leads agrees
+        (follow state.mode table root state.cursor state.tree notes (entered_at (i ∷ [])) (enter_child table at_here i)
+        order.leads agrees
         ((entry_at table root state i (enterable table at_here i (cursor_tree state) child) order).agrees (along state.cursor notes)));
     same_cursor = refl;
+    same_mode = refl;
   }
 
   may_is : (i : ℕ) (b : Bool) → may_enter_by (def_of table at_here) i (held notes state.cursor) ≡ b
@@ -153,12 +170,15 @@ module _ (hooks : Meanings) (table : Table) (checked : IsChecked table) (root : 
 
   -- a value is put
   put_alike : (v : Val) → fits table at_here v ≡ true
-      → Alike table root (puts state v) (record { notes = wrote_at state.cursor v ∷ notes; cursor = state.cursor })
+      → Alike table root (puts state v)
+      (record { notes = wrote_at state.cursor v ∷ notes; cursor = state.cursor; mode = state.mode })
   put_alike v fit = record {
     in_order = put_in_order table root state v fit order;
     agrees = rw (← under_wrote state.cursor v)
-        (follow table root state.cursor state.tree notes (wrote_at [] v) (λ old. whole v) order.leads agrees (λ old. by_value refl));
+        (follow state.mode table root state.cursor state.tree notes (wrote_at [] v) (λ old. whole v) order.leads agrees
+        (λ old. by_value refl));
     same_cursor = refl;
+    same_mode = refl;
   }
 
   sets_alike : (given : ℕ) (v : Val) → fits table given v ≡ true
@@ -181,152 +201,112 @@ module _ (hooks : Meanings) (table : Table) (checked : IsChecked table) (root : 
           let template = preset_template table at_here v checked is in put_alike v template.fit
       go None is = tt
 
-  -- end
-  ends_alike : (value : Option Val) (by_notes : Option Val) → complete hooks table at_here (cursor_tree state) ≡ value
-      → by_notes ≡ value → BothStep table root (ended hooks table at_here state value) (ends run by_notes)
-  ends_alike (Some v) by_notes is same_value = rw same_value (record {
-    in_order = ended_in_order hooks table root state v checked is order;
+  -- what the place at the cursor makes, by the rules of either column
+  completes_here : (column : Column)
+      → completes column table notes (shape_at table root state.cursor) state.cursor
+      ≡ complete column hooks table at_here (cursor_tree state)
+  completes_here column =
+      ap (λ (s : ℕ). completes column table notes s state.cursor) same
+      ∙ completes_at state.mode column hooks table root state.cursor state.tree notes checked
+      (plain_at state.mode table root state.cursor state.tree order.leads order.suits plain) order.leads
+      (suits_at state.mode table root state.cursor state.tree order.leads order.suits) agrees
+
+  -- end in strict mode
+  ends_alike : state.mode ≡ strict → (value : Option Val) (by_notes : Option Val)
+      → complete strict_column hooks table at_here (cursor_tree state) ≡ value → by_notes ≡ value
+      → BothStep table root (ended hooks table at_here state value) (ends run by_notes)
+  ends_alike is_strict (Some v) by_notes is same_value = rw same_value (record {
+    in_order = ended_in_order strict_column hooks table root state v checked is_strict is order;
     agrees = rw (← under_wrote state.cursor v)
-        (follow table root state.cursor state.tree notes (wrote_at [] v) (λ old. whole v) order.leads agrees (λ old. by_value refl));
+        (follow state.mode table root state.cursor state.tree notes (wrote_at [] v) (λ old. whole v) order.leads agrees
+        (λ old. by_value refl));
     same_cursor = refl;
+    same_mode = refl;
   })
-  ends_alike None by_notes is same_value = rw same_value tt
+  ends_alike is_strict None by_notes is same_value = rw same_value tt
 
-  completes_here : completes table notes (shape_at table root state.cursor) state.cursor ≡ complete hooks table at_here (cursor_tree state)
-  completes_here =
-      ap (λ (s : ℕ). completes table notes s state.cursor) same
-      ∙ completes_at hooks table root state.cursor state.tree notes checked
-      (plain_at table root state.cursor state.tree order.leads order.suits plain) order.leads
-      (suits_at table root state.cursor state.tree order.leads order.suits) agrees
+  -- end in deferred mode
+  left_alike : (start : ℕ) → state.mode ≡ deferred start → start < length state.cursor
+      → Alike table root (leaves state) (goes_up run)
+  left_alike start is deeper = record {
+    in_order = left_in_order table root start state is deeper order;
+    agrees = agrees;
+    same_cursor = refl;
+    same_mode = refl;
+  }
 
-  steps_alike : (command : Call) → IsFitting table command
+  leaves_alike : (start : ℕ) → state.mode ≡ deferred start → (here : Place) → state.cursor ≡ here
+      → BothStep table root
+      (if is_root here then Err (violates Invariant.EndAtRoot)
+      else (if nat_lt start (length here) then Ok (leaves state) else Err (violates Invariant.EndAtStart)))
+      (if nat_lt start (length here) then Some (goes_up run) else None)
+  leaves_alike start is [] at = rw (nothing_below start) tt
+  leaves_alike start is (i ∷ here) at = go (nat_lt start (length (i ∷ here))) refl
+    where
+      go : (b : Bool) → nat_lt start (length (i ∷ here)) ≡ b
+          → BothStep table root (if b then Ok (leaves state) else Err (violates Invariant.EndAtStart))
+          (if b then Some (goes_up run) else None)
+      go true e =
+          left_alike start is
+          (subst (λ (place : Place). start < length place) (sym at) (ltb-true start (length (i ∷ here)) e))
+      go false e = tt
+
+  end_alike : (mode : Mode) → state.mode ≡ mode
+      → BothStep table root
+      (if is_root state.cursor then Err (violates Invariant.EndAtRoot) else end_in hooks table at_here state mode)
+      (end_rule table (shape_at table root state.cursor) run mode)
+  end_alike strict is = go (is_root state.cursor)
+    where
+      go : (b : Bool)
+          → BothStep table root
+          (if b then Err (violates Invariant.EndAtRoot)
+          else ended hooks table at_here state (complete strict_column hooks table at_here (cursor_tree state)))
+          (if b then None
+          else ends run (completes strict_column table notes (shape_at table root state.cursor) state.cursor))
+      go true = tt
+      go false =
+          ends_alike is (complete strict_column hooks table at_here (cursor_tree state))
+          (completes strict_column table notes (shape_at table root state.cursor) state.cursor) refl
+          (completes_here strict_column)
+  end_alike (deferred start) is = leaves_alike start is state.cursor refl
+
+  -- deferred mode
+  defers_alike : (mode : Mode) → state.mode ≡ mode
+      → BothStep table root (begins_deferred state mode) (begin_deferred_rule run mode)
+  defers_alike strict is = record {
+    in_order = deferred_in_order table root state is order;
+    agrees = agrees;
+    same_cursor = refl;
+    same_mode = refl;
+  }
+  defers_alike (deferred start) is = tt
+
+  finished_alike : (tree : Option Tree) (added : Option Journal)
+      → finished hooks table root state.cursor state.tree ≡ tree → BothFinish table root notes tree added
+      → BothStep table root (finishes hooks table root state tree) (finishes_with run added)
+  finished_alike (Some tree) (Some added) is both = record {
+    in_order = finished_in_order hooks table root state tree checked order is;
+    agrees = both;
+    same_cursor = refl;
+    same_mode = refl;
+  }
+  finished_alike (Some tree) None is both = absurd both
+  finished_alike None (Some added) is both = absurd both
+  finished_alike None None is both = tt
+
+  finish_alike : (mode : Mode)
+      → BothStep table root (finish_in hooks table root state mode) (finish_rule table root run mode)
+  finish_alike strict = tt
+  finish_alike (deferred start) =
+      finished_alike (finished hooks table root state.cursor state.tree) (finish_notes table notes root [] state.cursor) refl
+      (finish_agrees hooks table root state notes checked plain order agrees)
+
+  pub steps_alike : (command : Call) → IsFitting table command
       → BothStep table root (step hooks table root state command) (rule table root run command)
   steps_alike (Call.BeginField name) fit = named_alike name
   steps_alike (Call.BeginNthField i) fit = begins_alike i
   steps_alike (Call.Set given v) fit = sets_alike given v fit.1
   steps_alike Call.SetDefault fit = defaults_alike
-  steps_alike Call.End fit = go (is_root state.cursor)
-    where
-      go : (b : Bool)
-          → BothStep table root
-          (if b then Err (violates Invariant.EndAtRoot)
-          else ended hooks table at_here state (complete hooks table at_here (cursor_tree state)))
-          (if b then None else ends run (completes table notes (shape_at table root state.cursor) state.cursor))
-      go true = tt
-      go false =
-          ends_alike (complete hooks table at_here (cursor_tree state))
-          (completes table notes (shape_at table root state.cursor) state.cursor) refl completes_here
-
--- a whole script
-
-joined : (table : Table) (root number : ℕ) (state : State) (step_gives : Result State ReflectErrorKind) (rule_gives : Option Progress)
-    (by_steps : State → Result Val Refusal) (by_rules : Progress → Option Progress)
-    → BothStep table root step_gives rule_gives
-    → ((next : State) (run : Progress) → Alike table root next run
-    → result_ok (by_steps next) ≡ outcome table root (by_rules run))
-    → result_ok (and_then number state step_gives by_steps) ≡ outcome table root (then_rules rule_gives by_rules)
-joined table root number state (Ok next) (Some after) by_steps by_rules both rest = rest next after both
-joined table root number state (Ok next) None by_steps by_rules both rest = absurd both
-joined table root number state (Err kind) (Some after) by_steps by_rules both rest = absurd both
-joined table root number state (Err kind) None by_steps by_rules both rest = refl
-
-built_same : (hooks : Meanings) (table : Table) (root number : ℕ) (state : State) (t : Tree) (value by_notes : Option Val)
-    → by_notes ≡ value → result_ok (numbered number state (built hooks table root t value)) ≡ by_notes
-built_same hooks table root number state t (Some v) by_notes same = sym same
-built_same hooks table root number state t None by_notes same = sym same
-
-module _ (hooks : Meanings) (table : Table) (checked : IsChecked table) (root : ℕ) (plain : AllPlain table root) where
-  build_same : (number : ℕ) (state : State) (run : Progress) → Alike table root state run
-      → result_ok (run_from hooks table root number state []) ≡ outcome table root (Some run)
-  build_same number state run alike = rw alike.same_cursor (go (is_root state.cursor))
-    where
-      same : completes table run.notes root [] ≡ complete hooks table root state.tree
-      same =
-          completes_tree hooks table state.tree (longest run.notes) root run.notes checked plain alike.in_order.suits
-          alike.agrees (omega arith)
-
-      go : (b : Bool)
-          → result_ok
-          (numbered number state
-          (if b then built hooks table root state.tree (complete hooks table root state.tree)
-          else Err (violates Invariant.BuildOpenFrames)))
-          ≡ (if b then completes table run.notes root [] else None)
-      go true =
-          built_same hooks table root number state state.tree (complete hooks table root state.tree)
-          (completes table run.notes root []) same
-      go false = refl
-
-  both_step : (state : State) (run : Progress) (command : Call) → Alike table root state run → IsFitting table command
-      → BothStep table root (step hooks table root state command) (rule table root run command)
-  both_step state run command alike fit =
-      subst
-      (λ (here : Place). BothStep table root (step hooks table root state command)
-      (rule table root (record { notes = run.notes; cursor = here }) command)) (sym alike.same_cursor)
-      (steps_alike hooks table checked root plain state run.notes alike.in_order alike.agrees command fit)
-
-  run_same : (script : List Call) (number : ℕ) (state : State) (run : Progress) → Alike table root state run
-      → AllFitting table script
-      → result_ok (run_from hooks table root number state script) ≡ outcome table root (rules table root run script)
-  run_same [] number state run alike fit = build_same number state run alike
-  run_same (command ∷ commands) number state run alike fit =
-      joined table root number state (step hooks table root state command) (rule table root run command)
-      (λ next. run_from hooks table root (number + 1) next commands) (λ next. rules table root next commands)
-      (both_step state run command alike fit.0)
-      (λ next after both. run_same commands (number + 1) next after both fit.1)
-
--- at the start
-
-pub start_in_order : (table : Table) (root : ℕ) → IsInOrder table root (initial table root)
-start_in_order table root = record { suits = fresh_suits table root; leads = fresh_at_cursor (def_of table root) }
-
-start_alike : (table : Table) (root : ℕ) → Alike table root (initial table root) initial_progress
-start_alike table root = record {
-  in_order = start_in_order table root;
-  agrees = fresh_agrees table root (entered_at [] ∷ []) refl;
-  same_cursor = refl;
-}
-
--- the whole run of a plain root, which is never refused
-pub machine_agrees : (hooks : Meanings) (table : Table) (root : ℕ) (script : List Call) → IsPlain table root
-    → AllFitting table script → result_ok (full_run hooks table root script) ≡ journal_run table root script
-machine_agrees hooks table root script plain fit =
-    ap
-    (λ (refusal : Option AllocError).
-    result_ok (unless_alloc refusal (run_from hooks table root 0 (initial table root) script)))
-    (none_refused table root plain)
-    ∙ run_same hooks table plain.checked root plain.plain script 0 (initial table root) initial_progress
-    (start_alike table root) fit
-
--- the relation place by place
-
-related_alike : (table : Table) (root : ℕ) (state : State) (run : Progress) → IsInOrder table root state
-    → IsRelated table root state run → Alike table root state run
-related_alike table root state run order related = record {
-  in_order = order;
-  agrees = agrees_each table state.tree root run.notes related.each_place;
-  same_cursor = related.same_cursor;
-}
-
-alike_related : (table : Table) (root : ℕ) (state : State) (run : Progress) → Alike table root state run
-    → IsRelated table root state run
-alike_related table root state run alike = record {
-  same_cursor = alike.same_cursor;
-  each_place = λ place has. each_stands table place state.tree root run.notes alike.in_order.suits alike.agrees has;
-}
-
-pub start_is_related : (table : Table) (root : ℕ) → IsRelated table root (initial table root) initial_progress
-start_is_related table root = alike_related table root (initial table root) initial_progress (start_alike table root)
-
-pub step_keeps_related : (hooks : Meanings) (table : Table) (root : ℕ) (state : State) (run : Progress) (command : Call)
-    → IsPlain table root → IsInOrder table root state → IsRelated table root state run → IsFitting table command
-    → BothGoOn table root (step hooks table root state command) (rule table root run command)
-step_keeps_related hooks table root state run command plain order related fit =
-    go (step hooks table root state command) (rule table root run command)
-    (both_step hooks table plain.checked root plain.plain state run command (related_alike table root state run order related) fit)
-  where
-    go : (outcome : Result State ReflectErrorKind) (ruled : Option Progress) → BothStep table root outcome ruled
-        → BothGoOn table root outcome ruled
-    go (Ok next) (Some after) both = alike_related table root next after both
-    go (Ok next) None both = absurd both
-    go (Err kind) (Some after) both = absurd both
-    go (Err kind) None both = tt
+  steps_alike Call.End fit = end_alike state.mode refl
+  steps_alike Call.BeginDeferred fit = defers_alike state.mode refl
+  steps_alike Call.FinishDeferred fit = finish_alike state.mode

@@ -6,7 +6,7 @@ use Rattle.fr_shape.specs.Look.{Table, def_of}
 use Rattle.fr_shape.specs.Val.{Vals, product, no_vals, first}
 use Rattle.fr_shape.specs.Tokens.{vals_occur}
 use Rattle.fr_model.specs.Places.{Place, child_count, child_shape}
-use Rattle.fr_model.specs.Tree.{Form, form_of, fresh, Tree, hole, entered, whole, begun, Trees, no_trees, branch, tree_nth, change_nth, tree_at, change_child, change_at, count_trees, holes, wholes, tree_occurs, trees_occur}
+use Rattle.fr_model.specs.Tree.{Form, form_of, fresh, Tree, hole, entered, whole, begun, Trees, no_trees, branch, tree_nth, change_nth, tree_at, change_child, change_at, count_trees, holes, wholes, tree_occurs, trees_occur, Mode}
 use Rattle.fr_model.specs.Step.{opened_as, enter, enter_child}
 use Rattle.fr_model.specs.Well.{Leads}
 use Rattle.fr_model.proofs.Agreement.{leads_within, leads_child}
@@ -70,13 +70,14 @@ nth_holds (suc i) change (branch tree trees) t within =
     omega arith
 
 -- what stood there goes, and what stands there now comes
-pub change_holds : (here : Place) (tree : Tree) (change : Tree → Tree) (t : ℕ) → Leads here tree
+pub change_holds : (mode : Mode) (here : Place) (tree : Tree) (change : Tree → Tree) (t : ℕ) → Leads mode here tree
     → tree_occurs (change_at here change tree) t + tree_occurs (tree_at here tree) t
     ≡ tree_occurs tree t + tree_occurs (change (tree_at here tree)) t
-change_holds [] tree change t leads = omega arith
-change_holds (i ∷ here) (begun form trees) change t leads =
-    let below = change_holds here (tree_nth i trees) change t (leads_child i (λ child. Leads here child) trees leads) in
+change_holds mode [] tree change t leads = omega arith
+change_holds mode (i ∷ here) (begun form trees) change t leads =
+    let below = change_holds mode here (tree_nth i trees) change t
+    (leads_child mode i (λ child. Leads mode here child) trees leads) in
     let beside = nth_holds i (λ child. change_at here change child) trees t
-    (leads_within i (λ child. Leads here child) trees leads) in
+    (leads_within mode i (λ child. Leads mode here child) trees leads) in
     omega arith
-change_holds (i ∷ here) _ change t leads = absurd leads
+change_holds mode (i ∷ here) _ change t leads = absurd leads

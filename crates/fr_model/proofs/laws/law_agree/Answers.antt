@@ -1,4 +1,4 @@
-use Rattle.fr_model.proofs.Steps.{machine_agrees, start_is_related, step_keeps_related}
+use Rattle.fr_model.proofs.Runs.{machine_agrees, start_is_related, step_keeps_related}
 use Rattle.fr_model.proofs.laws.law_agree.Goals as goal
 
 pub returns-clause-agree : goal.returns-clause-agree
