@@ -1,4 +1,3 @@
-pub mod AbandonLaws
 pub mod BeginLaws
 pub mod EndLaws
 pub mod EnterLaws
@@ -9,6 +8,9 @@ pub mod Moves
 pub mod Numbers
 pub mod StandLaws
 pub mod Stands
+pub mod Stored
 pub mod TopLaws
+pub mod Turns
+pub mod Walks
 pub mod WayLaws
 pub mod Ways

@@ -1,5 +1,5 @@
 -- Numbers of slots.
-use Rattle.std.specs.Prelude.{◌≡◌, ℕ, List, [], ◌∷◌, ◌++◌, map}
+use Rattle.std.specs.Prelude.{◌≡◌, ℕ, ◌<◌, List, [], ◌∷◌, ◌++◌, length, map, slice_get, slice_index, Some}
 use Rattle.fr_frame.specs.declared.places.SlotId.{SlotId}
 
 abbrev pub number_of : SlotId → ℕ
@@ -11,3 +11,7 @@ numbers slots = map number_of slots
 -- the list ends with this number
 abbrev pub IsLast : List ℕ → ℕ → Type 0
 IsLast all n = (above : List ℕ) × (all ≡ above ++ n ∷ [])
+
+-- under each number of the list stands where it is in the list, so that none is in it twice
+abbrev pub IsIndexed : (all positions : List ℕ) → Type 0
+IsIndexed all positions = (i : ℕ) → i < length all → slice_get positions (slice_index all i) ≡ Some i

@@ -9,7 +9,7 @@ use Rattle.fr_frame.specs.declared.places.FrameOwner.{FrameOwner}
 use Rattle.fr_frame.specs.declared.places.Slot.{Slot}
 use Rattle.fr_frame.specs.Heap.{Node, Heap, heap_of, slots_occur}
 use Rattle.fr_frame.specs.Kids.{Kid, gone, tree_of, kid_of, Holds, kid_occurs}
-use Rattle.fr_store.specs.Ways.{slots_along, uses, NoneStored, Leads}
+use Rattle.fr_store.specs.Ways.{slots_along, uses, Leads}
 
 -- The heap holds this from the root on, no slot serves twice in it, the way leads to a place and all that is off it is stored,
 -- and the stack is the slots along the way.
@@ -46,9 +46,8 @@ steps_to heap (slot ∷ slots) = step_to (heap slot) ++ steps_to heap slots
 abbrev pub cursor_shown : Heap → List ℕ → Place
 cursor_shown heap stack = map number (steps_to heap stack)
 
--- Builders that are open: slots and stack stand for what they show, nothing is stored, and the slots hold just the tokens of
--- the tree.
+-- Builders that are open, in either mode: slots and stack stand for what they show, and the slots hold just the tokens of the
+-- tree.
 pub record IsOpen (plan : Plan) (slots : List Slot) (stack : List ℕ) : Type 0 where
   pub stands : Stands plan (heap_of slots) stack (cursor_shown (heap_of slots) stack) (kid_shown (heap_of slots) stack)
-  pub strict : NoneStored (kid_shown (heap_of slots) stack)
   pub tokens : (t : ℕ) → slots_occur slots t ≡ kid_occurs (kid_shown (heap_of slots) stack) t

@@ -1,18 +1,19 @@
 //! Going back from the place at which a builder works to the one above.
-ghost use Rattle.std.specs.Prelude.{◌≡◌, IsSome, Some, false};
+ghost use Rattle.std.specs.Prelude.{◌≡◌, IsSome, OnErr, OnOk, Some, false};
 ghost use Rattle.fr_shape.specs.Val.{Val};
 ghost use Rattle.fr_model.specs.Places.{is_root, up};
 ghost use Rattle.fr_model.specs.Tree.{change_at, whole};
 ghost use Rattle.fr_frame.specs.Bodies.{value_of};
-ghost use Rattle.fr_frame.specs.Changes.{IfInUse};
+ghost use Rattle.fr_frame.specs.Changes.{IfInUse, SameTokens};
 ghost use Rattle.fr_store.specs.Moves.{cursor_in, tree_in_slots, AtTop, IsNumbered, IsOpenAt, IsStepTo};
 ghost use Rattle.fr_store.specs.Stands.{IsOpen};
+ghost use Rattle.fr_store.specs.Stored.{IsKept, NothingStored};
 
-use crate::Stack;
+use crate::{FrameStore, Stack};
 use fr_frame::{FrameOwner, SlotId, Slots};
 use fr_path::PathStep;
 use fr_plan::TypePlanCore;
-use fr_shape::Ledger;
+use fr_shape::{Ledger, OutOfMemory};
 
 /// The step to a field or an element.
 fn step_to(slots: &Slots, place: SlotId) -> PathStep
@@ -43,9 +44,10 @@ fn step_to(slots: &Slots, place: SlotId) -> PathStep
 }
 
 impl Stack {
-    /// The value of the place on top goes into the place above, where the builder then works. Takes no memory.
+    /// Strict mode: the value of the place on top goes into the place above, where the builder then works. Takes no memory.
     pub fn end(&mut self, slots: &mut Slots, plan: &TypePlanCore, ledger: &mut Ledger)
         requires is_open { IsOpen plan.now slots.old self.old }
+        requires strict { NothingStored slots.old }
         requires below { is_root (cursor_in slots.old self.old) ≡ false }
         requires complete { AtTop slots.old self.old (λ at. IsSome (value_of at.body)) }
         ensures ended { AtTop slots.old self.old (λ at.
@@ -54,6 +56,7 @@ impl Stack {
             (change_at (cursor_in slots.old self.old) (λ old. whole v)
             (tree_in_slots slots.old self.old))) }
         ensures ledger { ledger.new ≡ ledger.old }
+        ensures strict { NothingStored slots.new }
     {
         let _plan = plan;
         let Some(place) = self.pop() else {
@@ -67,5 +70,31 @@ impl Stack {
             unreachable!()
         };
         above.put_child(slots, &step, value);
+    }
+    /// Deferred mode: the place on top is stored as it is, and the builder works at the place above.
+    pub fn leave(
+        &mut self,
+        slots: &mut Slots,
+        store: &mut FrameStore,
+        plan: &TypePlanCore,
+    ) -> Result<(), OutOfMemory>
+        requires is_open { IsOpen plan.now slots.old self.old }
+        requires kept { IsKept store.old slots.old }
+        requires below { is_root (cursor_in slots.old self.old) ≡ false }
+        ensures left { OnOk result (IsOpenAt plan.now slots.new self.new
+            (up (cursor_in slots.old self.old)) (tree_in_slots slots.old self.old)) }
+        ensures kept { IsKept store.new slots.new }
+        ensures tokens { SameTokens slots.old slots.new }
+        ensures slots_kept { OnErr result (slots.new ≡ slots.old) }
+        ensures store_kept { OnErr result (store.new ≡ store.old) }
+        ensures refused { OnErr result (self.new ≡ self.old) }
+    {
+        let _plan = plan;
+        let Some(place) = self.top() else {
+            unreachable!()
+        };
+        store.insert(slots, place)?;
+        self.pop();
+        Ok(())
     }
 }

@@ -5,14 +5,15 @@ ghost use Rattle.fr_model.specs.Paths.{step_as};
 ghost use Rattle.fr_model.specs.Step.{enter, opened_as};
 ghost use Rattle.fr_model.specs.Tree.{change_at, change_child};
 ghost use Rattle.fr_frame.specs.Bodies.{MayOpen};
-ghost use Rattle.fr_frame.specs.Changes.{SameTokens, Shows};
+ghost use Rattle.fr_frame.specs.Changes.{SameMarks, SameTokens, Shows};
 ghost use Rattle.fr_frame.specs.Completing.{shape_of};
 ghost use Rattle.fr_frame.specs.Heap.{as_form, heap_of};
 ghost use Rattle.fr_frame.specs.Kids.{child_node};
 ghost use Rattle.fr_store.specs.Moves.{cursor_in, node_here, tree_here, tree_in_slots, AtTop, HasChild, IsOpenAt};
 ghost use Rattle.fr_store.specs.Stands.{IsOpen};
+ghost use Rattle.fr_store.specs.Stored.{IsKept, StoresNoMore};
 
-use crate::Stack;
+use crate::{FrameStore, Stack};
 use fr_frame::{Form, FrameOwner, Slots};
 use fr_path::PathStep;
 use fr_plan::{NodeId, TypePlanCore};
@@ -46,6 +47,7 @@ impl Stack {
             (tree_in_slots slots.old self.now))) }
         ensures refused { OnErr result (Shows slots.new (heap_of slots.old)) }
         ensures tokens { SameTokens slots.old slots.new }
+        ensures marks { SameMarks slots.old slots.new }
     {
         let _plan = plan;
         match self.top() {
@@ -54,10 +56,12 @@ impl Stack {
         }
     }
 
-    /// Enters child `i` of the place on top, which is begun: the child is on top then. One that holds something keeps it.
+    /// Enters child `i` of the place on top, which is begun: the child is on top then. One that holds something keeps it, and one
+    /// that was stored is taken out of the store as it is.
     pub fn enter(
         &mut self,
         slots: &mut Slots,
+        store: &mut FrameStore,
         table: &ShapeTable,
         plan: &TypePlanCore,
         node: NodeId,
@@ -65,6 +69,7 @@ impl Stack {
         i: u32,
     ) -> Result<(), OutOfMemory>
         requires is_open { IsOpen plan.now slots.old self.old }
+        requires kept { IsKept store.old slots.old }
         requires child { HasChild (as_form form) i (tree_here slots.old self.old) }
         requires node { node
             ≡ child_node plan.now (node_here plan.now slots.old self.old) (as_form form) i }
@@ -75,19 +80,22 @@ impl Stack {
             (change_child i (enter (def_of table.now (shape_of plan.now node))))
             (tree_in_slots slots.old self.old))) }
         ensures tokens { SameTokens slots.old slots.new }
+        ensures kept { IsKept store.new slots.new }
+        ensures marks { StoresNoMore slots.old slots.new }
         ensures slots_kept { OnErr result (slots.new ≡ slots.old) }
-        ensures kept { OnErr result (self.new ≡ self.old) }
+        ensures store_kept { OnErr result (store.new ≡ store.old) }
+        ensures refused { OnErr result (self.new ≡ self.old) }
     {
         let Some(above) = self.top() else {
             unreachable!()
         };
         self.push(above)?;
-        match slots.enter(
-            table,
-            plan,
-            node,
-            FrameOwner::Child(above, step_of(form, i)),
-        ) {
+        let step = step_of(form, i);
+        if let Some(child) = store.take(slots, above, &step) {
+            self.put_top(child);
+            return Ok(());
+        }
+        match slots.enter(table, plan, node, FrameOwner::Child(above, step)) {
             Ok(child) => {
                 self.put_top(child);
                 Ok(())

@@ -1,13 +1,17 @@
 //! The places at which a builder works: the stack of their slots, and the moves from one place to the next.
 #![tactic(auto)]
 
-mod abandoning;
 mod ending;
 mod entering;
+mod finishing;
+mod pruning;
 mod setting;
 mod stack;
+mod store;
+mod walking;
 
 pub use stack::Stack;
+pub use store::FrameStore;
 
 #[cfg(test)]
 mod tests;

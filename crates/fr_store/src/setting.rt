@@ -4,26 +4,39 @@ ghost use Rattle.fr_shape.specs.View.{view};
 ghost use Rattle.fr_model.specs.Tree.{change_at, whole};
 ghost use Rattle.fr_store.specs.Moves.{cursor_in, tokens_here, tree_in_slots, IsOpenAt};
 ghost use Rattle.fr_store.specs.Stands.{IsOpen};
+ghost use Rattle.fr_store.specs.Stored.{IsKept, StoresNoMore};
 
-use crate::Stack;
+use crate::{FrameStore, Stack};
 use fr_frame::Slots;
 use fr_plan::TypePlanCore;
 use fr_shape::{Ledger, Value};
 
 impl Stack {
-    /// Puts a value at the place on top, in the stead of all that was put there, whose tokens are released. Takes no memory.
-    pub fn set(&self, slots: &mut Slots, plan: &TypePlanCore, value: Value, ledger: &mut Ledger)
+    /// Puts a value at the place on top, in the stead of all that was put there and of all that is stored beneath it, whose tokens
+    /// are released. Takes no memory.
+    pub fn set(
+        &self,
+        slots: &mut Slots,
+        store: &mut FrameStore,
+        plan: &TypePlanCore,
+        value: Value,
+        ledger: &mut Ledger,
+    )
         requires is_open { IsOpen plan.now slots.old self.now }
+        requires kept { IsKept store.old slots.old }
         requires room { Room (tokens_here slots.old self.now) ledger.old }
         ensures set { IsOpenAt plan.now slots.new self.now (cursor_in slots.old self.now)
             (change_at (cursor_in slots.old self.now) (λ old. whole (view value))
             (tree_in_slots slots.old self.now)) }
         ensures released { RoseBy (tokens_here slots.old self.now) ledger.old ledger.new }
+        ensures kept { IsKept store.new slots.new }
+        ensures marks { StoresNoMore slots.old slots.new }
     {
         let _plan = plan;
-        match self.top() {
-            Some(place) => place.put(slots, value, ledger),
-            None => unreachable!(),
-        }
+        let Some(place) = self.top() else {
+            unreachable!()
+        };
+        store.prune(slots, place, ledger);
+        place.put(slots, value, ledger);
     }
 }

@@ -1,0 +1,48 @@
+-- The walk over stored places at the end of deferred mode, turn by turn, and what comes of it.
+use Rattle.std.specs.Prelude.{◌≡◌, ◌⊎◌, ℕ, List, [], ◌∷◌, ◌++◌, Option, Some, None}
+use Rattle.fr_shape.specs.declared.error.ReflectErrorKind.{ReflectErrorKind}
+use Rattle.fr_shape.specs.Hooks.{Meanings}
+use Rattle.fr_shape.specs.Look.{Table}
+use Rattle.fr_shape.specs.Val.{Val}
+use Rattle.fr_path.specs.declared.path_steps.PathStep.{PathStep}
+use Rattle.fr_model.specs.Complete.{complete}
+use Rattle.fr_model.specs.Failing.{failures, own_lack}
+use Rattle.fr_model.specs.Finish.{finished, finish_cause}
+use Rattle.fr_model.specs.Places.{Place, deferred_column}
+use Rattle.fr_model.specs.Tree.{Tree, whole, tree_at, change_at, shape_in}
+use Rattle.fr_plan.specs.TypePlan.{Plan}
+use Rattle.fr_frame.specs.declared.places.Slot.{Slot}
+use Rattle.fr_frame.specs.Completing.{shape_of}
+use Rattle.fr_store.specs.Moves.{IsOpenAt, cursor_in, tree_in_slots}
+
+-- The places that had their turn: each, at its own turn, made a value by the rules of the end of deferred mode, and became whole
+-- with it in the place above.
+abbrev pub Turned : Meanings → Table → ℕ → (before : Tree) → List Place → (after : Tree) → Type 0
+Turned means table s before [] after = after ≡ before
+Turned means table s before (place ∷ places) after =
+    (v : Val) × (complete deferred_column means table (shape_in table s place before) (tree_at place before) ≡ Some v)
+    × Turned means table s (change_at place (λ old. whole v) before) places after
+
+-- What stands at a place makes the same value as before, or the same places fail in it.
+pub record CompletesAsBefore (means : Meanings) (table : Table) (s : ℕ) (before after : Tree) (place : Place) : Type 0 where
+  pub value :
+      complete deferred_column means table (shape_in table s place after) (tree_at place after)
+      ≡ complete deferred_column means table (shape_in table s place before) (tree_at place before)
+  pub failing : (path : List PathStep)
+      → failures means table (shape_in table s place after) path (tree_at place after)
+      ≡ failures means table (shape_in table s place before) path (tree_at place before)
+
+-- the root's shape, by the plan
+abbrev pub root_shape : Plan → ℕ
+root_shape plan = shape_of plan plan.root
+
+-- The end of deferred mode came about: slots and stack stand for the tree that it makes, at the same place.
+pub record IsFinished (means : Meanings) (table : Table) (plan : Plan) (slots : List Slot) (stack : List ℕ) (after : List Slot) (stack_after : List ℕ) : Type 0 where
+  pub tree : Tree
+  pub meant : finished means table (root_shape plan) (cursor_in slots stack) (tree_in_slots slots stack) ≡ Some tree
+  pub stands : IsOpenAt plan after stack_after (cursor_in slots stack) tree
+
+-- It can't come about, and this is the cause: the first place that fails.
+pub record IsHeldUp (means : Meanings) (table : Table) (plan : Plan) (slots : List Slot) (stack : List ℕ) (kind : ReflectErrorKind) : Type 0 where
+  pub unfinished : finished means table (root_shape plan) (cursor_in slots stack) (tree_in_slots slots stack) ≡ None
+  pub cause : kind ≡ finish_cause means table (root_shape plan) (cursor_in slots stack) (tree_in_slots slots stack)

@@ -1,0 +1,110 @@
+//! The places that were left half done, to be entered again or completed at the end of deferred mode.
+ghost use Rattle.std.specs.Prelude.{◌≡◌, ◌↔◌, ℕ, [], ◌∷◌, length, true, false, IfSome, IsNone, IsTrue, OnErr, OnOk, Some};
+ghost use Rattle.std.specs.List.{Contains};
+ghost use Rattle.fr_frame.specs.Changes.{IsInUse, SameTokens, Shows};
+ghost use Rattle.fr_frame.specs.Heap.{heap_of, marked, with_mark};
+ghost use Rattle.fr_store.specs.Stored.{child_slot, IsKept, IsStoredChild};
+
+use fr_frame::{SlotId, Slots};
+use fr_path::PathStep;
+use fr_shape::OutOfMemory;
+use std::alloc::Global;
+use std::marker::Model;
+
+/// The slots of the places that are stored. `positions` has, under the number of each such slot, where it stands in `places`, so
+/// that a place is taken out without a search. Contracts see the list of the slots' numbers.
+#[derive(Drop)]
+pub struct FrameStore {
+    alloc: Global,
+    places: Vec<SlotId>,
+    positions: Vec<u32>,
+}
+
+impl Model for FrameStore {
+    ghost use Rattle.std.specs.Prelude.{List, ℕ};
+    ghost use Rattle.std.specs.Coded.{coded_list, coded_ℕ};
+    ghost use Rattle.fr_store.specs.Numbers.{numbers, IsIndexed};
+
+    ghost Value = { List ℕ };
+
+    ghost coded = { coded_list coded_ℕ };
+
+    ghost view = { λ store. numbers store.places.items };
+
+    ghost invariant = { λ store. IsIndexed (numbers store.places.items) store.positions.items };
+}
+
+impl FrameStore {
+    /// No places. Takes no memory.
+    pub fn new(alloc: Global) -> FrameStore
+        ensures empty { result ≡ [] }
+    {
+        FrameStore {
+            alloc,
+            places: Vec::new(alloc),
+            positions: Vec::new(alloc),
+        }
+    }
+
+    /// How many places there are.
+    pub fn len(&self) -> usize
+        ensures count { result ≡ length self.now }
+    {
+        self.places.len()
+    }
+
+    /// Whether there is no place.
+    pub fn is_empty(&self) -> bool
+        ensures empty { IsTrue result ↔ (self.now ≡ []) }
+    {
+        self.places.is_empty()
+    }
+
+    /// Stores a place. Where there is no memory all is as it was.
+    pub fn insert(&mut self, slots: &mut Slots, place: SlotId) -> Result<(), OutOfMemory>
+        requires in_use { IsInUse slots.old place.0 }
+        requires kept { IsKept self.old slots.old }
+        requires unmarked { marked (heap_of slots.old) place.0 ≡ false }
+        ensures marked { OnOk result
+            (Shows slots.new (with_mark (heap_of slots.old) place.0 true)) }
+        ensures kept { IsKept self.new slots.new }
+        ensures tokens { SameTokens slots.old slots.new }
+        ensures slots_kept { OnErr result (slots.new ≡ slots.old) }
+        ensures refused { OnErr result (self.new ≡ self.old) }
+    {
+        let _slots = slots;
+        let _place = place;
+        Err(OutOfMemory)
+    }
+
+    /// Takes the child to which a step leads out of the store, where it is stored. Takes no memory.
+    pub fn take(&mut self, slots: &mut Slots, parent: SlotId, step: &PathStep) -> Option<SlotId>
+        requires kept { IsKept self.old slots.old }
+        ensures taken { IfSome result (λ child.
+            IsStoredChild (heap_of slots.old) parent.0 step.now child.0) }
+        ensures unmarked { IfSome result (λ child.
+            Shows slots.new (with_mark (heap_of slots.old) child.0 false)) }
+        ensures none { IsNone result → (child : ℕ)
+            → child_slot (heap_of slots.old) parent.0 step.now ≡ Some child
+            → marked (heap_of slots.old) child ≡ false }
+        ensures slots_kept { IsNone result → slots.new ≡ slots.old }
+        ensures kept { IsKept self.new slots.new }
+        ensures tokens { SameTokens slots.old slots.new }
+    {
+        let _slots = slots;
+        let _parent = parent;
+        let _step = step;
+        None
+    }
+
+    /// Whether the child to which a step leads is stored.
+    pub fn contains(&self, slots: &Slots, parent: SlotId, step: &PathStep) -> bool
+        ensures stored { IsTrue result ↔ ((child : ℕ)
+            × IsStoredChild (heap_of slots.now) parent.0 step.now child) }
+    {
+        match parent.child(slots, step) {
+            Some(child) => child.is_stored(slots),
+            None => false,
+        }
+    }
+}
