@@ -4,5 +4,6 @@ pub mod Ending
 pub mod Entering
 pub mod Filling
 pub mod HeldPlan
+pub mod Modes
 pub mod Starting
 pub mod Underway

@@ -9,6 +9,7 @@ ghost use Rattle.fr_frame.specs.Heap.{as_form};
 ghost use Rattle.fr_frame.specs.Kids.{child_node};
 ghost use Rattle.fr_store.specs.Moves.{cursor_in, node_here, tree_here, tree_in_slots, IsOpenAt};
 ghost use Rattle.fr_store.specs.Stands.{IsOpen};
+ghost use Rattle.fr_store.specs.Stored.{IsKept, StoresNoMore};
 ghost use Rattle.fr_partial.specs.Builder.{here, holds, left, IsStepTo, TellsPlaceBefore};
 ghost use Rattle.fr_partial.specs.Entering.{Describes};
 ghost use Rattle.fr_partial.specs.Underway.{shape_here, IsReady};
@@ -23,10 +24,10 @@ use fr_model::{law_paths, law_removed, law_well};
 use fr_path::Path;
 use fr_plan::{NodeId, TypePlanCore, law_plan_lookups};
 use fr_shape::{Hooks, Ledger, OutOfMemory, ReflectErrorKind, ShapeId, ShapeTable};
-use fr_store::Stack;
+use fr_store::{FrameStore, Stack};
 
 /// The error of a call that finds no memory.
-fn out_of_memory(path: Path) -> ReflectError
+pub(crate) fn out_of_memory(path: Path) -> ReflectError
     ensures kind { result.kind ≡ ReflectErrorKind.OutOfMemory }
     ensures path { result.path ≡ path }
 {
@@ -59,6 +60,8 @@ impl<'t, H: Hooks> Partial<'t, H> {
             mut path,
             slots,
             stack,
+            mut store,
+            mode,
             calls,
         } = self;
         let shape = shape_here(table, root, plan.core(), &slots, &stack);
@@ -68,7 +71,8 @@ impl<'t, H: Hooks> Partial<'t, H> {
             drop(plan);
             return Err(out_of_memory(path));
         };
-        match enter_child(table, root, plan.core(), slots, stack, i, child, ledger) {
+        let plan_core = plan.core();
+        match enter_child(table, root, plan_core, slots, stack, &mut store, i, child, ledger) {
             Ok((slots, stack)) => Ok(Partial {
                 alloc,
                 table,
@@ -78,6 +82,8 @@ impl<'t, H: Hooks> Partial<'t, H> {
                 path,
                 slots,
                 stack,
+                store,
+                mode,
                 calls: calls.saturating_add(1),
             }),
             Err(_) => {
@@ -126,11 +132,13 @@ fn enter_child(
     plan: &TypePlanCore,
     mut slots: Slots,
     mut stack: Stack,
+    store: &mut FrameStore,
     i: usize,
     child: Child,
     ledger: &mut Ledger,
 ) -> Result<(Slots, Stack), OutOfMemory>
     requires ready { IsReady table.now root plan.now slots stack }
+    requires stored { IsKept store.old slots }
     requires child { Describes table.now (shape_here table.now root.0 slots stack) i child }
     requires admitted { field_refusal (def_of table.now (shape_here table.now root.0 slots stack))
         (tree_here slots stack) i ≡ None }
@@ -141,6 +149,8 @@ fn enter_child(
         (change_at (cursor_in slots stack)
         (enter_child table.now (shape_here table.now root.0 slots stack) i)
         (tree_in_slots slots stack))) }
+    ensures stored { IfOk result (λ both. IsKept store.new both.0) }
+    ensures marks { IfOk result (λ both. StoresNoMore slots both.0) }
     ensures kept { OnOk result (ledger.new ≡ ledger.old) }
     ensures released { OnErr result
         (RoseBy (tree_occurs (tree_in_slots slots stack)) ledger.old ledger.new) }
@@ -149,13 +159,13 @@ fn enter_child(
     let _root = root;
     let node = child_node(plan, node_here(plan, &slots, &stack), child.form, i);
     let Ok(()) = stack.begin(&mut slots, plan, child.form, child.count) else {
-        stack.abandon(&mut slots, plan, ledger);
+        abandon(slots, stack, plan, ledger);
         return Err(OutOfMemory);
     };
-    match stack.enter(&mut slots, table, plan, node, child.form, i as u32) {
+    match stack.enter(&mut slots, store, table, plan, node, child.form, i as u32) {
         Ok(()) => Ok((slots, stack)),
         Err(refused) => {
-            stack.abandon(&mut slots, plan, ledger);
+            abandon(slots, stack, plan, ledger);
             Err(refused)
         }
     }

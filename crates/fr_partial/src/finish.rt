@@ -1,14 +1,19 @@
 //! `end`, `build` and `abandon`: the place becomes whole and the builder goes up, or the builder comes to its end.
-ghost use Rattle.std.specs.Prelude.{◌≡◌, true, IfOk};
+ghost use Rattle.std.specs.Prelude.{◌≡◌, true, false, IfOk, Ok};
 ghost use Rattle.fr_shape.specs.Fits.{fits};
 ghost use Rattle.fr_shape.specs.Released.{Room, RoseBy, Conserved};
 ghost use Rattle.fr_model.specs.Commands.{Call};
 ghost use Rattle.fr_model.specs.Paths.{path_of};
-ghost use Rattle.fr_model.specs.Tree.{cursor_tree};
+ghost use Rattle.fr_model.specs.Places.{is_root};
+ghost use Rattle.fr_model.specs.Step.{leaves};
+ghost use Rattle.fr_model.specs.Tree.{cursor_tree, strict};
 ghost use Rattle.fr_partial.specs.Filling.{fills_nothing};
-ghost use Rattle.fr_partial.specs.Builder.{holds, left, left_built, BuildRefusesBeforeMemory, IsBuilt, IsNotOutOfMemory, IsStep, RefusesBeforeMemory, RisesByRemoved, RisesByRemovedAtBuild, TellsPlaceBefore};
+ghost use Rattle.fr_partial.specs.Modes.{IsBelowStart};
+ghost use Rattle.fr_partial.specs.Builder.{holds, left, left_built, BuildRefusesBeforeMemory, IsBuilt, IsNotOutOfMemory, IsStep, IsStepTo, RefusesBeforeMemory, RisesByRemoved, RisesByRemovedAtBuild, TellsPlaceBefore};
 
 use crate::finishing::{abandon, end_here, take_root};
+use crate::entering::out_of_memory;
+use crate::mode::Mode;
 use crate::paths::step_back;
 use crate::{Built, Partial, ReflectError};
 use fr_model::{law_completes, law_paths, law_removed, law_well};
@@ -16,10 +21,44 @@ use fr_path::Path;
 use fr_shape::{Hooks, Invariant, Ledger, ReflectErrorKind};
 
 impl<'t, H: Hooks> Partial<'t, H> {
-    /// Completes the place, writes its value into the place above, and goes there. Only copies of templates need memory,
-    /// and what is lacking is found before any is made.
+    /// Leaves the place for the one above. In strict mode it is completed, and its value written there: only copies of templates
+    /// need memory, and what is lacking is found before any is made. In deferred mode it is left as it is, to be entered again or
+    /// completed by `finish_deferred`; it has to lie deeper than the place at which deferred mode began.
     pub fn end(self, ledger: &mut Ledger) -> Result<Partial<'t, H>, ReflectError>
         requires room { Room (holds self) ledger.old }
+        ensures step { IsStep (H.means self.entry.hooks) self.entry Call.End result }
+        ensures path { TellsPlaceBefore self.entry result }
+        ensures tokens { Conserved (holds self.entry) ledger.old (left result) ledger.new }
+        ensures removed { RisesByRemoved (H.means self.entry.hooks) self.entry Call.End result
+            ledger.old ledger.new }
+        ensures memory { self.entry.state.mode ≡ strict
+            → fills_nothing (cursor_tree self.entry.state) ≡ true → IsNotOutOfMemory result }
+        ensures refused { RefusesBeforeMemory (H.means self.entry.hooks) self.entry
+            Call.End result }
+    {
+        law_removed();
+        let depth = self.stack.len() - 1;
+        match self.mode {
+            Mode::Strict | Mode::Deferred(_) if depth == 0 => {
+                let invariant = Invariant::EndAtRoot;
+                let kind = ReflectErrorKind::InvariantViolation { invariant };
+                Err(self.refuse(kind, ledger))
+            }
+            Mode::Strict => self.end_strict(ledger),
+            Mode::Deferred(start) if depth <= start => {
+                let invariant = Invariant::EndAtStart;
+                let kind = ReflectErrorKind::InvariantViolation { invariant };
+                Err(self.refuse(kind, ledger))
+            }
+            Mode::Deferred(_) => self.leave(ledger),
+        }
+    }
+
+    /// `end` in strict mode, below the root.
+    fn end_strict(self, ledger: &mut Ledger) -> Result<Partial<'t, H>, ReflectError>
+        requires room { Room (holds self) ledger.old }
+        requires strict { self.state.mode ≡ strict }
+        requires below { is_root self.state.cursor ≡ false }
         ensures step { IsStep (H.means self.entry.hooks) self.entry Call.End result }
         ensures path { TellsPlaceBefore self.entry result }
         ensures tokens { Conserved (holds self.entry) ledger.old (left result) ledger.new }
@@ -42,16 +81,10 @@ impl<'t, H: Hooks> Partial<'t, H> {
             mut path,
             slots,
             stack,
+            store,
+            mode,
             calls,
         } = self;
-        let open = stack.len();
-        if open == 1 {
-            abandon(slots, stack, plan.core(), ledger);
-            drop(plan);
-            let invariant = Invariant::EndAtRoot;
-            let kind = ReflectErrorKind::InvariantViolation { invariant };
-            return Err(ReflectError { kind, path });
-        }
         match end_here(table, root, plan.core(), hooks, slots, stack, ledger) {
             Ok((slots, stack)) => {
                 step_back(&mut path);
@@ -64,6 +97,8 @@ impl<'t, H: Hooks> Partial<'t, H> {
                     path,
                     slots,
                     stack,
+                    store,
+                    mode,
                     calls: calls.saturating_add(1),
                 })
             }
@@ -74,8 +109,53 @@ impl<'t, H: Hooks> Partial<'t, H> {
         }
     }
 
-    /// Completes the root and hands its value over. Only copies of templates need memory, and what is lacking is found
-    /// before any is made.
+    /// `end` in deferred mode, below the place at which that began.
+    fn leave(self, ledger: &mut Ledger) -> Result<Partial<'t, H>, ReflectError>
+        requires room { Room (holds self) ledger.old }
+        requires below { IsBelowStart self.state.mode self.state.cursor }
+        ensures step { IsStepTo self.entry (Ok (leaves self.entry.state)) result }
+        ensures path { TellsPlaceBefore self.entry result }
+        ensures tokens { Conserved (holds self.entry) ledger.old (left result) ledger.new }
+    {
+        law_paths();
+        law_removed();
+        law_well();
+        let Partial {
+            alloc,
+            table,
+            hooks,
+            plan,
+            root,
+            mut path,
+            mut slots,
+            mut stack,
+            mut store,
+            mode,
+            calls,
+        } = self;
+        let Ok(()) = stack.leave(&mut slots, &mut store, plan.core()) else {
+            abandon(slots, stack, plan.core(), ledger);
+            drop(plan);
+            return Err(out_of_memory(path));
+        };
+        step_back(&mut path);
+        Ok(Partial {
+            alloc,
+            table,
+            hooks,
+            plan,
+            root,
+            path,
+            slots,
+            stack,
+            store,
+            mode,
+            calls: calls.saturating_add(1),
+        })
+    }
+
+    /// Completes the root and hands its value over. Only copies of templates need memory, and what is lacking is found before any
+    /// is made. Refused in deferred mode, and then below the root.
     pub fn build(self, ledger: &mut Ledger) -> Result<Built, ReflectError>
         requires room { Room (holds self) ledger.old }
         ensures built { IsBuilt (H.means self.entry.hooks) self.entry result }
@@ -91,6 +171,11 @@ impl<'t, H: Hooks> Partial<'t, H> {
     {
         law_completes();
         law_removed();
+        if self.mode != Mode::Strict {
+            let invariant = Invariant::BuildDeferred;
+            let kind = ReflectErrorKind::InvariantViolation { invariant };
+            return Err(self.refuse(kind, ledger));
+        }
         let Partial {
             alloc: _,
             table,
@@ -100,6 +185,8 @@ impl<'t, H: Hooks> Partial<'t, H> {
             path,
             slots,
             stack,
+            store: _,
+            mode: _,
             calls,
         } = self;
         let open = stack.len();
@@ -153,6 +240,8 @@ impl<'t, H: Hooks> Partial<'t, H> {
             path,
             slots,
             stack,
+            store: _,
+            mode: _,
             calls: _,
         } = self;
         abandon(slots, stack, plan.core(), ledger);

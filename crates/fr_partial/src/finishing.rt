@@ -3,10 +3,11 @@ ghost use Rattle.std.specs.Prelude.{◌≡◌, [], false, Some, IfOk, IfErr, OnO
 ghost use Rattle.fr_shape.specs.Released.{Room, RoseBy};
 ghost use Rattle.fr_shape.specs.View.{view};
 ghost use Rattle.fr_model.specs.Complete.{complete};
-ghost use Rattle.fr_model.specs.Places.{is_root};
+ghost use Rattle.fr_model.specs.Places.{strict_column, is_root};
 ghost use Rattle.fr_model.specs.Tree.{tree_occurs};
 ghost use Rattle.fr_store.specs.Moves.{cursor_in, tree_here, tree_in_slots};
 ghost use Rattle.fr_store.specs.Stands.{IsOpen};
+ghost use Rattle.fr_store.specs.Stored.{NothingStored};
 ghost use Rattle.fr_partial.specs.Ending.{IsEnded, WhyNot};
 ghost use Rattle.fr_partial.specs.Underway.{shape_here, IsReady};
 
@@ -26,6 +27,7 @@ pub fn end_here<H: Hooks>(
     ledger: &mut Ledger,
 ) -> Result<(Slots, Stack), ReflectErrorKind>
     requires ready { IsReady table.now root plan.now slots stack }
+    requires strict { NothingStored slots }
     requires below { is_root (cursor_in slots stack) ≡ false }
     requires room { Room (tree_occurs (tree_in_slots slots stack)) ledger.old }
     ensures ended { IfOk result (λ both. IsEnded (H.means hooks.now) table.now
@@ -65,9 +67,10 @@ pub fn take_root<H: Hooks>(
     ledger: &mut Ledger,
 ) -> Result<Value, ReflectErrorKind>
     requires ready { IsReady table.now root plan.now slots stack }
+    requires strict { NothingStored slots }
     requires at_root { cursor_in slots stack ≡ [] }
     requires room { Room (tree_occurs (tree_in_slots slots stack)) ledger.old }
-    ensures value { IfOk result (λ v. complete (H.means hooks.now) table.now root.0
+    ensures value { IfOk result (λ v. complete strict_column (H.means hooks.now) table.now root.0
         (tree_in_slots slots stack) ≡ Some (view v)) }
     ensures kept { OnOk result (ledger.new ≡ ledger.old) }
     ensures why { IfErr result (λ kind. WhyNot (H.means hooks.now) table.now root.0
@@ -95,10 +98,12 @@ pub fn take_root<H: Hooks>(
 }
 
 /// Releases all.
-pub fn abandon(mut slots: Slots, mut stack: Stack, plan: &TypePlanCore, ledger: &mut Ledger)
+pub fn abandon(slots: Slots, stack: Stack, plan: &TypePlanCore, ledger: &mut Ledger)
     requires shown { IsOpen plan.now slots stack }
     requires room { Room (tree_occurs (tree_in_slots slots stack)) ledger.old }
     ensures released { RoseBy (tree_occurs (tree_in_slots slots stack)) ledger.old ledger.new }
 {
-    stack.abandon(&mut slots, plan, ledger);
+    let _stack = stack;
+    let _plan = plan;
+    slots.release(ledger);
 }

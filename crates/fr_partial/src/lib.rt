@@ -3,11 +3,13 @@
 
 mod admitting;
 mod built;
+mod deferring;
 mod entering;
 mod fields;
 mod finish;
 mod finishing;
 mod held_plan;
+mod mode;
 mod partial;
 mod paths;
 mod placing;

@@ -6,10 +6,11 @@ ghost use Rattle.fr_shape.specs.Served.{IsServed};
 ghost use Rattle.fr_model.specs.Well.{IsInOrder};
 
 use crate::held_plan::HeldPlan;
+use crate::mode::Mode;
 use fr_frame::Slots;
 use fr_path::Path;
 use fr_shape::{Hooks, ShapeId, ShapeTable};
-use fr_store::Stack;
+use fr_store::{FrameStore, Stack};
 use std::alloc::Global;
 use std::marker::Model;
 
@@ -27,6 +28,9 @@ pub struct Partial<'t, H> {
     pub(crate) slots: Slots,
     /// Their slots, the root's first and that of the place at which it works last.
     pub(crate) stack: Stack,
+    /// The slots of the places that were left half done.
+    pub(crate) store: FrameStore,
+    pub(crate) mode: Mode,
     pub(crate) calls: u32,
 }
 
@@ -38,17 +42,19 @@ impl<'t, H> Model for Partial<'t, H> {
     ghost coded = { builder_code H.code };
 
     ghost use Rattle.fr_partial.specs.HeldPlan.{plan_in};
+    ghost use Rattle.fr_partial.specs.Modes.{mode_of};
     ghost use Rattle.fr_partial.specs.Underway.{state_of, IsUnderway};
 
     ghost view = { λ p. record {
       shapes = p.table.now;
       hooks = p.hooks.now;
       root = p.root.0;
-      state = state_of p.slots p.stack p.calls;
+      state = state_of p.slots p.stack (mode_of p.mode) p.calls;
     } };
 
     ghost invariant = { λ p.
-        IsUnderway p.table.now p.root (plan_in p.plan) p.path p.slots p.stack p.calls };
+        IsUnderway p.table.now p.root (plan_in p.plan) p.path p.slots p.stack p.store
+        (mode_of p.mode) p.calls };
 }
 
 impl<'t, H: Hooks> Partial<'t, H> {

@@ -1,10 +1,11 @@
 //! The place at which the builder works, and a value in the stead of what was put there.
-ghost use Rattle.std.specs.Prelude.{◌≡◌, ◌+◌, true};
+ghost use Rattle.std.specs.Prelude.{◌≡◌, ℕ, ◌+◌, true};
 ghost use Rattle.fr_shape.specs.Fits.{fits};
 ghost use Rattle.fr_shape.specs.Released.{Room, Conserved};
 ghost use Rattle.fr_shape.specs.Tokens.{occurs};
 ghost use Rattle.fr_shape.specs.View.{view};
-ghost use Rattle.fr_model.specs.Step.{puts};
+ghost use Rattle.fr_model.specs.Step.{field_refusal, puts};
+ghost use Rattle.fr_shape.specs.declared.shape.Def.{Def};
 ghost use Rattle.fr_frame.specs.Bodies.{own_tree};
 ghost use Rattle.fr_frame.specs.Heap.{body_of};
 ghost use Rattle.fr_store.specs.Moves.{tree_here};
@@ -41,10 +42,11 @@ pub fn shape_here(
     }
 }
 
-/// What was put at the place on top of the stack.
+/// What was put at the place on top of the stack, in which a child that is stored isn't told.
 pub fn piece_here<'a>(slots: &'a Slots, stack: &Stack) -> &'a Piece
     requires { AreOpen slots.now stack.now }
-    ensures { own_tree (body_of result.now) ≡ tree_here slots.now stack.now }
+    ensures { (def : Def) (i : ℕ) → field_refusal def (own_tree (body_of result.now)) i
+        ≡ field_refusal def (tree_here slots.now stack.now) i }
 {
     let Some(top) = stack.top() else {
         unreachable!()
@@ -79,9 +81,11 @@ impl<'t, H: Hooks> Partial<'t, H> {
             path,
             mut slots,
             stack,
+            mut store,
+            mode,
             calls,
         } = self;
-        stack.set(&mut slots, plan.core(), value, ledger);
+        stack.set(&mut slots, &mut store, plan.core(), value, ledger);
         Partial {
             alloc,
             table,
@@ -91,6 +95,8 @@ impl<'t, H: Hooks> Partial<'t, H> {
             path,
             slots,
             stack,
+            store,
+            mode,
             calls: calls.saturating_add(1),
         }
     }

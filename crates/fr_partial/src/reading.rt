@@ -1,8 +1,10 @@
 //! What a builder tells of itself.
-ghost use Rattle.std.specs.Prelude.{◌≡◌, ◌+◌, length, IfOk};
+ghost use Rattle.std.specs.Prelude.{◌≡◌, ◌≢◌, ◌↔◌, ◌+◌, length, IfOk, IfSome, IsNone, IsTrue};
 ghost use Rattle.fr_model.specs.Paths.{path_of};
+ghost use Rattle.fr_model.specs.Tree.{strict};
 ghost use Rattle.fr_partial.specs.Builder.{here};
 
+use crate::mode::Mode;
 use crate::paths::copy_path;
 use crate::placing::shape_here;
 use crate::{Partial, ReflectError};
@@ -16,6 +18,24 @@ impl<'t, H: Hooks> Partial<'t, H> {
         ensures path { result.now ≡ path_of self.now.state }
     {
         &self.path
+    }
+
+    /// Whether the builder is in deferred mode.
+    pub fn is_deferred(&self) -> bool
+        ensures mode { IsTrue result ↔ (self.now.state.mode ≢ strict) }
+    {
+        self.mode != Mode::Strict
+    }
+
+    /// The path of the place at which it works, in deferred mode alone.
+    pub fn current_path(&self) -> Option<&Path>
+        ensures path { IfSome result (λ path. path.now ≡ path_of self.now.state) }
+        ensures strict { IsNone result ↔ (self.now.state.mode ≡ strict) }
+    {
+        match self.mode {
+            Mode::Strict => None,
+            Mode::Deferred(_) => Some(&self.path),
+        }
     }
 
     /// How many places are open: the one at which it works, and those above it.

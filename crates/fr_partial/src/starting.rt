@@ -7,18 +7,20 @@ ghost use Rattle.fr_shape.specs.Served.{IsServed};
 ghost use Rattle.fr_model.specs.Run.{alloc_refusal, unsized_refusal};
 ghost use Rattle.fr_model.specs.Tree.{fresh, initial};
 ghost use Rattle.fr_store.specs.Moves.{IsOpenAt};
+ghost use Rattle.fr_store.specs.Stored.{NothingStored};
 ghost use Rattle.fr_plan.specs.TypePlan.{IsPlanOf};
 ghost use Rattle.fr_partial.specs.HeldPlan.{plan_in};
 ghost use Rattle.fr_partial.specs.Starting.{IsPlanFrom, RefusedWith};
 
 use crate::Partial;
 use crate::held_plan::HeldPlan;
+use crate::mode::Mode;
 use fr_frame::{FrameOwner, Slots};
 use fr_model::law_well;
 use fr_path::Path;
 use fr_plan::{TypePlanCore, law_first_refusal, law_plan_lookups, law_plan_paths};
 use fr_shape::{AllocError, Def, Hooks, OutOfMemory, PlanError, PlanFault, ShapeId, ShapeTable};
-use fr_store::Stack;
+use fr_store::{FrameStore, Stack};
 use std::alloc::Global;
 
 /// Whether the size of the shape's values is known.
@@ -48,6 +50,7 @@ fn first_place(
     requires planned { IsPlanOf table.now root plan.now }
     ensures open { IfOk result (λ both.
         IsOpenAt plan.now both.0 both.1 [] (fresh (def_of table.now root.0))) }
+    ensures nothing { IfOk result (λ both. NothingStored both.0) }
 {
     law_plan_lookups();
     let _root = root;
@@ -192,6 +195,8 @@ impl<'t, H: Hooks> Partial<'t, H> {
             path: Path::new(alloc),
             slots,
             stack,
+            store: FrameStore::new(alloc),
+            mode: Mode::Strict,
             calls: 0,
         })
     }
