@@ -1,5 +1,5 @@
 -- Which places fail at the end of deferred mode, and what that end is where every place off the way is whole or a hole.
-use Rattle.std.proofs.Common.{◌≡◌, ◌≢◌, ◌⊎◌, inl, inr, ⊎_elim, ℕ, zero, suc, ◌+◌, ◌<◌, ◌≤◌, ◌==◌, List, [], ◌∷◌, ◌++◌, append-nil, append_assoc, Option, Some, None, refl, sym, ◌∙◌, ap, ap₂, subst, arith}
+use Rattle.std.proofs.Common.{◌≡◌, ◌≢◌, ◌⊎◌, inl, inr, ⊎_elim, ℕ, zero, suc, ◌+◌, ◌<◌, List, [], ◌∷◌, ◌++◌, append-nil, append_assoc, Option, Some, None, refl, sym, ◌∙◌, ap, ap₂, subst, arith}
 use Rattle.std.specs.List.{Contains}
 use Rattle.std.specs.Option.{option_map}
 use Rattle.std.proofs.lemmas.List.Elements.{Contains-append_left, Contains-append_right, Contains-append_cases}
@@ -8,7 +8,7 @@ use Rattle.fr_shape.specs.Hooks.{Meanings}
 use Rattle.fr_shape.specs.Look.{Table}
 use Rattle.fr_path.specs.declared.path_steps.PathStep.{PathStep}
 use Rattle.fr_model.specs.Failing.{own_lack, lack_of_begun, Failure, failure_at, or_itself, failures, failures_among}
-use Rattle.fr_model.specs.FailingLaws.{IsHalfDone, LiesThere, FailuresLieThere, LackingFails, NothingFailsOfDone, FinishOfDone}
+use Rattle.fr_model.specs.FailingLaws.{IsHalfDone, FailuresLieThere, LackingFails, NothingFailsOfDone, FinishOfDone}
 use Rattle.fr_model.specs.Finish.{closed, one_more_tree, closed_all, closed_but, finished_here, finished, failures_but, failures_off}
 use Rattle.fr_model.specs.Finishing.{IsOffTheWay}
 use Rattle.fr_model.specs.Paths.{step_as, steps_in}
