@@ -126,7 +126,7 @@ fails_by_itself path t lacking f half has = record {
 
 -- beneath another child than the one on the way
 beside : (c i : ℕ) (cursor here : Place) → c ≢ i → IsOffTheWay (c ∷ cursor) (i ∷ here)
-beside c i cursor here other way e = other (cc)
+beside c i cursor here other way e = other cc
 
 -- beneath the place at the cursor
 beneath_cursor : (form : Form) (path : List PathStep) (ts : Trees) (f : Failure) → LiesAmong Anywhere form 0 path ts f
@@ -178,7 +178,7 @@ module _ (hooks : Meanings) (table : Table) (f : Failure) where
       either (below (child_as table s form k) (path ++ step_as form k ∷ []) t)
       (failures_among hooks table s form (suc k) path ts) f has
       (λ first. first_child (IsOffTheWay cursor) (IsOffTheWay (c ∷ cursor)) form k path t ts f
-      (λ here off way e. off way (cc)) (step (child_as table s form k) (path ++ step_as form k ∷ []) t first))
+      (λ here off way e. off way cc) (step (child_as table s form k) (path ++ step_as form k ∷ []) t first))
       (λ later. later_child Anywhere (IsOffTheWay (c ∷ cursor)) form k path t ts f
       (λ i here above known. beside c i cursor here (omega arith)) (fails_among s form (suc k) path ts later))
   fails_but s form (suc on_way) below k path (branch t ts) c cursor is step has =
@@ -411,7 +411,8 @@ module _ (hooks : Meanings) (table : Table) where
       let here : k ≡ i = omega arith in
       ap (one_more_tree (becomes (child_as table s form k) t)) (all_done_close s form (suc k) ts off.1)
       ∙ those_after t ts (becomes (child_as table s form k) t)
-      ∙ ap (λ (m : ℕ). option_map (λ (u : Tree). change_nth 0 (λ old. u) (branch t ts)) (becomes (child_as table s form m) t)) here
+      ∙ ap (λ (m : ℕ). option_map (λ (u : Tree). change_nth 0 (λ old. u) (branch t ts))
+      (becomes (child_as table s form m) t)) here
   but_done_close s form (suc on_way) becomes Below k (branch t ts) i is off =
       ap₂ one_more_tree (done_closes (child_as table s form k) t off.0)
       (but_done_close s form on_way becomes Below (suc k) ts i (omega arith) off.1)
