@@ -67,7 +67,7 @@ begun_makes (Def.Array t m) as_array n of_parts begun_as = refl
 begun_makes _ _ n of_parts begun_as = absurd begun_as.0
 
 -- a hole takes what the journal says of an untouched child
-begun_takes : (column : Column) (table : Table) (s : ℕ) (form : Form) (n : ℕ) → IsBegunAs (def_of table s) form n → (k : ℕ)
+pub begun_takes : (column : Column) (table : Table) (s : ℕ) (form : Form) (n : ℕ) → IsBegunAs (def_of table s) form n → (k : ℕ)
     → fill_at column table s k ≡ hole_takes column table s form k
 begun_takes column table s as_struct n count k = refl
 begun_takes column table s as_array n count k = go (def_of table s) count
@@ -127,7 +127,8 @@ whole_same column table s v h parts (by_entry e none is) =
 
 -- a child that isn't a hole makes its own value
 
-abbrev IsTouched : Tree → Type 0
+-- a tree that isn't a hole
+abbrev pub IsTouched : Tree → Type 0
 IsTouched hole = ⊥
 IsTouched _ = Unit {0}
 
@@ -208,7 +209,7 @@ mutual
 -- one child that agrees with something else
 
 module _ (table : Table) (s : ℕ) (form : Form) where
-  agree_same : (ts : Trees) (k : ℕ) (notes after : Journal) → ((j : ℕ) → k ≤ j → down j after ≡ down j notes)
+  pub agree_same : (ts : Trees) (k : ℕ) (notes after : Journal) → ((j : ℕ) → k ≤ j → down j after ≡ down j notes)
       → AgreeAll table s form notes k ts → AgreeAll table s form after k ts
   agree_same no_trees k notes after same agrees = tt
   agree_same (branch t ts) k notes after same agrees = (

@@ -221,7 +221,7 @@ but_alike hooks table s form (suc on_way) becomes beneath zero k (branch t ts) i
 but_alike hooks table s form (suc on_way) becomes beneath (suc d) k (branch t ts) i change is within alike on =
     let rest : AreAlikeBut hooks table s form on_way becomes beneath (suc k) ts (change_nth d change ts)
     = but_alike hooks table s form on_way becomes beneath d (suc k) ts i change (omega arith) (omega arith) alike
-        (λ same. on (ap suc same)) in
+    (λ same. on (ap suc same)) in
     record {
       become = ap (one_more_tree (closed hooks table (child_as table s form k) t)) rest.become;
       fail = λ path. ap (λ (fs : List Failure).
@@ -266,9 +266,9 @@ finish_alike hooks table s (c ∷ cursor) (i ∷ here) v (begun form ts) closes 
     (closing_alike hooks table (child_as table s form i) here v (tree_nth i ts)
     (below hooks table s i here v form ts closes))
     (λ same. let child : FinishAlike hooks table (child_as table s form i) cursor (tree_nth i ts)
-        (closed_at here v (tree_nth i ts))
+    (closed_at here v (tree_nth i ts))
     = finish_alike hooks table (child_as table s form i) cursor here v (tree_nth i ts)
-        (below hooks table s i here v form ts closes) (off_beneath c i cursor here same off) in
+    (below hooks table s i here v form ts closes) (off_beneath c i cursor here same off) in
     (child.become, child.fail)))
 finish_alike hooks table s cursor (i ∷ here) v _ closes off = absurd closes.place
 

@@ -3,17 +3,16 @@ use Rattle.std.proofs.Common.{◌≡◌, ◌≢◌, ℕ, zero, suc, ◌+◌, ◌
 use Rattle.std.specs.Option.{option_map}
 use Rattle.std.proofs.lemmas.List.{map-append}
 use Rattle.fr_shape.specs.Checked.{IsChecked}
-use Rattle.fr_shape.specs.declared.shape.Def.{Def}
 use Rattle.fr_shape.specs.Hooks.{Meanings}
-use Rattle.fr_shape.specs.Look.{Table, def_of, field_in}
+use Rattle.fr_shape.specs.Look.{Table, def_of}
 use Rattle.fr_shape.specs.Val.{Val, Vals}
 use Rattle.fr_model.specs.Complete.{complete, complete_all, hole_takes, valid_child}
 use Rattle.fr_model.specs.Finish.{closed, one_more_tree, closed_all, closed_but, begun_with, finished_here, finished}
 use Rattle.fr_model.specs.Journal.{Note, entered_at, wrote_at, Journal, Held, in_parts, written, just_entered, untouched, held, longest, child_makes, completes, both_notes, each_notes, writing, closing_by, closing, closing_beside, closing_parts, closing_here_by, closing_here, finish_notes}
-use Rattle.fr_model.specs.Places.{Place, deferred_column, child_count, child_shape, part, one_more, fill_of_field, fill_at}
-use Rattle.fr_model.specs.Tree.{Form, as_struct, as_array, Tree, hole, entered, whole, begun, Trees, no_trees, branch, for_hole, tree_nth, child_as, count_trees, wholes, Mode, State}
+use Rattle.fr_model.specs.Places.{Place, deferred_column, child_count, child_shape, part, one_more, fill_at}
+use Rattle.fr_model.specs.Tree.{Form, Tree, hole, entered, whole, begun, Trees, no_trees, branch, for_hole, tree_nth, child_as, count_trees, wholes, Mode, State}
 use Rattle.fr_model.specs.Well.{IsBegunAs, Suits, AtCursor, Leads, IsInOrder}
-use Rattle.fr_model.proofs.Agreement.{IsWhole, by_value, by_entry, Agrees, AgreeAll, agree_nth, begun_count, child_as_is, completes_tree, in_child, under, under_wrote, down_same, down_other, leads_child, leads_within}
+use Rattle.fr_model.proofs.Agreement.{IsWhole, by_value, by_entry, Agrees, AgreeAll, agree_nth, agree_same, begun_count, begun_takes, IsTouched, child_as_is, completes_tree, in_child, under, under_wrote, down_same, down_other, leads_child, leads_within}
 use Rattle.fr_model.proofs.Beneath.{down, along, held_along, completes_along, longest_along}
 use Rattle.fr_model.proofs.FinishNotes.{hole_makes, touched_makes}
 use Rattle.fr_model.proofs.Plain.{AllPlain, plain_child, valid_same}
@@ -95,21 +94,6 @@ pub data AllEnd (table : Table) (s : ℕ) (form : Form) (above : Place) (seen : 
       → AgreeAll table s form (added ++ seen) k after → AllEnd table s form above seen k trees found
   one_fails : trees ≡ None → found ≡ None → AllEnd table s form above seen k trees found
 
--- a tree that isn't a hole
-abbrev IsTouched : Tree → Type 0
-IsTouched hole = ⊥
-IsTouched entered = Unit {0}
-IsTouched (whole v) = Unit {0}
-IsTouched (begun form ts) = Unit {0}
-
-agree_seen : (table : Table) (s : ℕ) (form : Form) (ts : Trees) (k : ℕ) (notes after : Journal)
-    → ((j : ℕ) → k ≤ j → down j after ≡ down j notes) → AgreeAll table s form notes k ts → AgreeAll table s form after k ts
-agree_seen table s form no_trees k notes after same agrees = tt
-agree_seen table s form (branch t ts) k notes after same agrees = (
-  subst (λ (seen : Journal). Agrees table (child_as table s form k) seen t) (sym (same k (omega arith))) agrees.0,
-  agree_seen table s form ts (suc k) notes after (λ j h. same j (omega arith)) agrees.1,
-)
-
 not_same : (j k : ℕ) → j ≢ k → (j == k) ≡ false
 not_same j k other = grind arith
 
@@ -140,7 +124,7 @@ module _ (table : Table) (s : ℕ) (form : Form) (above : Place) (seen : Journal
       (subst (λ (all : Journal). AgreeAll table s form all k (branch after afters))
       (sym (append_assoc (all_in_child k added) addeds seen)) (
         subst (λ (all : Journal). Agrees table (child_as table s form k) all after) (sym at_k) agrees,
-        agree_seen table s form afters (suc k) (addeds ++ seen) (all_in_child k added ++ (addeds ++ seen))
+        agree_same table s form afters (suc k) (addeds ++ seen) (all_in_child k added ++ (addeds ++ seen))
             (λ j above. at_later j above) agree,
       ))
     where
@@ -184,17 +168,6 @@ all_of_them : (table : Table) (s : ℕ) (form : Form) (ts : Trees) → IsBegunAs
     → 0 + count_trees ts ≡ child_count table s
 all_of_them table s form ts begun_as =
     let count : count_trees ts ≡ child_count table s = begun_count (def_of table s) form (count_trees ts) begun_as in omega arith
-
--- a hole takes what the journal says of an untouched child
-hole_fill : (table : Table) (s : ℕ) (form : Form) (count : ℕ) → IsBegunAs (def_of table s) form count → (k : ℕ)
-    → fill_at deferred_column table s k ≡ hole_takes deferred_column table s form k
-hole_fill table s as_struct count begun_as k = refl
-hole_fill table s as_array count begun_as k = go (def_of table s) begun_as
-  where
-    go : (def : Def) → IsBegunAs def as_array count
-        → fill_of_field deferred_column table s false (field_in def None k) ≡ None
-    go (Def.Array t n) begun_as = refl
-    go _ begun_as = absurd begun_as.0
 
 -- the place at which a builder works has parts, or a value of its own
 closes_itself : (h : Held) (of_parts of_itself : Option Journal) → h ≢ in_parts
@@ -418,7 +391,7 @@ module _ (hooks : Meanings) (table : Table) (checked : IsChecked table) (notes :
       suits.1 agrees.1)))
     where
       takes : (k : ℕ) → fill_at deferred_column table s k ≡ hole_takes deferred_column table s form k
-      takes = hole_fill table s form (count_trees ts) suits.0
+      takes = begun_takes deferred_column table s form (count_trees ts) suits.0
 
       go : (values : Option Vals) (found : Option Journal)
           → AllEnd table s form here (along here notes) 0 (option_map wholes values) found

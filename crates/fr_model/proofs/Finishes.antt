@@ -7,7 +7,6 @@ use Rattle.fr_shape.specs.Fits.{count_vals}
 use Rattle.fr_shape.specs.Hooks.{Meanings}
 use Rattle.fr_shape.specs.Lists.{is_nil}
 use Rattle.fr_shape.specs.Look.{Table, def_of}
-use Rattle.fr_shape.specs.Tokens.{vals_occur}
 use Rattle.fr_shape.specs.Val.{Vals, no_vals, first}
 use Rattle.fr_path.specs.declared.path_steps.PathStep.{PathStep}
 use Rattle.fr_model.specs.Places.{Place, deferred_column}
@@ -20,6 +19,7 @@ use Rattle.fr_model.specs.Well.{IsBegunAs, Suits, IsOff, AllOff, AtCursor, OffBu
 use Rattle.fr_model.proofs.Completing.{Made, completing_makes, Children, all_completing_make}
 use Rattle.fr_model.proofs.Failing.{none_mapped, joined_there, some_or, completes_or_fails, all_complete_or_fail, entered_lacks}
 use Rattle.fr_model.proofs.Structs.{ChildrenFit, SuitFrom}
+use Rattle.fr_model.proofs.Tokens.{wholes_hold}
 
 -- what is made is made of something
 
@@ -126,10 +126,6 @@ count_wholes : (vs : Vals) → count_trees (wholes vs) ≡ count_vals vs
 count_wholes no_vals = refl
 count_wholes (first v vs) = ap suc (count_wholes vs)
 
-wholes_keep : (vs : Vals) (t : ℕ) → trees_occur (wholes vs) t ≡ vals_occur vs t
-wholes_keep no_vals t = refl
-wholes_keep (first v vs) t = let rest = wholes_keep vs t in omega arith
-
 fitting_suit : (table : Table) (s : ℕ) (form : Form) (i : ℕ) (vs : Vals) → ChildrenFit table s form i vs
     → SuitFrom table s form i (wholes vs)
 fitting_suit table s form i no_vals fit = tt
@@ -140,9 +136,11 @@ begun_keeps : (hooks : Meanings) (table : Table) (s : ℕ) (form : Form) (ts : T
     → Kept table s (begun form ts) u
 begun_keeps hooks table s form ts u checked suits e =
     rw to.same (record {
-      suits = (subst (IsBegunAs (def_of table s) form) (sym (count_wholes to.from ∙ those.counted)) suits.0,
-          fitting_suit table s form 0 to.from those.fit);
-      hold = λ t. wholes_keep to.from t ∙ those.hold t;
+      suits = (
+        subst (IsBegunAs (def_of table s) form) (sym (count_wholes to.from ∙ those.counted)) suits.0,
+        fitting_suit table s form 0 to.from those.fit,
+      );
+      hold = λ t. wholes_hold to.from t ∙ those.hold t;
     })
   where
     to : Mapped (begun_with form) (complete_all deferred_column hooks table s form 0 ts) u
@@ -209,8 +207,10 @@ closed_all_off hooks table s form i no_trees us e = let same : no_trees ≡ us =
 closed_all_off hooks table s form i (branch t ts) us e =
     let parts : OneMoreTree (closed hooks table (child_as table s form i) t) (closed_all hooks table s form (suc i) ts) us
     = one_more_tree_is (closed hooks table (child_as table s form i) t) (closed_all hooks table s form (suc i) ts) us e in
-    rw parts.same (closed_off hooks table (child_as table s form i) t parts.head parts.head_is,
-        closed_all_off hooks table s form (suc i) ts parts.tail parts.tail_is)
+    rw parts.same (
+      closed_off hooks table (child_as table s form i) t parts.head parts.head_is,
+      closed_all_off hooks table s form (suc i) ts parts.tail parts.tail_is,
+    )
 
 closed_but_off : (hooks : Meanings) (table : Table) (s : ℕ) (form : Form) (on_way : ℕ)
     (becomes : ℕ → Tree → Option Tree) (mode : Mode) (Below After : Tree → Type 0) (i : ℕ) (ts us : Trees)
@@ -220,15 +220,19 @@ closed_but_off hooks table s form on_way becomes mode Below After i no_trees us 
 closed_but_off hooks table s form zero becomes mode Below After i (branch t ts) us leads off e =
     let parts : OneMoreTree (becomes (child_as table s form i) t) (closed_all hooks table s form (suc i) ts) us
     = one_more_tree_is (becomes (child_as table s form i) t) (closed_all hooks table s form (suc i) ts) us e in
-    rw parts.same (leads (child_as table s form i) t parts.head off.0 parts.head_is,
-        closed_all_off hooks table s form (suc i) ts parts.tail parts.tail_is)
+    rw parts.same (
+      leads (child_as table s form i) t parts.head off.0 parts.head_is,
+      closed_all_off hooks table s form (suc i) ts parts.tail parts.tail_is,
+    )
 closed_but_off hooks table s form (suc on_way) becomes mode Below After i (branch t ts) us leads off e =
     let parts : OneMoreTree (closed hooks table (child_as table s form i) t)
-        (closed_but hooks table s form on_way becomes (suc i) ts) us
+    (closed_but hooks table s form on_way becomes (suc i) ts) us
     = one_more_tree_is (closed hooks table (child_as table s form i) t)
-        (closed_but hooks table s form on_way becomes (suc i) ts) us e in
-    rw parts.same (closed_off hooks table (child_as table s form i) t parts.head parts.head_is,
-        closed_but_off hooks table s form on_way becomes mode Below After (suc i) ts parts.tail leads off.1 parts.tail_is)
+    (closed_but hooks table s form on_way becomes (suc i) ts) us e in
+    rw parts.same (
+      closed_off hooks table (child_as table s form i) t parts.head parts.head_is,
+      closed_but_off hooks table s form on_way becomes mode Below After (suc i) ts parts.tail leads off.1 parts.tail_is,
+    )
 
 wholes_off : (vs : Vals) → AllOff strict (wholes vs)
 wholes_off no_vals = tt
@@ -253,12 +257,12 @@ pub finish_leads : (hooks : Meanings) (table : Table) (s : ℕ) (mode : Mode) (c
 finish_leads hooks table s mode [] tree next leads e = here_leads hooks table s mode tree next leads e
 finish_leads hooks table s mode (i ∷ place) (begun form ts) next leads e =
     let to : Mapped (begun form)
-        (closed_but hooks table s form i (λ (shape : ℕ) (t : Tree). finished hooks table shape place t) 0 ts) next
+    (closed_but hooks table s form i (λ (shape : ℕ) (t : Tree). finished hooks table shape place t) 0 ts) next
     = mapped_is (begun form)
-        (closed_but hooks table s form i (λ (shape : ℕ) (t : Tree). finished hooks table shape place t) 0 ts) next e in
+    (closed_but hooks table s form i (λ (shape : ℕ) (t : Tree). finished hooks table shape place t) 0 ts) next e in
     rw to.same (closed_but_off hooks table s form i (λ (shape : ℕ) (t : Tree). finished hooks table shape place t) mode
-        (λ child. Leads mode place child) (λ child. Leads strict place child) 0 ts to.from
-        (λ shape t u below is. finish_leads hooks table shape mode place t u below is) leads to.is)
+    (λ child. Leads mode place child) (λ child. Leads strict place child) 0 ts to.from
+    (λ shape t u below is. finish_leads hooks table shape mode place t u below is) leads to.is)
 finish_leads hooks table s mode (i ∷ place) _ next leads e = absurd leads
 
 -- The path stays
@@ -276,9 +280,9 @@ on_way_is hooks table s form zero becomes Both i (branch t ts) us holes step e =
     rw parts.same (step (child_as table s form i) t parts.head parts.head_is)
 on_way_is hooks table s form (suc on_way) becomes Both i (branch t ts) us holes step e =
     let parts : OneMoreTree (closed hooks table (child_as table s form i) t)
-        (closed_but hooks table s form on_way becomes (suc i) ts) us
+    (closed_but hooks table s form on_way becomes (suc i) ts) us
     = one_more_tree_is (closed hooks table (child_as table s form i) t)
-        (closed_but hooks table s form on_way becomes (suc i) ts) us e in
+    (closed_but hooks table s form on_way becomes (suc i) ts) us e in
     rw parts.same (on_way_is hooks table s form on_way becomes Both (suc i) ts parts.tail holes step parts.tail_is)
 
 pub finish_keeps_path : (hooks : Meanings) (table : Table) (s : ℕ) (cursor : Place) (tree next : Tree)
@@ -289,13 +293,13 @@ finish_keeps_path hooks table s (i ∷ place) entered next e = let same : entere
 finish_keeps_path hooks table s (i ∷ place) (whole v) next e = let same : whole v ≡ next = cc in rw (← same) refl
 finish_keeps_path hooks table s (i ∷ place) (begun form ts) next e =
     let to : Mapped (begun form)
-        (closed_but hooks table s form i (λ (shape : ℕ) (t : Tree). finished hooks table shape place t) 0 ts) next
+    (closed_but hooks table s form i (λ (shape : ℕ) (t : Tree). finished hooks table shape place t) 0 ts) next
     = mapped_is (begun form)
-        (closed_but hooks table s form i (λ (shape : ℕ) (t : Tree). finished hooks table shape place t) 0 ts) next e in
+    (closed_but hooks table s form i (λ (shape : ℕ) (t : Tree). finished hooks table shape place t) 0 ts) next e in
     rw to.same (ap (λ (steps : List PathStep). step_as form i ∷ steps)
-        (on_way_is hooks table s form i (λ (shape : ℕ) (t : Tree). finished hooks table shape place t)
-        (λ t u. steps_in place u ≡ steps_in place t) 0 ts to.from refl
-        (λ shape t u is. finish_keeps_path hooks table shape place t u is) to.is))
+    (on_way_is hooks table s form i (λ (shape : ℕ) (t : Tree). finished hooks table shape place t)
+    (λ t u. steps_in place u ≡ steps_in place t) 0 ts to.from refl
+    (λ shape t u is. finish_keeps_path hooks table shape place t u is) to.is))
 
 -- Something to refuse
 

@@ -1,15 +1,12 @@
 -- The first failing place in the order of the walk.
-use Rattle.std.proofs.Common.{◌≡◌, ◌⊎◌, inl, inr, zero, suc, List, [], ◌∷◌, Option, Some, None, refl, ◌∙◌, ap, arith}
+use Rattle.std.proofs.Common.{◌≡◌, inl, inr, zero, suc, List, [], ◌∷◌, Option, Some, None, refl, ◌∙◌, ap, arith}
 use Rattle.std.specs.List.{Contains}
 use Rattle.std.specs.Ordering.{ordering_reverse}
 use Rattle.std.specs.declared.cmp.Ordering.{Ordering}
 use Rattle.fr_path.specs.Order.{walk_order}
 use Rattle.fr_path.specs.OrderLaws.{walk_total}
 use Rattle.fr_model.specs.Failing.{Failure, earlier_by, earlier, first_by_walk}
-
--- a failure is this one, or comes after it
-abbrev pub IsOrAfter : (first failure : Failure) → Type 0
-IsOrAfter first failure = (failure ≡ first) ⊎ (walk_order first.path failure.path ≡ Ordering.Less)
+use Rattle.fr_model.specs.FailingLaws.{IsOrAfter}
 
 further : (f : Failure) (fs : List Failure) (g : Failure) → Contains fs g → Contains (f ∷ fs) g
 further f fs g (k, below, is) = (suc k, omega arith, is)

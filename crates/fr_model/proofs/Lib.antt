@@ -8,6 +8,7 @@ pub mod Covering
 pub mod Cursor
 pub mod DefaultRows
 pub mod Failing
+pub mod FailingPlaces
 pub mod FinishAgreement
 pub mod FinishNotes
 pub mod Finishes

@@ -17,7 +17,7 @@ holes_hold : (n t : ℕ) → trees_occur (holes n) t ≡ 0
 holes_hold zero t = refl
 holes_hold (suc n) t = let rest = holes_hold n t in omega arith
 
-wholes_hold : (vs : Vals) (t : ℕ) → trees_occur (wholes vs) t ≡ vals_occur vs t
+pub wholes_hold : (vs : Vals) (t : ℕ) → trees_occur (wholes vs) t ≡ vals_occur vs t
 wholes_hold no_vals t = refl
 wholes_hold (first v vs) t = let rest = wholes_hold vs t in omega arith
 

@@ -1,5 +1,5 @@
 -- Completing at the end of deferred mode: which places fail, each with its refusal, and the first of them.
-use Rattle.std.specs.Prelude.{ℕ, zero, suc, List, [], ◌∷◌, ◌++◌, Option, Some, None}
+use Rattle.std.specs.Prelude.{ℕ, suc, List, [], ◌∷◌, ◌++◌, Option, Some, None}
 use Rattle.std.specs.Option.{option_or}
 use Rattle.std.specs.declared.cmp.Ordering.{Ordering}
 use Rattle.fr_shape.specs.declared.shape.Field.{Field}
@@ -7,7 +7,6 @@ use Rattle.fr_shape.specs.declared.error.ReflectErrorKind.{ReflectErrorKind}
 use Rattle.fr_shape.specs.Fills.{DeferredRule, filled, marked_without_default, missing, deferred_rule, preset_of}
 use Rattle.fr_shape.specs.Hooks.{Meanings}
 use Rattle.fr_shape.specs.Look.{Table, def_of, field_in}
-use Rattle.fr_shape.specs.Val.{Val}
 use Rattle.fr_path.specs.declared.path_steps.PathStep.{PathStep}
 use Rattle.fr_path.specs.Order.{walk_order}
 use Rattle.fr_model.specs.Complete.{complete, failing_child, hole_takes, lack_by, missing_child, missing_value, unless_there}
