@@ -121,6 +121,8 @@ module _ (ledger : List ℕ) where
     call_meets brought marks (Call.BeginNthField i) are = (refl, are)
     call_meets brought marks Call.SetDefault are = (refl, are)
     call_meets brought marks Call.End are = (refl, are)
+    call_meets brought marks Call.BeginDeferred are = (refl, are)
+    call_meets brought marks Call.FinishDeferred are = (refl, are)
 
     decided : (brought : List ℕ) (call : Call) (calls : List Call) (i : ℕ) (found : Option (List Bool)) → MeetsCall brought call found
         → ((after : List Bool) → AreMarks ledger (tokens_of call ++ brought) after

@@ -75,6 +75,8 @@ module _ (ledger : List ℕ) where
     none_among (Call.BeginNthField index ∷ calls) before i fitting may = none_among calls before (i + 1) fitting.1 (λ t. fewer before t (brought calls t) (0 + brought calls t) (omega arith) (may t))
     none_among (Call.SetDefault ∷ calls) before i fitting may = none_among calls before (i + 1) fitting.1 (λ t. fewer before t (brought calls t) (0 + brought calls t) (omega arith) (may t))
     none_among (Call.End ∷ calls) before i fitting may = none_among calls before (i + 1) fitting.1 (λ t. fewer before t (brought calls t) (0 + brought calls t) (omega arith) (may t))
+    none_among (Call.BeginDeferred ∷ calls) before i fitting may = none_among calls before (i + 1) fitting.1 (λ t. fewer before t (brought calls t) (0 + brought calls t) (omega arith) (may t))
+    none_among (Call.FinishDeferred ∷ calls) before i fitting may = none_among calls before (i + 1) fitting.1 (λ t. fewer before t (brought calls t) (0 + brought calls t) (omega arith) (may t))
 
     none_invalid : (script : List Call) → IsValid table script ledger → first_invalid table ledger [] 0 script ≡ None
     none_invalid script valid = none_among script [] 0 valid.fitting (λ t. record {

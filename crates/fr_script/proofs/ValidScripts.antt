@@ -112,6 +112,8 @@ module _ (ledger : List ℕ) where
     script_new (Call.BeginNthField index ∷ calls) before i t is = rw zero-add (script_new calls before (i + 1) t is)
     script_new (Call.SetDefault ∷ calls) before i t is = rw zero-add (script_new calls before (i + 1) t is)
     script_new (Call.End ∷ calls) before i t is = rw zero-add (script_new calls before (i + 1) t is)
+    script_new (Call.BeginDeferred ∷ calls) before i t is = rw zero-add (script_new calls before (i + 1) t is)
+    script_new (Call.FinishDeferred ∷ calls) before i t is = rw zero-add (script_new calls before (i + 1) t is)
 
     all_fit : (script : List Call) (before : List ℕ) (i : ℕ) → first_invalid table ledger before i script ≡ None → AllFitting table script
     all_fit [] before i is = tt
@@ -124,6 +126,8 @@ module _ (ledger : List ℕ) where
     all_fit (Call.BeginNthField index ∷ calls) before i is = (tt, all_fit calls before (i + 1) is)
     all_fit (Call.SetDefault ∷ calls) before i is = (tt, all_fit calls before (i + 1) is)
     all_fit (Call.End ∷ calls) before i is = (tt, all_fit calls before (i + 1) is)
+    all_fit (Call.BeginDeferred ∷ calls) before i is = (tt, all_fit calls before (i + 1) is)
+    all_fit (Call.FinishDeferred ∷ calls) before i is = (tt, all_fit calls before (i + 1) is)
 
     pub valid_where_none_invalid : (script : List Call) → first_invalid table ledger [] 0 script ≡ None → IsValid table script ledger
     valid_where_none_invalid script none = record {

@@ -13,7 +13,9 @@ use Rattle.fr_model.specs.Commands.{Call}
 unfoldable pub call_of_none : List ℕ → Option Call
 call_of_none word =
     if bytes_eq word (codes "set_default") then Some Call.SetDefault else
-    if bytes_eq word (codes "end") then Some Call.End else None
+    if bytes_eq word (codes "end") then Some Call.End else
+    if bytes_eq word (codes "begin_deferred") then Some Call.BeginDeferred else
+    if bytes_eq word (codes "finish_deferred") then Some Call.FinishDeferred else None
 
 -- a call with one argument
 unfoldable pub call_of_one : List ℕ → Data → Option Call

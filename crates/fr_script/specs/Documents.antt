@@ -117,13 +117,15 @@ part_count Def.Other = 0
 abbrev pub part_total : Table → ℕ
 part_total shapes = sum_by (λ shape. part_count shape.def) shapes
 
--- how many places a call enters: one where its name begins with `begin_`
+-- how many places a call enters: one where its name begins with `begin_`, but for `begin_deferred`, which enters none
 abbrev pub begins : Call → ℕ
 begins (Call.BeginField name) = 1
 begins (Call.BeginNthField i) = 1
 begins (Call.Set shape v) = 0
 begins Call.SetDefault = 0
 begins Call.End = 0
+begins Call.BeginDeferred = 0
+begins Call.FinishDeferred = 0
 
 -- how many places it leaves
 abbrev pub ends : Call → ℕ
@@ -132,6 +134,8 @@ ends (Call.BeginNthField i) = 0
 ends (Call.Set shape v) = 0
 ends Call.SetDefault = 0
 ends Call.End = 1
+ends Call.BeginDeferred = 0
+ends Call.FinishDeferred = 0
 
 -- after some call there were more begins than ends by over the limit
 abbrev pub too_deep : (begun ended : ℕ) → List Call → Bool
@@ -187,6 +191,8 @@ is_valid_call table ledger brought (Call.BeginField name) = true
 is_valid_call table ledger brought (Call.BeginNthField i) = true
 is_valid_call table ledger brought Call.SetDefault = true
 is_valid_call table ledger brought Call.End = true
+is_valid_call table ledger brought Call.BeginDeferred = true
+is_valid_call table ledger brought Call.FinishDeferred = true
 
 -- the first of these calls, counted from i, that isn't valid after what was brought before it
 abbrev pub first_invalid : Table → List ℕ → List ℕ → ℕ → List Call → Option ℕ

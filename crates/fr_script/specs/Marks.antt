@@ -29,6 +29,8 @@ marked_by table (Call.BeginField name) marks = Some marks
 marked_by table (Call.BeginNthField i) marks = Some marks
 marked_by table Call.SetDefault marks = Some marks
 marked_by table Call.End marks = Some marks
+marked_by table Call.BeginDeferred marks = Some marks
+marked_by table Call.FinishDeferred marks = Some marks
 
 -- the answer tells whether there are such marks, and then they were set
 abbrev pub Marks : Option (List Bool) → Bool → List Bool → Type 0

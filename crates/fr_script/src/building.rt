@@ -118,6 +118,8 @@ fn call<'t, H: Hooks>(
         Command::Set(shape, value) => partial.set_shape(Shaped::new(table, shape, value), ledger),
         Command::SetDefault => partial.set_default(ledger),
         Command::End => partial.end(ledger),
+        Command::BeginDeferred => partial.begin_deferred(ledger),
+        Command::FinishDeferred => partial.finish_deferred(ledger),
     }
 }
 
@@ -137,7 +139,7 @@ fn release_command(command: Command, ledger: &mut Ledger)
 {
     match command {
         Command::Set(_, value) => release(value, ledger),
-        Command::BeginField(_) | Command::BeginNthField(_) | Command::SetDefault | Command::End =>
-            {}
+        Command::BeginField(_) | Command::BeginNthField(_) | Command::SetDefault => {}
+        Command::End | Command::BeginDeferred | Command::FinishDeferred => {}
     }
 }

@@ -70,6 +70,8 @@ fn find_bare(word: &str) -> Option<Command>
     match word {
         "set_default" => Some(Command::SetDefault),
         "end" => Some(Command::End),
+        "begin_deferred" => Some(Command::BeginDeferred),
+        "finish_deferred" => Some(Command::FinishDeferred),
         _ => None,
     }
 }

@@ -19,8 +19,8 @@ pub fn mark_command(table: &ShapeTable, command: &Command, marks: &mut [bool]) -
                 && fits(table, *shape, value)
                 && mark_value(value, marks)
         }
-        Command::BeginField(_) | Command::BeginNthField(_) | Command::SetDefault | Command::End =>
-            true,
+        Command::BeginField(_) | Command::BeginNthField(_) | Command::SetDefault => true,
+        Command::End | Command::BeginDeferred | Command::FinishDeferred => true,
     }
 }
 

@@ -111,7 +111,10 @@ fn is_too_deep(script: &[Command]) -> bool
         match command {
             Command::BeginField(_) | Command::BeginNthField(_) => begun += 1,
             Command::End => ended += 1,
-            Command::Set(_, _) | Command::SetDefault => {}
+            Command::Set(_, _)
+            | Command::SetDefault
+            | Command::BeginDeferred
+            | Command::FinishDeferred => {}
         }
         if begun.saturating_sub(DEPTH_LIMIT) > ended {
             return true;
