@@ -15,7 +15,7 @@ use Rattle.fr_shape.specs.Look.{Table, def_of, field_in}
 use Rattle.fr_shape.specs.Served.{IsServed, serves, serves_def, serves_field}
 use Rattle.fr_shape.specs.Val.{Val, Vals, product, no_vals}
 use Rattle.fr_model.specs.Complete.{missing_field, missing_value, unless_there, failing_field, failing_child, unless_failing, first_failing, valid_child, complete, complete_all, lack_among, lack_of_holes, lack_by, made_by}
-use Rattle.fr_model.specs.Places.{child_count, one_more, product_of, each_child, fill_at}
+use Rattle.fr_model.specs.Places.{strict_column, child_count, one_more, product_of, each_child, fill_at}
 use Rattle.fr_model.specs.Step.{or_missing, cause, build, built}
 use Rattle.fr_model.specs.Tree.{as_struct, Tree, entered, whole, branch}
 use Rattle.fr_example.specs.declared.record.Pair.{Pair}
@@ -104,50 +104,50 @@ one_child None failing missing values lacking rest none told = (rw none refl, re
 -- the fields of a struct of which nothing was put
 fills_tell : (table : Table) (root : ℕ) (struct : StructDef) (count i : ℕ) → IsServed table
     → def_of table root ≡ Def.Struct struct
-    → Tells (each_child (λ k. valid_child no_hooks table root as_struct k (fill_at table root k)) count i)
+    → Tells (each_child (λ k. valid_child no_hooks table root as_struct k (fill_at strict_column table root k)) count i)
     (lack_of_holes no_hooks table root as_struct count i) (fields_from root (value_of_field table root []) count i)
 fills_tell table root struct zero i served is = refl
 fills_tell table root struct (suc count) i served is =
-    one_child (fill_at table root i) (failing_child no_hooks table root as_struct i (fill_at table root i))
+    one_child (fill_at strict_column table root i) (failing_child no_hooks table root as_struct i (fill_at strict_column table root i))
     (missing_field root i)
-    (each_child (λ k. valid_child no_hooks table root as_struct k (fill_at table root k)) count (suc i))
+    (each_child (λ k. valid_child no_hooks table root as_struct k (fill_at strict_column table root k)) count (suc i))
     (lack_of_holes no_hooks table root as_struct count (suc i))
     (fields_from root (value_of_field table root []) count (suc i))
-    (none_fails table root struct i (fill_at table root i) served is)
+    (none_fails table root struct i (fill_at strict_column table root i) served is)
     (fills_tell table root struct count (suc i) served is)
 
 -- the fields of a struct of which some were put
 slots_tell : (table : Table) (root : ℕ) (struct : StructDef) (given_to : ℕ → Option Val) (count i : ℕ) → IsServed table
     → def_of table root ≡ Def.Struct struct
-    → Tells (complete_all no_hooks table root as_struct i (slots given_to count i))
+    → Tells (complete_all strict_column no_hooks table root as_struct i (slots given_to count i))
     (lack_among no_hooks table root as_struct i (slots given_to count i))
-    (fields_from root (λ k. option_or (given_to k) (fill_at table root k)) count i)
+    (fields_from root (λ k. option_or (given_to k) (fill_at strict_column table root k)) count i)
 slots_tell table root struct given_to zero i served is = refl
 slots_tell table root struct given_to (suc count) i served is =
     go (given_to i) (slots_tell table root struct given_to count (suc i) served is)
   where
     go : (value : Option Val)
-        → Tells (complete_all no_hooks table root as_struct (suc i) (slots given_to count (suc i)))
+        → Tells (complete_all strict_column no_hooks table root as_struct (suc i) (slots given_to count (suc i)))
         (lack_among no_hooks table root as_struct (suc i) (slots given_to count (suc i)))
-        (fields_from root (λ k. option_or (given_to k) (fill_at table root k)) count (suc i))
+        (fields_from root (λ k. option_or (given_to k) (fill_at strict_column table root k)) count (suc i))
         → Tells
-        (complete_all no_hooks table root as_struct i (branch (slot_of value) (slots given_to count (suc i))))
+        (complete_all strict_column no_hooks table root as_struct i (branch (slot_of value) (slots given_to count (suc i))))
         (lack_among no_hooks table root as_struct i (branch (slot_of value) (slots given_to count (suc i))))
-        (one_more_field (missing_field root i) (option_or value (fill_at table root i))
-        (fields_from root (λ k. option_or (given_to k) (fill_at table root k)) count (suc i)))
+        (one_more_field (missing_field root i) (option_or value (fill_at strict_column table root i))
+        (fields_from root (λ k. option_or (given_to k) (fill_at strict_column table root k)) count (suc i)))
     go (Some v) rest =
         one_child (Some v) (failing_child no_hooks table root as_struct i (Some v)) (missing_field root i)
-        (complete_all no_hooks table root as_struct (suc i) (slots given_to count (suc i)))
+        (complete_all strict_column no_hooks table root as_struct (suc i) (slots given_to count (suc i)))
         (lack_among no_hooks table root as_struct (suc i) (slots given_to count (suc i)))
-        (fields_from root (λ k. option_or (given_to k) (fill_at table root k)) count (suc i))
+        (fields_from root (λ k. option_or (given_to k) (fill_at strict_column table root k)) count (suc i))
         (none_fails table root struct i (Some v) served is) rest
     go None rest =
-        one_child (fill_at table root i) (failing_child no_hooks table root as_struct i (fill_at table root i))
+        one_child (fill_at strict_column table root i) (failing_child no_hooks table root as_struct i (fill_at strict_column table root i))
         (missing_field root i)
-        (complete_all no_hooks table root as_struct (suc i) (slots given_to count (suc i)))
+        (complete_all strict_column no_hooks table root as_struct (suc i) (slots given_to count (suc i)))
         (lack_among no_hooks table root as_struct (suc i) (slots given_to count (suc i)))
-        (fields_from root (λ k. option_or (given_to k) (fill_at table root k)) count (suc i))
-        (none_fails table root struct i (fill_at table root i) served is) rest
+        (fields_from root (λ k. option_or (given_to k) (fill_at strict_column table root k)) count (suc i))
+        (none_fails table root struct i (fill_at strict_column table root i) served is) rest
 
 -- The whole
 
@@ -182,21 +182,21 @@ makes table root struct [] calls served is = go (is_empty_struct (def_of table r
   where
     go : (b : Bool)
         → built no_hooks table root (if b then whole (product no_vals) else entered)
-        (complete no_hooks table root (if b then whole (product no_vals) else entered))
+        (complete strict_column no_hooks table root (if b then whole (product no_vals) else entered))
         ≡ (if b then Ok (product no_vals) else preset_or (preset_of table root) (of_fields table root []))
     go true = refl
     go false =
-        built_is table root entered (complete no_hooks table root entered)
+        built_is table root entered (complete strict_column no_hooks table root entered)
         ∙ entered_told root struct (def_of table root) (preset_of table root)
-        (each_child (λ k. valid_child no_hooks table root as_struct k (fill_at table root k)) (child_count table root) 0)
+        (each_child (λ k. valid_child no_hooks table root as_struct k (fill_at strict_column table root k)) (child_count table root) 0)
         (lack_of_holes no_hooks table root as_struct (child_count table root) 0)
         (fields_from root (value_of_field table root []) (child_count table root) 0) is
         (fills_tell table root struct (child_count table root) 0 served is)
 makes table root struct (pair ∷ pairs) calls served is =
     built_is table root (tree_of table root (pair ∷ pairs))
-    (complete no_hooks table root (tree_of table root (pair ∷ pairs)))
+    (complete strict_column no_hooks table root (tree_of table root (pair ∷ pairs)))
     ∙ product_told root
-    (complete_all no_hooks table root as_struct 0
+    (complete_all strict_column no_hooks table root as_struct 0
     (slots (last_given (def_of table root) (pair ∷ pairs)) (child_count table root) 0))
     (lack_among no_hooks table root as_struct 0
     (slots (last_given (def_of table root) (pair ∷ pairs)) (child_count table root) 0))

@@ -123,7 +123,7 @@ ends table root i pairs pair calls e below =
     (λ (t : Tree).
     ended no_hooks table (child_shape table root i)
     (puts (at_field i (with_entered table root pairs i) calls) (text pair.text))
-    (complete no_hooks table (child_shape table root i) t))
+    (complete strict_column no_hooks table (child_shape table root i) t))
     (put_there i (text pair.text) (last_given (def_of table root) pairs) (child_count table root) 0
     (enter (def_of table (child_shape table root i))) below)
     ∙ ap

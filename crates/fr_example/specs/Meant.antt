@@ -10,7 +10,7 @@ use Rattle.fr_shape.specs.Look.{Table, def_of}
 use Rattle.fr_shape.specs.Named.{field_named}
 use Rattle.fr_shape.specs.Val.{Val, Vals, text, product, no_vals, first}
 use Rattle.fr_model.specs.Complete.{missing_field}
-use Rattle.fr_model.specs.Places.{child_count, child_shape, fill_at}
+use Rattle.fr_model.specs.Places.{strict_column, child_count, child_shape, fill_at}
 use Rattle.fr_model.specs.Run.{alloc_refusal}
 use Rattle.fr_partial.specs.declared.reflect_error.ReflectError.{ReflectError}
 use Rattle.fr_partial.specs.BuiltValue.{BuiltValue}
@@ -71,7 +71,7 @@ last_given def (pair ∷ pairs) i = option_or (last_given def pairs i) (given de
 
 -- the value of field i: the last text given to it, else its fill
 abbrev pub value_of_field : Table → (root : ℕ) → List Pair → ℕ → Option Val
-value_of_field table root pairs i = option_or (last_given (def_of table root) pairs i) (fill_at table root i)
+value_of_field table root pairs i = option_or (last_given (def_of table root) pairs i) (fill_at strict_column table root i)
 
 abbrev pub one_more_field : (missing : ReflectErrorKind) → Option Val → Result Vals ReflectErrorKind → Result Vals ReflectErrorKind
 one_more_field missing (Some v) (Ok vs) = Ok (first v vs)

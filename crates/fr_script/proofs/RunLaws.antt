@@ -1,5 +1,5 @@
 -- A command that is admitted: the run goes on behind it, with one call more.
-use Rattle.std.proofs.Common.{◌≡◌, ℕ, ◌+◌, Bool, true, false, cond, List, ◌∷◌, Option, Some, None, Result, Ok, Err, refl, sym, ap, ◌∙◌, subst}
+use Rattle.std.proofs.Common.{◌≡◌, ℕ, ◌+◌, Bool, true, false, if◌then◌else◌, List, length, nat_lt, ◌∷◌, Option, Some, None, Result, Ok, Err, refl, sym, ap, ◌∙◌, subst}
 use Rattle.fr_shape.specs.declared.error.Invariant.{Invariant}
 use Rattle.fr_shape.specs.declared.error.ReflectErrorKind.{ReflectErrorKind}
 use Rattle.fr_shape.specs.Fills.{preset_of}
@@ -9,10 +9,11 @@ use Rattle.fr_shape.specs.Named.{field_named}
 use Rattle.fr_shape.specs.Val.{Val}
 use Rattle.fr_model.specs.Commands.{Call}
 use Rattle.fr_model.specs.Complete.{complete}
-use Rattle.fr_model.specs.Places.{is_root}
+use Rattle.fr_model.specs.Finish.{finished}
+use Rattle.fr_model.specs.Places.{strict_column, is_root}
 use Rattle.fr_model.specs.Run.{run_from, and_then}
-use Rattle.fr_model.specs.Step.{unless_refused, at_shape, field_refusal, named_refusal, set_refusal, enters, begins_named, puts, puts_default, ended, violates, step_at, step}
-use Rattle.fr_model.specs.Tree.{State, cursor_shape, cursor_tree, one_more_call}
+use Rattle.fr_model.specs.Step.{unless_refused, at_shape, field_refusal, named_refusal, set_refusal, enters, begins_named, puts, puts_default, ended, leaves, end_in, begins_deferred, finishes, finish_in, violates, step_at, step}
+use Rattle.fr_model.specs.Tree.{Tree, Mode, strict, deferred, State, cursor_shape, cursor_tree, one_more_call}
 
 -- the same command over the same hooks, table and root
 pub same_step : (hooks hooks' : Meanings) (table table' : Table) (root root' : ℕ) (state : State) (call : Call)
@@ -40,7 +41,7 @@ Counts : ℕ → Result State ReflectErrorKind → Type 0
 Counts n (Ok next) = next.calls ≡ n
 Counts n (Err kind) = Unit {0}
 
-module _ (hooks : Meanings) (table : Table) (s : ℕ) (state : State) where
+module _ (hooks : Meanings) (table : Table) (root s : ℕ) (state : State) where
   unless_counts : (refusal : Option ReflectErrorKind) (next : State) → next.calls ≡ one_more_call state.calls
       → Counts (one_more_call state.calls) (unless_refused refusal next)
   unfolding Counts
@@ -59,25 +60,56 @@ module _ (hooks : Meanings) (table : Table) (s : ℕ) (state : State) where
   default_counts (Some v) = refl
   default_counts None = tt
 
-  end_counts : (at_root : Bool) (value : Option Val)
-      → Counts (one_more_call state.calls)
-      (cond at_root (Err (violates Invariant.EndAtRoot)) (ended hooks table s state value))
+  ended_counts : (value : Option Val) → Counts (one_more_call state.calls) (ended hooks table s state value)
   unfolding Counts
-  end_counts true value = tt
-  end_counts false (Some v) = refl
-  end_counts false None = tt
+  ended_counts (Some v) = refl
+  ended_counts None = tt
 
-  step_counts : (call : Call) → Counts (one_more_call state.calls) (step_at hooks table s state call)
+  left_counts : (deeper : Bool)
+      → Counts (one_more_call state.calls) (if deeper then Ok (leaves state) else Err (violates Invariant.EndAtStart))
+  unfolding Counts
+  left_counts true = refl
+  left_counts false = tt
+
+  end_in_counts : (mode : Mode) → Counts (one_more_call state.calls) (end_in hooks table s state mode)
+  end_in_counts strict = ended_counts (complete strict_column hooks table s (cursor_tree state))
+  end_in_counts (deferred start) = left_counts (nat_lt start (length state.cursor))
+
+  end_counts : (at_root : Bool)
+      → Counts (one_more_call state.calls)
+      (if at_root then Err (violates Invariant.EndAtRoot) else end_in hooks table s state state.mode)
+  unfolding Counts
+  end_counts true = tt
+  end_counts false = end_in_counts state.mode
+
+  defers_counts : (mode : Mode) → Counts (one_more_call state.calls) (begins_deferred state mode)
+  unfolding Counts
+  defers_counts strict = refl
+  defers_counts (deferred start) = tt
+
+  finishes_counts : (tree : Option Tree) → Counts (one_more_call state.calls) (finishes hooks table root state tree)
+  unfolding Counts
+  finishes_counts (Some tree) = refl
+  finishes_counts None = tt
+
+  finish_counts : (mode : Mode) → Counts (one_more_call state.calls) (finish_in hooks table root state mode)
+  unfolding Counts
+  finish_counts strict = tt
+  finish_counts (deferred start) = finishes_counts (finished hooks table root state.cursor state.tree)
+
+  step_counts : (call : Call) → Counts (one_more_call state.calls) (step_at hooks table root s state call)
   step_counts (Call.BeginField name) =
       named_counts (at_shape s (named_refusal (def_of table s))) (field_named name (def_of table s))
   step_counts (Call.BeginNthField i) =
       unless_counts (at_shape s (field_refusal (def_of table s) (cursor_tree state) i)) (enters table s state i) refl
   step_counts (Call.Set given v) = unless_counts (set_refusal s given) (puts state v) refl
   step_counts Call.SetDefault = default_counts (preset_of table s)
-  step_counts Call.End = end_counts (is_root state.cursor) (complete hooks table s (cursor_tree state))
+  step_counts Call.End = end_counts (is_root state.cursor)
+  step_counts Call.BeginDeferred = defers_counts state.mode
+  step_counts Call.FinishDeferred = finish_counts state.mode
 
 pub one_call_more : (hooks : Meanings) (table : Table) (root : ℕ) (state next : State) (call : Call)
     → step hooks table root state call ≡ Ok next → next.calls ≡ one_more_call state.calls
 unfolding Counts
 one_call_more hooks table root state next call is =
-    subst (Counts (one_more_call state.calls)) is (step_counts hooks table (cursor_shape table root state) state call)
+    subst (Counts (one_more_call state.calls)) is (step_counts hooks table root (cursor_shape table root state) state call)
