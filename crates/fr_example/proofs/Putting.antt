@@ -13,9 +13,9 @@ use Rattle.fr_shape.specs.Named.{field_named}
 use Rattle.fr_shape.specs.Val.{Val, text, product, no_vals}
 use Rattle.fr_model.specs.Commands.{Call}
 use Rattle.fr_model.specs.Complete.{complete}
-use Rattle.fr_model.specs.Places.{child_count, child_shape}
+use Rattle.fr_model.specs.Places.{strict_column, child_count, child_shape}
 use Rattle.fr_model.specs.Step.{unless_refused, opened_as, opened, enter, enters_named, puts, ended, step}
-use Rattle.fr_model.specs.Tree.{as_struct, Tree, entered, whole, begun, Trees, change_nth, change_child, fresh, State, one_more_call}
+use Rattle.fr_model.specs.Tree.{as_struct, Tree, entered, whole, begun, Trees, change_nth, change_child, fresh, strict, State, one_more_call}
 use Rattle.fr_example.specs.declared.record.Pair.{Pair}
 use Rattle.fr_example.specs.Meant.{refusal_at, refusal_of, is_found, given, last_given}
 use Rattle.fr_example.specs.Putting.{then_call, puts_pair}
@@ -29,11 +29,11 @@ tree_of table root (pair ∷ pairs) =
     begun as_struct (slots (last_given (def_of table root) (pair ∷ pairs)) (child_count table root) 0)
 
 abbrev pub filling : Table → ℕ → List Pair → ℕ → State
-filling table root pairs calls = record { tree = tree_of table root pairs; cursor = []; calls = calls }
+filling table root pairs calls = record { tree = tree_of table root pairs; cursor = []; mode = strict; calls = calls }
 
 -- the builder at field i of a struct with these children
 abbrev at_field : ℕ → Trees → ℕ → State
-at_field i ts calls = record { tree = begun as_struct ts; cursor = i ∷ []; calls = calls }
+at_field i ts calls = record { tree = begun as_struct ts; cursor = i ∷ []; mode = strict; calls = calls }
 
 opened_fresh : (fields : List Field) (i count : ℕ) → i < length fields
     → opened_as as_struct count (if is_nil fields then whole (product no_vals) else entered)
@@ -110,6 +110,7 @@ entered_field table root struct i pairs calls is below =
     Ok (record {
       tree = change_child i (enter (def_of table (child_shape table root i))) t;
       cursor = i ∷ [];
+      mode = strict;
       calls = one_more_call calls;
     }))
     (opened_tree table root struct i pairs is below)
@@ -128,13 +129,13 @@ ends table root i pairs pair calls e below =
     (enter (def_of table (child_shape table root i))) below)
     ∙ ap
     (λ (ts : Trees).
-    Ok (record { tree = begun as_struct ts; cursor = []; calls = one_more_call (one_more_call calls) }))
+    Ok (record { tree = begun as_struct ts; cursor = []; mode = strict; calls = one_more_call (one_more_call calls) }))
     (put_again i (text pair.text) (λ old. whole (text pair.text)) (with_entered table root pairs i)
     ∙ put_again i (text pair.text) (enter (def_of table (child_shape table root i)))
     (slots (last_given (def_of table root) pairs) (child_count table root) 0)
     ∙ put_given (def_of table root) pairs pair i (child_count table root) e)
     ∙ ap
-    (λ (t : Tree). Ok (record { tree = t; cursor = []; calls = one_more_call (one_more_call calls) }))
+    (λ (t : Tree). Ok (record { tree = t; cursor = []; mode = strict; calls = one_more_call (one_more_call calls) }))
     (tree_more table root pairs pair)
 
 -- what stands at the root after the field was entered, or not
