@@ -4,6 +4,8 @@
 mod answering;
 mod building;
 mod command_form;
+#[cfg(test)]
+mod deferred_tests;
 mod document;
 mod document_laws;
 #[cfg(test)]

@@ -4,12 +4,13 @@ use std::process::Abort;
 use std::test::Fail;
 
 /// The shapes 0 u32, 1 String, 2 opaque, 3 an enum, 4 undefined, 5 a pointer, 6 an array of three, 7 an option, 8 a struct of
-/// an array and a u32, 9 a shape that can't be planned, 10 one without a size, 11 an array that can't be entered.
+/// an array and a u32, 9 a shape that can't be planned, 10 one without a size, 11 an array that can't be
+/// entered, 12 a struct whose field is marked to take a default that there isn't.
 const SHAPES: &str =
-    r#"{"shapes":[{"name":"u32","def":"u32"},{"name":"String","def":"String"},{"name":"Res","def":"opaque"},{"name":"Choice","def":{"enum":{"repr":"U8","variants":[{"name":"A","fields":[],"discriminant":0}]}}},{"name":"Nothing","def":"undefined"},{"name":"Link","def":{"pointer":{"known":"Box","pointee":0}}},{"name":"Three","def":{"array":[0,3]}},{"name":"Maybe","def":{"option":0}},{"name":"Pair","def":{"struct":[{"name":"first","shape":6},{"name":"second","shape":0}]}},{"name":"Odd","def":"other"},{"name":"str","def":"str"},{"name":"Many","def":{"array":[0,4097]}}],"#;
+    r#"{"shapes":[{"name":"u32","def":"u32"},{"name":"String","def":"String"},{"name":"Res","def":"opaque"},{"name":"Choice","def":{"enum":{"repr":"U8","variants":[{"name":"A","fields":[],"discriminant":0}]}}},{"name":"Nothing","def":"undefined"},{"name":"Link","def":{"pointer":{"known":"Box","pointee":0}}},{"name":"Three","def":{"array":[0,3]}},{"name":"Maybe","def":{"option":0}},{"name":"Pair","def":{"struct":[{"name":"first","shape":6},{"name":"second","shape":0}]}},{"name":"Odd","def":"other"},{"name":"str","def":"str"},{"name":"Many","def":{"array":[0,4097]}},{"name":"Marked","def":{"struct":[{"name":"a","shape":0,"default":"trait"}]}}],"#;
 
 /// The root, the commands, and of the error the command, the kind, the detail and the path.
-const TEXTS: [(u32, &str, u32, &str, &str, &str); 25] = [
+const TEXTS: [(u32, &str, u32, &str, &str, &str); 30] = [
     (
         8,
         r#"["begin_nth_field",2]"#,
@@ -169,6 +170,46 @@ const TEXTS: [(u32, &str, u32, &str, &str, &str); 25] = [
         "InvariantViolation",
         "build() called but more than one frame is on the stack",
         "second",
+    ),
+    (
+        8,
+        r#"["begin_deferred"],["begin_deferred"]"#,
+        1,
+        "InvariantViolation",
+        "begin_deferred() called but already in deferred mode",
+        "",
+    ),
+    (
+        8,
+        r#"["begin_nth_field",1],["finish_deferred"]"#,
+        1,
+        "InvariantViolation",
+        "finish_deferred() called but deferred mode is not enabled",
+        "second",
+    ),
+    (
+        8,
+        r#"["begin_nth_field",1],["begin_deferred"],["end"]"#,
+        2,
+        "InvariantViolation",
+        "Partial::end() called but would pop below deferred start depth",
+        "second",
+    ),
+    (
+        8,
+        r#"["begin_nth_field",1],["begin_deferred"]"#,
+        2,
+        "InvariantViolation",
+        "build() called but deferred mode is enabled",
+        "second",
+    ),
+    (
+        12,
+        r#"["begin_deferred"],["finish_deferred"]"#,
+        1,
+        "DefaultAttrButNoDefaultImpl",
+        "u32",
+        "",
     ),
     (
         9,
