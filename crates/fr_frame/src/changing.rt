@@ -8,8 +8,8 @@ ghost use Rattle.fr_frame.specs.Cells.{absent, given};
 ghost use Rattle.fr_frame.specs.Changes.{IfInUse, IsInUse, SameTokens, Shows};
 ghost use Rattle.fr_frame.specs.Heap.{as_form, heap_of, slots_occur, with_body};
 
-use crate::pieces::{opened, put_child, release_piece};
-use crate::places::{Form, Piece, Place, SlotId};
+use crate::pieces::{open, put_child, release_piece};
+use crate::places::{Form, Piece, SlotId};
 use crate::slots::Slots;
 use fr_path::PathStep;
 use fr_shape::{Ledger, OutOfMemory, Value};
@@ -28,22 +28,9 @@ impl SlotId {
             slots_occur slots.old t + occurs (view value) t
             ≡ slots_occur slots.new t + body_occurs at.body t) }
     {
-        let Place {
-            node,
-            owner,
-            stored,
-            depth,
-            piece,
-        } = slots.lift_out(self);
-        release_piece(piece, ledger);
-        let place = Place {
-            node,
-            owner,
-            stored,
-            depth,
-            piece: Piece::Whole(value),
-        };
-        slots.lower(self, place);
+        let place = slots.place_mut(self);
+        let before = std::mem::replace(&mut place.piece, Piece::Whole(value));
+        release_piece(before, ledger);
     }
 
     /// Begins the place, so that its children can be entered: an entered one has none of so many children yet, of a whole
@@ -57,26 +44,8 @@ impl SlotId {
         ensures tokens { SameTokens slots.old slots.new }
     {
         let alloc = slots.alloc();
-        let Place {
-            node,
-            owner,
-            stored,
-            depth,
-            piece,
-        } = slots.lift_out(self);
-        let (piece, result) = match opened(alloc, piece, form, count) {
-            Ok(begun) => (begun, Ok(())),
-            Err(back) => (back, Err(OutOfMemory)),
-        };
-        let place = Place {
-            node,
-            owner,
-            stored,
-            depth,
-            piece,
-        };
-        slots.lower(self, place);
-        result
+        let place = slots.place_mut(self);
+        open(alloc, &mut place.piece, form, count)
     }
 
     /// Puts a value at the child to which this step leads, which isn't there yet and is in no slot. Takes no memory.
@@ -89,8 +58,7 @@ impl SlotId {
         ensures tokens { (t : ℕ) → slots_occur slots.new t
             ≡ slots_occur slots.old t + occurs (view value) t }
     {
-        let mut place = slots.lift_out(self);
+        let place = slots.place_mut(self);
         put_child(&mut place.piece, step, value);
-        slots.lower(self, place);
     }
 }

@@ -78,9 +78,7 @@ impl SlotId {
         ensures tokens { SameTokens slots.old slots.new }
     {
         let alloc = slots.alloc();
-        let mut place = slots.lift_out(self);
-        let result = fill_piece(alloc, table, plan, hooks, place.node, &mut place.piece);
-        slots.lower(self, place);
-        result
+        let place = slots.place_mut(self);
+        fill_piece(alloc, table, plan, hooks, place.node, &mut place.piece)
     }
 }

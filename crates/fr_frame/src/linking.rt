@@ -52,10 +52,8 @@ impl Slots {
             ≡ slots_occur self.new t + value_occurs (option_map view result) t }
         ensures length { length self.new ≡ length self.old }
     {
-        let mut place = self.lift_out(parent);
-        let held = link(&mut place.piece, step, id);
-        self.lower(parent, place);
-        held
+        let place = self.place_mut(parent);
+        link(&mut place.piece, step, id)
     }
 
     /// Lets the owner of a place have it in this slot, and hands out the value that it had there, if it had one.
@@ -80,9 +78,8 @@ impl Slots {
             (with_body (heap_of self.old) parent.0 (unlinked id.0 step.now)) }
         ensures tokens { SameTokens self.old self.new }
     {
-        let mut place = self.lift_out(parent);
+        let place = self.place_mut(parent);
         unlink(&mut place.piece, step, id);
-        self.lower(parent, place);
     }
 
     /// Lets the owner of a place not have it in this slot any more.

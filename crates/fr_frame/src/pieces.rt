@@ -1,5 +1,5 @@
 //! What is put at one place, by itself.
-ghost use Rattle.std.specs.Prelude.{◌≡◌, ℕ, ◌+◌, ◌<◌, length, slice_get, Some, IfOk, IfErr, IfSome, IsSome};
+ghost use Rattle.std.specs.Prelude.{◌≡◌, ℕ, ◌+◌, ◌<◌, length, slice_get, Some, IfOk, IfErr, IfSome, IsSome, OnErr, OnOk};
 ghost use Rattle.std.specs.Option.{option_map, option_and_then};
 ghost use Rattle.fr_shape.specs.Fills.{is_empty_struct};
 ghost use Rattle.fr_shape.specs.Look.{def_of};
@@ -15,7 +15,7 @@ ghost use Rattle.fr_frame.specs.Heap.{as_form, body_of};
 use crate::children::Children;
 use crate::places::{Form, Piece, SlotId};
 use fr_path::PathStep;
-use fr_shape::{Items, Ledger, ShapeId, ShapeTable, Value, release};
+use fr_shape::{Items, Ledger, OutOfMemory, ShapeId, ShapeTable, Value, release};
 use std::alloc::Global;
 
 /// The number of the child to which a step leads, if it leads to one.
@@ -128,6 +128,35 @@ pub(crate) fn opened(alloc: Global, piece: Piece, form: Form, count: usize) -> R
             Err(values) => Err(Piece::Whole(product_of(values))),
         },
         Piece::Begun(as_before, children) => Ok(Piece::Begun(as_before, children)),
+    }
+}
+
+/// Begins the place in its stead, with so many children. It stays as it was where there is no memory for them.
+pub(crate) fn open(
+    alloc: Global,
+    piece: &mut Piece,
+    form: Form,
+    count: usize,
+) -> Result<(), OutOfMemory>
+    requires { MayOpen (body_of piece.old) }
+    ensures opened { OnOk result (body_of piece.new
+        ≡ opened (as_form form) count (body_of piece.old)) }
+    ensures refused { OnErr result (body_of piece.new ≡ body_of piece.old) }
+    ensures tokens { (t : ℕ) → body_occurs (body_of piece.new) t ≡ body_occurs (body_of piece.old) t }
+{
+    if let Piece::Begun(..) = piece {
+        return Ok(());
+    }
+    let before = std::mem::replace(piece, Piece::Entered);
+    match opened(alloc, before, form, count) {
+        Ok(begun) => {
+            *piece = begun;
+            Ok(())
+        }
+        Err(back) => {
+            *piece = back;
+            Err(OutOfMemory)
+        }
     }
 }
 

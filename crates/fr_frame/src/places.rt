@@ -1,5 +1,6 @@
 //! The places in slots.
-ghost use Rattle.std.specs.Prelude.{◌≡◌};
+ghost use Rattle.std.specs.Borrow.{Lends, sem};
+ghost use Rattle.std.specs.Prelude.{◌≡◌, IsSome};
 
 use crate::children::Children;
 use fr_arena::Idx;
@@ -64,4 +65,24 @@ pub struct Place {
 pub enum Slot {
     Free(Option<SlotId>),
     Used(Place),
+}
+
+impl Slot {
+    ghost use Rattle.fr_frame.specs.contracts.places.Slot.{the_row};
+    ghost use Rattle.fr_frame.specs.contracts.places.Place as place;
+    ghost use Rattle.fr_frame.specs.declared.places.Slot.{Slot as Entry};
+    ghost use Rattle.fr_frame.specs.Heap.{node_in};
+
+    /// The place in a slot that is in use, for writing.
+    pub(crate) fn place_mut(&mut self) -> &mut Place
+        requires { IsSome (node_in self.old) }
+        ensures* writes_back { sem 𝓛 (Lends the_row place.the_row self.entry result
+            (λ new. Entry.Used new)) }
+        ensures value { self.old ≡ Entry.Used result.now }
+    {
+        match self {
+            Slot::Used(place) => place,
+            Slot::Free(_) => unreachable!(),
+        }
+    }
 }

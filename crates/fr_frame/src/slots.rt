@@ -1,5 +1,6 @@
 //! All slots of a builder.
 ghost use Rattle.std.specs.Prelude.{◌≡◌, ℕ, ◌+◌, ◌<◌, length, slice_get, slice_set, Some, None, IfOk, IfSome, OnErr};
+ghost use Rattle.std.specs.Borrow.{Lends, sem};
 ghost use Rattle.std.specs.Option.{option_map, option_copied};
 ghost use Rattle.fr_frame.specs.Bodies.{body_occurs};
 ghost use Rattle.fr_frame.specs.Changes.{IsInUse, SameTokens, Shows};
@@ -36,6 +37,9 @@ impl Model for Slots {
 }
 
 impl Slots {
+    ghost use Rattle.fr_frame.specs.contracts.slots.Slots.{the_row};
+    ghost use Rattle.fr_frame.specs.contracts.places.Place as place;
+
     /// No slots.
     pub fn new(alloc: Global) -> Slots
         ensures free { (n : ℕ) → heap_of result n ≡ None }
@@ -100,6 +104,17 @@ impl Slots {
         ensures length { length self.new ≡ length self.old }
     {
         self.swap(id, Slot::Used(place));
+    }
+
+    /// The place in a slot that is in use, for writing.
+    pub(crate) fn place_mut(&mut self, id: SlotId) -> &mut Place
+        requires { IsInUse self.old id.0 }
+        ensures* writes_back { sem 𝓛 (Lends the_row place.the_row self.entry result
+            (λ new. slice_set self.entry.now id.0 (Entry.Used new))) }
+        ensures value { slice_get self.old id.0 ≡ Some (Entry.Used result.now) }
+    {
+        let slot = self.entries.get_mut(id.idx());
+        slot.place_mut()
     }
 
     /// Takes the place out of a slot for a while.

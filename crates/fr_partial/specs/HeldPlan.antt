@@ -4,4 +4,4 @@ use Rattle.fr_partial.specs.declared.held_plan.HeldPlan.{HeldPlan}
 
 abbrev pub plan_in : HeldPlan → Plan
 plan_in (HeldPlan.Lent plan) = plan.now
-plan_in (HeldPlan.Own plan) = plan
+plan_in (HeldPlan.Own plan) = plan.value

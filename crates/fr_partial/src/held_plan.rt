@@ -8,7 +8,7 @@ use fr_plan::TypePlanCore;
 #[derive(Drop)]
 pub enum HeldPlan<'t> {
     Lent(&'t TypePlanCore),
-    Own(TypePlanCore),
+    Own(Box<TypePlanCore>),
 }
 
 impl<'t> HeldPlan<'t> {

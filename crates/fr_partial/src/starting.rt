@@ -82,7 +82,10 @@ impl<'t, H: Hooks> Partial<'t, H> {
     {
         law_first_refusal();
         match TypePlanCore::from_shape(alloc, table, id) {
-            Ok(plan) => Partial::start(alloc, table, HeldPlan::Own(plan), id, hooks),
+            Ok(plan) => match Box::new(alloc, plan) {
+                Ok(own) => Partial::start(alloc, table, HeldPlan::Own(own), id, hooks),
+                Err(_) => Err(PlanError::OutOfMemory),
+            },
             Err(refused) => Err(refused),
         }
     }

@@ -1,0 +1,17 @@
+use Rattle.std.proofs.Common.{arith}
+use Rattle.fr_frame.specs.Bodies.{linked}
+use Rattle.fr_frame.proofs.PlaceLaws.{shows, occur_change}
+use Rattle.fr_frame.proofs.slots.Slots.link_child.Goals as goal
+
+pub returns-clause-rest : goal.returns-clause-rest
+returns-clause-rest c =
+    shows c.args.self.now c.args.parent.0 c.place_mut-place.result.now c.place_mut-place.ensures.value c.link.new.piece
+    (linked c.args.id.0 c.args.step.now) c.link.ensures.piece
+
+pub returns-clause-tokens : goal.returns-clause-tokens
+returns-clause-tokens c t =
+    omega (
+      arith,
+      occur_change c.args.self.now c.args.parent.0 c.place_mut-place.result.now c.place_mut-place.ensures.value c.link.new.piece t,
+      c.link.ensures.tokens t,
+    )
