@@ -2,6 +2,7 @@ pub mod Agree
 pub mod Commands
 pub mod Complete
 pub mod Covering
+pub mod Examples
 pub mod Failing
 pub mod FailingLaws
 pub mod Finish

@@ -1,6 +1,7 @@
 //! Laws of the definitions: each is the contract of a function that does nothing.
 ghost use Rattle.fr_model.specs.Agree.{MachineAgrees, StartIsRelated, StepKeepsRelated};
 ghost use Rattle.fr_model.specs.Covering.{ScanAgrees, WaysAgree};
+ghost use Rattle.fr_model.specs.Examples.{EndRunsValidators};
 ghost use Rattle.fr_model.specs.FailingLaws.{FailuresLieThere, FinishesOrRefuses, FinishOfDone, FirstByWalkIs, LackingFails, NothingFailsOfDone};
 ghost use Rattle.fr_model.specs.FinishLaws.{ClosingKeepsCompletion, ClosingKeepsFailures, ClosingKeepsFailuresOff, ClosingKeepsFinish};
 ghost use Rattle.fr_model.specs.Finishing.{NotesWhatIsDue, StuckOrNoted};
@@ -38,6 +39,11 @@ pub fn law_completes()
     ensures or_fails { CompletesOrFails }
     ensures fits { CompletingFits }
     ensures tokens { CompletingKeepsTokens }
+{}
+
+/// Scripts computed through the definitions.
+pub fn law_examples()
+    ensures validators { EndRunsValidators }
 {}
 
 /// What fails at the end of deferred mode is half done and lies off the way, and a place that lacks something by itself fails, its
