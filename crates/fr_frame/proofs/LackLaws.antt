@@ -19,7 +19,7 @@ use Rattle.fr_rules.specs.FillRules.{fill_told}
 use Rattle.fr_rules.specs.Pools.{part_of}
 use Rattle.fr_rules.specs.Validators.{passes_held, validator_of}
 use Rattle.fr_model.specs.Complete.{complete, complete_all, made, made_by, made_of_fills, lack, lack_among, lack_by, lack_of_hole, lack_of_holes, failing_child, failing_field, first_failing, valid_child, unless_failing, unless_there, missing_child, missing_field, missing_value}
-use Rattle.fr_model.specs.Places.{child_count, fill_at, one_more, each_child}
+use Rattle.fr_model.specs.Places.{strict_column, child_count, fill_at, one_more, each_child}
 use Rattle.fr_model.specs.Tree.{Form, as_struct, as_array}
 use Rattle.fr_plan.specs.declared.plans.FieldPlan.{FieldPlan}
 use Rattle.fr_plan.specs.Plans.{precomputed, with_kind, kind_of as kind_in_plan}

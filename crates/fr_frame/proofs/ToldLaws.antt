@@ -15,7 +15,7 @@ use Rattle.fr_shape.specs.Look.{Table, def_of, def_or_other, field_in}
 use Rattle.fr_rules.specs.FillRules.{fill_told}
 use Rattle.fr_rules.specs.FillLaws.{told_is_fill}
 use Rattle.fr_rules.specs.Pools.{part_of}
-use Rattle.fr_model.specs.Places.{fill_of_field}
+use Rattle.fr_model.specs.Places.{strict_column, fill_of_field}
 use Rattle.fr_model.specs.Tree.{as_struct}
 use Rattle.fr_model.specs.Well.{IsFullAs}
 use Rattle.fr_plan.specs.declared.nodes.NodeId.{NodeId}
@@ -225,7 +225,7 @@ module _ (table : Table) (plan : Plan) (s : ℕ) (found : StructPlan) (is : IsFo
         meant = this.field;
         fill =
             ap (fill_told table) this.fill_rule ∙ told_is_fill table meant here.field at
-            ∙ sym (ap (fill_of_field table s false) at);
+            ∙ sym (ap (fill_of_field strict_column table s false) at);
         validators = this.validators;
       }
 

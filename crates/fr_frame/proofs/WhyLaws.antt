@@ -6,6 +6,7 @@ use Rattle.fr_shape.specs.Hooks.{Meanings}
 use Rattle.fr_shape.specs.Look.{Table}
 use Rattle.fr_shape.specs.Val.{Val, Vals}
 use Rattle.fr_model.specs.Complete.{lack, made}
+use Rattle.fr_model.specs.Places.{strict_column}
 use Rattle.fr_model.specs.Step.{or_missing}
 use Rattle.fr_model.specs.Tree.{Form, as_struct, as_array}
 use Rattle.fr_frame.specs.Bodies.{Body, entered_body, whole_body, begun_body, value_of, own_tree}

@@ -3,7 +3,7 @@ use Rattle.std.specs.Prelude.{is_some}
 use Rattle.fr_shape.specs.View.{view}
 use Rattle.fr_rules.specs.FillRules.{fill_told}
 use Rattle.fr_plan.specs.declared.plans.FieldPlan.{FieldPlan}
-use Rattle.fr_model.specs.Places.{fill_at}
+use Rattle.fr_model.specs.Places.{strict_column, fill_at}
 use Rattle.fr_frame.specs.Cells.{Cell, given, value_at}
 use Rattle.fr_frame.specs.Completing.{shape_of}
 use Rattle.fr_frame.specs.Filling.{IsTold, IsLightFill}
@@ -37,7 +37,7 @@ loop-i-preserved c =
           let none : value_at c.loop-i.children c.loop-i.i ≡ None
           = not_some (value_at c.loop-i.children c.loop-i.i)
           (ap is_some (sym c.value.ensures) ∙ copied_some view c.value.result ∙ w.if-is_none.ensures) in
-          let takes : fill_at c.args.table.now (shape_of c.args.plan.now c.args.node) c.loop-i.i ≡ Some (view w.in_ok-copy.copy)
+          let takes : fill_at strict_column c.args.table.now (shape_of c.args.plan.now c.args.node) c.loop-i.i ≡ Some (view w.in_ok-copy.copy)
           = sym is.fill ∙ ap (λ (one : FieldPlan). fill_told c.args.table.now one.fill_rule) w.index-told-i.is
           ∙ w.in_ok-copy.ensures in
           let changed : c.if-is_none.children ≡ set c.loop-i.children c.loop-i.i (given (view w.in_ok-copy.copy))
