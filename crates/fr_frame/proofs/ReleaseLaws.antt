@@ -1,5 +1,5 @@
 -- Releasing what is in slots, one slot after the other.
-use Rattle.std.proofs.Common.{◌≡◌, ℕ, zero, suc, ◌+◌, ◌<◌, ◌≤◌, List, [], ◌∷◌, length, length-set, Some, None, slice_get, set, refl, sym, ◌∙◌, ap, subst, arith}
+use Rattle.std.proofs.Common.{◌≡◌, ℕ, zero, suc, ◌+◌, ◌<◌, ◌≤◌, List, [], ◌∷◌, length, length-set, Some, None, slice_get, set, refl, sym, ◌∙◌, subst, arith}
 use Rattle.std.specs.Prelude.{slice_index}
 use Rattle.fr_shape.specs.Released.{Room, RoseBy}
 use Rattle.fr_shape.specs.TokenLaws.{both, Room_fewer, Room_same, Room_risen}
