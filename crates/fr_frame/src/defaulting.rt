@@ -14,8 +14,11 @@ ghost use Rattle.fr_frame.specs.Defaults.{defaulted, invalid, left_out, unmet, K
 ghost use Rattle.fr_frame.specs.Filling.{IsCauseOf};
 ghost use Rattle.fr_frame.specs.Heap.{heap_of};
 
+use crate::default_filling::default_piece;
+use crate::leftovers::test_full;
 use crate::places::SlotId;
 use crate::slots::Slots;
+use crate::validating::test_valid;
 use fr_plan::TypePlanCore;
 use fr_shape::{Hooks, ReflectErrorKind, ShapeTable};
 
@@ -48,10 +51,11 @@ impl SlotId {
         ensures tokens { SameTokens slots.old slots.new }
     {
         let _hooks = hooks;
-        let _plan = plan;
-        let _table = table;
-        let _slots = slots;
-        Err(ReflectErrorKind::OutOfMemory)
+        let alloc = slots.alloc();
+        let mut place = slots.lift_out(self);
+        let result = default_piece(alloc, table, plan, place.node, &mut place.piece);
+        slots.lower(self, place);
+        result
     }
 
     /// Tests that nothing of the place is left out: that it isn't just entered, and that each child is there. Takes no memory.
@@ -73,10 +77,10 @@ impl SlotId {
         ensures unchanged { slots.new ≡ slots.old }
     {
         let _hooks = hooks;
-        let _plan = plan;
-        let _table = table;
-        let _slots = slots;
-        Err(ReflectErrorKind::OutOfMemory)
+        match slots.place(self) {
+            Some(place) => test_full(table, plan, place.node, &place.piece),
+            None => unreachable!(),
+        }
     }
 
     /// Runs the validators of the fields of a place whose children are all there, in index order. At a whole place, and at any
@@ -98,10 +102,10 @@ impl SlotId {
             → IsCauseOf (invalid (H.means hooks.now) table (shape_of plan.now at.node) at.body)
             kind)) }
     {
-        let _hooks = hooks;
-        let _plan = plan;
-        let _slots = slots;
-        Err(ReflectErrorKind::OutOfMemory)
+        match slots.place(self) {
+            Some(place) => test_valid(slots.alloc(), plan, hooks, place.node, &place.piece),
+            None => unreachable!(),
+        }
     }
 
     /// Completes the place by the rules of the end of deferred mode, so that its value can be taken out: fills, then that nothing
