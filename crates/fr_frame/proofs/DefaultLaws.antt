@@ -1,6 +1,7 @@
 -- Fills by the rules of the end of deferred mode, child by child.
-use Rattle.std.proofs.Common.{◌≡◌, ℕ, zero, suc, ◌+◌, ◌<◌, ◌≤◌, List, [], ◌∷◌, length, drop, replicate, Option, Some, None, IsSome, slice_get, set, refl, sym, ◌∙◌, ap, subst, arith}
+use Rattle.std.proofs.Common.{◌≡◌, ◌⊎◌, inl, inr, ℕ, zero, suc, ◌+◌, ◌<◌, ◌≤◌, List, [], ◌∷◌, length, drop, replicate, Option, Some, None, IsSome, slice_get, set, refl, sym, ◌∙◌, ap, subst, arith}
 use Rattle.std.specs.Option.{option_or}
+use Rattle.std.specs.Prelude.{Result, Ok, Err, IfErr, OnErr, OnOk}
 use Rattle.fr_shape.specs.declared.error.ReflectErrorKind.{ReflectErrorKind}
 use Rattle.fr_shape.specs.declared.shape.Def.{Def}
 use Rattle.fr_shape.specs.declared.shape.FieldRef.{FieldRef}
@@ -12,7 +13,7 @@ use Rattle.fr_shape.specs.Val.{Val, Vals}
 use Rattle.fr_model.specs.Complete.{hole_takes, made, missing_child, missing_value}
 use Rattle.fr_model.specs.Failing.{first_unmet}
 use Rattle.fr_model.specs.Places.{deferred_column, child_count, count_children, one_more}
-use Rattle.fr_model.specs.Tree.{Form, as_struct, as_array, hole, branch, holes}
+use Rattle.fr_model.specs.Tree.{Form, as_struct, as_array, hole, Trees, branch, holes}
 use Rattle.fr_model.specs.Well.{IsFullAs}
 use Rattle.fr_plan.specs.declared.plans.FieldPlan.{FieldPlan}
 use Rattle.fr_plan.specs.TypePlan.{Plan}
@@ -361,3 +362,20 @@ pub made_of_values : (form : Form) (values : Option Vals) → IsSome values → 
 made_of_values as_struct (Some vs) h = refl
 made_of_values as_array (Some vs) h = refl
 made_of_values form None h = absurd (cc)
+
+-- Results.
+
+pub why_holes : (table : Table) (s : ℕ) (kind : ReflectErrorKind) (A : Type 0) (ts us : Trees) → ts ≡ us
+    → ((kind ≡ ReflectErrorKind.OutOfMemory) × A) ⊎ (first_unmet table s as_struct 0 ts ≡ Some kind)
+    → (kind ≡ ReflectErrorKind.OutOfMemory) ⊎ (first_unmet table s as_struct 0 us ≡ Some kind)
+why_holes table s kind A ts us are (inl h) = inl h.0
+why_holes table s kind A ts us are (inr e) = inr (ap (first_unmet table s as_struct 0) (sym are) ∙ e)
+
+pub ok_so : {X E : Type 0} (r : Result X E) (P Q : Type 0) → (P → Q) → OnOk r P → OnOk r Q
+ok_so (Ok x) P Q so h = so h
+ok_so (Err kind) P Q so h = tt
+
+pub err_both : {X E : Type 0} (r : Result X E) (A : Type 0) (P Q : E → Type 0) → ((kind : E) → A → P kind → Q kind) → OnErr r A
+    → IfErr r P → IfErr r Q
+err_both (Ok x) A P Q so a h = tt
+err_both (Err kind) A P Q so a h = so kind a h

@@ -1,6 +1,6 @@
 //! Running the validators of a place whose children are all there. What a plan says of fields is known without its table, and holds
 //! for every table that it is a plan of.
-ghost use Rattle.std.specs.Prelude.{◌≡◌, ◌<◌, length, None, IfErr, IsSome, OnOk};
+ghost use Rattle.std.specs.Prelude.{◌≡◌, ◌<◌, length, slice_get, None, IfErr, IsSome, OnOk};
 ghost use Rattle.std.specs.Option.{option_copied, option_map};
 ghost use Rattle.fr_shape.specs.Checked.{IsChecked};
 ghost use Rattle.fr_shape.specs.Look.{Table};
@@ -33,6 +33,13 @@ fn fields_told(plan: &TypePlanCore, node: NodeId) -> &[FieldPlan]
         Some(described) => plan.fields_there(described.fields),
         None => &[],
     }
+}
+
+/// What is told of the field of this number, if there is one.
+fn told_at(told: &[FieldPlan], i: usize) -> Option<&FieldPlan>
+    ensures { option_copied result ≡ slice_get told.now i }
+{
+    told.get(i)
 }
 
 /// Runs the validators that are told of a field on its value, in their order.
@@ -80,7 +87,7 @@ fn test_values<H: Hooks>(
         return Ok(());
     }
     for i in 0..children.len() {
-        test_value(alloc, plan, hooks, told.get(i), children.value(i))?;
+        test_value(alloc, plan, hooks, told_at(told, i), children.value(i))?;
     }
     Ok(())
 }

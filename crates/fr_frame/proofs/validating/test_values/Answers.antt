@@ -26,7 +26,27 @@ returns-then-has_no_validators-clause-passing g c table so =
     c.requires.there
 
 pub returns-in_err-test_value-clause-failing : goal.returns-in_err-test_value-clause-failing
-returns-in_err-test_value-clause-failing g c = ?
+returns-in_err-test_value-clause-failing g c =
+    let failing : IfErr c.test_value.result (λ kind. (table : Table) → IsStructOf table c.args.plan.now c.args.node c.args.children.now
+    → IsCauseOf (first_invalid (g.H.Hooks.means c.args.hooks.now) table (shape_of c.args.plan.now c.args.node) as_struct 0
+    (trees_of c.args.children.now)) kind)
+    = err_so c.test_value.result
+    (IsCauseOf (refused_of (g.H.Hooks.means c.args.hooks.now) c.args.plan.now (option_copied c.told_at.result)
+    (option_map view (option_copied c.value.result))))
+    (λ kind. (table : Table) → IsStructOf table c.args.plan.now c.args.node c.args.children.now
+    → IsCauseOf (first_invalid (g.H.Hooks.means c.args.hooks.now) table (shape_of c.args.plan.now c.args.node) as_struct 0
+    (trees_of c.args.children.now)) kind)
+    (λ kind cause table so.
+    let are : AreTold table c.args.plan.now (shape_of c.args.plan.now c.args.node) c.fields_told-told.result.now
+    = c.fields_told-told.ensures table so.checked so.planned so.inside in
+    let count : length c.args.children.now ≡ length c.fields_told-told.result.now
+    = are.count (length c.args.children.now) so.full in
+    subst (λ (o : Option ReflectErrorKind). IsCauseOf o kind) (sym (c.loop-i.invariant table so))
+    (valid_cause (g.H.Hooks.means c.args.hooks.now) table c.args.plan.now (shape_of c.args.plan.now c.args.node)
+    c.fields_told-told.result.now are c.args.children.now count c.requires.there c.loop-i.i (option_copied c.told_at.result)
+    (option_map view (option_copied c.value.result)) (omega arith) c.told_at.ensures c.value.ensures kind cause))
+    c.test_value.ensures.failing in
+    grind (arith, common_steps)
 
 pub loop-i-preserved : goal.loop-i-preserved
 loop-i-preserved g c table so =
@@ -36,5 +56,5 @@ loop-i-preserved g c table so =
     = are.count (length c.args.children.now) so.full in
     c.loop-i.invariant table so
     ∙ valid_preserved (g.H.Hooks.means c.args.hooks.now) table c.args.plan.now (shape_of c.args.plan.now c.args.node)
-    c.fields_told-told.result.now are c.args.children.now count c.requires.there c.loop-i.i (option_copied c.get.result)
-    (option_map view (option_copied c.value.result)) (omega arith) c.get.ensures c.value.ensures c.in_ok-test_value.ensures.passing
+    c.fields_told-told.result.now are c.args.children.now count c.requires.there c.loop-i.i (option_copied c.told_at.result)
+    (option_map view (option_copied c.value.result)) (omega arith) c.told_at.ensures c.value.ensures c.in_ok-test_value.ensures.passing
