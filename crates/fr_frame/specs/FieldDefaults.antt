@@ -1,5 +1,5 @@
 -- Completing a begun place by the rules of the end of deferred mode, child by child.
-use Rattle.std.specs.Prelude.{◌≡◌, ℕ, zero, suc, ◌<◌, List, [], ◌∷◌, length, Option, Some, None, IsSome}
+use Rattle.std.specs.Prelude.{◌≡◌, ℕ, zero, suc, ◌+◌, ◌<◌, ◌≤◌, List, [], ◌∷◌, length, Option, Some, None, IsSome}
 use Rattle.fr_shape.specs.declared.error.ReflectErrorKind.{ReflectErrorKind}
 use Rattle.fr_shape.specs.declared.shape.FieldRef.{FieldRef}
 use Rattle.fr_shape.specs.Checked.{IsChecked}
@@ -52,6 +52,18 @@ defaulted_first table s form i zero cs = cs
 defaulted_first table s form i (suc n) [] = []
 defaulted_first table s form i (suc n) (c ∷ cs) =
     defaulted_cell (hole_takes deferred_column table s form i) c ∷ defaulted_first table s form (suc i) n cs
+
+-- the plan is one of some checked table, and has this node
+pub record IsPlanned (plan : Plan) (node : NodeId) : Type 0 where
+  pub table : Table
+  pub checked : IsChecked table
+  pub planned : IsPlanFor table plan
+  pub inside : node.0 < length plan.nodes
+
+-- the plan has the validators that it tells of a field, if there is one
+abbrev pub HasValidators : Plan → Option FieldPlan → Type 0
+HasValidators plan (Some told) = told.validators.start + told.validators.len ≤ length plan.lists.validators
+HasValidators plan None = Unit {0}
 
 -- the plan is one of this checked table, and by its node a struct is built that has these children
 pub record IsStructOf (table : Table) (plan : Plan) (node : NodeId) (cells : List Cell) : Type 0 where

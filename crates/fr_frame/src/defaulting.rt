@@ -11,6 +11,7 @@ ghost use Rattle.fr_frame.specs.Changes.{Becomes, IfInUse, IsInUse, SameTokens, 
 ghost use Rattle.fr_frame.specs.Closed.{IsClosedAt};
 ghost use Rattle.fr_frame.specs.Completing.{shape_of, takes_template, FillsAt, IsPlanFor, MayComplete};
 ghost use Rattle.fr_frame.specs.Defaults.{defaulted, invalid, left_out, unmet, KeepsForm, WhyNotDefault};
+ghost use Rattle.fr_frame.specs.FieldDefaults.{IsPlanned};
 ghost use Rattle.fr_frame.specs.Filling.{IsCauseOf};
 ghost use Rattle.fr_frame.specs.Heap.{heap_of};
 
@@ -91,6 +92,7 @@ impl SlotId {
         plan: &TypePlanCore,
         hooks: &H,
     ) -> Result<(), ReflectErrorKind>
+        requires planned { IfInUse slots.now self.0 (λ at. IsPlanned plan.now at.node) }
         requires full { IfInUse slots.now self.0 (λ at. IsSome (value_of at.body)) }
         ensures passing { OnOk result (IfInUse slots.now self.0 (λ at.
             (table : Table) → IsChecked table → IsPlanFor table plan.now

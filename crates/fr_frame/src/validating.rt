@@ -1,6 +1,6 @@
 //! Running the validators of a place whose children are all there. What a plan says of fields is known without its table, and holds
 //! for every table that it is a plan of.
-ghost use Rattle.std.specs.Prelude.{◌≡◌, ◌<◌, length, slice_get, None, IfErr, IsSome, OnOk};
+ghost use Rattle.std.specs.Prelude.{◌≡◌, ◌<◌, ℕ, length, slice_get, None, IfErr, IsSome, OnOk};
 ghost use Rattle.std.specs.Option.{option_copied, option_map};
 ghost use Rattle.fr_shape.specs.Checked.{IsChecked};
 ghost use Rattle.fr_shape.specs.Look.{Table};
@@ -11,7 +11,7 @@ ghost use Rattle.fr_frame.specs.Bodies.{trees_of, value_of};
 ghost use Rattle.fr_frame.specs.Cells.{values_of};
 ghost use Rattle.fr_frame.specs.Completing.{shape_of, IsFull, IsPlanFor};
 ghost use Rattle.fr_frame.specs.Defaults.{invalid};
-ghost use Rattle.fr_frame.specs.FieldDefaults.{refused_of, IsStructOf};
+ghost use Rattle.fr_frame.specs.FieldDefaults.{refused_of, HasValidators, IsPlanned, IsStructOf};
 ghost use Rattle.fr_frame.specs.Filling.{AreTold, IsCauseOf};
 ghost use Rattle.fr_frame.specs.Heap.{body_of};
 
@@ -24,13 +24,15 @@ use std::alloc::Global;
 
 /// The plans of the fields of a struct, as the plan has them.
 fn fields_told(plan: &TypePlanCore, node: NodeId) -> &[FieldPlan]
-    ensures { (table : Table) → IsChecked table → IsPlanFor table plan.now
+    requires { IsPlanned plan.now node }
+    ensures told { (table : Table) → IsChecked table → IsPlanFor table plan.now
         → node.0 < length plan.now.nodes
         → AreTold table plan.now (shape_of plan.now node) result.now }
+    ensures validators { (i : ℕ) → HasValidators plan.now (slice_get result.now i) }
 {
     law_plan_lookups();
     match plan.struct_plan_by_id(node) {
-        Some(described) => plan.fields_there(described.fields),
+        Some(described) => plan.fields(described.fields),
         None => &[],
     }
 }
@@ -50,6 +52,7 @@ fn test_value<H: Hooks>(
     told: Option<&FieldPlan>,
     own: Option<&Value>,
 ) -> Result<(), ReflectErrorKind>
+    requires validators { HasValidators plan.now (option_copied told) }
     ensures passing { OnOk result (refused_of (H.means hooks.now) plan.now (option_copied told.entry)
         (option_map view (option_copied own.entry)) ≡ None) }
     ensures failing { IfErr result (IsCauseOf (refused_of (H.means hooks.now) plan.now
@@ -61,7 +64,7 @@ fn test_value<H: Hooks>(
     let Some(value) = own else {
         return Ok(());
     };
-    let validators = plan.validators_there(told.validators);
+    let validators = plan.validators(told.validators);
     run_validators(alloc, hooks, validators, value, told.field)
 }
 
@@ -73,6 +76,7 @@ fn test_values<H: Hooks>(
     node: NodeId,
     children: &Children,
 ) -> Result<(), ReflectErrorKind>
+    requires planned { IsPlanned plan.now node }
     requires there { IsSome (values_of children.now) }
     ensures passing { OnOk result ((table : Table) → IsStructOf table plan.now node children.now
         → first_invalid (H.means hooks.now) table (shape_of plan.now node) as_struct 0
@@ -100,6 +104,7 @@ pub(crate) fn test_valid<H: Hooks>(
     node: NodeId,
     piece: &Piece,
 ) -> Result<(), ReflectErrorKind>
+    requires planned { IsPlanned plan.now node }
     requires there { IsSome (value_of (body_of piece.now)) }
     ensures passing { OnOk result ((table : Table) → IsChecked table → IsPlanFor table plan.now
         → node.0 < length plan.now.nodes

@@ -1,5 +1,5 @@
 //! The children of a plan's nodes. Each lookup takes the same time however large the plan is.
-ghost use Rattle.std.specs.Prelude.{◌≡◌, ◌+◌, slice_get, slice_range};
+ghost use Rattle.std.specs.Prelude.{◌≡◌, slice_get};
 ghost use Rattle.std.specs.Option.{option_copied};
 ghost use Rattle.fr_rules.specs.Pools.{part_of};
 ghost use Rattle.fr_plan.specs.Lookups.{node_at, node_found, own_id, resolved, resolved_id, struct_plan_at, enum_plan_at, field_in_range, struct_field, enum_variant_field, own_outline, child_at, by_id};
@@ -10,7 +10,6 @@ use crate::outlines::{Mark, Outline};
 use crate::plans::{EnumPlan, FieldRange, StructPlan};
 use fr_arena::{Arena, Idx, SliceRange};
 use fr_shape::ShapeId;
-use std::cmp::min;
 
 /// The entry of this number, if there is one.
 pub(crate) fn entry<T>(arena: &Arena<T>, i: u32) -> Option<&T>
@@ -28,15 +27,6 @@ fn entry_of_range<T>(arena: &Arena<T>, range: SliceRange<T>, n: usize) -> Option
     ensures { option_copied result ≡ slice_get (part_of arena.now range) n }
 {
     entry(arena, range.get(n)?.raw())
-}
-
-/// So many entries from this one on, as far as there are such.
-pub(crate) fn entries<T>(arena: &Arena<T>, start: u32, len: u32) -> &[T]
-    ensures { result.now ≡ slice_range arena.now start (start + len) }
-{
-    let count = arena.len() as u32;
-    let first = min(start, count);
-    arena.get_slice(SliceRange::new(first, min(len, count - first)))
 }
 
 impl TypePlanCore {

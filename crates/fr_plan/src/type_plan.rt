@@ -12,7 +12,6 @@ ghost use Rattle.fr_plan.specs.declared.outlines.Mark.{Mark as TheMark};
 
 use crate::building::build_shape;
 use crate::lists::PlanLists;
-use crate::lookups::entries;
 use crate::names::{ShapeNames, all_names, find_name};
 use crate::nodes::{NodeId, TypePlanNode};
 use crate::outlines::{Mark, Walk};
@@ -143,20 +142,6 @@ impl TypePlanCore {
         ensures validators { result.now ≡ part_of self.now.lists.validators r }
     {
         self.lists.validators.get_slice(r)
-    }
-
-    /// The fields of a range, as far as the plan has them.
-    pub fn fields_there(&self, r: FieldRange) -> &[FieldPlan]
-        ensures fields { result.now ≡ part_of self.now.lists.fields r }
-    {
-        entries(&self.lists.fields, r.start(), r.len())
-    }
-
-    /// The validators of a range, as far as the plan has them.
-    pub fn validators_there(&self, r: ValidatorRange) -> &[PrecomputedValidator]
-        ensures validators { result.now ≡ part_of self.now.lists.validators r }
-    {
-        entries(&self.lists.validators, r.start(), r.len())
     }
 
     /// The pool in which the lookups of the plan are found.

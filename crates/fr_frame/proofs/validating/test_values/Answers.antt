@@ -18,7 +18,7 @@ use Rattle.fr_frame.proofs.validating.test_values.Goals as goal
 pub returns-then-has_no_validators-clause-passing : goal.returns-then-has_no_validators-clause-passing
 returns-then-has_no_validators-clause-passing g c table so =
     let are : AreTold table c.args.plan.now (shape_of c.args.plan.now c.args.node) c.fields_told-told.result.now
-    = c.fields_told-told.ensures table so.checked so.planned so.inside in
+    = c.fields_told-told.ensures.told table so.checked so.planned so.inside in
     let count : length c.args.children.now ≡ length c.fields_told-told.result.now
     = are.count (length c.args.children.now) so.full in
     all_valid (g.H.Hooks.means c.args.hooks.now) table c.args.plan.now (shape_of c.args.plan.now c.args.node)
@@ -38,7 +38,7 @@ returns-in_err-test_value-clause-failing g c =
     (trees_of c.args.children.now)) kind)
     (λ kind cause table so.
     let are : AreTold table c.args.plan.now (shape_of c.args.plan.now c.args.node) c.fields_told-told.result.now
-    = c.fields_told-told.ensures table so.checked so.planned so.inside in
+    = c.fields_told-told.ensures.told table so.checked so.planned so.inside in
     let count : length c.args.children.now ≡ length c.fields_told-told.result.now
     = are.count (length c.args.children.now) so.full in
     subst (λ (o : Option ReflectErrorKind). IsCauseOf o kind) (sym (c.loop-i.invariant table so))
@@ -51,7 +51,7 @@ returns-in_err-test_value-clause-failing g c =
 pub loop-i-preserved : goal.loop-i-preserved
 loop-i-preserved g c table so =
     let are : AreTold table c.args.plan.now (shape_of c.args.plan.now c.args.node) c.fields_told-told.result.now
-    = c.fields_told-told.ensures table so.checked so.planned so.inside in
+    = c.fields_told-told.ensures.told table so.checked so.planned so.inside in
     let count : length c.args.children.now ≡ length c.fields_told-told.result.now
     = are.count (length c.args.children.now) so.full in
     c.loop-i.invariant table so
