@@ -1,6 +1,7 @@
 pub mod BodyLaws
 pub mod CellLaws
 pub mod DefaultLaws
+pub mod DefaultedLaws
 pub mod FillLaws
 pub mod HeapLaws
 pub mod LackLaws

@@ -79,12 +79,14 @@ module _ (means : Meanings) (table : Table) (plan : Plan) (s : ℕ) (told : List
       ∙ ap (λ (k : ℕ). first_invalid means table s as_struct k (trees_of (drop k cs))) next
 
   pub valid_cause : (i : ℕ) (found : Option FieldPlan) (own : Option Val) → i < length cs → found ≡ slice_get told i
-      → own ≡ value_at cs i → (kind : ReflectErrorKind) → IsCauseOf (refused_of means plan found own) kind
-      → IsCauseOf (first_invalid means table s as_struct i (trees_of (drop i cs))) kind
-  valid_cause i found own h is value kind cause =
+      → own ≡ value_at cs i → first_invalid means table s as_struct 0 (trees_of cs)
+      ≡ first_invalid means table s as_struct i (trees_of (drop i cs))
+      → (kind : ReflectErrorKind) → IsCauseOf (refused_of means plan found own) kind
+      → IsCauseOf (first_invalid means table s as_struct 0 (trees_of cs)) kind
+  valid_cause i found own h is value so_far kind cause =
       let here : refused_of means plan found own ≡ refused_of means plan (slice_get told i) (value_at cs i)
       = ap (λ (one : Option FieldPlan). refused_of means plan one own) is ∙ ap (refused_of means plan (slice_get told i)) value in
-      subst (λ (o : Option ReflectErrorKind). IsCauseOf o kind) (sym (valid_left i h))
+      subst (λ (o : Option ReflectErrorKind). IsCauseOf o kind) (sym (so_far ∙ valid_left i h))
       (cause_first (refused_of means plan (slice_get told i) (value_at cs i))
       (first_invalid means table s as_struct (suc i) (trees_of (drop (suc i) cs))) kind
       (subst (λ (o : Option ReflectErrorKind). IsCauseOf o kind) here cause))

@@ -11,7 +11,9 @@ ghost use Rattle.fr_frame.specs.FieldDefaults.{unmet_child, NamesField};
 
 use fr_plan::FieldPlan;
 use fr_rules::{DeferredFill, deferred_fill};
-use fr_shape::{FieldRef, OutOfMemory, ReflectErrorKind, ShapeTable, Template, Value, clone_template};
+use fr_shape::{
+    FieldRef, OutOfMemory, ReflectErrorKind, ShapeTable, Template, Value, clone_template,
+};
 use std::alloc::Global;
 
 /// The template that a field's hole takes, if it takes any.

@@ -1,5 +1,5 @@
-//! Running the validators of a place whose children are all there. What a plan says of fields is known without its table, and holds
-//! for every table that it is a plan of.
+//! Running the validators of a place whose children are all there. What a plan says of its fields is read without a table, and
+//! holds for every table that it is a plan of.
 ghost use Rattle.std.specs.Prelude.{◌≡◌, ◌<◌, ℕ, length, slice_get, None, IfErr, IsSome, OnOk};
 ghost use Rattle.std.specs.Option.{option_copied, option_map};
 ghost use Rattle.fr_shape.specs.Checked.{IsChecked};

@@ -1,8 +1,7 @@
-use Rattle.std.proofs.Common.{◌≡◌, length, Option, sym, ◌∙◌, ap, subst, arith}
+use Rattle.std.proofs.Common.{◌≡◌, length, ◌∙◌, arith}
 use Rattle.std.specs.Prelude.{IfErr}
 use Rattle.std.specs.Option.{option_map, option_copied}
 use Rattle.std.proofs.lemmas.Grind.{common_steps}
-use Rattle.fr_shape.specs.declared.error.ReflectErrorKind.{ReflectErrorKind}
 use Rattle.fr_shape.specs.Look.{Table}
 use Rattle.fr_shape.specs.View.{view}
 use Rattle.fr_model.specs.Failing.{first_invalid}
@@ -41,10 +40,10 @@ returns-in_err-test_value-clause-failing g c =
     = c.fields_told-told.ensures.told table so.checked so.planned so.inside in
     let count : length c.args.children.now ≡ length c.fields_told-told.result.now
     = are.count (length c.args.children.now) so.full in
-    subst (λ (o : Option ReflectErrorKind). IsCauseOf o kind) (sym (c.loop-i.invariant table so))
-    (valid_cause (g.H.Hooks.means c.args.hooks.now) table c.args.plan.now (shape_of c.args.plan.now c.args.node)
+    valid_cause (g.H.Hooks.means c.args.hooks.now) table c.args.plan.now (shape_of c.args.plan.now c.args.node)
     c.fields_told-told.result.now are c.args.children.now count c.requires.there c.loop-i.i (option_copied c.told_at.result)
-    (option_map view (option_copied c.value.result)) (omega arith) c.told_at.ensures c.value.ensures kind cause))
+    (option_map view (option_copied c.value.result)) (omega arith) c.told_at.ensures c.value.ensures
+    (c.loop-i.invariant table so) kind cause)
     c.test_value.ensures.failing in
     grind (arith, common_steps)
 
