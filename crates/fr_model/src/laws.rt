@@ -9,77 +9,56 @@ ghost use Rattle.fr_model.specs.PathLaws.{EnteringAddsAStep, FinishingKeepsThePa
 /// commands gives a value exactly where the journal completes, and the same one. At the start, and after each command
 /// that is admitted, what stands at each place of the tree is what the journal holds of it.
 pub fn law_agree()
-    requires scaffold { ⊥ }
     ensures agree { MachineAgrees }
     ensures start { StartIsRelated }
     ensures step { StepKeepsRelated }
-{
-    unreachable!()
-}
+{}
 
 /// What a journal holds of a place is what the rules on covering notes say.
 pub fn law_covering()
-    requires scaffold { ⊥ }
     ensures scan { ScanAgrees }
     ensures ways { WaysAgree }
-{
-    unreachable!()
-}
+{}
 
 /// In strict mode a place completes unless it lacks something, and at the end of deferred mode unless it or a place beneath it
 /// fails. Over a checked table, what completes of a tree that suits its shape fits that shape and keeps its tokens.
 pub fn law_completes()
-    requires scaffold { ⊥ }
     ensures or_lacks { CompletesOrLacks }
     ensures or_fails { CompletesOrFails }
     ensures fits { CompletingFits }
     ensures tokens { CompletingKeepsTokens }
-{
-    unreachable!()
-}
+{}
 
 /// What the end of deferred mode notes, and when it can't end, is what the three rules on places say.
 pub fn law_finishing()
-    requires scaffold { ⊥ }
     ensures stuck { StuckOrNoted }
     ensures noted { NotesWhatIsDue }
-{
-    unreachable!()
-}
+{}
 
 /// The path of the place at which a builder works, from state to state. Entering a child, from a state that is in order,
 /// adds the step to that child. Putting a value keeps the path, or takes its last step away where the cursor goes up. Leaving a
 /// place as it is takes it away too, and the end of deferred mode keeps the path.
 /// There are as many steps as the place lies deep, so that only the root has none.
 pub fn law_paths()
-    requires scaffold { ⊥ }
     ensures enter { EnteringAddsAStep }
     ensures put { PuttingKeepsThePath }
     ensures leave { LeavingDropsAStep }
     ensures leave_as_it_is { LeavingAsItIs }
     ensures finish { FinishingKeepsThePath }
     ensures deep { PathIsAsDeep }
-{
-    unreachable!()
-}
+{}
 
 /// Over a checked table, in a state that is in order: the tokens that the builder held and a command brought are those
 /// that it then holds (none after a refusal) and those that the command dropped; and so it is of `build`.
 pub fn law_removed()
-    requires scaffold { ⊥ }
     ensures step { StepKeepsTokens }
     ensures build { BuildKeepsTokens }
-{
-    unreachable!()
-}
+{}
 
 /// A builder begins in a well state, whatever its table and its root. Over a checked table an admitted command keeps its
 /// state in order, if the command is fitting, and well, if it is fresh besides.
 pub fn law_well()
-    requires scaffold { ⊥ }
     ensures start { StartIsWell }
     ensures in_order { StepKeepsOrder }
     ensures distinct { StepKeepsDistinct }
-{
-    unreachable!()
-}
+{}
