@@ -10,14 +10,14 @@ use Rattle.fr_shape.specs.declared.shape.Def.{Def}
 use Rattle.fr_shape.specs.declared.shape.Field.{Field}
 use Rattle.fr_shape.specs.declared.shape.DefaultSource.{DefaultSource}
 use Rattle.fr_shape.specs.Checked.{IsChecked, is_template, default_is_template, fields_of}
-use Rattle.fr_shape.specs.Fills.{preset_of, strict_fill, takes_shape_default}
+use Rattle.fr_shape.specs.Fills.{preset_of, has_default, strict_fill, takes_shape_default, deferred_fill, takes_deferred_default}
 use Rattle.fr_shape.specs.Fits.{fits}
 use Rattle.fr_shape.specs.Lists.{is_nil}
 use Rattle.fr_shape.specs.Look.{Table, def_of}
 use Rattle.fr_shape.specs.Tokens.{tokens, times, occurs}
 use Rattle.fr_shape.specs.TokenLaws.{occurs_times}
 use Rattle.fr_shape.specs.Val.{Val, Vals}
-use Rattle.fr_model.specs.Places.{strict_column, fill_at, one_more}
+use Rattle.fr_model.specs.Places.{Column, strict_column, deferred_column, fill_by, fill_at, one_more}
 use Rattle.fr_model.specs.Tree.{Form, as_struct, as_array}
 use Rattle.fr_frame.specs.Bodies.{AreUnplaced}
 use Rattle.fr_frame.specs.Cells.{Cell, absent, given, placed, value_of_cell, value_at, values_of, value_occurs, cells_occur}
@@ -68,28 +68,51 @@ preset_light table s v checked e = go (slice_get table s) refl
         (checked.templates s shape h)).0
         (rw h at e)
 
-field_light : (table : Table) (s : ℕ) (field : Field) (v : Val) → IsChecked table
-    → default_is_template table field.shape.0 field.default ≡ true → strict_fill table s false field ≡ Some v → tokens v ≡ []
-field_light table s field v checked own e = go field.default refl
-  where
-    unmarked : (takes : Bool) → field.default ≡ None → takes_shape_default table s false field ≡ takes → tokens v ≡ []
-    unmarked true mark takes = preset_light table field.shape.0 v checked (rw (mark, takes) at e)
-    unmarked false mark takes = let none : None ≡ Some v = rw (mark, takes) at e in absurd (cc)
+module _ (table : Table) (s : ℕ) (field : Field) (v : Val) (checked : IsChecked table)
+    (own : default_is_template table field.shape.0 field.default ≡ true) where
+  own_light : (w : Val) → field.default ≡ Some (DefaultSource.Custom w) → Some w ≡ Some v → tokens v ≡ []
+  own_light w mark is =
+      let same : w ≡ v = cc in
+      subst (λ (u : Val). tokens u ≡ []) same (template_light table field.shape.0 w (rw mark at own))
 
-    go : (mark : Option DefaultSource) → field.default ≡ mark → tokens v ≡ []
-    go None mark = unmarked (takes_shape_default table s false field) mark refl
-    go (Some DefaultSource.FromTrait) mark = preset_light table field.shape.0 v checked (rw mark at e)
-    go (Some (DefaultSource.Custom w)) mark =
-        let is : Some w ≡ Some v = rw mark at e in
-        let same : w ≡ v = cc in
-        subst (λ (u : Val). tokens u ≡ []) same (template_light table field.shape.0 w (rw mark at own))
+  strict_light : strict_fill table s false field ≡ Some v → tokens v ≡ []
+  strict_light e = go field.default refl
+    where
+      unmarked : (takes : Bool) → field.default ≡ None → takes_shape_default table s false field ≡ takes → tokens v ≡ []
+      unmarked true mark takes = preset_light table field.shape.0 v checked (rw (mark, takes) at e)
+      unmarked false mark takes = let none : None ≡ Some v = rw (mark, takes) at e in absurd (cc)
+
+      go : (mark : Option DefaultSource) → field.default ≡ mark → tokens v ≡ []
+      go None mark = unmarked (takes_shape_default table s false field) mark refl
+      go (Some DefaultSource.FromTrait) mark = preset_light table field.shape.0 v checked (rw mark at e)
+      go (Some (DefaultSource.Custom w)) mark = own_light w mark (rw mark at e)
+
+  deferred_light : deferred_fill table s field ≡ Some v → tokens v ≡ []
+  deferred_light e = go field.default refl
+    where
+      unmarked : (takes : Bool) → field.default ≡ None → takes_deferred_default table s field ≡ takes → tokens v ≡ []
+      unmarked true mark takes = preset_light table field.shape.0 v checked (rw (mark, takes) at e)
+      unmarked false mark takes = let none : None ≡ Some v = rw (mark, takes) at e in absurd (cc)
+
+      marked : (has : Bool) → field.default ≡ Some DefaultSource.FromTrait → has_default table field.shape.0 ≡ has → tokens v ≡ []
+      marked true mark has = preset_light table field.shape.0 v checked (rw (mark, has) at e)
+      marked false mark has = let none : None ≡ Some v = rw (mark, has) at e in absurd (cc)
+
+      go : (mark : Option DefaultSource) → field.default ≡ mark → tokens v ≡ []
+      go None mark = unmarked (takes_deferred_default table s field) mark refl
+      go (Some DefaultSource.FromTrait) mark = marked (has_default table field.shape.0) mark refl
+      go (Some (DefaultSource.Custom w)) mark = own_light w mark (rw mark at e)
+
+  field_light : (column : Column) → fill_by column table s false field ≡ Some v → tokens v ≡ []
+  field_light strict_column e = strict_light e
+  field_light deferred_column e = deferred_light e
 
 -- what a child takes where it is a hole
-pub fill_light : (table : Table) (s i : ℕ) (v : Val) → IsChecked table → fill_at strict_column table s i ≡ Some v → tokens v ≡ []
-fill_light table s i v checked e = go (slice_get table s) refl
+pub fill_light : (column : Column) (table : Table) (s i : ℕ) (v : Val) → IsChecked table → fill_at column table s i ≡ Some v → tokens v ≡ []
+fill_light column table s i v checked e = go (slice_get table s) refl
   where
     go : (found : Option Shape) → slice_get table s ≡ found → tokens v ≡ []
-    go None h = let none : fill_at strict_column table s i ≡ None = rw h refl in absurd (cc)
+    go None h = let none : fill_at column table s i ≡ None = rw h refl in absurd (cc)
     go (Some shape) h = at_def shape.def refl
       where
         defaults : list_all (λ (field : Field). default_is_template table field.shape.0 field.default) (fields_of shape.def) ≡ true
@@ -105,14 +128,14 @@ fill_light table s i v checked e = go (slice_get table s) refl
             def = rw (h, is) refl
 
             at_field : (found : Option Field) → slice_get struct.fields i ≡ found → tokens v ≡ []
-            at_field None at = let none : fill_at strict_column table s i ≡ None = rw (def, at) refl in absurd (cc)
+            at_field None at = let none : fill_at column table s i ≡ None = rw (def, at) refl in absurd (cc)
             at_field (Some field) at =
-                let fill : strict_fill table s false field ≡ Some v = rw (def, at) at e in
+                let fill : fill_by column table s false field ≡ Some v = rw (def, at) at e in
                 let own : default_is_template table field.shape.0 field.default ≡ true
                 = all_at (λ (field : Field). default_is_template table field.shape.0 field.default) struct.fields i field
                 (rw is at defaults) at in
-                field_light table s field v checked own fill
-        at_def _ is = let none : fill_at strict_column table s i ≡ None = rw (h, is) refl in absurd (cc)
+                field_light table s field v checked own column fill
+        at_def _ is = let none : fill_at column table s i ≡ None = rw (h, is) refl in absurd (cc)
 
 -- What the children are filled to.
 
@@ -209,7 +232,7 @@ module _ (table : Table) (s : ℕ) (initial now : List Cell) (i : ℕ) (so_far :
   filling_light checked h fills none = go (fill_at strict_column table s i) refl (fill_there table s now 0 i h (subst IsSome (sym so_far.same) fills) none)
     where
       go : (fill : Option Val) → fill_at strict_column table s i ≡ fill → IsSome (fill_at strict_column table s (0 + i)) → IsLightFill fill
-      go (Some v) e there = fill_light table s i v checked e
+      go (Some v) e there = fill_light strict_column table s i v checked e
       go None e there =
           let here : 0 + i ≡ i = omega arith in
           let none_there : fill_at strict_column table s (0 + i) ≡ None = ap (fill_at strict_column table s) here ∙ e in
@@ -223,7 +246,7 @@ module _ (table : Table) (s : ℕ) (initial now : List Cell) (i : ℕ) (so_far :
         same = filled_set table s now 0 i v h none (ap (fill_at strict_column table s) here ∙ takes) ∙ so_far.same;
         there = λ k l. there_set now i v h k l (λ m. so_far.there k m);
         same_tokens = λ t.
-            let light : occurs v t ≡ 0 = light_occurs v t (fill_light table s i v checked takes) in
+            let light : occurs v t ≡ 0 = light_occurs v t (fill_light strict_column table s i v checked takes) in
             let gone : value_occurs (value_at now i) t ≡ 0 = ap (λ (o : Option Val). value_occurs o t) none in
             omega (arith, occur_taken now i (given v) t h, so_far.same_tokens t);
         closed = λ l. unplaced_set now i v (so_far.closed l);

@@ -19,7 +19,7 @@ use Rattle.fr_rules.specs.FillRules.{fill_told}
 use Rattle.fr_rules.specs.Pools.{part_of}
 use Rattle.fr_rules.specs.Validators.{passes_held, validator_of}
 use Rattle.fr_model.specs.Complete.{complete, complete_all, made, made_by, made_of_fills, lack, lack_among, lack_by, lack_of_hole, lack_of_holes, failing_child, failing_field, first_failing, valid_child, unless_failing, unless_there, missing_child, missing_field, missing_value}
-use Rattle.fr_model.specs.Places.{strict_column, child_count, fill_at, one_more, each_child}
+use Rattle.fr_model.specs.Places.{Column, strict_column, child_count, fill_at, one_more, each_child}
 use Rattle.fr_model.specs.Tree.{Form, as_struct, as_array}
 use Rattle.fr_plan.specs.declared.plans.FieldPlan.{FieldPlan}
 use Rattle.fr_plan.specs.Plans.{precomputed, with_kind, kind_of as kind_in_plan}
@@ -92,7 +92,7 @@ cause_first None b kind (inr h) = absurd h.1
 pub first_none : (a b : Option ReflectErrorKind) → a ≡ None → option_or a b ≡ b
 first_none a b e = ap (λ (o : Option ReflectErrorKind). option_or o b) e
 
-or_none : (a b : Option ReflectErrorKind) → option_or a b ≡ None → (a ≡ None) × (b ≡ None)
+pub or_none : (a b : Option ReflectErrorKind) → option_or a b ≡ None → (a ≡ None) × (b ≡ None)
 or_none (Some k) b h = absurd (cc)
 or_none None b h = (refl, h)
 
@@ -250,12 +250,12 @@ holes_next means table s count left i e = ap (λ (n : ℕ). lack_of_holes means 
 -- Places.
 
 module _ (means : Meanings) (table : Table) (s : ℕ) where
-  no_children_made : (count i : ℕ)
-      → each_child (λ k. valid_child means table s as_struct k (fill_at strict_column table s k)) count i
-      ≡ complete_all strict_column means table s as_struct i (trees_of (replicate count absent))
-  no_children_made zero i = refl
-  no_children_made (suc count) i =
-      ap (one_more (valid_child means table s as_struct i (fill_at strict_column table s i))) (no_children_made count (suc i))
+  pub no_children_made : (column : Column) (count i : ℕ)
+      → each_child (λ k. valid_child means table s as_struct k (fill_at column table s k)) count i
+      ≡ complete_all column means table s as_struct i (trees_of (replicate count absent))
+  no_children_made column zero i = refl
+  no_children_made column (suc count) i =
+      ap (one_more (valid_child means table s as_struct i (fill_at column table s i))) (no_children_made column count (suc i))
 
   abbrev holes : List Cell
   holes = replicate (child_count table s) absent
@@ -279,14 +279,14 @@ module _ (means : Meanings) (table : Table) (s : ℕ) where
   by_def_lacks _ preset lacking made_up kind h so = refl
 
   made_up_is : made_of_fills strict_column means table s ≡ made as_struct (complete_all strict_column means table s as_struct 0 (trees_of holes))
-  made_up_is = ap (made as_struct) (no_children_made (child_count table s) 0)
+  made_up_is = ap (made as_struct) (no_children_made strict_column (child_count table s) 0)
 
-  made_there : (form : Form) (values : Option Vals) → IsSome values → IsSome (made form values)
+  pub made_there : (form : Form) (values : Option Vals) → IsSome values → IsSome (made form values)
   made_there as_struct (Some vs) h = refl
   made_there as_array (Some vs) h = refl
   made_there form None h = absurd (cc)
 
-  made_none : (form : Form) → made form None ≡ None
+  pub made_none : (form : Form) → made form None ≡ None
   made_none as_struct = refl
   made_none as_array = refl
 
@@ -322,7 +322,7 @@ module _ (means : Meanings) (table : Table) (s : ℕ) where
 
 -- Children that are all there, of fields without validators.
 
-item_at : {X : Type 0} (xs : List X) (k : ℕ) → k < length xs → (x : X) × (slice_get xs k ≡ Some x)
+pub item_at : {X : Type 0} (xs : List X) (k : ℕ) → k < length xs → (x : X) × (slice_get xs k ≡ Some x)
 item_at [] k h = absurd (omega arith)
 item_at (x ∷ xs) zero h = (x, refl)
 item_at (x ∷ xs) (suc k) h = item_at xs k (omega arith)
@@ -339,7 +339,7 @@ none_of xs range e =
 
 module _ (means : Meanings) (table : Table) (plan : Plan) (s : ℕ) (told : List FieldPlan) (are : AreTold table plan s told)
     (no_validators : HaveNoValidators told) where
-  passes_all : (i : ℕ) (v : Val) → i < length told → failing_child means table s as_struct i (Some v) ≡ None
+  pub passes_all : (i : ℕ) (v : Val) → i < length told → failing_child means table s as_struct i (Some v) ≡ None
   passes_all i v h =
       let one : (x : FieldPlan) × (slice_get told i ≡ Some x) = item_at told i h in
       let is : IsTold table plan s i one.0 = told_here table plan s i told one.0 are one.1 in

@@ -1,8 +1,14 @@
 pub mod BodyLaws
 pub mod CellLaws
+pub mod DefaultLaws
+pub mod DefaultedLaws
 pub mod FillLaws
 pub mod HeapLaws
 pub mod LackLaws
+pub mod OwnLackLaws
 pub mod PlaceLaws
+pub mod ReleaseLaws
 pub mod ToldLaws
+pub mod ValidLaws
+pub mod WhyDefaultLaws
 pub mod WhyLaws

@@ -4,6 +4,7 @@ pub mod Changes
 pub mod Closed
 pub mod Completing
 pub mod Defaults
+pub mod FieldDefaults
 pub mod Filling
 pub mod Heap
 pub mod Kids

@@ -11,11 +11,15 @@ ghost use Rattle.fr_frame.specs.Changes.{Becomes, IfInUse, IsInUse, SameTokens, 
 ghost use Rattle.fr_frame.specs.Closed.{IsClosedAt};
 ghost use Rattle.fr_frame.specs.Completing.{shape_of, takes_template, FillsAt, IsPlanFor, MayComplete};
 ghost use Rattle.fr_frame.specs.Defaults.{defaulted, invalid, left_out, unmet, KeepsForm, WhyNotDefault};
+ghost use Rattle.fr_frame.specs.FieldDefaults.{IsPlanned};
 ghost use Rattle.fr_frame.specs.Filling.{IsCauseOf};
 ghost use Rattle.fr_frame.specs.Heap.{heap_of};
 
+use crate::default_filling::default_piece;
+use crate::leftovers::test_full;
 use crate::places::SlotId;
 use crate::slots::Slots;
+use crate::validating::test_valid;
 use fr_plan::TypePlanCore;
 use fr_shape::{Hooks, ReflectErrorKind, ShapeTable};
 
@@ -48,10 +52,11 @@ impl SlotId {
         ensures tokens { SameTokens slots.old slots.new }
     {
         let _hooks = hooks;
-        let _plan = plan;
-        let _table = table;
-        let _slots = slots;
-        Err(ReflectErrorKind::OutOfMemory)
+        let alloc = slots.alloc();
+        let mut place = slots.lift_out(self);
+        let result = default_piece(alloc, table, plan, place.node, &mut place.piece);
+        slots.lower(self, place);
+        result
     }
 
     /// Tests that nothing of the place is left out: that it isn't just entered, and that each child is there. Takes no memory.
@@ -73,10 +78,10 @@ impl SlotId {
         ensures unchanged { slots.new ≡ slots.old }
     {
         let _hooks = hooks;
-        let _plan = plan;
-        let _table = table;
-        let _slots = slots;
-        Err(ReflectErrorKind::OutOfMemory)
+        match slots.place(self) {
+            Some(place) => test_full(table, plan, place.node, &place.piece),
+            None => unreachable!(),
+        }
     }
 
     /// Runs the validators of the fields of a place whose children are all there, in index order. At a whole place, and at any
@@ -87,6 +92,7 @@ impl SlotId {
         plan: &TypePlanCore,
         hooks: &H,
     ) -> Result<(), ReflectErrorKind>
+        requires planned { IfInUse slots.now self.0 (λ at. IsPlanned plan.now at.node) }
         requires full { IfInUse slots.now self.0 (λ at. IsSome (value_of at.body)) }
         ensures passing { OnOk result (IfInUse slots.now self.0 (λ at.
             (table : Table) → IsChecked table → IsPlanFor table plan.now
@@ -98,10 +104,10 @@ impl SlotId {
             → IsCauseOf (invalid (H.means hooks.now) table (shape_of plan.now at.node) at.body)
             kind)) }
     {
-        let _hooks = hooks;
-        let _plan = plan;
-        let _slots = slots;
-        Err(ReflectErrorKind::OutOfMemory)
+        match slots.place(self) {
+            Some(place) => test_valid(slots.alloc(), plan, hooks, place.node, &place.piece),
+            None => unreachable!(),
+        }
     }
 
     /// Completes the place by the rules of the end of deferred mode, so that its value can be taken out: fills, then that nothing

@@ -25,7 +25,7 @@ use fr_shape::{Def, FieldRef, Hooks, ReflectErrorKind, ShapeTable, Value};
 use std::alloc::Global;
 
 /// Runs validators of a field on its value, in their order.
-fn run_validators<H: Hooks>(
+pub(crate) fn run_validators<H: Hooks>(
     alloc: Global,
     hooks: &H,
     validators: &[PrecomputedValidator],
@@ -150,7 +150,7 @@ fn test_fields<H: Hooks>(
 }
 
 /// Whether no field has a validator.
-fn has_no_validators(told: &[FieldPlan]) -> bool
+pub(crate) fn has_no_validators(told: &[FieldPlan]) -> bool
     ensures { result ≡ true → HaveNoValidators told.now }
 {
     for field in told {
@@ -206,7 +206,7 @@ fn test_entered<H: Hooks>(
 }
 
 /// Tests an array, each of whose elements is given or not there: all have to be there.
-fn test_elements(
+pub(crate) fn test_elements(
     plan: &TypePlanCore,
     node: NodeId,
     children: &Children,

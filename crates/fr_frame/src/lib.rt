@@ -7,12 +7,15 @@
 mod changing;
 mod children;
 mod completing;
+mod default_filling;
 mod defaulting;
 mod entering;
+mod field_defaults;
 mod field_plans;
 mod filling;
 mod lacking;
 mod leaving;
+mod leftovers;
 mod linking;
 mod pieces;
 mod places;
@@ -20,6 +23,7 @@ mod slots;
 mod storing;
 #[cfg(test)]
 mod tests;
+mod validating;
 
 pub use children::Children;
 pub use places::{Form, FrameOwner, Piece, Place, Slot, SlotId};

@@ -1,7 +1,10 @@
 //! Slots with ample memory.
 use crate::*;
 use fr_plan::TypePlanCore;
-use fr_shape::{Def, Items, PlanError, ScalarKind, Shape, ShapeId, ShapeTable, Text};
+use fr_shape::{
+    Def, DefaultSource, Field, Items, NoHooks, PlanError, ReflectErrorKind, ScalarKind, Shape,
+    ShapeId, ShapeTable, StructDef, StructKind, Template, Text, ValidatorDef, Value,
+};
 use std::alloc::Global;
 use std::process::Abort;
 
@@ -17,8 +20,8 @@ fn array_table(rt: &impl Abort, alloc: Global, count: u32) -> ShapeTable {
     ShapeTable::new(alloc, shapes)
 }
 
-/// The plan of the array.
-fn array_plan(alloc: Global, table: &ShapeTable) -> Result<TypePlanCore, PlanError> {
+/// The plan of the second shape.
+fn plan_of(alloc: Global, table: &ShapeTable) -> Result<TypePlanCore, PlanError> {
     if table.len() > u32::MAX as usize || table.len() < 2 {
         return Err(PlanError::OutOfMemory);
     }
@@ -32,7 +35,7 @@ fn array_plan(alloc: Global, table: &ShapeTable) -> Result<TypePlanCore, PlanErr
 fn a_slot_that_was_freed_serves_again(rt: HostRuntime) {
     let alloc = rt.alloc();
     let table = array_table(&rt, alloc, 3);
-    let plan = array_plan(alloc, &table).ok().expect(&rt, "no plan");
+    let plan = plan_of(alloc, &table).ok().expect(&rt, "no plan");
     let mut slots = Slots::new(alloc);
     let root = plan.root_id();
     let first = slots.enter(&table, &plan, root, FrameOwner::Root);
@@ -61,4 +64,67 @@ fn a_wide_array_is_begun(rt: HostRuntime) {
         children.clear(100);
     }
     assert!(&rt; !children.are_all_there());
+}
+
+/// The table of u64 and a struct with one of them, which is at least 5 and takes this default.
+fn number_table(rt: &impl Abort, alloc: Global, default: u128) -> ShapeTable {
+    let mut shapes = Items::new(alloc);
+    let number = Text::new(alloc, "u64").ok().expect(rt, "no memory");
+    let scalar = Shape::new(alloc, number, Def::Scalar(ScalarKind::U64));
+    shapes.push(scalar).ok().expect(rt, "no memory");
+    let name = Text::new(alloc, "v").ok().expect(rt, "no memory");
+    let mut field = Field::new(alloc, name, ShapeId(0));
+    field.default = Some(DefaultSource::Custom(Template::new(Value::Nat(default))));
+    let pushed = field.validators.push(ValidatorDef::Min(5));
+    pushed.ok().expect(rt, "no memory");
+    let mut fields = Items::new(alloc);
+    fields.push(field).ok().expect(rt, "no memory");
+    let record = Text::new(alloc, "Record").ok().expect(rt, "no memory");
+    let def = Def::Struct(StructDef {
+        kind: StructKind::Struct,
+        fields,
+    });
+    let shape = Shape::new(alloc, record, def);
+    shapes.push(shape).ok().expect(rt, "no memory");
+    ShapeTable::new(alloc, shapes)
+}
+
+/// What completing an entered struct by defaults ends in, and whether it then has all fields.
+fn completed(
+    rt: &impl Abort,
+    alloc: Global,
+    default: u128,
+) -> (Result<(), ReflectErrorKind>, bool) {
+    let table = number_table(rt, alloc, default);
+    if table.len() > u32::MAX as usize || table.len() < 2 {
+        panic!(rt; "no table");
+    }
+    table.check().ok().expect(rt, "no table");
+    let plan = TypePlanCore::from_shape(alloc, &table, ShapeId(1));
+    let plan = plan.ok().expect(rt, "no plan");
+    let mut slots = Slots::new(alloc);
+    let id = slots.enter(&table, &plan, plan.root_id(), FrameOwner::Root);
+    let id = id.ok().expect(rt, "no memory");
+    let result = id.complete_by_defaults(&mut slots, &table, &plan, &NoHooks);
+    let place = slots.place(id).expect(rt, "no place");
+    let full = match &place.piece {
+        Piece::Begun(_, children) => children.are_all_there(),
+        Piece::Entered | Piece::Whole(_) => false,
+    };
+    (result, full)
+}
+
+#[test]
+fn a_field_takes_its_default(rt: HostRuntime) {
+    let (result, full) = completed(&rt, rt.alloc(), 7);
+    assert!(&rt; result.is_ok());
+    assert!(&rt; full);
+}
+
+#[test]
+fn a_default_is_validated(rt: HostRuntime) {
+    let (result, full) = completed(&rt, rt.alloc(), 1);
+    let why = result.err().expect(&rt, "no refusal");
+    assert!(&rt; matches!(why, ReflectErrorKind::ValidationFailed { .. }));
+    assert!(&rt; full);
 }

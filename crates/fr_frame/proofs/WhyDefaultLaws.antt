@@ -1,0 +1,85 @@
+-- Why a place isn't completed by the rules of the end of deferred mode, and what it holds where it is.
+use Rattle.std.proofs.Common.{◌≡◌, ◌⊎◌, ℕ, true, Option, Some, None, IsSome, IsSomeAnd, inl, inr, refl, sym, ◌∙◌, ap, subst}
+use Rattle.std.specs.Option.{option_or}
+use Rattle.fr_shape.specs.declared.error.ReflectErrorKind.{ReflectErrorKind}
+use Rattle.fr_shape.specs.Hooks.{Meanings}
+use Rattle.fr_shape.specs.Look.{Table}
+use Rattle.fr_shape.specs.Val.{Val}
+use Rattle.fr_model.specs.Failing.{own_lack}
+use Rattle.fr_model.specs.Places.{deferred_column}
+use Rattle.fr_frame.specs.Bodies.{Body, entered_body, whole_body, begun_body, own_tree, value_of, IsClosed}
+use Rattle.fr_frame.specs.Cells.{values_of}
+use Rattle.fr_frame.specs.Completing.{takes_template, IsFilled, IsOfValidator}
+use Rattle.fr_frame.specs.Defaults.{defaulted, invalid, left_out, unmet, KeepsForm, WhyNotDefault}
+use Rattle.fr_frame.specs.Filling.{IsCauseOf}
+use Rattle.fr_frame.proofs.LackLaws.{first_none}
+use Rattle.fr_frame.proofs.DefaultLaws.{closed_after, none_absent_there, made_of_values}
+use Rattle.fr_frame.proofs.OwnLackLaws.{own_lack_is, own_nothing, own_whole}
+
+pub keeps_form : (table : Table) (s : ℕ) (body : Body) → KeepsForm body (defaulted table s body)
+keeps_form table s entered_body = tt
+keeps_form table s (whole_body v) = refl
+keeps_form table s (begun_body form cells) = refl
+
+-- a place that leaves nothing out has a value
+pub value_there : (s : ℕ) (body : Body) → IsClosed body → left_out s body ≡ None → IsSome (value_of body)
+value_there s entered_body closed e = absurd (cc)
+value_there s (whole_body v) closed e = refl
+value_there s (begun_body form cells) closed e = made_of_values form (values_of cells) (none_absent_there s form 0 cells closed e)
+
+module _ (means : Meanings) (table : Table) (s : ℕ) (body : Body) (closed : IsClosed body) where
+  abbrev then : Body
+  then = defaulted table s body
+
+  abbrev lacking : Option ReflectErrorKind
+  lacking = own_lack means table s (own_tree body)
+
+  lacks : (kind : ReflectErrorKind) → lacking ≡ Some kind → WhyNotDefault means table s body kind
+  lacks kind e = inl (record { incomplete = own_nothing means table s body kind closed e; lacks = e })
+
+  lacks_left : unmet table s body ≡ None → lacking ≡ option_or (left_out s then) (invalid means table s then)
+  lacks_left met =
+      own_lack_is means table s body closed
+      ∙ first_none (unmet table s body) (option_or (left_out s then) (invalid means table s then)) met
+
+  lacks_invalid : unmet table s body ≡ None → left_out s then ≡ None → lacking ≡ invalid means table s then
+  lacks_invalid met full = lacks_left met ∙ first_none (left_out s then) (invalid means table s then) full
+
+  pub why_unmet : (kind : ReflectErrorKind)
+      → ((kind ≡ ReflectErrorKind.OutOfMemory) × (takes_template body ≡ true)) ⊎ (unmet table s body ≡ Some kind)
+      → WhyNotDefault means table s body kind
+  why_unmet kind (inl h) = inr (record { memory = h.0; needed = inl h.1 })
+  why_unmet kind (inr e) =
+      lacks kind
+      (own_lack_is means table s body closed
+      ∙ ap (λ (o : Option ReflectErrorKind). option_or o (option_or (left_out s then) (invalid means table s then))) e)
+
+  pub why_left : (kind : ReflectErrorKind) → unmet table s body ≡ None → left_out s then ≡ Some kind
+      → WhyNotDefault means table s body kind
+  why_left kind met e =
+      lacks kind (lacks_left met ∙ ap (λ (o : Option ReflectErrorKind). option_or o (invalid means table s then)) e)
+
+  pub why_invalid : (kind : ReflectErrorKind) → unmet table s body ≡ None → left_out s then ≡ None
+      → IsCauseOf (invalid means table s then) kind → WhyNotDefault means table s body kind
+  why_invalid kind met full (inl e) = lacks kind (lacks_invalid met full ∙ e)
+  why_invalid kind met full (inr h) =
+      inr (record {
+        memory = h.0;
+        needed = inr (subst (λ (o : Option ReflectErrorKind). IsSomeAnd o IsOfValidator) (sym (lacks_invalid met full)) h.1);
+      })
+
+  pub filled_after : unmet table s body ≡ None → left_out s then ≡ None → invalid means table s then ≡ None
+      → IsFilled deferred_column means table s body then
+  filled_after met full valid =
+      go (value_of then) refl (own_whole means table s body closed (lacks_invalid met full ∙ valid)).1
+    where
+      go : (made : Option Val) → value_of then ≡ made → IsSome made → IsFilled deferred_column means table s body then
+      go None e some = absurd (cc)
+      go (Some v) e some = record {
+        value = v;
+        meant = (own_whole means table s body closed (lacks_invalid met full ∙ valid)).0 ∙ e;
+        held = e;
+      }
+
+  pub there_after : left_out s then ≡ None → IsSome (value_of then)
+  there_after full = value_there s then (closed_after table s body closed) full

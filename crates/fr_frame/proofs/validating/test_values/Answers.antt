@@ -1,0 +1,59 @@
+use Rattle.std.proofs.Common.{◌≡◌, length, ◌∙◌, arith}
+use Rattle.std.specs.Prelude.{IfErr}
+use Rattle.std.specs.Option.{option_map, option_copied}
+use Rattle.std.proofs.lemmas.Grind.{common_steps}
+use Rattle.fr_shape.specs.Look.{Table}
+use Rattle.fr_shape.specs.View.{view}
+use Rattle.fr_model.specs.Failing.{first_invalid}
+use Rattle.fr_model.specs.Tree.{as_struct}
+use Rattle.fr_frame.specs.Bodies.{trees_of}
+use Rattle.fr_frame.specs.Completing.{shape_of}
+use Rattle.fr_frame.specs.FieldDefaults.{refused_of, IsStructOf}
+use Rattle.fr_frame.specs.Filling.{AreTold, IsCauseOf}
+use Rattle.fr_frame.proofs.LackLaws.{err_so}
+use Rattle.fr_frame.proofs.ValidLaws.{all_valid, valid_preserved, valid_cause}
+use Rattle.fr_frame.proofs.validating.test_values.Goals as goal
+
+pub returns-then-has_no_validators-clause-passing : goal.returns-then-has_no_validators-clause-passing
+returns-then-has_no_validators-clause-passing g c table so =
+    let are : AreTold table c.args.plan.now (shape_of c.args.plan.now c.args.node) c.fields_told-told.result.now
+    = c.fields_told-told.ensures.told table so.checked so.planned so.inside in
+    let count : length c.args.children.now ≡ length c.fields_told-told.result.now
+    = are.count (length c.args.children.now) so.full in
+    all_valid (g.H.Hooks.means c.args.hooks.now) table c.args.plan.now (shape_of c.args.plan.now c.args.node)
+    c.fields_told-told.result.now are (c.has_no_validators.ensures c.if-has_no_validators.true) 0 c.args.children.now (omega arith)
+    c.requires.there
+
+pub returns-in_err-test_value-clause-failing : goal.returns-in_err-test_value-clause-failing
+returns-in_err-test_value-clause-failing g c =
+    let failing : IfErr c.test_value.result (λ kind. (table : Table) → IsStructOf table c.args.plan.now c.args.node c.args.children.now
+    → IsCauseOf (first_invalid (g.H.Hooks.means c.args.hooks.now) table (shape_of c.args.plan.now c.args.node) as_struct 0
+    (trees_of c.args.children.now)) kind)
+    = err_so c.test_value.result
+    (IsCauseOf (refused_of (g.H.Hooks.means c.args.hooks.now) c.args.plan.now (option_copied c.told_at.result)
+    (option_map view (option_copied c.value.result))))
+    (λ kind. (table : Table) → IsStructOf table c.args.plan.now c.args.node c.args.children.now
+    → IsCauseOf (first_invalid (g.H.Hooks.means c.args.hooks.now) table (shape_of c.args.plan.now c.args.node) as_struct 0
+    (trees_of c.args.children.now)) kind)
+    (λ kind cause table so.
+    let are : AreTold table c.args.plan.now (shape_of c.args.plan.now c.args.node) c.fields_told-told.result.now
+    = c.fields_told-told.ensures.told table so.checked so.planned so.inside in
+    let count : length c.args.children.now ≡ length c.fields_told-told.result.now
+    = are.count (length c.args.children.now) so.full in
+    valid_cause (g.H.Hooks.means c.args.hooks.now) table c.args.plan.now (shape_of c.args.plan.now c.args.node)
+    c.fields_told-told.result.now are c.args.children.now count c.requires.there c.loop-i.i (option_copied c.told_at.result)
+    (option_map view (option_copied c.value.result)) (omega arith) c.told_at.ensures c.value.ensures
+    (c.loop-i.invariant table so) kind cause)
+    c.test_value.ensures.failing in
+    grind (arith, common_steps)
+
+pub loop-i-preserved : goal.loop-i-preserved
+loop-i-preserved g c table so =
+    let are : AreTold table c.args.plan.now (shape_of c.args.plan.now c.args.node) c.fields_told-told.result.now
+    = c.fields_told-told.ensures.told table so.checked so.planned so.inside in
+    let count : length c.args.children.now ≡ length c.fields_told-told.result.now
+    = are.count (length c.args.children.now) so.full in
+    c.loop-i.invariant table so
+    ∙ valid_preserved (g.H.Hooks.means c.args.hooks.now) table c.args.plan.now (shape_of c.args.plan.now c.args.node)
+    c.fields_told-told.result.now are c.args.children.now count c.requires.there c.loop-i.i (option_copied c.told_at.result)
+    (option_map view (option_copied c.value.result)) (omega arith) c.told_at.ensures c.value.ensures c.in_ok-test_value.ensures.passing

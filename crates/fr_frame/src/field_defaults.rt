@@ -1,0 +1,83 @@
+//! What the holes of a struct take by the rules of the end of deferred mode, field by field.
+ghost use Rattle.std.specs.Prelude.{◌≡◌, None, Some, IfErr, IfOk, OnOk};
+ghost use Rattle.std.specs.Option.{option_copied, option_map};
+ghost use Rattle.fr_shape.specs.Checked.{IsChecked};
+ghost use Rattle.fr_shape.specs.View.{view};
+ghost use Rattle.fr_model.specs.Complete.{hole_takes};
+ghost use Rattle.fr_model.specs.Failing.{unmet_mark};
+ghost use Rattle.fr_model.specs.Places.{deferred_column};
+ghost use Rattle.fr_model.specs.Tree.{as_struct};
+ghost use Rattle.fr_frame.specs.FieldDefaults.{unmet_child, NamesField};
+
+use fr_plan::FieldPlan;
+use fr_rules::{DeferredFill, deferred_fill};
+use fr_shape::{
+    FieldRef, OutOfMemory, ReflectErrorKind, ShapeTable, Template, Value, clone_template,
+};
+use std::alloc::Global;
+
+/// The template that a field's hole takes, if it takes any.
+fn default_of(table: &ShapeTable, meant: FieldRef) -> Option<&Template>
+    requires named { NamesField table.now meant }
+    ensures { option_copied result
+        ≡ hole_takes deferred_column table.now meant.shape.0 as_struct meant.index }
+{
+    match deferred_fill(table, meant) {
+        DeferredFill::Template(default) => default.template(table),
+        DeferredFill::MarkedWithoutDefault | DeferredFill::Missing => None,
+    }
+}
+
+/// A copy of what a field's hole takes, if it takes anything.
+pub(crate) fn copy_default(
+    alloc: Global,
+    table: &ShapeTable,
+    meant: FieldRef,
+) -> Result<Option<Value>, OutOfMemory>
+    requires checked { IsChecked table.now }
+    requires named { NamesField table.now meant }
+    ensures { IfOk result (λ copy. option_map view copy
+        ≡ hole_takes deferred_column table.now meant.shape.0 as_struct meant.index) }
+{
+    match default_of(table, meant) {
+        Some(template) => Ok(Some(clone_template(alloc, template.value())?)),
+        None => Ok(None),
+    }
+}
+
+/// Tests that a field isn't marked to take a default that there isn't.
+fn test_mark(table: &ShapeTable, meant: FieldRef) -> Result<(), ReflectErrorKind>
+    requires named { NamesField table.now meant }
+    ensures passing { OnOk result
+        (unmet_mark table.now meant.shape.0 as_struct meant.index ≡ None) }
+    ensures failing { IfErr result (λ kind.
+        unmet_mark table.now meant.shape.0 as_struct meant.index ≡ Some kind) }
+{
+    let Some(field) = table.field(meant) else {
+        unreachable!()
+    };
+    match deferred_fill(table, meant) {
+        DeferredFill::Template(_) | DeferredFill::Missing => Ok(()),
+        DeferredFill::MarkedWithoutDefault => {
+            Err(ReflectErrorKind::DefaultAttrButNoDefaultImpl { shape: field.shape })
+        }
+    }
+}
+
+/// The same of a field that isn't there.
+pub(crate) fn test_child_mark(
+    table: &ShapeTable,
+    told: &FieldPlan,
+    own: Option<&Value>,
+) -> Result<(), ReflectErrorKind>
+    requires named { NamesField table.now told.now.field }
+    ensures passing { OnOk result (unmet_child table.now told.now.field.shape.0
+        as_struct told.now.field.index (option_map view (option_copied own.entry)) ≡ None) }
+    ensures failing { IfErr result (λ kind. unmet_child table.now told.now.field.shape.0
+        as_struct told.now.field.index (option_map view (option_copied own.entry)) ≡ Some kind) }
+{
+    match own {
+        Some(_) => Ok(()),
+        None => test_mark(table, told.field),
+    }
+}

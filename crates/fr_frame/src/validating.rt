@@ -1,0 +1,126 @@
+//! Running the validators of a place whose children are all there. What a plan says of its fields is read without a table, and
+//! holds for every table that it is a plan of.
+ghost use Rattle.std.specs.Prelude.{◌≡◌, ◌<◌, ℕ, length, slice_get, None, IfErr, IsSome, OnOk};
+ghost use Rattle.std.specs.Option.{option_copied, option_map};
+ghost use Rattle.fr_shape.specs.Checked.{IsChecked};
+ghost use Rattle.fr_shape.specs.Look.{Table};
+ghost use Rattle.fr_shape.specs.View.{view};
+ghost use Rattle.fr_model.specs.Failing.{first_invalid};
+ghost use Rattle.fr_model.specs.Tree.{as_struct};
+ghost use Rattle.fr_frame.specs.Bodies.{trees_of, value_of};
+ghost use Rattle.fr_frame.specs.Cells.{values_of};
+ghost use Rattle.fr_frame.specs.Completing.{shape_of, IsFull, IsPlanFor};
+ghost use Rattle.fr_frame.specs.Defaults.{invalid};
+ghost use Rattle.fr_frame.specs.FieldDefaults.{refused_of, HasValidators, IsPlanned, IsStructOf};
+ghost use Rattle.fr_frame.specs.Filling.{AreTold, IsCauseOf};
+ghost use Rattle.fr_frame.specs.Heap.{body_of};
+
+use crate::children::Children;
+use crate::lacking::{has_no_validators, run_validators};
+use crate::places::{Form, Piece};
+use fr_plan::{FieldPlan, NodeId, TypePlanCore, law_plan_lookups};
+use fr_shape::{Hooks, ReflectErrorKind, Value};
+use std::alloc::Global;
+
+/// The plans of the fields of a struct, as the plan has them.
+fn fields_told(plan: &TypePlanCore, node: NodeId) -> &[FieldPlan]
+    requires { IsPlanned plan.now node }
+    ensures told { (table : Table) → IsChecked table → IsPlanFor table plan.now
+        → node.0 < length plan.now.nodes
+        → AreTold table plan.now (shape_of plan.now node) result.now }
+    ensures validators { (i : ℕ) → HasValidators plan.now (slice_get result.now i) }
+{
+    law_plan_lookups();
+    match plan.struct_plan_by_id(node) {
+        Some(described) => plan.fields(described.fields),
+        None => &[],
+    }
+}
+
+/// What is told of the field of this number, if there is one.
+fn told_at(told: &[FieldPlan], i: usize) -> Option<&FieldPlan>
+    ensures { option_copied result ≡ slice_get told.now i }
+{
+    told.get(i)
+}
+
+/// Runs the validators that are told of a field on its value, in their order.
+fn test_value<H: Hooks>(
+    alloc: Global,
+    plan: &TypePlanCore,
+    hooks: &H,
+    told: Option<&FieldPlan>,
+    own: Option<&Value>,
+) -> Result<(), ReflectErrorKind>
+    requires validators { HasValidators plan.now (option_copied told) }
+    ensures passing { OnOk result (refused_of (H.means hooks.now) plan.now (option_copied told.entry)
+        (option_map view (option_copied own.entry)) ≡ None) }
+    ensures failing { IfErr result (IsCauseOf (refused_of (H.means hooks.now) plan.now
+        (option_copied told.entry) (option_map view (option_copied own.entry)))) }
+{
+    let Some(told) = told else {
+        return Ok(());
+    };
+    let Some(value) = own else {
+        return Ok(());
+    };
+    let validators = plan.validators(told.validators);
+    run_validators(alloc, hooks, validators, value, told.field)
+}
+
+/// Runs the validators of a struct's fields, all of which are there.
+fn test_values<H: Hooks>(
+    alloc: Global,
+    plan: &TypePlanCore,
+    hooks: &H,
+    node: NodeId,
+    children: &Children,
+) -> Result<(), ReflectErrorKind>
+    requires planned { IsPlanned plan.now node }
+    requires there { IsSome (values_of children.now) }
+    ensures passing { OnOk result ((table : Table) → IsStructOf table plan.now node children.now
+        → first_invalid (H.means hooks.now) table (shape_of plan.now node) as_struct 0
+        (trees_of children.now) ≡ None) }
+    ensures failing { IfErr result (λ kind. (table : Table)
+        → IsStructOf table plan.now node children.now
+        → IsCauseOf (first_invalid (H.means hooks.now) table (shape_of plan.now node) as_struct 0
+        (trees_of children.now)) kind) }
+{
+    let told = fields_told(plan, node);
+    if has_no_validators(told) {
+        return Ok(());
+    }
+    for i in 0..children.len() {
+        test_value(alloc, plan, hooks, told_at(told, i), children.value(i))?;
+    }
+    Ok(())
+}
+
+/// Runs the validators of the fields of a place. Where no field has any, no child is looked at.
+pub(crate) fn test_valid<H: Hooks>(
+    alloc: Global,
+    plan: &TypePlanCore,
+    hooks: &H,
+    node: NodeId,
+    piece: &Piece,
+) -> Result<(), ReflectErrorKind>
+    requires planned { IsPlanned plan.now node }
+    requires there { IsSome (value_of (body_of piece.now)) }
+    ensures passing { OnOk result ((table : Table) → IsChecked table → IsPlanFor table plan.now
+        → node.0 < length plan.now.nodes
+        → IsFull table (shape_of plan.now node) (body_of piece.now)
+        → invalid (H.means hooks.now) table (shape_of plan.now node) (body_of piece.now) ≡ None) }
+    ensures failing { IfErr result (λ kind. (table : Table) → IsChecked table
+        → IsPlanFor table plan.now → node.0 < length plan.now.nodes
+        → IsFull table (shape_of plan.now node) (body_of piece.now)
+        → IsCauseOf (invalid (H.means hooks.now) table (shape_of plan.now node)
+        (body_of piece.now)) kind) }
+{
+    match piece {
+        Piece::Entered | Piece::Whole(_) => Ok(()),
+        Piece::Begun(form, children) => match *form {
+            Form::Struct => test_values(alloc, plan, hooks, node, children),
+            Form::Array => Ok(()),
+        },
+    }
+}
