@@ -1,9 +1,7 @@
 use Rattle.std.proofs.Common.{◌≡◌, Some, None, IsSome, sym, ◌∙◌, ap}
 use Rattle.fr_model.specs.Complete.{missing_value}
-use Rattle.fr_model.specs.Tree.{as_array}
 use Rattle.fr_frame.specs.declared.places.Form.{Form}
 use Rattle.fr_frame.specs.declared.places.Piece.{Piece}
-use Rattle.fr_frame.specs.Bodies.{IsClosed}
 use Rattle.fr_frame.specs.Cells.{values_of}
 use Rattle.fr_frame.specs.Completing.{shape_of}
 use Rattle.fr_frame.specs.Defaults.{first_absent, left_out}

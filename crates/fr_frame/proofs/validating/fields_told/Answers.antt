@@ -1,4 +1,4 @@
-use Rattle.std.proofs.Common.{◌≡◌, ℕ, Option, Some, None, sym, subst}
+use Rattle.std.proofs.Common.{ℕ, Option, Some, None, sym, subst}
 use Rattle.std.specs.Prelude.{slice_get}
 use Rattle.fr_plan.specs.declared.plans.FieldPlan.{FieldPlan}
 use Rattle.fr_plan.specs.TypePlan.{Plan}

@@ -1,6 +1,7 @@
 use Rattle.std.proofs.Common.{◌≡◌, ◌⊎◌, inl, inr, set, arith}
 use Rattle.std.proofs.lemmas.Result.{on_ok_weaker, IfErr-weaker}
 use Rattle.fr_shape.specs.declared.error.ReflectErrorKind.{ReflectErrorKind}
+use Rattle.fr_model.specs.Places.{strict_column}
 use Rattle.fr_frame.specs.declared.places.Slot.{Slot}
 use Rattle.fr_frame.specs.Heap.{body_of, heap_of}
 use Rattle.fr_frame.specs.Changes.{Shows}
@@ -14,7 +15,7 @@ returns-clause-filled g c =
     on_ok_weaker c.fill_piece.result
     (λ filled.
     of_place c.args.slots.now c.args.self.0 c.place_mut-place.result.now c.place_mut-place.ensures.value
-    (FillsAt (g.H.Hooks.means c.args.hooks.now) c.args.table.now c.args.plan.now c.args.slots.now
+    (FillsAt strict_column (g.H.Hooks.means c.args.hooks.now) c.args.table.now c.args.plan.now c.args.slots.now
     (set c.args.slots.now c.args.self.0 (Slot.Used (repieced c.place_mut-place.result.now c.fill_piece.new.piece)))
     c.args.self.0)
     (record {
