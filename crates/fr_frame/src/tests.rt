@@ -1,4 +1,8 @@
 //! Slots with ample memory.
+ghost use Rattle.std.specs.Prelude.{IfOk, OnOk};
+ghost use Rattle.fr_shape.specs.Checked.{IsChecked};
+ghost use Rattle.fr_frame.specs.Completing.{IsPlanFor};
+
 use crate::*;
 use fr_plan::TypePlanCore;
 use fr_shape::{
@@ -21,7 +25,10 @@ fn array_table(rt: &impl Abort, alloc: Global, count: u32) -> ShapeTable {
 }
 
 /// The plan of the second shape.
-fn plan_of(alloc: Global, table: &ShapeTable) -> Result<TypePlanCore, PlanError> {
+fn plan_of(alloc: Global, table: &ShapeTable) -> Result<TypePlanCore, PlanError>
+    ensures checked { OnOk result (IsChecked table.now) }
+    ensures plan { IfOk result (IsPlanFor table.now) }
+{
     if table.len() > u32::MAX as usize || table.len() < 2 {
         return Err(PlanError::OutOfMemory);
     }
@@ -96,15 +103,13 @@ fn completed(
     default: u128,
 ) -> (Result<(), ReflectErrorKind>, bool) {
     let table = number_table(rt, alloc, default);
-    if table.len() > u32::MAX as usize || table.len() < 2 {
-        panic!(rt; "no table");
-    }
-    table.check().ok().expect(rt, "no table");
-    let plan = TypePlanCore::from_shape(alloc, &table, ShapeId(1));
-    let plan = plan.ok().expect(rt, "no plan");
+    let Ok(plan) = plan_of(alloc, &table) else {
+        panic!(rt; "no plan");
+    };
     let mut slots = Slots::new(alloc);
-    let id = slots.enter(&table, &plan, plan.root_id(), FrameOwner::Root);
-    let id = id.ok().expect(rt, "no memory");
+    let Ok(id) = slots.enter(&table, &plan, plan.root_id(), FrameOwner::Root) else {
+        panic!(rt; "no memory");
+    };
     let result = id.complete_by_defaults(&mut slots, &table, &plan, &NoHooks);
     let place = slots.place(id).expect(rt, "no place");
     let full = match &place.piece {
