@@ -1,5 +1,5 @@
 -- Fills by the rules of the end of deferred mode, child by child.
-use Rattle.std.proofs.Common.{◌≡◌, ◌⊎◌, inl, inr, ℕ, zero, suc, ◌+◌, ◌<◌, ◌≤◌, List, [], ◌∷◌, length, drop, replicate, Option, Some, None, IsSome, slice_get, set, refl, sym, ◌∙◌, ap, subst, arith}
+use Rattle.std.proofs.Common.{◌≡◌, ◌⊎◌, inl, inr, ℕ, zero, suc, ◌+◌, ◌<◌, ◌≤◌, List, [], ◌∷◌, length, drop, replicate, Option, Some, None, IsSome, set, refl, sym, ◌∙◌, ap, subst, arith}
 use Rattle.std.specs.Option.{option_or}
 use Rattle.std.specs.Prelude.{Result, Ok, Err, IfErr, OnErr, OnOk}
 use Rattle.fr_shape.specs.declared.error.ReflectErrorKind.{ReflectErrorKind}
@@ -8,7 +8,7 @@ use Rattle.fr_shape.specs.declared.shape.FieldRef.{FieldRef}
 use Rattle.fr_shape.specs.Checked.{IsChecked}
 use Rattle.fr_shape.specs.Fills.{preset_of}
 use Rattle.fr_shape.specs.Look.{Table, def_of, field_in}
-use Rattle.fr_shape.specs.Tokens.{tokens, occurs}
+use Rattle.fr_shape.specs.Tokens.{tokens}
 use Rattle.fr_shape.specs.Val.{Val, Vals}
 use Rattle.fr_model.specs.Complete.{hole_takes, made, missing_child, missing_value}
 use Rattle.fr_model.specs.Failing.{first_unmet}
@@ -20,7 +20,7 @@ use Rattle.fr_plan.specs.TypePlan.{Plan}
 use Rattle.fr_frame.specs.Bodies.{Body, entered_body, whole_body, begun_body, body_occurs, trees_of, AreUnplaced, IsClosed}
 use Rattle.fr_frame.specs.Cells.{Cell, absent, given, placed, value_of_cell, value_at, values_of, cell_occurs, cells_occur}
 use Rattle.fr_frame.specs.Completing.{IsFull}
-use Rattle.fr_frame.specs.Defaults.{defaulted, defaulted_by, defaulted_cell, defaulted_cells, defaulted_struct, first_absent, unmet_entered}
+use Rattle.fr_frame.specs.Defaults.{defaulted, defaulted_by, defaulted_cell, defaulted_cells, defaulted_struct, first_absent}
 use Rattle.fr_frame.specs.FieldDefaults.{unmet_child, defaulted_nth, defaulted_first, NamesField}
 use Rattle.fr_frame.specs.Filling.{IsTold}
 use Rattle.fr_frame.proofs.FillLaws.{fill_light, light_occurs, none_occur, none_placed, preset_light}

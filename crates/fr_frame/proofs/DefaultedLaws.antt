@@ -1,5 +1,5 @@
 -- A place in a slot that has taken its fills: what is left of it, and what that says of the place as it was.
-use Rattle.std.proofs.Common.{◌≡◌, ◌⊎◌, ℕ, ◌<◌, true, List, length, Option, Some, None, IsSome, IsSomeAnd, refl, sym, ◌∙◌, ap, subst}
+use Rattle.std.proofs.Common.{◌≡◌, ◌⊎◌, ℕ, true, List, Option, Some, None, IsSome, IsSomeAnd, refl, sym, ◌∙◌, subst}
 use Rattle.fr_shape.specs.declared.error.ReflectErrorKind.{ReflectErrorKind}
 use Rattle.fr_shape.specs.Checked.{IsChecked}
 use Rattle.fr_shape.specs.Hooks.{Meanings}

@@ -1,5 +1,5 @@
 -- What a place lacks and what it makes by the rules of the end of deferred mode, by what becomes of it as its holes take their fills.
-use Rattle.std.proofs.Common.{◌≡◌, ℕ, zero, suc, false, List, [], ◌∷◌, replicate, Option, Some, None, IsSome, refl, sym, ◌∙◌, ap, subst}
+use Rattle.std.proofs.Common.{◌≡◌, ℕ, suc, false, List, [], ◌∷◌, replicate, Option, Some, None, IsSome, refl, sym, ◌∙◌, ap}
 use Rattle.std.specs.Option.{option_or}
 use Rattle.fr_shape.specs.declared.error.ReflectErrorKind.{ReflectErrorKind}
 use Rattle.fr_shape.specs.declared.shape.Def.{Def}
@@ -16,7 +16,7 @@ use Rattle.fr_frame.specs.Bodies.{Body, entered_body, whole_body, begun_body, ow
 use Rattle.fr_frame.specs.Cells.{Cell, absent, given, placed, value_of_cell, values_of}
 use Rattle.fr_frame.specs.Defaults.{defaulted, defaulted_by, defaulted_cell, defaulted_cells, defaulted_struct, first_absent, invalid, left_out, unmet, unmet_entered}
 use Rattle.fr_frame.proofs.FillLaws.{none_placed}
-use Rattle.fr_frame.proofs.LackLaws.{first_none, made_none, made_there, no_children_made, or_none}
+use Rattle.fr_frame.proofs.LackLaws.{made_none, made_there, no_children_made, or_none}
 use Rattle.fr_frame.proofs.DefaultLaws.{all_closed, cell_closed, holes_are}
 
 -- One child.
