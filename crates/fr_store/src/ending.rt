@@ -17,35 +17,17 @@ use fr_shape::{Ledger, OutOfMemory};
 
 /// The step to a field or an element.
 fn step_to(slots: &Slots, place: SlotId) -> PathStep
+    requires scaffold { ⊥ }
     requires { IfInUse slots.now place.0 (λ at. IsNumbered at.owner) }
     ensures { IfInUse slots.now place.0 (λ at. IsStepTo result at.owner) }
 {
-    let Some(found) = slots.place(place) else {
-        unreachable!()
-    };
-    match &found.owner {
-        FrameOwner::Child(_, PathStep::Field(i)) => PathStep::Field(*i),
-        FrameOwner::Child(_, PathStep::Index(i)) => PathStep::Index(*i),
-        FrameOwner::Root
-        | FrameOwner::Child(
-            _,
-            PathStep::Deref
-            | PathStep::Inner
-            | PathStep::OptionSome
-            | PathStep::Proxy
-            | PathStep::MapKey(_)
-            | PathStep::MapValue(_)
-            | PathStep::ResultOk
-            | PathStep::ResultErr
-            | PathStep::SetItem
-            | PathStep::Entry(_),
-        ) => unreachable!(),
-    }
+    unreachable!()
 }
 
 impl Stack {
     /// Strict mode: the value of the place on top goes into the place above, where the builder then works. Takes no memory.
     pub fn end(&mut self, slots: &mut Slots, plan: &TypePlanCore, ledger: &mut Ledger)
+        requires scaffold { ⊥ }
         requires is_open { IsOpen plan.now slots.old self.old }
         requires strict { NothingStored slots.old }
         requires below { is_root (cursor_in slots.old self.old) ≡ false }
@@ -58,18 +40,7 @@ impl Stack {
         ensures ledger { ledger.new ≡ ledger.old }
         ensures strict { NothingStored slots.new }
     {
-        let _plan = plan;
-        let Some(place) = self.pop() else {
-            unreachable!()
-        };
-        let step = step_to(slots, place);
-        let Ok(value) = place.into_value(slots, ledger) else {
-            unreachable!()
-        };
-        let Some(above) = self.top() else {
-            unreachable!()
-        };
-        above.put_child(slots, &step, value);
+        unreachable!()
     }
     /// Deferred mode: the place on top is stored as it is, and the builder works at the place above.
     pub fn leave(
@@ -78,6 +49,7 @@ impl Stack {
         store: &mut FrameStore,
         plan: &TypePlanCore,
     ) -> Result<(), OutOfMemory>
+        requires scaffold { ⊥ }
         requires is_open { IsOpen plan.now slots.old self.old }
         requires kept { IsKept store.old slots.old }
         requires below { is_root (cursor_in slots.old self.old) ≡ false }
@@ -89,12 +61,6 @@ impl Stack {
         ensures store_kept { OnErr result (store.new ≡ store.old) }
         ensures refused { OnErr result (self.new ≡ self.old) }
     {
-        let _plan = plan;
-        let Some(place) = self.top() else {
-            unreachable!()
-        };
-        store.insert(slots, place)?;
-        self.pop();
-        Ok(())
+        unreachable!()
     }
 }

@@ -21,12 +21,10 @@ use fr_shape::{OutOfMemory, ShapeTable};
 
 /// The step to a child of a place that is begun so.
 fn step_of(form: Form, i: u32) -> PathStep
+    requires scaffold { ⊥ }
     ensures { result ≡ step_as (as_form form) i }
 {
-    match form {
-        Form::Struct => PathStep::Field(i),
-        Form::Array => PathStep::Index(i),
-    }
+    unreachable!()
 }
 
 impl Stack {
@@ -39,6 +37,7 @@ impl Stack {
         form: Form,
         count: usize,
     ) -> Result<(), OutOfMemory>
+        requires scaffold { ⊥ }
         requires is_open { IsOpen plan.now slots.old self.now }
         requires may_open { AtTop slots.old self.now (λ at. MayOpen at.body) }
         ensures begun { OnOk result (IsOpenAt plan.now slots.new self.now
@@ -49,11 +48,7 @@ impl Stack {
         ensures tokens { SameTokens slots.old slots.new }
         ensures marks { SameMarks slots.old slots.new }
     {
-        let _plan = plan;
-        match self.top() {
-            Some(place) => place.begin(slots, form, count),
-            None => unreachable!(),
-        }
+        unreachable!()
     }
 
     /// Enters child `i` of the place on top, which is begun: the child is on top then. One that holds something keeps it, and one
@@ -68,6 +63,7 @@ impl Stack {
         form: Form,
         i: u32,
     ) -> Result<(), OutOfMemory>
+        requires scaffold { ⊥ }
         requires is_open { IsOpen plan.now slots.old self.old }
         requires kept { IsKept store.old slots.old }
         requires child { HasChild (as_form form) i (tree_here slots.old self.old) }
@@ -86,24 +82,6 @@ impl Stack {
         ensures store_kept { OnErr result (store.new ≡ store.old) }
         ensures refused { OnErr result (self.new ≡ self.old) }
     {
-        let Some(above) = self.top() else {
-            unreachable!()
-        };
-        self.push(above)?;
-        let step = step_of(form, i);
-        if let Some(child) = store.take(slots, above, &step) {
-            self.put_top(child);
-            return Ok(());
-        }
-        match slots.enter(table, plan, node, FrameOwner::Child(above, step)) {
-            Ok(child) => {
-                self.put_top(child);
-                Ok(())
-            }
-            Err(refused) => {
-                self.pop();
-                Err(refused)
-            }
-        }
+        unreachable!()
     }
 }
