@@ -17,11 +17,30 @@ use fr_shape::{Ledger, OutOfMemory};
 
 /// The step to a field or an element.
 fn step_to(slots: &Slots, place: SlotId) -> PathStep
-    requires scaffold { ⊥ }
     requires { IfInUse slots.now place.0 (λ at. IsNumbered at.owner) }
     ensures { IfInUse slots.now place.0 (λ at. IsStepTo result at.owner) }
 {
-    unreachable!()
+    let Some(found) = slots.place(place) else {
+        unreachable!()
+    };
+    match &found.owner {
+        FrameOwner::Child(_, PathStep::Field(i)) => PathStep::Field(*i),
+        FrameOwner::Child(_, PathStep::Index(i)) => PathStep::Index(*i),
+        FrameOwner::Root
+        | FrameOwner::Child(
+            _,
+            PathStep::Deref
+            | PathStep::Inner
+            | PathStep::OptionSome
+            | PathStep::Proxy
+            | PathStep::MapKey(_)
+            | PathStep::MapValue(_)
+            | PathStep::ResultOk
+            | PathStep::ResultErr
+            | PathStep::SetItem
+            | PathStep::Entry(_),
+        ) => unreachable!(),
+    }
 }
 
 impl Stack {

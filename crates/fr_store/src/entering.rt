@@ -21,10 +21,12 @@ use fr_shape::{OutOfMemory, ShapeTable};
 
 /// The step to a child of a place that is begun so.
 fn step_of(form: Form, i: u32) -> PathStep
-    requires scaffold { ⊥ }
     ensures { result ≡ step_as (as_form form) i }
 {
-    unreachable!()
+    match form {
+        Form::Struct => PathStep::Field(i),
+        Form::Array => PathStep::Index(i),
+    }
 }
 
 impl Stack {
