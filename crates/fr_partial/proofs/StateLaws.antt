@@ -108,6 +108,9 @@ none_kept slots kept n = by_mark (marked (heap_of slots) n) refl
         let listed = (kept n).0 e in
         absurd (omega (arith, listed.1))
 
+pub kept_none : (slots : List Slot) → NothingStored slots → IsKept [] slots
+kept_none slots none n = (λ e. let apart : true ≡ false = sym e ∙ none n in cc, λ listed. absurd (omega (arith, listed.1)))
+
 pub none_listed : (store : List ℕ) (slots : List Slot) → IsKept store slots → NothingStored slots → store ≡ []
 none_listed [] slots kept none = refl
 none_listed (n ∷ store) slots kept none =

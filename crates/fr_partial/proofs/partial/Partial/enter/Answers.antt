@@ -14,6 +14,7 @@ use Rattle.fr_store.specs.Stands.{IsOpen}
 use Rattle.fr_partial.specs.Builder.{Builder, here, holds}
 use Rattle.fr_partial.specs.Entering.{Describes}
 use Rattle.fr_partial.specs.Underway.{shape_here, state_of}
+use Rattle.fr_partial.specs.Modes.{mode_of}
 use Rattle.fr_partial.proofs.BeginLaws.{admitted_within, begins}
 use Rattle.fr_partial.proofs.StateLaws.{admitted_now, order, state_is, underway_after, order_after, tokens_after}
 use Rattle.fr_partial.proofs.partial.Partial.enter.Goals as goal
@@ -24,7 +25,7 @@ child_of-child-requires g c =
     (tree_here c.self.inside.slots c.self.inside.stack) c.args.i
     (ap (λ (s : ℕ). field_refusal (def_of c.self.inside.table.now s) (tree_here c.self.inside.slots c.self.inside.stack) c.args.i)
     c.shape_here-shape.ensures
-    ∙ (admitted_now c.self.inside.table.now c.self.inside.root.0 c.self.inside.slots c.self.inside.stack c.self.inside.calls
+    ∙ (admitted_now c.self.inside.table.now c.self.inside.root.0 c.self.inside.slots c.self.inside.stack (mode_of c.self.inside.mode) c.self.inside.calls
     c.args.self c.self.view_is c.args.i c.requires.admitted))
 
 pub abandon-requires-clause-room : goal.abandon-requires-clause-room
@@ -37,7 +38,7 @@ enter_child-requires-clause-child g c =
     c.child_of-child.ensures
 
 pub enter_child-requires-clause-admitted : goal.enter_child-requires-clause-admitted
-enter_child-requires-clause-admitted g c = (admitted_now c.self.inside.table.now c.self.inside.root.0 c.self.inside.slots c.self.inside.stack c.self.inside.calls
+enter_child-requires-clause-admitted g c = (admitted_now c.self.inside.table.now c.self.inside.root.0 c.self.inside.slots c.self.inside.stack (mode_of c.self.inside.mode) c.self.inside.calls
     c.args.self c.self.view_is c.args.i c.requires.admitted)
 
 pub enter_child-requires-clause-room : goal.enter_child-requires-clause-room
@@ -67,8 +68,8 @@ returns-in-Err-clause-tokens g c = record {
 pub invariant_of-result : goal.invariant_of-result
 invariant_of-result g c =
     let s : ℕ = shape_here c.self.inside.table.now c.self.inside.root.0 c.self.inside.slots c.self.inside.stack in
-    let state : State = state_of c.self.inside.slots c.self.inside.stack c.self.inside.calls in
-    let may = (admitted_now c.self.inside.table.now c.self.inside.root.0 c.self.inside.slots c.self.inside.stack c.self.inside.calls
+    let state : State = state_of c.self.inside.slots c.self.inside.stack (mode_of c.self.inside.mode) c.self.inside.calls in
+    let may = (admitted_now c.self.inside.table.now c.self.inside.root.0 c.self.inside.slots c.self.inside.stack (mode_of c.self.inside.mode) c.self.inside.calls
     c.args.self c.self.view_is c.args.i c.requires.admitted) in
     underway_after c.self.invariant _ c.in-Ok-enter_child.slots c.in-Ok-enter_child.stack c.saturating_add.result
     (enters c.self.inside.table.now s state c.args.i)
@@ -104,8 +105,8 @@ returns-in-Ok-enter_child-clause-tokens g c = record {
   same_length = ap length c.in-Ok-enter_child.ensures.kept;
   kept_or_released = λ t.
       let s : ℕ = shape_here c.self.inside.table.now c.self.inside.root.0 c.self.inside.slots c.self.inside.stack in
-      let state : State = state_of c.self.inside.slots c.self.inside.stack c.self.inside.calls in
-      let may = (admitted_now c.self.inside.table.now c.self.inside.root.0 c.self.inside.slots c.self.inside.stack c.self.inside.calls
+      let state : State = state_of c.self.inside.slots c.self.inside.stack (mode_of c.self.inside.mode) c.self.inside.calls in
+      let may = (admitted_now c.self.inside.table.now c.self.inside.root.0 c.self.inside.slots c.self.inside.stack (mode_of c.self.inside.mode) c.self.inside.calls
       c.args.self c.self.view_is c.args.i c.requires.admitted) in
       let all : holds c.args.self t ≡ tree_occurs state.tree t
       = ap (λ (b : Builder _). holds b t) (sym c.self.view_is) in

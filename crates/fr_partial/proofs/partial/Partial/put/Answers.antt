@@ -12,6 +12,7 @@ use Rattle.fr_store.specs.Moves.{tokens_here, tree_in_slots}
 use Rattle.fr_store.specs.Stands.{IsOpen}
 use Rattle.fr_partial.specs.Builder.{Builder, here, holds}
 use Rattle.fr_partial.specs.Underway.{shape_here, state_of}
+use Rattle.fr_partial.specs.Modes.{mode_of}
 use Rattle.fr_partial.proofs.FitLaws.{fits_in}
 use Rattle.fr_partial.proofs.PutLaws.{set_admitted}
 use Rattle.fr_partial.proofs.StateLaws.{put_keeps, state_is, underway_after, order_after}
@@ -26,13 +27,13 @@ set-requires-clause-room g c =
       put_keeps c.self.invariant c.self.view_is c.law_removed.ensures.step (view c.args.value) t
           (set_admitted (shape_here c.self.inside.table.now c.self.inside.root.0 c.self.inside.slots c.self.inside.stack)
           (shape_here c.self.inside.table.now c.self.inside.root.0 c.self.inside.slots c.self.inside.stack)
-          (state_of c.self.inside.slots c.self.inside.stack c.self.inside.calls) (view c.args.value) refl),
+          (state_of c.self.inside.slots c.self.inside.stack (mode_of c.self.inside.mode) c.self.inside.calls) (view c.args.value) refl),
     )) c.requires.room
 
 pub invariant_of-result : goal.invariant_of-result
 invariant_of-result g c =
     let s : ℕ = shape_here c.self.inside.table.now c.self.inside.root.0 c.self.inside.slots c.self.inside.stack in
-    let state : State = state_of c.self.inside.slots c.self.inside.stack c.self.inside.calls in
+    let state : State = state_of c.self.inside.slots c.self.inside.stack (mode_of c.self.inside.mode) c.self.inside.calls in
     let fitting : fits c.self.inside.table.now s (view c.args.value) ≡ true
     = ap (λ (b : Builder _). fits b.shapes (here b) (view c.args.value)) c.self.view_is ∙ c.requires.fits in
     underway_after c.self.invariant c.self.inside.path c.set.new.slots c.self.inside.stack c.saturating_add.result
@@ -56,14 +57,14 @@ returns-clause-tokens g c = record {
   same_length = c.set.ensures.released.same_length;
   kept_or_released = λ t.
       let now : tree_occurs (tree_in_slots c.set.new.slots c.self.inside.stack) t
-      ≡ tree_occurs (puts (state_of c.self.inside.slots c.self.inside.stack c.self.inside.calls) (view c.args.value)).tree t
+      ≡ tree_occurs (puts (state_of c.self.inside.slots c.self.inside.stack (mode_of c.self.inside.mode) c.self.inside.calls) (view c.args.value)).tree t
       = ap (λ (tree : Tree). tree_occurs tree t) c.set.ensures.set.built in
       omega (
         arith,
         put_keeps c.self.invariant c.self.view_is c.law_removed.ensures.step (view c.args.value) t
             (set_admitted (shape_here c.self.inside.table.now c.self.inside.root.0 c.self.inside.slots c.self.inside.stack)
             (shape_here c.self.inside.table.now c.self.inside.root.0 c.self.inside.slots c.self.inside.stack)
-            (state_of c.self.inside.slots c.self.inside.stack c.self.inside.calls) (view c.args.value) refl),
+            (state_of c.self.inside.slots c.self.inside.stack (mode_of c.self.inside.mode) c.self.inside.calls) (view c.args.value) refl),
         c.set.ensures.released.each t,
       );
   none_falls = λ t. omega (arith, c.set.ensures.released.each t);
