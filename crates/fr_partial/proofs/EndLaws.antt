@@ -1,5 +1,5 @@
 -- Going up from a place, and building: what it means, and what it is refused for.
-use Rattle.std.proofs.Common.{◌≡◌, ℕ, suc, ◌<◌, ◌≤◌, Bool, true, false, List, [], ◌∷◌, ◌++◌, length, nat_lt, Option, Some, None, IsSome, IsErr, Ok, Err, refl, sym, ◌∙◌, ap, subst, arith}
+use Rattle.std.proofs.Common.{◌≡◌, ℕ, suc, ◌-◌, ◌<◌, ◌≤◌, Bool, true, false, List, [], ◌∷◌, ◌++◌, length, nat_lt, Option, Some, None, IsSome, IsErr, Ok, Err, refl, sym, ◌∙◌, ap, subst, arith}
 use Rattle.std.proofs.lemmas.Bool.{le-ltb, lt-ltb}
 use Rattle.std.specs.List.{Contains}
 use Rattle.fr_shape.specs.declared.error.Invariant.{Invariant}
@@ -11,7 +11,7 @@ use Rattle.fr_path.specs.declared.path_steps.PathStep.{PathStep}
 use Rattle.fr_model.specs.Complete.{complete}
 use Rattle.fr_model.specs.PathLaws.{LeavingAsItIs, PathIsAsDeep}
 use Rattle.fr_model.specs.Paths.{path_of}
-use Rattle.fr_model.specs.Places.{strict_column, is_root}
+use Rattle.fr_model.specs.Places.{strict_column, Place, is_root}
 use Rattle.fr_model.specs.Step.{end, build, leaves, puts_and_leaves, violates}
 use Rattle.fr_model.specs.Tree.{Mode, strict, deferred, State, cursor_tree}
 use Rattle.fr_model.specs.Well.{Leads}
@@ -21,9 +21,12 @@ use Rattle.fr_frame.specs.Heap.{heap_of, marked}
 use Rattle.fr_store.specs.Moves.{cursor_in}
 use Rattle.fr_store.specs.Stands.{IsOpen}
 use Rattle.fr_store.specs.Stored.{IsKept, NothingStored}
+use Rattle.fr_partial.specs.Builder.{Builder}
 use Rattle.fr_partial.specs.Ending.{IsLacking}
+use Rattle.fr_partial.specs.declared.mode.Mode.{Mode as BuilderMode}
+use Rattle.fr_partial.specs.Modes.{mode_of, IsBelowStart}
 use Rattle.fr_partial.specs.Underway.{StoresNothing}
-use Rattle.fr_partial.proofs.StateLaws.{stack_length, at_root, below_root, last_of}
+use Rattle.fr_partial.proofs.StateLaws.{builder_of, stack_length, at_root, below_root, last_of}
 use Rattle.fr_partial.proofs.WayLaws.{Ends, below_root as path_below}
 
 -- by how many places are open
@@ -41,6 +44,24 @@ pub only_root : (plan : Plan) (slots : List Slot) (stack : List ℕ) → IsOpen 
 only_root plan slots stack shown n count one =
     let all : length stack ≡ suc (length (cursor_in slots stack)) = stack_length plan slots stack shown in
     at_root (cursor_in slots stack) (omega arith)
+
+-- by how many places lie above
+
+module _ (plan : Plan) (slots : List Slot) (stack : List ℕ) (shown : IsOpen plan slots stack) (n : ℕ) (count : n ≡ length stack) where
+  pub none_above : n - 1 ≡ 0 → cursor_in slots stack ≡ []
+  none_above none =
+      let all : length stack ≡ suc (length (cursor_in slots stack)) = stack_length plan slots stack shown in
+      at_root (cursor_in slots stack) (omega arith)
+
+  pub some_above : ¬ (n - 1 ≡ 0) → is_root (cursor_in slots stack) ≡ false
+  some_above some =
+      let all : length stack ≡ suc (length (cursor_in slots stack)) = stack_length plan slots stack shown in
+      below_root (cursor_in slots stack) (λ none. some (omega arith))
+
+  pub as_deep : n - 1 ≡ length (cursor_in slots stack)
+  as_deep =
+      let all : length stack ≡ suc (length (cursor_in slots stack)) = stack_length plan slots stack shown in
+      omega arith
 
 -- Strict mode.
 
@@ -126,6 +147,35 @@ pub ends_left : (hooks : Meanings) (table : Table) (s : ℕ) (state : State) (st
 ends_left hooks table s state start mode e deep =
     let below_start : nat_lt start (length state.cursor) ≡ true = lt-ltb start (length state.cursor) deep in
     rw (e, mode, below_start) refl
+
+-- what lies deeper than where deferred mode began isn't the root
+pub not_root : (mode : Mode) (cursor : Place) → IsBelowStart mode cursor → is_root cursor ≡ false
+not_root strict cursor deep = absurd deep
+not_root (deferred start) cursor deep = below_root cursor (λ none. omega (arith, deep, none))
+
+pub ends_below : (hooks : Meanings) (table : Table) (s : ℕ) (state : State) → IsBelowStart state.mode state.cursor
+    → end hooks table s state ≡ Ok (leaves state)
+ends_below hooks table s state deep = go state.mode refl deep
+  where
+    go : (mode : Mode) → state.mode ≡ mode → IsBelowStart mode state.cursor → end hooks table s state ≡ Ok (leaves state)
+    go strict is far = absurd far
+    go (deferred start) is far = ends_left hooks table s state start is (not_root state.mode state.cursor deep) far
+
+-- in deferred mode anything may be stored
+pub may_store : (mode : Mode) (cursor : Place) (store : List ℕ) → IsBelowStart mode cursor → StoresNothing mode store
+may_store strict cursor store deep = absurd deep
+may_store (deferred start) cursor store deep = tt
+
+-- by how many places lie above, where deferred mode began
+pub far_below : {H : Type 0} {h : H} {table : Table} {root calls : ℕ} {slots : List Slot} {stack : List ℕ} {builder : Builder H}
+    (plan : Plan) → IsOpen plan slots stack → (mode : BuilderMode) (start n : ℕ) → n ≡ length stack
+    → mode ≡ BuilderMode.Deferred start → start < n - 1
+    → builder_of h table root slots stack (mode_of mode) calls ≡ builder → IsBelowStart builder.state.mode builder.state.cursor
+far_below {H} {slots = slots} {stack = stack} plan shown mode start n count deferred_now far is =
+    let same : n - 1 ≡ length (cursor_in slots stack) = as_deep plan slots stack shown n count in
+    let deep : start < length (cursor_in slots stack) = omega (arith, far, same) in
+    subst (λ (b : Builder H). IsBelowStart b.state.mode b.state.cursor) is
+    (subst (λ (m : BuilderMode). IsBelowStart (mode_of m) (cursor_in slots stack)) (sym deferred_now) deep)
 
 -- the path after the builder went up, from a place that stays as it is
 pub left_so : LeavingAsItIs → PathIsAsDeep → (state : State) (steps left : List PathStep)

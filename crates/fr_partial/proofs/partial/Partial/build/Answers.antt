@@ -34,7 +34,7 @@ pub returns-in-Ok-clause-built : goal.returns-in-Ok-clause-built
 returns-in-Ok-clause-built g c = (
   subst (λ (b : Builder _). meaning_of_build (g.H.Hooks.means b.hooks) b ≡ Ok (view c.in-Ok.value)) c.self.view_is
       (builds (g.H.Hooks.means c.self.inside.hooks.now) c.self.inside.table.now c.self.inside.root.0
-      (state_of c.self.inside.slots c.self.inside.stack c.self.inside.calls) (view c.in-Ok.value)
+      (state_of c.self.inside.slots c.self.inside.stack (mode_of c.self.inside.mode) c.self.inside.calls) (view c.in-Ok.value)
       (only_root _ c.self.inside.slots c.self.inside.stack c.self.invariant.ready.shown c.len-open.result
       c.len-open.ensures.count c.if-open-eq1.true)
       c.in-Ok.ensures.value),
@@ -81,7 +81,7 @@ returns-in-Err-clause-built g c =
           inr
           (subst (λ (b : Builder _). meaning_of_build (g.H.Hooks.means b.hooks) b ≡ Err c.in-Err.kind) c.self.view_is
           (builds_not (g.H.Hooks.means c.self.inside.hooks.now) c.self.inside.table.now c.self.inside.root.0
-          (state_of c.self.inside.slots c.self.inside.stack c.self.inside.calls) c.in-Err.kind
+          (state_of c.self.inside.slots c.self.inside.stack (mode_of c.self.inside.mode) c.self.inside.calls) c.in-Err.kind
           (only_root _ c.self.inside.slots c.self.inside.stack c.self.invariant.ready.shown c.len-open.result
           c.len-open.ensures.count c.if-open-eq1.true)
           lacking))
@@ -98,7 +98,7 @@ pub returns-in-Err-clause-memory : goal.returns-in-Err-clause-memory
 returns-in-Err-clause-memory g c nothing is =
     let takes = only_takes (g.H.Hooks.means c.self.inside.hooks.now) c.self.inside.table.now c.self.invariant.served _ _
     c.in-Err.kind c.in-Err.ensures.why is in
-    let root = root_tree (state_of c.self.inside.slots c.self.inside.stack c.self.inside.calls)
+    let root = root_tree (state_of c.self.inside.slots c.self.inside.stack (mode_of c.self.inside.mode) c.self.inside.calls)
     (only_root _ c.self.inside.slots c.self.inside.stack c.self.invariant.ready.shown c.len-open.result
     c.len-open.ensures.count c.if-open-eq1.true) in
     let no : false ≡ true
@@ -109,7 +109,7 @@ returns-in-Err-clause-memory g c nothing is =
 pub returns-in-Err-clause-refused : goal.returns-in-Err-clause-refused
 returns-in-Err-clause-refused g c refused is =
     never_unbuilt (g.H.Hooks.means c.self.inside.hooks.now) c.self.inside.table.now c.self.inside.root.0
-    (state_of c.self.inside.slots c.self.inside.stack c.self.inside.calls)
+    (state_of c.self.inside.slots c.self.inside.stack (mode_of c.self.inside.mode) c.self.inside.calls)
     (only_root _ c.self.inside.slots c.self.inside.stack c.self.invariant.ready.shown c.len-open.result
     c.len-open.ensures.count c.if-open-eq1.true)
     (only_wants (g.H.Hooks.means c.self.inside.hooks.now) c.self.inside.table.now c.self.invariant.served _ _ c.in-Err.kind
@@ -130,7 +130,7 @@ returns-else-open-eq1-clause-built g c =
     (λ (b : Builder _). meaning_of_build (g.H.Hooks.means b.hooks) b ≡ Err (violates Invariant.BuildOpenFrames))
     c.self.view_is
     (builds_below (g.H.Hooks.means c.self.inside.hooks.now) c.self.inside.table.now c.self.inside.root.0
-    (state_of c.self.inside.slots c.self.inside.stack c.self.inside.calls)
+    (state_of c.self.inside.slots c.self.inside.stack (mode_of c.self.inside.mode) c.self.inside.calls)
     (below _ c.self.inside.slots c.self.inside.stack c.self.invariant.ready.shown c.len-open.result
     c.len-open.ensures.count c.if-open-eq1.false)))
 
