@@ -130,7 +130,7 @@ body_found : Option Node → Body
 body_found (Some found) = found.body
 body_found None = entered_body
 
-shape_found : (plan : Plan) (node : NodeId) (s : ℕ) → IsOfShape plan node s → shape_of plan node ≡ s
+pub shape_found : (plan : Plan) (node : NodeId) (s : ℕ) → IsOfShape plan node s → shape_of plan node ≡ s
 shape_found plan node s is =
     ap
     (λ (found : Option TypePlanNode). (unwrap_or (option_map (λ (x : TypePlanNode). x.shape) found) (record { 0 = 0 })).0)
