@@ -55,7 +55,7 @@ returns-in_default-clause-tokens g c = record {
   none_falls = λ t. omega (arith, c.abandon.ensures.released.each t);
 }
 
-pub returns-clause-tokens : goal.returns-in-Err-clause-tokens
+pub returns-clause-tokens : goal.returns-clause-tokens
 returns-clause-tokens g c = record {
   same_length = c.in-Err.ensures.released.same_length;
   kept_or_released = λ t.
