@@ -25,8 +25,8 @@ child_of-child-requires g c =
     (tree_here c.self.inside.slots c.self.inside.stack) c.args.i
     (ap (λ (s : ℕ). field_refusal (def_of c.self.inside.table.now s) (tree_here c.self.inside.slots c.self.inside.stack) c.args.i)
     c.shape_here-shape.ensures
-    ∙ (admitted_now c.self.inside.table.now c.self.inside.root.0 c.self.inside.slots c.self.inside.stack (mode_of c.self.inside.mode) c.self.inside.calls
-    c.args.self c.self.view_is c.args.i c.requires.admitted))
+    ∙ (admitted_now c.self.inside.table.now c.self.inside.root.0 c.self.inside.slots c.self.inside.stack
+    (mode_of c.self.inside.mode) c.self.inside.calls c.args.self c.self.view_is c.args.i c.requires.admitted))
 
 pub abandon-requires-clause-room : goal.abandon-requires-clause-room
 abandon-requires-clause-room g c =
@@ -38,8 +38,9 @@ enter_child-requires-clause-child g c =
     c.child_of-child.ensures
 
 pub enter_child-requires-clause-admitted : goal.enter_child-requires-clause-admitted
-enter_child-requires-clause-admitted g c = (admitted_now c.self.inside.table.now c.self.inside.root.0 c.self.inside.slots c.self.inside.stack (mode_of c.self.inside.mode) c.self.inside.calls
-    c.args.self c.self.view_is c.args.i c.requires.admitted)
+enter_child-requires-clause-admitted g c =
+    admitted_now c.self.inside.table.now c.self.inside.root.0 c.self.inside.slots c.self.inside.stack
+    (mode_of c.self.inside.mode) c.self.inside.calls c.args.self c.self.view_is c.args.i c.requires.admitted
 
 pub enter_child-requires-clause-room : goal.enter_child-requires-clause-room
 enter_child-requires-clause-room g c =
@@ -69,8 +70,8 @@ pub invariant_of-result : goal.invariant_of-result
 invariant_of-result g c =
     let s : ℕ = shape_here c.self.inside.table.now c.self.inside.root.0 c.self.inside.slots c.self.inside.stack in
     let state : State = state_of c.self.inside.slots c.self.inside.stack (mode_of c.self.inside.mode) c.self.inside.calls in
-    let may = (admitted_now c.self.inside.table.now c.self.inside.root.0 c.self.inside.slots c.self.inside.stack (mode_of c.self.inside.mode) c.self.inside.calls
-    c.args.self c.self.view_is c.args.i c.requires.admitted) in
+    let may = (admitted_now c.self.inside.table.now c.self.inside.root.0 c.self.inside.slots c.self.inside.stack
+    (mode_of c.self.inside.mode) c.self.inside.calls c.args.self c.self.view_is c.args.i c.requires.admitted) in
     underway_after c.self.invariant _ c.in-Ok-enter_child.slots c.in-Ok-enter_child.stack c.enter_child.new.store
     (mode_of c.self.inside.mode) c.saturating_add.result (enters c.self.inside.table.now s state c.args.i)
     (subst (λ (p : Plan). IsOpen p c.in-Ok-enter_child.slots c.in-Ok-enter_child.stack) c.core-plan_core.ensures
@@ -110,8 +111,8 @@ returns-in-Ok-enter_child-clause-tokens g c = record {
   kept_or_released = λ t.
       let s : ℕ = shape_here c.self.inside.table.now c.self.inside.root.0 c.self.inside.slots c.self.inside.stack in
       let state : State = state_of c.self.inside.slots c.self.inside.stack (mode_of c.self.inside.mode) c.self.inside.calls in
-      let may = (admitted_now c.self.inside.table.now c.self.inside.root.0 c.self.inside.slots c.self.inside.stack (mode_of c.self.inside.mode) c.self.inside.calls
-      c.args.self c.self.view_is c.args.i c.requires.admitted) in
+      let may = (admitted_now c.self.inside.table.now c.self.inside.root.0 c.self.inside.slots c.self.inside.stack
+      (mode_of c.self.inside.mode) c.self.inside.calls c.args.self c.self.view_is c.args.i c.requires.admitted) in
       let all : holds c.args.self t ≡ tree_occurs state.tree t
       = ap (λ (b : Builder _). holds b t) (sym c.self.view_is) in
       let kept : tree_occurs state.tree t + 0 ≡ tree_occurs (enters c.self.inside.table.now s state c.args.i).tree t + 0

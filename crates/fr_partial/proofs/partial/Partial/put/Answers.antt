@@ -27,7 +27,8 @@ set-requires-clause-room g c =
       put_keeps c.self.invariant c.self.view_is c.law_removed.ensures.step (view c.args.value) t
           (set_admitted (shape_here c.self.inside.table.now c.self.inside.root.0 c.self.inside.slots c.self.inside.stack)
           (shape_here c.self.inside.table.now c.self.inside.root.0 c.self.inside.slots c.self.inside.stack)
-          (state_of c.self.inside.slots c.self.inside.stack (mode_of c.self.inside.mode) c.self.inside.calls) (view c.args.value) refl),
+          (state_of c.self.inside.slots c.self.inside.stack (mode_of c.self.inside.mode) c.self.inside.calls) (view c.args.value)
+          refl),
     )) c.requires.room
 
 pub invariant_of-result : goal.invariant_of-result
@@ -60,14 +61,16 @@ returns-clause-tokens g c = record {
   same_length = c.set.ensures.released.same_length;
   kept_or_released = λ t.
       let now : tree_occurs (tree_in_slots c.set.new.slots c.self.inside.stack) t
-      ≡ tree_occurs (puts (state_of c.self.inside.slots c.self.inside.stack (mode_of c.self.inside.mode) c.self.inside.calls) (view c.args.value)).tree t
+      ≡ tree_occurs (puts (state_of c.self.inside.slots c.self.inside.stack (mode_of c.self.inside.mode) c.self.inside.calls)
+      (view c.args.value)).tree t
       = ap (λ (tree : Tree). tree_occurs tree t) c.set.ensures.set.built in
       omega (
         arith,
         put_keeps c.self.invariant c.self.view_is c.law_removed.ensures.step (view c.args.value) t
             (set_admitted (shape_here c.self.inside.table.now c.self.inside.root.0 c.self.inside.slots c.self.inside.stack)
             (shape_here c.self.inside.table.now c.self.inside.root.0 c.self.inside.slots c.self.inside.stack)
-            (state_of c.self.inside.slots c.self.inside.stack (mode_of c.self.inside.mode) c.self.inside.calls) (view c.args.value) refl),
+            (state_of c.self.inside.slots c.self.inside.stack (mode_of c.self.inside.mode) c.self.inside.calls)
+            (view c.args.value) refl),
         c.set.ensures.released.each t,
       );
   none_falls = λ t. omega (arith, c.set.ensures.released.each t);
