@@ -73,8 +73,10 @@ pub entered_so : (table : Table) (s i : ℕ) (place : Place) (t : Tree) (form : 
 entered_so table s i place t form count def is counts of =
     changed_twice place (change_child i (enter def)) (opened_as form count) t
     ∙ ap (λ (d : Def). change_at place (λ x. change_child i (enter d) (opened_as form count x)) t) of
-    ∙ ap (λ (f : Form). change_at place (λ x. change_child i (enter (def_of table (child_shape table s i))) (opened_as f count x)) t) is
-    ∙ ap (λ (n : ℕ). change_at place (λ x. change_child i (enter (def_of table (child_shape table s i))) (opened_as (form_of (def_of table s)) n x)) t) counts
+    ∙ ap (λ (f : Form). change_at place
+    (λ x. change_child i (enter (def_of table (child_shape table s i))) (opened_as f count x)) t) is
+    ∙ ap (λ (n : ℕ). change_at place
+    (λ x. change_child i (enter (def_of table (child_shape table s i))) (opened_as (form_of (def_of table s)) n x)) t) counts
 
 -- What may be begun.
 
@@ -220,7 +222,8 @@ node_stays mode plan node place now change before after same leads is =
 pub def_entered : (table : Table) (plan : Plan) (node : NodeId) (s i : ℕ) (form : Form)
     → IsOfShape plan node (child_as table s form i) → def_of table (shape_of plan node) ≡ def_of table (child_shape table s i)
 def_entered table plan node s i form shaped =
-    ap (λ (found : Option TypePlanNode). def_of table (unwrap_or (option_map (λ (n : TypePlanNode). n.shape) found) (record { 0 = 0 })).0)
+    ap (λ (found : Option TypePlanNode). def_of table
+    (unwrap_or (option_map (λ (n : TypePlanNode). n.shape) found) (record { 0 = 0 })).0)
     shaped.there
     ∙ ap (def_of table) (shaped.shape ∙ by_form form)
   where

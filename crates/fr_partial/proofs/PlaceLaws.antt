@@ -39,7 +39,8 @@ node_here plan slots stack shown = record {
   body = body_in (open_top plan slots stack shown).plot;
 }
 
-module _ (plan : Plan) (slots : List Slot) (stack : List ℕ) (shown : IsOpen plan slots stack) (n : ℕ) (last : IsLast stack n) where
+module _ (plan : Plan) (slots : List Slot) (stack : List ℕ) (shown : IsOpen plan slots stack) (n : ℕ)
+    (last : IsLast stack n) where
   pub here_found : heap_of slots n ≡ Some (node_here plan slots stack shown)
   here_found = ap (heap_of slots) (sym (top_slot plan slots stack shown n last)) ∙ (open_top plan slots stack shown).here
 
@@ -55,7 +56,7 @@ module _ (plan : Plan) (slots : List Slot) (stack : List ℕ) (shown : IsOpen pl
       let both : None ≡ Some (node_here plan slots stack shown) = is ∙ here_found in
       cc
 
--- Where a child is in a slot, what was put at its place above doesn't tell it; but why no child may be entered is told all the same.
+-- Where a child is in a slot, what was put at the place above doesn't tell it; but why a child can't be entered it tells.
 
 begun_refusal : (def : Def) (form : Form) (ts us : Trees) (i : ℕ)
     → field_refusal def (begun form ts) i ≡ field_refusal def (begun form us) i

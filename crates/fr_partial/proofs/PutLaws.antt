@@ -28,7 +28,8 @@ set_refused builder expected given v same different =
     rw test (ap (λ (s : ShapeId). Err (ReflectErrorKind.WrongShape s given)) (shape_of_number builder expected same))
 
 module _ {H : Type 0} {h : H} (table : Table) (root : ℕ) (slots : List Slot) (stack : List ℕ)
-    (mode : Mode) (calls : ℕ) (builder : Builder H) (is : builder_of h table root slots stack mode calls ≡ builder) (shape : ShapeId) (same : shape.0 ≡ here builder) where
+    (mode : Mode) (calls : ℕ) (builder : Builder H) (is : builder_of h table root slots stack mode calls ≡ builder)
+    (shape : ShapeId) (same : shape.0 ≡ here builder) where
   preset_is : preset_of builder.shapes (here builder) ≡ preset_of table shape.0
   preset_is = ap (λ (b : Builder H). preset_of b.shapes (here builder)) (sym is) ∙ ap (preset_of table) (sym same)
 

@@ -88,8 +88,8 @@ module _ {table : Table} {root : ShapeId} {plan : Plan} {steps : List PathStep} 
       → step hooks table root.0 (state_of slots stack mode calls) command ≡ Ok next → (t : ℕ)
       → tree_occurs (state_of slots stack mode calls).tree t + brings command t
       ≡ tree_occurs next.tree t
-      + replaced hooks table (cursor_shape table root.0 (state_of slots stack mode calls)) (state_of slots stack mode calls) command
-      t
+      + replaced hooks table (cursor_shape table root.0 (state_of slots stack mode calls)) (state_of slots stack mode calls)
+      command t
   tokens_after law hooks next command is t =
       law hooks table root.0 (state_of slots stack mode calls) command underway.ready.checked order t
       ∙ ap (λ meant. held_after meant t
@@ -140,10 +140,11 @@ pub put_keeps : {H : Type 0} {h : H} {table : Table} {root : ShapeId} {plan : Pl
     → set (shape_here table root.0 slots stack) (state_of slots stack mode calls) (shape_here table root.0 slots stack) v
     ≡ Ok (puts (state_of slots stack mode calls) v)
     → holds builder t + occurs v t ≡ tree_occurs (puts (state_of slots stack mode calls) v).tree t + tokens_here slots stack t
-put_keeps {H} {table = table} {root = root} {slots = slots} {stack = stack} {mode = mode} {calls = calls} underway is law v t meant =
+put_keeps {H} {table = table} {root = root} {slots = slots} {stack = stack} {mode = mode} {calls = calls} underway is law
+    v t meant =
     ap (λ (b : Builder H). holds b t + occurs v t) (sym is)
-    ∙ tokens_after underway law no_hooks (puts (state_of slots stack mode calls) v) (Call.Set (shape_here table root.0 slots stack) v)
-    meant t
+    ∙ tokens_after underway law no_hooks (puts (state_of slots stack mode calls) v)
+    (Call.Set (shape_here table root.0 slots stack) v) meant t
 
 -- what may be entered where the builder works
 pub admitted_now : {H : Type 0} {h : H} (table : Table) (root : ℕ) (slots : List Slot) (stack : List ℕ)

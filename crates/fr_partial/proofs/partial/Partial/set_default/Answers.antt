@@ -56,7 +56,8 @@ put-requires-clause-room g c =
 pub returns-in-Ok-clause-step : goal.returns-in-Ok-clause-step
 returns-in-Ok-clause-step g c = (
   default_there c.self.inside.table.now c.self.inside.root.0 c.self.inside.slots c.self.inside.stack
-      (mode_of c.self.inside.mode) c.self.inside.calls c.args.self c.self.view_is c.shape-shape.result c.shape-shape.ensures.shape c.in-Some.template.now
+      (mode_of c.self.inside.mode) c.self.inside.calls c.args.self c.self.view_is c.shape-shape.result
+      c.shape-shape.ensures.shape c.in-Some.template.now
       (sym c.in-Some.ensures.template)
       ∙ ap (λ (v : Val). Ok (puts c.args.self.state v)) (sym c.in-Ok.ensures.copy)
       ∙ ap (λ (s : State). Ok s) (sym c.put.ensures.state),
@@ -76,7 +77,8 @@ returns-in-Err-clause-refused g c refused =
     let there : set_default c.args.self.shapes (here c.args.self) c.args.self.state
     ≡ Ok (puts c.args.self.state c.in-Some.template.now)
     = default_there c.self.inside.table.now c.self.inside.root.0 c.self.inside.slots c.self.inside.stack
-    (mode_of c.self.inside.mode) c.self.inside.calls c.args.self c.self.view_is c.shape-shape.result c.shape-shape.ensures.shape c.in-Some.template.now
+    (mode_of c.self.inside.mode) c.self.inside.calls c.args.self c.self.view_is c.shape-shape.result c.shape-shape.ensures.shape
+    c.in-Some.template.now
     (sym c.in-Some.ensures.template) in
     let no : false ≡ true = rw there at refused in
     absurd (cc)
