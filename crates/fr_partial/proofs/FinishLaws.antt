@@ -1,14 +1,12 @@
 -- Deferred mode, from where it begins to its end: what that means, and what it is refused for.
-use Rattle.std.proofs.Common.{◌≡◌, ℕ, List, Result, Some, None, Ok, Err, refl, sym, ◌∙◌, ap, subst}
-use Rattle.fr_shape.specs.declared.error.Invariant.{Invariant}
+use Rattle.std.proofs.Common.{◌≡◌, ℕ, List, length, Some, None, Ok, Err, refl, sym, ◌∙◌, ap, subst}
 use Rattle.fr_shape.specs.declared.error.ReflectErrorKind.{ReflectErrorKind}
 use Rattle.fr_shape.specs.declared.shape.ShapeId.{ShapeId}
 use Rattle.fr_shape.specs.Hooks.{Meanings}
 use Rattle.fr_shape.specs.Look.{Table}
 use Rattle.fr_model.specs.Finish.{finished, finish_cause}
-use Rattle.fr_model.specs.Laws.{held_after}
-use Rattle.fr_model.specs.Step.{begin_deferred, begins_deferred, finish_deferred, violates}
-use Rattle.fr_model.specs.Tree.{Mode, strict, deferred, Tree, State, one_more_call, tree_occurs}
+use Rattle.fr_model.specs.Step.{begin_deferred, finish_deferred}
+use Rattle.fr_model.specs.Tree.{Mode, strict, deferred, Tree, State, one_more_call}
 use Rattle.fr_model.specs.Well.{Suits}
 use Rattle.fr_plan.specs.LookupLaws.{LookupsAgree, LookupPathsAgree}
 use Rattle.fr_plan.specs.TypePlan.{Plan}
@@ -21,24 +19,20 @@ use Rattle.fr_partial.proofs.ShapeLaws.{root_shaped}
 
 -- Where it begins.
 
-pub deferred_already : (state : State) (start : ℕ) → state.mode ≡ deferred start
-    → begin_deferred state ≡ Err (violates Invariant.AlreadyDeferred)
-deferred_already state start mode = rw mode refl
+abbrev pub state_deferred : State → State
+state_deferred state = record state { mode = deferred (length state.cursor); calls = one_more_call state.calls }
 
--- what is held stays as it is
-pub began_with : (state next : State) → begin_deferred state ≡ Ok next → (t : ℕ)
-    → tree_occurs state.tree t ≡ tree_occurs next.tree t
-began_with state next is t = go state.mode is
-  where
-    go : (mode : Mode) → begins_deferred state mode ≡ Ok next → tree_occurs state.tree t ≡ tree_occurs next.tree t
-    go strict is = ap (λ (meant : Result State ReflectErrorKind). held_after meant t) is
-    go (deferred start) is = cc
+pub begins_with : (state : State) → state.mode ≡ strict → begin_deferred state ≡ Ok (state_deferred state)
+begins_with state mode = rw mode refl
+
+pub deferred_is : (slots : List Slot) (stack : List ℕ) (mode : Mode) (calls start count : ℕ)
+    → start ≡ length (cursor_in slots stack) → count ≡ one_more_call calls
+    → state_of slots stack (deferred start) count ≡ state_deferred (state_of slots stack mode calls)
+deferred_is slots stack mode calls start count is same =
+    ap (λ (n : ℕ). state_of slots stack (deferred n) count) is
+    ∙ ap (λ (n : ℕ). state_of slots stack (deferred (length (cursor_in slots stack))) n) same
 
 -- Where it ends.
-
-pub not_deferred : (hooks : Meanings) (table : Table) (root : ℕ) (state : State) → state.mode ≡ strict
-    → finish_deferred hooks table root state ≡ Err (violates Invariant.NotDeferred)
-not_deferred hooks table root state mode = rw mode refl
 
 -- the state then, with this tree
 abbrev pub state_with : State → Tree → State
