@@ -43,7 +43,6 @@ impl<'t, H: Hooks> Partial<'t, H> {
         ensures root { result.root ≡ self.entry.root }
         ensures hooks { result.hooks ≡ self.entry.hooks }
     {
-        law_paths();
         law_well();
         let Partial {
             alloc,

@@ -1,8 +1,8 @@
-use Rattle.std.proofs.Common.{◌≡◌, ℕ, ◌+◌, false, Result, IsErr, Ok, Err, inl, inr, refl, sym, ap, ◌∙◌, subst, arith}
+use Rattle.std.proofs.Common.{◌≡◌, Result, IsErr, Err, inr, sym, ap, ◌∙◌, subst, arith}
 use Rattle.fr_shape.specs.declared.error.Invariant.{Invariant}
 use Rattle.fr_shape.specs.declared.error.ReflectErrorKind.{ReflectErrorKind}
 use Rattle.fr_model.specs.Commands.{Call}
-use Rattle.fr_model.specs.Step.{leaves, violates}
+use Rattle.fr_model.specs.Step.{violates}
 use Rattle.fr_model.specs.Tree.{State, cursor_shape}
 use Rattle.fr_partial.specs.Builder.{Builder, holds, meaning, IsStepTo}
 use Rattle.fr_partial.specs.Modes.{mode_of}

@@ -1,16 +1,14 @@
-use Rattle.std.proofs.Common.{◌≡◌, ℕ, ◌+◌, List, length, slice_index, Ok, Err, inl, inr, refl, sym, ap, ◌∙◌, subst, arith}
-use Rattle.fr_shape.specs.declared.error.ReflectErrorKind.{ReflectErrorKind}
+use Rattle.std.proofs.Common.{◌≡◌, ◌+◌, length, slice_index, Ok, Err, inl, inr, refl, sym, ap, ◌∙◌, subst, arith}
 use Rattle.fr_shape.specs.Released.{Room, RoseBy}
 use Rattle.fr_model.specs.Commands.{Call}
 use Rattle.fr_model.specs.Tree.{strict, Tree, State, tree_occurs}
 use Rattle.fr_model.specs.Well.{Suits}
 use Rattle.fr_plan.specs.TypePlan.{Plan}
 use Rattle.fr_store.specs.Moves.{cursor_in, tree_in_slots}
-use Rattle.fr_store.specs.Stands.{IsOpen}
 use Rattle.fr_store.specs.Turns.{root_shape, IsFinished, IsHeldUp}
 use Rattle.fr_partial.specs.Builder.{Builder, holds, meaning}
 use Rattle.fr_partial.specs.Modes.{mode_of}
-use Rattle.fr_partial.specs.Underway.{state_of, IsReady}
+use Rattle.fr_partial.specs.Underway.{state_of}
 use Rattle.fr_partial.proofs.EndLaws.{keeps_none}
 use Rattle.fr_partial.proofs.FinishLaws.{ends_with, finished_so, held_up, state_with, suits_root}
 use Rattle.fr_partial.proofs.RemovedLaws.{all_released}

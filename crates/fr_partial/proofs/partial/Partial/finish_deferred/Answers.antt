@@ -1,4 +1,4 @@
-use Rattle.std.proofs.Common.{◌≡◌, ◌+◌, arith}
+use Rattle.std.proofs.Common.{arith}
 use Rattle.fr_model.specs.Commands.{Call}
 use Rattle.fr_partial.specs.Builder.{holds}
 use Rattle.fr_partial.proofs.RemovedLaws.{rises_by_removed}

@@ -1,11 +1,11 @@
-use Rattle.std.proofs.Common.{◌≡◌, ℕ, ◌+◌, List, Ok, refl, sym, ap, ◌∙◌, subst, arith}
-use Rattle.fr_shape.specs.Released.{Room, RoseBy}
+use Rattle.std.proofs.Common.{ℕ, List, sym, subst}
+use Rattle.fr_shape.specs.Released.{Room}
 use Rattle.fr_model.specs.Commands.{Call}
 use Rattle.fr_model.specs.Step.{leaves}
 use Rattle.fr_model.specs.Tree.{State, tree_occurs}
 use Rattle.fr_plan.specs.TypePlan.{Plan}
 use Rattle.fr_frame.specs.declared.places.Slot.{Slot}
-use Rattle.fr_store.specs.Moves.{cursor_in, tree_in_slots}
+use Rattle.fr_store.specs.Moves.{tree_in_slots}
 use Rattle.fr_store.specs.Stands.{IsOpen}
 use Rattle.fr_partial.specs.Builder.{Builder, holds}
 use Rattle.fr_partial.specs.Modes.{mode_of, IsBelowStart}
