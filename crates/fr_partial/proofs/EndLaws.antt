@@ -47,7 +47,8 @@ only_root plan slots stack shown n count one =
 
 -- by how many places lie above
 
-module _ (plan : Plan) (slots : List Slot) (stack : List ℕ) (shown : IsOpen plan slots stack) (n : ℕ) (count : n ≡ length stack) where
+module _ (plan : Plan) (slots : List Slot) (stack : List ℕ) (shown : IsOpen plan slots stack) (n : ℕ)
+    (count : n ≡ length stack) where
   pub none_above : n - 1 ≡ 0 → cursor_in slots stack ≡ []
   none_above none =
       let all : length stack ≡ suc (length (cursor_in slots stack)) = stack_length plan slots stack shown in
@@ -71,10 +72,12 @@ pub keeps_none : (mode : Mode) (store : List ℕ) (after : List Slot) → mode �
 keeps_none strict store after is stores none n =
     subst
     (λ (listed : List ℕ). (marked (heap_of after) n ≡ true → Contains listed n) × (Contains listed n → marked (heap_of after) n ≡ true))
-    (sym stores)
-    ((λ stored.
-    let apart : true ≡ false = sym stored ∙ none n in
-    cc), (λ listed. absurd (omega (arith, listed.1))))
+    (sym stores) (
+      (λ stored.
+          let apart : true ≡ false = sym stored ∙ none n in
+          cc),
+      (λ listed. absurd (omega (arith, listed.1))),
+    )
 keeps_none (deferred start) store after is stores none n = cc
 
 -- what they mean

@@ -137,7 +137,8 @@ shape_found plan node s is =
     is.there ∙ is.shape
 
 -- The top, before it is filled.
-module _ (plan : Plan) (slots : List Slot) (stack : List ℕ) (shown : IsOpen plan slots stack) (n : ℕ) (last : IsLast stack n) where
+module _ (plan : Plan) (slots : List Slot) (stack : List ℕ) (shown : IsOpen plan slots stack) (n : ℕ)
+    (last : IsLast stack n) where
   here_so : (So : Node → Type 0) → IfInUse slots n So → So (node_here plan slots stack shown)
   here_so So so = subst (λ (found : Option Node). IsSomeAnd found So) (here_found plan slots stack shown n last) so
 
@@ -195,7 +196,8 @@ plan_for table root plan slots stack ready = record { root = root; inside = read
 
 -- The top, after it was filled or refused.
 module _ (plan : Plan) (before after : List Slot) (stack : List ℕ) (shown : IsOpen plan before stack)
-    (nothing : NothingStored before) (n : ℕ) (last : IsLast stack n) (closed_in : IfInUse before n (IsClosedAt before after n)) (tokens : SameTokens before after) where
+    (nothing : NothingStored before) (n : ℕ) (last : IsLast stack n) (closed_in : IfInUse before n (IsClosedAt before after n))
+    (tokens : SameTokens before after) where
   unfoldable kept : IsClosedAt before after n (node_here plan before stack shown)
   kept = here_so plan before stack shown n last (λ (at : Node). IsClosedAt before after n at) closed_in
 
@@ -217,7 +219,8 @@ module _ (plan : Plan) (before after : List Slot) (stack : List ℕ) (shown : Is
       (option_map (λ (x : Node). record x { body = kept.body }) found) m)
       (sym (here_found plan before stack shown n last)))
       (λ t.
-      let was : plot_occurs top.plot t ≡ body_occurs (body_in top.plot) t = closed_occur top.plot t (closed_open plan before stack shown nothing) in
+      let was : plot_occurs top.plot t ≡ body_occurs (body_in top.plot) t
+      = closed_occur top.plot t (closed_open plan before stack shown nothing) in
       let now : plot_occurs new t ≡ body_occurs kept.body t
       = closed_occur new t closed ∙ ap (λ (b : Body). body_occurs b t) is in
       let same : body_occurs kept.body t ≡ body_occurs (body_in top.plot) t = kept.tokens t in
@@ -258,9 +261,11 @@ module _ (plan : Plan) (before after : List Slot) (stack : List ℕ) (shown : Is
 
   -- Filled.
   module _ (means : Meanings) (table : Table) (root : ShapeId) (agree : LookupsAgree) (paths : LookupPathsAgree)
-      (ready : IsReady table root plan before stack) (filled : IfInUse before n (FillsAt strict_column means table plan before after n)) where
+      (ready : IsReady table root plan before stack)
+      (filled : IfInUse before n (FillsAt strict_column means table plan before after n)) where
     fills : FillsAt strict_column means table plan before after n (node_here plan before stack shown)
-    fills = here_so plan before stack shown n last (λ (at : Node). FillsAt strict_column means table plan before after n at) filled
+    fills =
+        here_so plan before stack shown n last (λ (at : Node). FillsAt strict_column means table plan before after n at) filled
 
     same_body : fills.body ≡ kept.body
     unfolding body_found
@@ -274,7 +279,8 @@ module _ (plan : Plan) (before after : List Slot) (stack : List ℕ) (shown : Is
     held = ap value_of (sym same_body) ∙ fills.filled.held
 
     -- it makes the value that it holds
-    meant : complete strict_column means table (shape_here table root.0 before stack) (tree_here before stack) ≡ Some fills.filled.value
+    meant : complete strict_column means table (shape_here table root.0 before stack) (tree_here before stack)
+        ≡ Some fills.filled.value
     meant =
         ap (λ (s : ℕ). complete strict_column means table s (tree_here before stack))
         (sym (shape_is agree paths table root plan before stack ready nothing))

@@ -129,7 +129,8 @@ module _ (hooks : Meanings) (table : Table) (served : IsServed table) where
       cc
   only_wants s t kind (inr wants) memory = go wants.needed
     where
-      go : (IsSome (complete strict_column hooks table s t) × (fills_nothing t ≡ false)) ⊎ ((complete strict_column hooks table s t ≡ None) × IsOfValidator (cause hooks table s t))
+      go : (IsSome (complete strict_column hooks table s t) × (fills_nothing t ≡ false))
+          ⊎ ((complete strict_column hooks table s t ≡ None) × IsOfValidator (cause hooks table s t))
           → IsSome (complete strict_column hooks table s t)
       go (inl made) = made.0
       go (inr said) = absurd (of_validator (cause hooks table s t) said.1 (cause_missing s t))

@@ -11,8 +11,8 @@ ghost use Rattle.fr_partial.specs.Filling.{fills_nothing};
 ghost use Rattle.fr_partial.specs.Modes.{IsBelowStart};
 ghost use Rattle.fr_partial.specs.Builder.{holds, left, left_built, BuildRefusesBeforeMemory, IsBuilt, IsNotOutOfMemory, IsStep, IsStepTo, RefusesBeforeMemory, RisesByRemoved, RisesByRemovedAtBuild, TellsPlaceBefore};
 
-use crate::finishing::{abandon, end_here, take_root};
 use crate::entering::out_of_memory;
+use crate::finishing::{abandon, end_here, take_root};
 use crate::mode::Mode;
 use crate::paths::step_back;
 use crate::{Built, Partial, ReflectError};

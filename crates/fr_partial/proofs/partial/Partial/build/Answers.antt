@@ -13,7 +13,8 @@ use Rattle.fr_partial.proofs.partial.Partial.build.Goals as goal
 pub returns-in-Deferred-clause-built : goal.returns-in-Deferred-clause-built
 returns-in-Deferred-clause-built g c =
     inr
-    (subst (λ (b : Builder _). meaning_of_build (g.H.Hooks.means b.hooks) b ≡ Err (violates Invariant.BuildDeferred)) c.self.view_is
+    (subst (λ (b : Builder _). meaning_of_build (g.H.Hooks.means b.hooks) b ≡ Err (violates Invariant.BuildDeferred))
+    c.self.view_is
     (builds_deferred (g.H.Hooks.means c.self.inside.hooks.now) c.self.inside.table.now c.self.inside.root.0
     (state_of c.self.inside.slots c.self.inside.stack (mode_of c.self.inside.mode) c.self.inside.calls)
     c.in-Deferred.field-0 (ap mode_of c.in-Deferred.is))

@@ -52,7 +52,8 @@ returns-in-Ok-clause-built g c = (
 pub returns-in-Ok-clause-fits : goal.returns-in-Ok-clause-fits
 returns-in-Ok-clause-fits g c =
     subst (λ (b : Builder _). fits b.shapes b.root (view c.in-Ok.value) ≡ true) c.self.view_is
-    (c.law_completes.ensures.fits strict_column (g.H.Hooks.means c.self.inside.hooks.now) c.self.inside.table.now c.self.inside.root.0
+    (c.law_completes.ensures.fits strict_column (g.H.Hooks.means c.self.inside.hooks.now) c.self.inside.table.now
+    c.self.inside.root.0
     (tree_in_slots c.self.inside.slots c.self.inside.stack) (view c.in-Ok.value) c.self.invariant.ready.checked
     c.self.invariant.ready.suits c.in-Ok.ensures.value)
 
@@ -91,7 +92,7 @@ returns-in-Err-clause-built g c =
           (builds_not (g.H.Hooks.means c.self.inside.hooks.now) c.self.inside.table.now c.self.inside.root.0
           (state_of c.self.inside.slots c.self.inside.stack (mode_of c.self.inside.mode) c.self.inside.calls) c.in-Err.kind
           (ap (λ (b : Builder _). b.state.mode) c.self.view_is ∙ c.requires.strict)
-      (only_root _ c.self.inside.slots c.self.inside.stack c.self.invariant.ready.shown c.len-open.result
+          (only_root _ c.self.inside.slots c.self.inside.stack c.self.invariant.ready.shown c.len-open.result
           c.len-open.ensures.count c.if-open-eq1.true)
           lacking))
       | inr wants ↦ inl wants.memory
@@ -120,7 +121,7 @@ returns-in-Err-clause-refused g c refused is =
     never_unbuilt (g.H.Hooks.means c.self.inside.hooks.now) c.self.inside.table.now c.self.inside.root.0
     (state_of c.self.inside.slots c.self.inside.stack (mode_of c.self.inside.mode) c.self.inside.calls)
     (ap (λ (b : Builder _). b.state.mode) c.self.view_is ∙ c.requires.strict)
-      (only_root _ c.self.inside.slots c.self.inside.stack c.self.invariant.ready.shown c.len-open.result
+    (only_root _ c.self.inside.slots c.self.inside.stack c.self.invariant.ready.shown c.len-open.result
     c.len-open.ensures.count c.if-open-eq1.true)
     (only_wants (g.H.Hooks.means c.self.inside.hooks.now) c.self.inside.table.now c.self.invariant.served _ _ c.in-Err.kind
     c.in-Err.ensures.why is)

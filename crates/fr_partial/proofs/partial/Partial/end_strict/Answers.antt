@@ -36,8 +36,10 @@ invariant_of-result g c =
     let s : ℕ = shape_here c.self.inside.table.now c.self.inside.root.0 c.self.inside.slots c.self.inside.stack in
     let state : State = state_of c.self.inside.slots c.self.inside.stack (mode_of c.self.inside.mode) c.self.inside.calls in
     let v = c.in-Ok.ensures.ended.value in
-    let mode : mode_of c.self.inside.mode ≡ strict = ap (λ (b : Builder _). b.state.mode) c.self.view_is ∙ c.requires.strict in
-    let deep : is_root state.cursor ≡ false = ap (λ (b : Builder _). is_root b.state.cursor) c.self.view_is ∙ c.requires.below in
+    let mode : mode_of c.self.inside.mode ≡ strict
+    = ap (λ (b : Builder _). b.state.mode) c.self.view_is ∙ c.requires.strict in
+    let deep : is_root state.cursor ≡ false
+    = ap (λ (b : Builder _). is_root b.state.cursor) c.self.view_is ∙ c.requires.below in
     let last = last_of (cursor_in c.self.inside.slots c.self.inside.stack) deep in
     underway_after c.self.invariant c.step_back.new.path c.in-Ok.slots c.in-Ok.stack c.self.inside.store
     (mode_of c.self.inside.mode) c.saturating_add.result (puts_and_leaves state v)
@@ -59,14 +61,17 @@ returns-in-Ok-clause-step g c =
     let s : ℕ = shape_here c.self.inside.table.now c.self.inside.root.0 c.self.inside.slots c.self.inside.stack in
     let state : State = state_of c.self.inside.slots c.self.inside.stack (mode_of c.self.inside.mode) c.self.inside.calls in
     let v = c.in-Ok.ensures.ended.value in
-    let mode : mode_of c.self.inside.mode ≡ strict = ap (λ (b : Builder _). b.state.mode) c.self.view_is ∙ c.requires.strict in
-    let deep : is_root state.cursor ≡ false = ap (λ (b : Builder _). is_root b.state.cursor) c.self.view_is ∙ c.requires.below in (
+    let mode : mode_of c.self.inside.mode ≡ strict
+    = ap (λ (b : Builder _). b.state.mode) c.self.view_is ∙ c.requires.strict in
+    let deep : is_root state.cursor ≡ false
+    = ap (λ (b : Builder _). is_root b.state.cursor) c.self.view_is ∙ c.requires.below in (
       subst (λ (b : Builder _). meaning (g.H.Hooks.means b.hooks) b Call.End ≡ Ok (puts_and_leaves state v)) c.self.view_is
           (ends (g.H.Hooks.means c.self.inside.hooks.now) c.self.inside.table.now s state v mode deep
           c.in-Ok.ensures.ended.meant)
           ∙ ap (λ (next : State). Ok next)
           (sym
-          (state_is _ c.in-Ok.slots c.in-Ok.stack _ _ (mode_of c.self.inside.mode) c.saturating_add.result _ c.in-Ok.ensures.ended.after
+          (state_is _ c.in-Ok.slots c.in-Ok.stack _ _ (mode_of c.self.inside.mode) c.saturating_add.result _
+          c.in-Ok.ensures.ended.after
           c.saturating_add.ensures)),
       ap (λ (b : Builder _). b.shapes) c.self.view_is,
       ap (λ (b : Builder _). b.root) c.self.view_is,
@@ -80,8 +85,10 @@ returns-in-Ok-clause-tokens g c = record {
       let s : ℕ = shape_here c.self.inside.table.now c.self.inside.root.0 c.self.inside.slots c.self.inside.stack in
       let state : State = state_of c.self.inside.slots c.self.inside.stack (mode_of c.self.inside.mode) c.self.inside.calls in
       let v = c.in-Ok.ensures.ended.value in
-      let mode : mode_of c.self.inside.mode ≡ strict = ap (λ (b : Builder _). b.state.mode) c.self.view_is ∙ c.requires.strict in
-      let deep : is_root state.cursor ≡ false = ap (λ (b : Builder _). is_root b.state.cursor) c.self.view_is ∙ c.requires.below in
+      let mode : mode_of c.self.inside.mode ≡ strict
+      = ap (λ (b : Builder _). b.state.mode) c.self.view_is ∙ c.requires.strict in
+      let deep : is_root state.cursor ≡ false
+      = ap (λ (b : Builder _). is_root b.state.cursor) c.self.view_is ∙ c.requires.below in
       let all : holds c.args.self t ≡ tree_occurs state.tree t
       = ap (λ (b : Builder _). holds b t) (sym c.self.view_is) in
       let kept : tree_occurs state.tree t + 0 ≡ tree_occurs (puts_and_leaves state v).tree t + 0

@@ -38,7 +38,8 @@ invariant_of-result g c =
     (keeps_none strict c.finish.new.self c.finish.new.slots refl c.in-Ok.ensures.empty c.in-Ok.ensures.strict)
     c.in-Ok.ensures.empty
     (state_is _ c.finish.new.slots c.finish.new.stack _ _ strict c.saturating_add.result _ done.stands c.saturating_add.ensures)
-    (order_after c.self.invariant c.law_well.ensures.in_order (g.H.Hooks.means c.self.inside.hooks.now) (state_with state done.tree)
+    (order_after c.self.invariant c.law_well.ensures.in_order (g.H.Hooks.means c.self.inside.hooks.now)
+    (state_with state done.tree)
     Call.FinishDeferred tt
     (ends_with c.law_plan_lookups.ensures.agree c.law_plan_lookups.ensures.paths (g.H.Hooks.means c.self.inside.hooks.now)
     c.self.inside.table.now c.self.inside.root _ c.self.inside.slots c.self.inside.stack (mode_of c.self.inside.mode)
@@ -65,11 +66,11 @@ returns-in-Ok-clause-step g c =
       subst
           (λ (b : Builder _). meaning (g.H.Hooks.means b.hooks) b Call.FinishDeferred ≡ Ok (state_with state done.tree))
           c.self.view_is
-      (ends_with c.law_plan_lookups.ensures.agree c.law_plan_lookups.ensures.paths (g.H.Hooks.means c.self.inside.hooks.now)
-    c.self.inside.table.now c.self.inside.root _ c.self.inside.slots c.self.inside.stack (mode_of c.self.inside.mode)
-    c.self.inside.calls c.self.invariant.ready
-    (λ mode. c.requires.deferred (ap (λ (b : Builder _). b.state.mode) (sym c.self.view_is) ∙ mode))
-    c.finish.new.slots c.finish.new.stack done)
+          (ends_with c.law_plan_lookups.ensures.agree c.law_plan_lookups.ensures.paths (g.H.Hooks.means c.self.inside.hooks.now)
+          c.self.inside.table.now c.self.inside.root _ c.self.inside.slots c.self.inside.stack (mode_of c.self.inside.mode)
+          c.self.inside.calls c.self.invariant.ready
+          (λ mode. c.requires.deferred (ap (λ (b : Builder _). b.state.mode) (sym c.self.view_is) ∙ mode))
+          c.finish.new.slots c.finish.new.stack done)
           ∙ ap (λ (next : State). Ok next)
           (sym
           (state_is _ c.finish.new.slots c.finish.new.stack _ _ strict c.saturating_add.result _ done.stands
@@ -94,10 +95,10 @@ returns-in-Ok-clause-tokens g c = record {
       = tokens_after c.self.invariant c.law_removed.ensures.step (g.H.Hooks.means c.self.inside.hooks.now)
       (state_with state done.tree) Call.FinishDeferred
       (ends_with c.law_plan_lookups.ensures.agree c.law_plan_lookups.ensures.paths (g.H.Hooks.means c.self.inside.hooks.now)
-    c.self.inside.table.now c.self.inside.root _ c.self.inside.slots c.self.inside.stack (mode_of c.self.inside.mode)
-    c.self.inside.calls c.self.invariant.ready
-    (λ mode. c.requires.deferred (ap (λ (b : Builder _). b.state.mode) (sym c.self.view_is) ∙ mode))
-    c.finish.new.slots c.finish.new.stack done)
+      c.self.inside.table.now c.self.inside.root _ c.self.inside.slots c.self.inside.stack (mode_of c.self.inside.mode)
+      c.self.inside.calls c.self.invariant.ready
+      (λ mode. c.requires.deferred (ap (λ (b : Builder _). b.state.mode) (sym c.self.view_is) ∙ mode))
+      c.finish.new.slots c.finish.new.stack done)
       t in
       let now : tree_occurs (tree_in_slots c.finish.new.slots c.finish.new.stack) t ≡ tree_occurs done.tree t
       = ap (λ (tree : Tree). tree_occurs tree t) done.stands.built in
@@ -118,9 +119,9 @@ returns-clause-step g c =
           inr
           (subst (λ (b : Builder _). meaning (g.H.Hooks.means b.hooks) b Call.FinishDeferred ≡ Err c.in-Err.kind) c.self.view_is
           (held_up c.law_plan_lookups.ensures.agree c.law_plan_lookups.ensures.paths (g.H.Hooks.means c.self.inside.hooks.now)
-    c.self.inside.table.now c.self.inside.root _ c.self.inside.slots c.self.inside.stack (mode_of c.self.inside.mode)
-    c.self.inside.calls c.self.invariant.ready
-    (λ mode. c.requires.deferred (ap (λ (b : Builder _). b.state.mode) (sym c.self.view_is) ∙ mode))
+          c.self.inside.table.now c.self.inside.root _ c.self.inside.slots c.self.inside.stack (mode_of c.self.inside.mode)
+          c.self.inside.calls c.self.invariant.ready
+          (λ mode. c.requires.deferred (ap (λ (b : Builder _). b.state.mode) (sym c.self.view_is) ∙ mode))
           c.in-Err.kind
           (subst
           (λ (p : Plan). IsHeldUp (g.H.Hooks.means c.self.inside.hooks.now) c.self.inside.table.now p c.self.inside.slots
