@@ -3,6 +3,5 @@ pub mod CellLaws
 pub mod FillLaws
 pub mod HeapLaws
 pub mod LackLaws
-pub mod ReleaseLaws
 pub mod ToldLaws
 pub mod WhyLaws

@@ -9,9 +9,8 @@ ghost use Rattle.fr_shape.specs.Val.{product};
 ghost use Rattle.fr_shape.specs.View.{view, vals_view};
 ghost use Rattle.fr_model.specs.Places.{parts_of};
 ghost use Rattle.fr_frame.specs.Bodies.{begun_body, body_occurs, cell_at, child_number, fresh_body, linked, opened, unlinked, value_of, with_cell, MayOpen};
-ghost use Rattle.fr_frame.specs.Cells.{absent, given, cells_occur, held_value, slot_of_cell, value_occurs};
+ghost use Rattle.fr_frame.specs.Cells.{absent, given, cells_occur, held_value, value_occurs};
 ghost use Rattle.fr_frame.specs.Heap.{as_form, body_of};
-ghost use Rattle.fr_frame.specs.declared.places.SlotId.{SlotId as Number};
 
 use crate::children::Children;
 use crate::places::{Form, Piece, SlotId};
@@ -39,17 +38,6 @@ fn child_at(form: Form, children: &Children, step: &PathStep) -> Option<usize>
 {
     let i = child_number(form, step)?;
     if i < children.len() { Some(i) } else { None }
-}
-
-/// The slot of the child at a step, where the place has that child, and has it in a slot.
-pub(crate) fn slot_at(piece: &Piece, step: &PathStep) -> Option<SlotId>
-    ensures { option_map (λ (child : Number). child.0) result
-        ≡ option_and_then slot_of_cell (cell_at (body_of piece.now) step.now) }
-{
-    match piece {
-        Piece::Begun(form, children) => children.slot(child_at(*form, children, step)?),
-        Piece::Entered | Piece::Whole(_) => None,
-    }
 }
 
 /// Puts the child at a step into a slot, where the place has it and it is in none, and hands its value out, if it was

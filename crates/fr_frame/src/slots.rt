@@ -66,15 +66,8 @@ impl Slots {
         }
     }
 
-    /// How many slots there are, in use or free.
-    pub(crate) fn len(&self) -> u32
-        ensures count { result ≡ length self.now }
-    {
-        self.entries.len() as u32
-    }
-
     /// Puts something else into a slot, and gives what was there.
-    pub(crate) fn swap(&mut self, id: SlotId, slot: Slot) -> Slot
+    fn swap(&mut self, id: SlotId, slot: Slot) -> Slot
         requires { id.0 < length self.old }
         ensures was { slice_get self.old id.0 ≡ Some result }
         ensures now { self.new ≡ slice_set self.old id.0 slot }

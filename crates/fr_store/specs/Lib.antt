@@ -1,4 +1,8 @@
+pub mod BeginLaws
+pub mod EndLaws
+pub mod EnterLaws
 pub mod HoldLaws
+pub mod LeaveLaws
 pub mod MoveLaws
 pub mod Moves
 pub mod Numbers

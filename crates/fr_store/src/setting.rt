@@ -22,7 +22,6 @@ impl Stack {
         value: Value,
         ledger: &mut Ledger,
     )
-        requires scaffold { ⊥ }
         requires is_open { IsOpen plan.now slots.old self.now }
         requires kept { IsKept store.old slots.old }
         requires room { Room (tokens_here slots.old self.now) ledger.old }
@@ -33,6 +32,11 @@ impl Stack {
         ensures kept { IsKept store.new slots.new }
         ensures marks { StoresNoMore slots.old slots.new }
     {
-        unreachable!()
+        let _plan = plan;
+        let Some(place) = self.top() else {
+            unreachable!()
+        };
+        store.prune(slots, place, ledger);
+        place.put(slots, value, ledger);
     }
 }

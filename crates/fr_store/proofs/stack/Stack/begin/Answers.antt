@@ -1,0 +1,30 @@
+use Rattle.std.specs.Prelude.{Result, Ok, Err, OnOk}
+use Rattle.fr_model.specs.Step.{opened_as}
+use Rattle.fr_model.specs.Tree.{change_at}
+use Rattle.fr_frame.specs.Bodies.{opened}
+use Rattle.fr_frame.specs.Changes.{Shows}
+use Rattle.fr_frame.specs.Heap.{as_form, heap_of, with_body}
+use Rattle.fr_store.specs.BeginLaws.{open_begun}
+use Rattle.fr_store.specs.MoveLaws.{top_in_use}
+use Rattle.fr_store.specs.Moves.{IsOpenAt, cursor_in, tree_in_slots}
+use Rattle.fr_store.proofs.stack.Stack.begin.Goals as goal
+
+on_ok : {A E : Type 0} (result : Result A E) (So Then : Type 0) → (So → Then) → OnOk result So → OnOk result Then
+on_ok (Ok x) So Then step so = step so
+on_ok (Err e) So Then step so = tt
+
+pub begin-requires-clause-in_use : goal.begin-requires-clause-in_use
+begin-requires-clause-in_use c =
+    top_in_use c.args.plan.now c.args.slots.now c.args.self.now c.requires.is_open c.in-Some.place.0 c.in-Some.ensures.last
+
+pub returns-clause-begun : goal.returns-clause-begun
+returns-clause-begun c =
+    on_ok c.begin.result
+    (Shows c.begin.new.slots
+    (with_body (heap_of c.args.slots.now) c.in-Some.place.0 (opened (as_form c.args.form) c.args.count)))
+    (IsOpenAt c.args.plan.now c.begin.new.slots c.args.self.now (cursor_in c.args.slots.now c.args.self.now)
+    (change_at (cursor_in c.args.slots.now c.args.self.now) (opened_as (as_form c.args.form) c.args.count)
+    (tree_in_slots c.args.slots.now c.args.self.now)))
+    (λ shows. open_begun c.args.plan.now c.args.slots.now c.begin.new.slots c.args.self.now c.requires.is_open
+    c.in-Some.place.0 c.in-Some.ensures.last (as_form c.args.form) c.args.count shows c.begin.ensures.tokens)
+    c.begin.ensures.begun

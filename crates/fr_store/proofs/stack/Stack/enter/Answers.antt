@@ -1,0 +1,33 @@
+use Rattle.std.proofs.Common.{◌≡◌, ◌<◌}
+use Rattle.fr_shape.specs.Look.{def_of}
+use Rattle.fr_frame.specs.Completing.{shape_of}
+use Rattle.fr_frame.specs.Heap.{as_form}
+use Rattle.fr_store.proofs.stack.Stack.enter.Goals as goal
+use Rattle.std.proofs.Common.{◌∙◌, ap, subst}
+use Rattle.fr_frame.specs.declared.places.FrameOwner.{FrameOwner}
+use Rattle.fr_frame.specs.Heap.{depth_below, depth_limit, heap_of, with_entered}
+use Rattle.fr_frame.specs.Kids.{child_owner}
+use Rattle.fr_store.specs.EnterLaws.{open_entered}
+use Rattle.fr_store.specs.MoveLaws.{top_in_use}
+
+pub enter-requires-clause-owner : goal.enter-requires-clause-owner
+enter-requires-clause-owner c =
+    top_in_use c.args.plan.now c.args.slots.now c.args.self.now c.requires.is_open c.in-Some.above.0 c.in-Some.ensures.last
+
+pub returns-in-Ok-clause-entered : goal.returns-in-Ok-clause-entered
+returns-in-Ok-clause-entered c =
+    let owner : FrameOwner.Child c.in-Some.above c.step_of.result
+    ≡ child_owner c.in-Some.above.0 (as_form c.args.form) c.args.i
+    = ap (FrameOwner.Child c.in-Some.above) c.step_of.ensures in
+    open_entered c.args.plan.now c.args.slots.now c.args.self.now c.requires.is_open c.in-Some.above.0
+    c.in-Some.ensures.last c.enter.new.self c.put_top.new.self (as_form c.args.form) c.args.i
+    (def_of c.args.table.now (shape_of c.args.plan.now c.args.node)) c.in-Ok.child.0 c.args.node c.requires.child
+    c.requires.node c.in-Ok.ensures.vacant
+    (λ m. c.in-Ok.ensures.entered m
+    ∙ ap
+    (λ (o : FrameOwner). with_entered (def_of c.args.table.now (shape_of c.args.plan.now c.args.node))
+    (heap_of c.args.slots.now) c.args.node o c.in-Ok.child.0 m)
+    owner)
+    (subst (λ (o : FrameOwner). depth_below (heap_of c.args.slots.now) o < depth_limit) owner c.in-Ok.ensures.limit)
+    c.in-Ok.ensures.tokens
+    (c.put_top.ensures c.args.self.now c.in-Some.above.0 c.in_ok-push.ensures.appended)

@@ -1,0 +1,125 @@
+-- Laws of beginning the top, for proofs.
+use Rattle.std.proofs.Common.{◌≡◌, ℕ, zero, suc, ◌+◌, List, ◌∷◌, replicate, false, Option, Some, None, refl, sym, ◌∙◌, ap, subst, arith}
+use Rattle.fr_shape.specs.Tokens.{occurs, vals_occur}
+use Rattle.fr_shape.specs.Val.{Val, Vals, no_vals, first, product}
+use Rattle.fr_model.specs.Places.{Place, parts_of}
+use Rattle.fr_model.specs.Step.{opened_as, opened_value}
+use Rattle.fr_model.specs.Tree.{Form, Tree, Trees, begun, branch, hole, whole, holes, wholes, change_at}
+use Rattle.fr_plan.specs.TypePlan.{Plan}
+use Rattle.fr_frame.specs.declared.places.Slot.{Slot}
+use Rattle.fr_frame.specs.Bodies.{begun_body, opened, opened_by, cells_of_vals, IsClosed, AreUnplaced}
+use Rattle.fr_frame.specs.Cells.{Cell, absent, given}
+use Rattle.fr_frame.specs.Changes.{SameTokens, Shows}
+use Rattle.fr_frame.specs.Heap.{with_body, heap_of}
+use Rattle.fr_frame.specs.Kids.{Kid, gone, there, at, Plot, entered_plot, whole_plot, begun_plot, Kids, no_kids, kid, tree_of, tree_in, trees_in, cells_in, body_in, plot_occurs, kids_occur}
+use Rattle.fr_store.specs.MoveLaws.{open_top, top_changed}
+use Rattle.fr_store.specs.Moves.{IsOpenAt, cursor_in, tree_in_slots}
+use Rattle.fr_store.specs.Numbers.{IsLast}
+use Rattle.fr_store.specs.Stands.{IsOpen, kid_shown}
+use Rattle.fr_store.specs.WayLaws.{tree_put_at, tree_change_at, tree_of_at}
+
+abbrev pub gones : ℕ → Kids
+gones zero = no_kids
+gones (suc count) = kid gone (gones count)
+
+abbrev pub theres : Vals → Kids
+theres no_vals = no_kids
+theres (first v vs) = kid (there v) (theres vs)
+
+abbrev pub opened_whole : Form → Val → Option Vals → Plot
+opened_whole form v (Some vs) = begun_plot form (theres vs)
+opened_whole form v None = whole_plot v
+
+abbrev pub opened_plot : Form → (count : ℕ) → Plot → Plot
+opened_plot form count entered_plot = begun_plot form (gones count)
+opened_plot form count (whole_plot v) = opened_whole form v (parts_of v)
+opened_plot form count (begun_plot made kids) = begun_plot made kids
+
+gones_cells : (count : ℕ) → cells_in (gones count) ≡ replicate count absent
+gones_cells zero = refl
+gones_cells (suc count) = ap (λ (cs : List Cell). absent ∷ cs) (gones_cells count)
+
+theres_cells : (vs : Vals) → cells_in (theres vs) ≡ cells_of_vals vs
+theres_cells no_vals = refl
+theres_cells (first v vs) = ap (λ (cs : List Cell). given v ∷ cs) (theres_cells vs)
+
+pub opened_body : (form : Form) (count : ℕ) (plot : Plot) → body_in (opened_plot form count plot) ≡ opened form count (body_in plot)
+opened_body form count entered_plot = ap (begun_body form) (gones_cells count)
+opened_body form count (whole_plot v) = go (parts_of v)
+  where
+    go : (parts : Option Vals) → body_in (opened_whole form v parts) ≡ opened_by form v parts
+    go (Some vs) = ap (begun_body form) (theres_cells vs)
+    go None = refl
+opened_body form count (begun_plot made kids) = refl
+
+gones_trees : (count : ℕ) → trees_in (gones count) ≡ holes count
+gones_trees zero = refl
+gones_trees (suc count) = ap (λ (ts : Trees). branch hole ts) (gones_trees count)
+
+theres_trees : (vs : Vals) → trees_in (theres vs) ≡ wholes vs
+theres_trees no_vals = refl
+theres_trees (first v vs) = ap (λ (ts : Trees). branch (whole v) ts) (theres_trees vs)
+
+pub opened_tree : (form : Form) (count : ℕ) (plot : Plot) → tree_in (opened_plot form count plot) ≡ opened_as form count (tree_in plot)
+opened_tree form count entered_plot = ap (begun form) (gones_trees count)
+opened_tree form count (whole_plot v) = go (parts_of v)
+  where
+    go : (parts : Option Vals) → tree_in (opened_whole form v parts) ≡ opened_value form v parts
+    go (Some vs) = ap (begun form) (theres_trees vs)
+    go None = refl
+opened_tree form count (begun_plot made kids) = refl
+
+gones_unplaced : (count : ℕ) → AreUnplaced (cells_in (gones count))
+gones_unplaced zero = tt
+gones_unplaced (suc count) = (tt, gones_unplaced count)
+
+theres_unplaced : (vs : Vals) → AreUnplaced (cells_in (theres vs))
+theres_unplaced no_vals = tt
+theres_unplaced (first v vs) = (tt, theres_unplaced vs)
+
+opened_closed : (form : Form) (count : ℕ) (plot : Plot) → IsClosed (body_in plot) → IsClosed (body_in (opened_plot form count plot))
+opened_closed form count entered_plot closed = gones_unplaced count
+opened_closed form count (whole_plot v) closed = go (parts_of v)
+  where
+    go : (parts : Option Vals) → IsClosed (body_in (opened_whole form v parts))
+    go (Some vs) = theres_unplaced vs
+    go None = tt
+opened_closed form count (begun_plot made kids) closed = closed
+
+gones_tokens : (count t : ℕ) → kids_occur (gones count) t ≡ 0
+gones_tokens zero t = refl
+gones_tokens (suc count) t = omega (arith, gones_tokens count t)
+
+theres_tokens : (vs : Vals) (t : ℕ) → kids_occur (theres vs) t ≡ vals_occur vs t
+theres_tokens no_vals t = refl
+theres_tokens (first v vs) t = ap (λ (n : ℕ). occurs v t + n) (theres_tokens vs t)
+
+whole_tokens : (form : Form) (v : Val) (t : ℕ) → plot_occurs (opened_whole form v (parts_of v)) t ≡ occurs v t
+whole_tokens form (product vs) t = theres_tokens vs t
+whole_tokens form _ t = refl
+
+opened_tokens : (form : Form) (count : ℕ) (plot : Plot) (t : ℕ) → plot_occurs (opened_plot form count plot) t ≡ plot_occurs plot t
+opened_tokens form count entered_plot t = gones_tokens count t
+opened_tokens form count (whole_plot v) t = whole_tokens form v t
+opened_tokens form count (begun_plot made kids) t = refl
+
+-- the top is begun
+pub open_begun : (plan : Plan) (before after : List Slot) (stack : List ℕ) (open_now : IsOpen plan before stack) (n : ℕ)
+    → IsLast stack n → (form : Form) (count : ℕ) → Shows after (with_body (heap_of before) n (opened form count))
+    → SameTokens before after
+    → IsOpenAt plan after stack (cursor_in before stack)
+    (change_at (cursor_in before stack) (opened_as form count) (tree_in_slots before stack))
+open_begun plan before after stack open_now n last form count shows tokens =
+    let place : Place = cursor_in before stack in
+    let k : Kid = kid_shown (heap_of before) stack in
+    let top = open_top plan before stack open_now in
+    let new : Plot = opened_plot form count top.plot in
+    let same : change_at place (λ old. tree_in new) (tree_of k) ≡ change_at place (opened_as form count) (tree_of k)
+    = sym (tree_put_at place (at top.slot false new) k)
+    ∙ tree_change_at place (opened_as form count) (at top.slot false new) k
+    (opened_tree form count top.plot
+    ∙ ap (opened_as form count) (ap tree_of (sym top.is) ∙ tree_of_at place k)) in
+    subst (λ (t : Tree). IsOpenAt plan after stack place t) same
+    (top_changed plan before after stack open_now n last (opened form count) new (opened_body form count top.plot)
+    (opened_closed form count top.plot top.closed) shows
+    (λ t. omega (arith, tokens t, opened_tokens form count top.plot t)))

@@ -1,0 +1,328 @@
+-- Laws of ending, for proofs: the top is left, and its value goes to the place above.
+use Rattle.std.proofs.Common.{◌≡◌, ◌≢◌, ℕ, zero, suc, ◌+◌, ◌<◌, false, List, [], ◌∷◌, ◌++◌, append-nil, length, Option, Some, None, refl, sym, ◌∙◌, ap, subst, arith}
+use Rattle.std.specs.Prelude.{is_some, IsSomeAnd}
+use Rattle.fr_shape.specs.Tokens.{occurs, vals_occur}
+use Rattle.fr_shape.specs.Val.{Val, Vals, no_vals, first, product}
+use Rattle.fr_path.specs.declared.path_steps.PathStep.{PathStep}
+use Rattle.fr_model.specs.Paths.{step_as}
+use Rattle.fr_model.specs.Complete.{made}
+use Rattle.fr_model.specs.Places.{Place, up, one_more}
+use Rattle.fr_model.specs.Tree.{Form, as_struct, as_array, whole, change_at}
+use Rattle.fr_plan.specs.TypePlan.{Plan}
+use Rattle.fr_frame.specs.declared.places.FrameOwner.{FrameOwner}
+use Rattle.fr_frame.specs.declared.places.Slot.{Slot}
+use Rattle.fr_frame.specs.Bodies.{Body, entered_body, whole_body, begun_body, value_of, body_occurs, cell_at, with_cell, AreUnplaced}
+use Rattle.fr_frame.specs.Cells.{Cell, absent, given, placed, cells_occur, values_of}
+use Rattle.fr_frame.specs.Changes.{IfInUse, IsInUse, Shows}
+use Rattle.fr_frame.specs.Heap.{Node, with_body, without, heap_of, slots_occur}
+use Rattle.fr_frame.specs.Kids.{Kid, gone, there, at, Plot, begun_plot, Kids, no_kids, kid, tree_of, cell_of, cells_in, body_in, kid_occurs, plot_occurs, child_owner}
+use Rattle.fr_store.specs.LeaveLaws.{Above, above_of, gone_above, gone_is, left_top, owner_append, put_append, above_append, up_append, cell_of_child, with_child}
+use Rattle.fr_store.specs.MoveLaws.{same_last, same_front, open_at_from}
+use Rattle.fr_store.specs.Moves.{IsOpenAt, IsStepTo, IsNumbered, cursor_in, tree_in_slots}
+use Rattle.fr_store.specs.Numbers.{IsLast}
+use Rattle.fr_store.specs.Stands.{Stands, IsOpen, kid_shown}
+use Rattle.fr_store.specs.TopLaws.{Top, top_of, top_replaced, body_here, body_other, closed_occur}
+use Rattle.fr_store.specs.Ways.{kid_at, put_nth, put_below, put_at, slots_above, NoneStored, Leads, Reaches, node_along, owner_along, owner_below}
+use Rattle.fr_store.specs.WayLaws.{nth_put, count_put, leads_reach, marked_put_at, occurs_put_at, tree_put_at, kid_put_at, put_at_twice, put_below_twice}
+
+-- The value that a place comes to has its tokens.
+
+values_tokens : (cs : List Cell) (vs : Vals) (t : ℕ) → values_of cs ≡ Some vs → cells_occur cs t ≡ vals_occur vs t
+values_tokens [] vs t e = let same : no_vals ≡ vs = cc in ap (λ (us : Vals). vals_occur us t) same
+values_tokens (absent ∷ cs) vs t e = absurd (cc)
+values_tokens (placed n ∷ cs) vs t e = absurd (cc)
+values_tokens (given v ∷ cs) vs t e = go (values_of cs) refl e (λ us. values_tokens cs us t)
+  where
+    go : (rest : Option Vals) → values_of cs ≡ rest → one_more (Some v) rest ≡ Some vs
+        → ((us : Vals) → values_of cs ≡ Some us → cells_occur cs t ≡ vals_occur us t)
+        → occurs v t + cells_occur cs t ≡ vals_occur vs t
+    go None is h more = absurd (cc)
+    go (Some us) is h more =
+        let same : first v us ≡ vs = cc in
+        ap (λ (n : ℕ). occurs v t + n) (more us is) ∙ ap (λ (ws : Vals). vals_occur ws t) same
+
+made_tokens : (form : Form) (values : Option Vals) (v : Val) → made form values ≡ Some v
+    → (vs : Vals) × (values ≡ Some vs) × (product vs ≡ v)
+made_tokens as_struct (Some vs) v e = (vs, refl, cc)
+made_tokens as_struct None v e = absurd (cc)
+made_tokens as_array (Some vs) v e = (vs, refl, cc)
+made_tokens as_array None v e = absurd (cc)
+
+pub value_tokens : (body : Body) (v : Val) (t : ℕ) → value_of body ≡ Some v → body_occurs body t ≡ occurs v t
+value_tokens entered_body v t e = absurd (cc)
+value_tokens (whole_body w) v t e = let same : w ≡ v = cc in ap (λ (x : Val). occurs x t) same
+value_tokens (begun_body form cells) v t e =
+    let is = made_tokens form (values_of cells) v e in
+    values_tokens cells is.0 t is.1 ∙ ap (λ (x : Val). occurs x t) is.2
+
+unplaced_given : (i : ℕ) (v : Val) (ks : Kids) → AreUnplaced (cells_in ks) → AreUnplaced (cells_in (put_nth i (there v) ks))
+unplaced_given i v no_kids closed = tt
+unplaced_given zero v (kid k ks) closed = (tt, closed.1)
+unplaced_given (suc i) v (kid k ks) closed = (closed.0, unplaced_given i v ks closed.1)
+
+-- An open builder whose top isn't the root.
+module _ (plan : Plan) (slots : List Slot) (stack : List ℕ) (open_now : IsOpen plan slots stack) (above : Place) (i : ℕ)
+    (is_below : cursor_in slots stack ≡ above ++ i ∷ []) where
+  unfoldable pub kid_now : Kid
+  kid_now = kid_shown (heap_of slots) stack
+
+  pub stands_now : Stands plan (heap_of slots) stack (above ++ i ∷ []) kid_now
+  unfolding kid_now
+  stands_now = subst (λ (p : Place). Stands plan (heap_of slots) stack p (kid_shown (heap_of slots) stack)) is_below open_now.stands
+
+  pub strict_now : NoneStored kid_now
+  unfolding kid_now
+  strict_now = open_now.strict
+
+  pub top_now : Top plan (heap_of slots) stack (above ++ i ∷ []) kid_now
+  top_now = top_of plan (heap_of slots) stack (above ++ i ∷ []) kid_now stands_now strict_now
+
+  pub above_now : Above above i kid_now
+  above_now = above_of above i kid_now stands_now.leads strict_now
+
+  pub owner_now : owner_along FrameOwner.Root (above ++ i ∷ []) kid_now ≡ child_owner above_now.slot above_now.form i
+  owner_now =
+      owner_append FrameOwner.Root above i kid_now
+      ∙ ap (λ (x : Kid). owner_below (owner_along FrameOwner.Root above kid_now) i x) above_now.is
+
+  -- the top is left
+  pub stands_left : (after : List Slot) (next : List ℕ) (n : ℕ) → stack ≡ next ++ n ∷ []
+      → IfInUse slots n (λ (found : Node). Shows after (without (heap_of slots) n found.owner))
+      → Stands plan (heap_of after) next above (put_at (above ++ i ∷ []) gone kid_now)
+  stands_left after next n last shows =
+      let same : top_now.slot ≡ n
+      = same_last (slots_above (above ++ i ∷ []) kid_now) next top_now.slot n (sym top_now.last ∙ last) in
+      let found : heap_of slots n ≡ Some (record {
+        node = node_along plan plan.root (above ++ i ∷ []) kid_now;
+        owner = owner_along FrameOwner.Root (above ++ i ∷ []) kid_now;
+        stored = false;
+        depth = length (above ++ i ∷ []);
+        body = body_in top_now.plot;
+      })
+      = ap (heap_of slots) (sym same) ∙ top_now.here in
+      let left : Shows after (without (heap_of slots) n (owner_along FrameOwner.Root (above ++ i ∷ []) kid_now))
+      = subst
+      (λ (o : Option Node). IsSomeAnd o (λ (found : Node). Shows after (without (heap_of slots) n found.owner))) found
+      shows in
+      left_top plan (heap_of slots) (heap_of after) stack next above i kid_now n stands_now strict_now top_now above_now same
+      left
+      (sym (same_front (slots_above (above ++ i ∷ []) kid_now) next top_now.slot n (sym top_now.last ∙ last))
+      ∙ above_append above i kid_now stands_now.leads above_now.slot false (begun_plot above_now.form above_now.kids)
+      above_now.is)
+
+  pub strict_left : NoneStored (put_at (above ++ i ∷ []) gone kid_now)
+  strict_left = marked_put_at false (above ++ i ∷ []) gone kid_now strict_now tt
+
+  reach_above : Reaches above kid_now
+  reach_above = leads_reach above (i ∷ []) kid_now stands_now.leads
+
+  reach_now : Reaches (above ++ i ∷ []) kid_now
+  reach_now =
+      leads_reach (above ++ i ∷ []) [] kid_now
+      (subst (λ (p : Place). Leads p kid_now) (sym (append-nil (above ++ i ∷ []))) stands_now.leads)
+
+  -- the tokens at the top, and those beside it
+  pub tokens_left : (t : ℕ)
+      → kid_occurs (put_at (above ++ i ∷ []) gone kid_now) t + body_occurs (body_in top_now.plot) t ≡ kid_occurs kid_now t
+  tokens_left t =
+      let here : kid_occurs (kid_at (above ++ i ∷ []) kid_now) t ≡ plot_occurs top_now.plot t
+      = ap (λ (x : Kid). kid_occurs x t) top_now.is in
+      omega
+      (arith, occurs_put_at (above ++ i ∷ []) gone kid_now t reach_now, closed_occur top_now.plot t top_now.closed)
+
+  -- the step that the top's owner tells
+  pub step_now : (n : ℕ) (step : PathStep) → top_now.slot ≡ n
+      → IfInUse slots n (λ (found : Node). IsStepTo step found.owner) → step ≡ step_as above_now.form i
+  step_now n step same told =
+      let found : heap_of slots n ≡ Some (record {
+        node = node_along plan plan.root (above ++ i ∷ []) kid_now;
+        owner = owner_along FrameOwner.Root (above ++ i ∷ []) kid_now;
+        stored = false;
+        depth = length (above ++ i ∷ []);
+        body = body_in top_now.plot;
+      })
+      = ap (heap_of slots) (sym same) ∙ top_now.here in
+      let so : IsStepTo step (owner_along FrameOwner.Root (above ++ i ∷ []) kid_now)
+      = subst (λ (o : Option Node). IsSomeAnd o (λ (x : Node). IsStepTo step x.owner)) found told in
+      subst (λ (o : FrameOwner). IsStepTo step o) owner_now so
+
+  pub numbered_now : (n : ℕ) → top_now.slot ≡ n → IfInUse slots n (λ (found : Node). IsNumbered found.owner)
+  numbered_now n same =
+      let found = ap (heap_of slots) (sym same) ∙ top_now.here in
+      subst (λ (o : Option Node). IsSomeAnd o (λ (x : Node). IsNumbered x.owner)) (sym found)
+      (subst (λ (o : FrameOwner). IsNumbered o) (sym owner_now) (go above_now.form))
+    where
+      go : (form : Form) → IsNumbered (child_owner above_now.slot form i)
+      go as_struct = tt
+      go as_array = tt
+
+  pub value_now : (n : ℕ) (v : Val) → top_now.slot ≡ n → IfInUse slots n (λ (found : Node). value_of found.body ≡ Some v)
+      → value_of (body_in top_now.plot) ≡ Some v
+  value_now n v same told =
+      let found = ap (heap_of slots) (sym same) ∙ top_now.here in
+      subst (λ (o : Option Node). IsSomeAnd o (λ (x : Node). value_of x.body ≡ Some v)) found told
+
+  pub slot_now : (next : List ℕ) (n : ℕ) → stack ≡ next ++ n ∷ [] → top_now.slot ≡ n
+  slot_now next n last = same_last (slots_above (above ++ i ∷ []) kid_now) next top_now.slot n (sym top_now.last ∙ last)
+
+  module _ (mid : List Slot) (next : List ℕ) (n : ℕ) (last : stack ≡ next ++ n ∷ [])
+      (shows : IfInUse slots n (λ (found : Node). Shows mid (without (heap_of slots) n found.owner))) where
+    pub top_left : Top plan (heap_of mid) next above (put_at (above ++ i ∷ []) gone kid_now)
+    top_left =
+        top_of plan (heap_of mid) next above (put_at (above ++ i ∷ []) gone kid_now) (stands_left mid next n last shows)
+        strict_left
+
+    left_is : gone_above above i kid_now above_now ≡ at top_left.slot false top_left.plot
+    left_is =
+        sym (ap (kid_at above) (gone_is above i kid_now above_now)
+        ∙ kid_put_at above (gone_above above i kid_now above_now) kid_now reach_above)
+        ∙ top_left.is
+
+    pub plot_left : top_left.plot ≡ begun_plot above_now.form (put_nth i gone above_now.kids)
+    plot_left = let is = left_is in cc
+
+    pub slot_left : top_left.slot ≡ above_now.slot
+    slot_left = let is = left_is in cc
+
+    -- the child is gone from the place above
+    pub absent_left : (m : ℕ) (step : PathStep) → IsLast next m → step ≡ step_as above_now.form i
+        → IfInUse mid m (λ (found : Node). cell_at found.body step ≡ Some absent)
+    absent_left m step ends told =
+        let same : top_left.slot ≡ m
+        = same_last (slots_above above (put_at (above ++ i ∷ []) gone kid_now)) ends.0 top_left.slot m
+        (sym top_left.last ∙ ends.1) in
+        let found = ap (heap_of mid) (sym same) ∙ top_left.here in
+        subst (λ (o : Option Node). IsSomeAnd o (λ (x : Node). cell_at x.body step ≡ Some absent)) (sym found)
+        (ap (λ (p : Plot). cell_at (body_in p) step) plot_left
+        ∙ ap (cell_at (body_in (begun_plot above_now.form (put_nth i gone above_now.kids)))) told
+        ∙ cell_of_child above_now.form i (put_nth i gone above_now.kids)
+        (subst (λ (count : ℕ). i < count) (sym (count_put i gone above_now.kids)) above_now.within)
+        ∙ ap (λ (x : Kid). Some (cell_of x)) (nth_put i gone above_now.kids above_now.within))
+
+    pub in_use_left : (m : ℕ) → IsLast next m → IsInUse mid m
+    in_use_left m ends =
+        let same : top_left.slot ≡ m
+        = same_last (slots_above above (put_at (above ++ i ∷ []) gone kid_now)) ends.0 top_left.slot m
+        (sym top_left.last ∙ ends.1) in
+        ap is_some (ap (heap_of mid) (sym same) ∙ top_left.here)
+
+    -- a value is put there
+    pub stands_ended : (after : List Slot) (m : ℕ) (step : PathStep) (v : Val) → IsLast next m
+        → step ≡ step_as above_now.form i
+        → Shows after (with_body (heap_of mid) m (λ old. with_cell old step (given v)))
+        → Stands plan (heap_of after) next above (put_at (above ++ i ∷ []) (there v) kid_now)
+    stands_ended after m step v ends told puts =
+        let same : top_left.slot ≡ m
+        = same_last (slots_above above (put_at (above ++ i ∷ []) gone kid_now)) ends.0 top_left.slot m
+        (sym top_left.last ∙ ends.1) in
+        let rest : Kids = put_nth i gone above_now.kids in
+        let new : Plot = begun_plot above_now.form (put_nth i (there v) rest) in
+        let changed : with_cell (body_in top_left.plot) step (given v) ≡ body_in new
+        = ap (λ (p : Plot). with_cell (body_in p) step (given v)) plot_left
+        ∙ ap (λ (s : PathStep). with_cell (begun_body above_now.form (cells_in rest)) s (given v)) told
+        ∙ with_child above_now.form i (there v) rest in
+        let here : heap_of after top_left.slot ≡ Some (record {
+          node = node_along plan plan.root above (put_at (above ++ i ∷ []) gone kid_now);
+          owner = owner_along FrameOwner.Root above (put_at (above ++ i ∷ []) gone kid_now);
+          stored = false;
+          depth = length above;
+          body = body_in new;
+        })
+        = puts top_left.slot
+        ∙ ap (λ (x : ℕ). with_body (heap_of mid) x (λ old. with_cell old step (given v)) top_left.slot) (sym same)
+        ∙ body_here (heap_of mid) top_left.slot (λ old. with_cell old step (given v)) (record {
+          node = node_along plan plan.root above (put_at (above ++ i ∷ []) gone kid_now);
+          owner = owner_along FrameOwner.Root above (put_at (above ++ i ∷ []) gone kid_now);
+          stored = false;
+          depth = length above;
+          body = body_in top_left.plot;
+        }) top_left.here
+        ∙ ap (λ (b : Body). Some (record {
+          node = node_along plan plan.root above (put_at (above ++ i ∷ []) gone kid_now);
+          owner = owner_along FrameOwner.Root above (put_at (above ++ i ∷ []) gone kid_now);
+          stored = false;
+          depth = length above;
+          body = b;
+        })) changed in
+        let beside : (x : ℕ) → x ≢ top_left.slot → heap_of after x ≡ heap_of mid x
+        = λ x ne. puts x
+        ∙ ap (λ (y : ℕ). with_body (heap_of mid) y (λ old. with_cell old step (given v)) x) (sym same)
+        ∙ body_other (heap_of mid) top_left.slot (λ old. with_cell old step (given v)) x ne in
+        let ended = top_replaced plan (heap_of mid) (heap_of after) next above (put_at (above ++ i ∷ []) gone kid_now) new
+        (stands_left mid next n last shows) top_left (unplaced_given i v rest above_now.rest) here beside in
+        let one : put_below i (there v) (gone_above above i kid_now above_now) ≡ at top_left.slot false new
+        = ap (λ (x : ℕ). at x false new) (sym slot_left) in
+        let two : put_below i (there v) (gone_above above i kid_now above_now)
+        ≡ put_below i (there v) (kid_at above kid_now)
+        = put_below_twice i gone (there v) (at above_now.slot false (begun_plot above_now.form above_now.kids))
+        ∙ ap (put_below i (there v)) (sym above_now.is) in
+        subst (λ (x : Kid). Stands plan (heap_of after) next above x)
+        (ap (put_at above (at top_left.slot false new)) (gone_is above i kid_now above_now)
+        ∙ put_at_twice above (gone_above above i kid_now above_now) (at top_left.slot false new) kid_now reach_above
+        ∙ ap (λ (x : Kid). put_at above x kid_now) (sym one ∙ two) ∙ sym (put_append above (i ∷ []) (there v) kid_now))
+        ended
+
+    pub not_empty : next ≡ [] → ⊥
+    not_empty none = go (slots_above above (put_at (above ++ i ∷ []) gone kid_now)) (sym none ∙ top_left.last)
+      where
+        go : (xs : List ℕ) → [] ≡ xs ++ top_left.slot ∷ [] → ⊥
+        go [] e = cc
+        go (x ∷ xs) e = cc
+
+    -- a builder that has ended
+    pub open_ended : (after : List Slot) (m : ℕ) (step : PathStep) (v : Val) → IsLast next m
+        → step ≡ step_as above_now.form i
+        → Shows after (with_body (heap_of mid) m (λ old. with_cell old step (given v)))
+        → ((t : ℕ) → slots_occur slots t ≡ slots_occur mid t + occurs v t)
+        → ((t : ℕ) → slots_occur after t ≡ slots_occur mid t + occurs v t)
+        → value_of (body_in top_now.plot) ≡ Some v
+        → IsOpenAt plan after next (up (cursor_in slots stack))
+        (change_at (cursor_in slots stack) (λ old. whole v) (tree_in_slots slots stack))
+    unfolding kid_now
+    open_ended after m step v ends told puts taken put value =
+        let ended = open_at_from plan after next above (put_at (above ++ i ∷ []) (there v) kid_now)
+        (change_at (above ++ i ∷ []) (λ old. whole v) (tree_of kid_now))
+        (stands_ended after m step v ends told puts)
+        (marked_put_at false (above ++ i ∷ []) (there v) kid_now strict_now tt)
+        (λ t.
+        let here : kid_occurs (kid_at (above ++ i ∷ []) kid_now) t ≡ plot_occurs top_now.plot t
+        = ap (λ (x : Kid). kid_occurs x t) top_now.is in
+        let now : slots_occur slots t ≡ kid_occurs kid_now t = open_now.tokens t in
+        omega
+        (arith, occurs_put_at (above ++ i ∷ []) (there v) kid_now t reach_now, closed_occur top_now.plot t top_now.closed, value_tokens (body_in top_now.plot) v t value, taken t, put t))
+        (tree_put_at (above ++ i ∷ []) (there v) kid_now) in
+        subst
+        (λ (p : Place). IsOpenAt plan after next (up p) (change_at p (λ old. whole v) (tree_in_slots slots stack)))
+        (sym is_below)
+        (subst
+        (λ (p : Place). IsOpenAt plan after next p
+        (change_at (above ++ i ∷ []) (λ old. whole v) (tree_in_slots slots stack)))
+        (sym (up_append above i)) ended)
+
+    -- what ending owes, of whatever value the top comes to
+    pub ended_so : (after : List Slot) (m : ℕ) (step : PathStep) (w : Val) → IsLast next m
+        → IfInUse slots n (λ (found : Node). IsStepTo step found.owner)
+        → Shows after (with_body (heap_of mid) m (λ old. with_cell old step (given w)))
+        → ((t : ℕ) → slots_occur slots t ≡ slots_occur mid t + occurs w t)
+        → ((t : ℕ) → slots_occur after t ≡ slots_occur mid t + occurs w t)
+        → IfInUse slots n (λ (found : Node). value_of found.body ≡ Some w) → (p : ℕ) → IsLast stack p
+        → IfInUse slots p (λ (found : Node). (v : Val) → value_of found.body ≡ Some v
+        → IsOpenAt plan after next (up (cursor_in slots stack))
+        (change_at (cursor_in slots stack) (λ old. whole v) (tree_in_slots slots stack)))
+    ended_so after m step w ends told puts taken put value p ends_so =
+        let same : top_now.slot ≡ p
+        = same_last (slots_above (above ++ i ∷ []) kid_now) ends_so.0 top_now.slot p (sym top_now.last ∙ ends_so.1) in
+        let found = ap (heap_of slots) (sym same) ∙ top_now.here in
+        let worth : value_of (body_in top_now.plot) ≡ Some w = value_now n w (slot_now next n last) value in
+        let ended = open_ended after m step w ends (step_now n step (slot_now next n last) told) puts taken put worth in
+        subst
+        (λ (o : Option Node). IsSomeAnd o (λ (x : Node). (v : Val) → value_of x.body ≡ Some v
+        → IsOpenAt plan after next (up (cursor_in slots stack))
+        (change_at (cursor_in slots stack) (λ old. whole v) (tree_in_slots slots stack))))
+        (sym found)
+        (λ v is.
+        let is_w : w ≡ v = cc (worth, is) in
+        subst
+        (λ (x : Val). IsOpenAt plan after next (up (cursor_in slots stack))
+        (change_at (cursor_in slots stack) (λ old. whole x) (tree_in_slots slots stack)))
+        is_w ended)
