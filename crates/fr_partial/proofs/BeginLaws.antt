@@ -10,7 +10,7 @@ use Rattle.fr_shape.specs.declared.error.Operation.{Operation}
 use Rattle.fr_shape.specs.Look.{Table, def_of}
 use Rattle.fr_shape.specs.Named.{field_named, first_declared}
 use Rattle.fr_model.specs.Places.{count_children}
-use Rattle.fr_model.specs.Tree.{Tree, State, cursor_tree}
+use Rattle.fr_model.specs.Tree.{Mode, Tree, State, cursor_tree}
 use Rattle.fr_model.specs.Step.{begin_nth_field, begin_field, enters, field_refusal, named_refusal}
 use Rattle.fr_frame.specs.declared.places.Slot.{Slot}
 use Rattle.fr_store.specs.Moves.{tree_here}
@@ -41,13 +41,14 @@ pub shape_of_number : {H : Type 0} (builder : Builder H) (shape : ShapeId) → s
 shape_of_number builder shape e = ap (λ (n : ℕ). record { 0 = n }) (sym e)
 
 -- the refusal that the place's shape and what was put there tell is the one that is meant
-pub refusal_is : {H : Type 0} {h : H} (table : Table) (root : ℕ) (slots : List Slot) (stack : List ℕ) (calls : ℕ)
-    (builder : Builder H) → builder_of h table root slots stack calls ≡ builder → (s : ℕ) → s ≡ here builder
-    → (t : Tree) → t ≡ tree_here slots stack → (i : ℕ)
+pub refusal_is : {H : Type 0} {h : H} (table : Table) (root : ℕ) (slots : List Slot) (stack : List ℕ)
+    (mode : Mode) (calls : ℕ) (builder : Builder H) → builder_of h table root slots stack mode calls ≡ builder → (s : ℕ)
+    → s ≡ here builder
+    → (t : Tree) → ((def : Def) (i : ℕ) → field_refusal def t i ≡ field_refusal def (tree_here slots stack) i) → (i : ℕ)
     → field_refusal (def_of table s) t i ≡ field_refusal (def_of builder.shapes (here builder)) (cursor_tree builder.state) i
-refusal_is {H} table root slots stack calls builder is s e t at i =
+refusal_is {H} table root slots stack mode calls builder is s e t at i =
     ap (λ (n : ℕ). field_refusal (def_of table n) t i) e
-    ∙ ap (λ (x : Tree). field_refusal (def_of table (here builder)) x i) at
+    ∙ at (def_of table (here builder)) i
     ∙ ap (λ (b : Builder H). field_refusal (def_of b.shapes (here builder)) (cursor_tree b.state) i) is
 
 pub begin_admitted : {H : Type 0} (builder : Builder H) (i : ℕ)
@@ -65,8 +66,9 @@ begin_refused builder i shape operation same e =
 
 -- by name
 
-module _ {H : Type 0} {h : H} (table : Table) (root : ℕ) (slots : List Slot) (stack : List ℕ) (calls : ℕ) (builder : Builder H)
-    (is : builder_of h table root slots stack calls ≡ builder) (shape : ShapeId) (same : shape.0 ≡ here builder) where
+module _ {H : Type 0} {h : H} (table : Table) (root : ℕ) (slots : List Slot) (stack : List ℕ)
+    (mode : Mode) (calls : ℕ) (builder : Builder H) (is : builder_of h table root slots stack mode calls ≡ builder)
+    (shape : ShapeId) (same : shape.0 ≡ here builder) where
   def_is : def_of table shape.0 ≡ def_of builder.shapes (here builder)
   def_is =
       ap (def_of table) same ∙ ap (λ (b : Builder H). def_of b.shapes (here builder)) is
@@ -114,13 +116,14 @@ named_within (Def.Struct struct) t name i e =
     rw test refl
 named_within _ t name i e = cc
 
-pub named_there : {H : Type 0} {h : H} (table : Table) (root : ℕ) (slots : List Slot) (stack : List ℕ) (calls : ℕ)
-    (builder : Builder H) → builder_of h table root slots stack calls ≡ builder → (shape : ShapeId) → shape.0 ≡ here builder
+pub named_there : {H : Type 0} {h : H} (table : Table) (root : ℕ) (slots : List Slot) (stack : List ℕ)
+    (mode : Mode) (calls : ℕ) (builder : Builder H) → builder_of h table root slots stack mode calls ≡ builder
+    → (shape : ShapeId) → shape.0 ≡ here builder
     → (name : List ℕ) (i : ℕ) → field_named name (def_of table shape.0) ≡ Some i
     → field_refusal (def_of builder.shapes (here builder)) (cursor_tree builder.state) i ≡ None
-named_there table root slots stack calls builder is shape same name i found =
+named_there table root slots stack mode calls builder is shape same name i found =
     named_within (def_of builder.shapes (here builder)) (cursor_tree builder.state) name i
-    (sym (ap (field_named name) (def_is table root slots stack calls builder is shape same)) ∙ found)
+    (sym (ap (field_named name) (def_is table root slots stack mode calls builder is shape same)) ∙ found)
 
 pub begins : (table : Table) (s : ℕ) (state : State) (i : ℕ) → field_refusal (def_of table s) (cursor_tree state) i ≡ None
     → begin_nth_field table s state i ≡ Ok (enters table s state i)

@@ -9,7 +9,7 @@ use Rattle.fr_shape.specs.Released.{Room, RoseBy}
 use Rattle.fr_shape.specs.TokenLaws.{Room_same, RoseBy_same}
 use Rattle.fr_shape.specs.Val.{Val, Vals}
 use Rattle.fr_model.specs.Complete.{complete}
-use Rattle.fr_model.specs.Places.{Place, one_more, up}
+use Rattle.fr_model.specs.Places.{strict_column, Place, one_more, up}
 use Rattle.fr_model.specs.Step.{cause}
 use Rattle.fr_model.specs.Tree.{Tree, hole, entered, whole, begun, Trees, no_trees, branch, change_at, change_nth, count_trees, shape_in, tree_at, tree_occurs}
 use Rattle.fr_model.specs.Well.{IsFullAs, Suits}
@@ -25,18 +25,18 @@ use Rattle.fr_frame.specs.Closed.{IsClosedAt}
 use Rattle.fr_frame.specs.Completing.{shape_of, takes_template, FillsAt, IsFull, IsOfValidator, IsPlanFor, MayComplete, WhyNot as WhyNotAt}
 use Rattle.fr_frame.specs.Heap.{Node, heap_of, with_slot}
 use Rattle.fr_frame.specs.Kids.{gone, Plot, tree_of, tree_in, trees_in, cells_in, body_in, kids_in, plot_in, plot_occurs}
-use Rattle.fr_store.specs.AbandonLaws.{slots_tokens}
-use Rattle.fr_store.specs.MoveLaws.{open_top, same_last, top_changed}
+use Rattle.fr_store.specs.MoveLaws.{open_top, closed_open, same_last, top_changed}
 use Rattle.fr_store.specs.Moves.{cursor_in, tree_here, tree_in_slots, AtTop, IsOpenAt}
 use Rattle.fr_store.specs.Numbers.{IsLast}
 use Rattle.fr_store.specs.Stands.{IsOpen, kid_shown}
-use Rattle.fr_store.specs.TopLaws.{closed_occur, closed_tree, slot_here}
+use Rattle.fr_store.specs.Stored.{NothingStored}
+use Rattle.fr_store.specs.TopLaws.{closed_occur, closed_tree, keeps_closed, slot_here}
 use Rattle.fr_store.specs.WayLaws.{tree_of_at}
 use Rattle.fr_partial.specs.Ending.{IsEnded, WhyNot}
 use Rattle.fr_partial.specs.Filling.{fills_nothing, has_no_hole}
 use Rattle.fr_partial.specs.Underway.{shape_here, IsReady}
 use Rattle.fr_partial.proofs.FitLaws.{is_there}
-use Rattle.fr_partial.proofs.PlaceLaws.{node_here, here_found, here_along}
+use Rattle.fr_partial.proofs.PlaceLaws.{node_here, here_found, here_along, held_is}
 use Rattle.fr_partial.proofs.ShapeLaws.{IsOfShape}
 
 -- A place none of whose children is in a slot.
@@ -99,10 +99,10 @@ why_of : (means : Meanings) (table : Table) (s : ℕ) (body : Body) (kind : Refl
 why_of means table s body kind (inl lacking) = inl (record { incomplete = lacking.incomplete; lacks = lacking.lacks })
 why_of means table s body kind (inr wants) = inr (record { memory = wants.memory; needed = go wants.needed })
   where
-    go : (IsSome (complete means table s (own_tree body)) × (takes_template body ≡ true))
-        ⊎ ((complete means table s (own_tree body) ≡ None) × IsOfValidator (cause means table s (own_tree body)))
-        → (IsSome (complete means table s (own_tree body)) × (fills_nothing (own_tree body) ≡ false))
-        ⊎ ((complete means table s (own_tree body) ≡ None) × IsOfValidator (cause means table s (own_tree body)))
+    go : (IsSome (complete strict_column means table s (own_tree body)) × (takes_template body ≡ true))
+        ⊎ ((complete strict_column means table s (own_tree body) ≡ None) × IsOfValidator (cause means table s (own_tree body)))
+        → (IsSome (complete strict_column means table s (own_tree body)) × (fills_nothing (own_tree body) ≡ false))
+        ⊎ ((complete strict_column means table s (own_tree body) ≡ None) × IsOfValidator (cause means table s (own_tree body)))
     go (inl made) = inl (made.0, takes body made.1)
     go (inr said) = inr said
 
@@ -130,30 +130,31 @@ body_found : Option Node → Body
 body_found (Some found) = found.body
 body_found None = entered_body
 
-shape_found : (plan : Plan) (node : NodeId) (s : ℕ) → IsOfShape plan node s → shape_of plan node ≡ s
+pub shape_found : (plan : Plan) (node : NodeId) (s : ℕ) → IsOfShape plan node s → shape_of plan node ≡ s
 shape_found plan node s is =
     ap
     (λ (found : Option TypePlanNode). (unwrap_or (option_map (λ (x : TypePlanNode). x.shape) found) (record { 0 = 0 })).0)
     is.there ∙ is.shape
 
 -- The top, before it is filled.
-module _ (plan : Plan) (slots : List Slot) (stack : List ℕ) (shown : IsOpen plan slots stack) (n : ℕ) (last : IsLast stack n) where
+module _ (plan : Plan) (slots : List Slot) (stack : List ℕ) (shown : IsOpen plan slots stack) (n : ℕ)
+    (last : IsLast stack n) where
   here_so : (So : Node → Type 0) → IfInUse slots n So → So (node_here plan slots stack shown)
   here_so So so = subst (λ (found : Option Node). IsSomeAnd found So) (here_found plan slots stack shown n last) so
 
   so_here : (So : Node → Type 0) → So (node_here plan slots stack shown) → IfInUse slots n So
   so_here So so = subst (λ (found : Option Node). IsSomeAnd found So) (sym (here_found plan slots stack shown n last)) so
 
-own_here : (plan : Plan) (slots : List Slot) (stack : List ℕ) (shown : IsOpen plan slots stack)
+own_here : (plan : Plan) (slots : List Slot) (stack : List ℕ) (shown : IsOpen plan slots stack) → NothingStored slots
     → own_tree (node_here plan slots stack shown).body ≡ tree_here slots stack
-own_here plan slots stack shown =
+own_here plan slots stack shown nothing =
     let top = open_top plan slots stack shown in
-    sym (closed_tree top.plot top.closed)
+    sym (closed_tree top.plot (closed_open plan slots stack shown nothing))
     ∙ ap tree_of (sym top.is)
     ∙ tree_of_at (cursor_in slots stack) (kid_shown (heap_of slots) stack)
 
 module _ (agree : LookupsAgree) (paths : LookupPathsAgree) (table : Table) (root : ShapeId) (plan : Plan) (slots : List Slot)
-    (stack : List ℕ) (ready : IsReady table root plan slots stack) where
+    (stack : List ℕ) (ready : IsReady table root plan slots stack) (nothing : NothingStored slots) where
   shape_is : shape_of plan (node_here plan slots stack ready.shown).node ≡ shape_here table root.0 slots stack
   shape_is =
       shape_found plan (node_here plan slots stack ready.shown).node (shape_here table root.0 slots stack)
@@ -171,8 +172,8 @@ module _ (agree : LookupsAgree) (paths : LookupPathsAgree) (table : Table) (root
             subst (λ (s : ℕ). IsFull table s at.body) (sym shape_is)
             (full_by table (shape_here table root.0 slots stack) at.body
             (subst (λ (t : Tree). Suits table (shape_here table root.0 slots stack) t)
-            (sym (own_here plan slots stack ready.shown)) along.suits));
-        closed = (open_top plan slots stack ready.shown).closed;
+            (sym (own_here plan slots stack ready.shown nothing)) along.suits));
+        closed = closed_open plan slots stack ready.shown nothing;
       })
 
   -- why it makes no value, said of its slot, is said of the place
@@ -182,7 +183,7 @@ module _ (agree : LookupsAgree) (paths : LookupPathsAgree) (table : Table) (root
   why_here means n last kind why =
       let at = node_here plan slots stack ready.shown in
       subst (λ (t : Tree). WhyNot means table (shape_here table root.0 slots stack) t kind)
-      (own_here plan slots stack ready.shown)
+      (own_here plan slots stack ready.shown nothing)
       (subst (λ (s : ℕ). WhyNot means table s (own_tree at.body) kind) shape_is
       (why_of means table (shape_of plan at.node) at.body kind
       (here_so plan slots stack ready.shown n last
@@ -194,8 +195,9 @@ pub plan_for : (table : Table) (root : ShapeId) (plan : Plan) (slots : List Slot
 plan_for table root plan slots stack ready = record { root = root; inside = ready.inside; planned = ready.planned }
 
 -- The top, after it was filled or refused.
-module _ (plan : Plan) (before after : List Slot) (stack : List ℕ) (shown : IsOpen plan before stack) (n : ℕ)
-    (last : IsLast stack n) (closed_in : IfInUse before n (IsClosedAt before after n)) (tokens : SameTokens before after) where
+module _ (plan : Plan) (before after : List Slot) (stack : List ℕ) (shown : IsOpen plan before stack)
+    (nothing : NothingStored before) (n : ℕ) (last : IsLast stack n) (closed_in : IfInUse before n (IsClosedAt before after n))
+    (tokens : SameTokens before after) where
   unfoldable kept : IsClosedAt before after n (node_here plan before stack shown)
   kept = here_so plan before stack shown n last (λ (at : Node). IsClosedAt before after n at) closed_in
 
@@ -210,14 +212,15 @@ module _ (plan : Plan) (before after : List Slot) (stack : List ℕ) (shown : Is
       (λ (t : Tree). IsOpenAt plan after stack (cursor_in before stack)
       (change_at (cursor_in before stack) (λ old. t) (tree_in_slots before stack)))
       (tree_back kept.body)
-      (top_changed plan before after stack shown n last (λ old. kept.body) new is closed
+      (top_changed plan before after stack shown n last (λ old. kept.body) new is (keeps_closed top.plot new closed)
       (λ m. kept.becomes m
       ∙ ap
       (λ (found : Option Node). with_slot (heap_of before) n
       (option_map (λ (x : Node). record x { body = kept.body }) found) m)
       (sym (here_found plan before stack shown n last)))
       (λ t.
-      let was : plot_occurs top.plot t ≡ body_occurs (body_in top.plot) t = closed_occur top.plot t top.closed in
+      let was : plot_occurs top.plot t ≡ body_occurs (body_in top.plot) t
+      = closed_occur top.plot t (closed_open plan before stack shown nothing) in
       let now : plot_occurs new t ≡ body_occurs kept.body t
       = closed_occur new t closed ∙ ap (λ (b : Body). body_occurs b t) is in
       let same : body_occurs kept.body t ≡ body_occurs (body_in top.plot) t = kept.tokens t in
@@ -232,7 +235,7 @@ module _ (plan : Plan) (before after : List Slot) (stack : List ℕ) (shown : Is
 
   tokens_after : (t : ℕ) → tree_occurs (tree_in_slots before stack) t ≡ tree_occurs (tree_in_slots after stack) t
   tokens_after t =
-      sym (slots_tokens plan before stack shown t) ∙ sym (tokens t) ∙ slots_tokens plan after stack open_after t
+      sym (held_is plan before stack shown t) ∙ sym (tokens t) ∙ held_is plan after stack open_after t
 
   pub room_after : (ledger : List ℕ) → Room (tree_occurs (tree_in_slots before stack)) ledger
       → Room (tree_occurs (tree_in_slots after stack)) ledger
@@ -258,9 +261,11 @@ module _ (plan : Plan) (before after : List Slot) (stack : List ℕ) (shown : Is
 
   -- Filled.
   module _ (means : Meanings) (table : Table) (root : ShapeId) (agree : LookupsAgree) (paths : LookupPathsAgree)
-      (ready : IsReady table root plan before stack) (filled : IfInUse before n (FillsAt means table plan before after n)) where
-    fills : FillsAt means table plan before after n (node_here plan before stack shown)
-    fills = here_so plan before stack shown n last (λ (at : Node). FillsAt means table plan before after n at) filled
+      (ready : IsReady table root plan before stack)
+      (filled : IfInUse before n (FillsAt strict_column means table plan before after n)) where
+    fills : FillsAt strict_column means table plan before after n (node_here plan before stack shown)
+    fills =
+        here_so plan before stack shown n last (λ (at : Node). FillsAt strict_column means table plan before after n at) filled
 
     same_body : fills.body ≡ kept.body
     unfolding body_found
@@ -274,12 +279,13 @@ module _ (plan : Plan) (before after : List Slot) (stack : List ℕ) (shown : Is
     held = ap value_of (sym same_body) ∙ fills.filled.held
 
     -- it makes the value that it holds
-    meant : complete means table (shape_here table root.0 before stack) (tree_here before stack) ≡ Some fills.filled.value
+    meant : complete strict_column means table (shape_here table root.0 before stack) (tree_here before stack)
+        ≡ Some fills.filled.value
     meant =
-        ap (λ (s : ℕ). complete means table s (tree_here before stack))
-        (sym (shape_is agree paths table root plan before stack ready))
-        ∙ ap (λ (t : Tree). complete means table (shape_of plan (node_here plan before stack shown).node) t)
-        (sym (own_here plan before stack shown))
+        ap (λ (s : ℕ). complete strict_column means table s (tree_here before stack))
+        (sym (shape_is agree paths table root plan before stack ready nothing))
+        ∙ ap (λ (t : Tree). complete strict_column means table (shape_of plan (node_here plan before stack shown).node) t)
+        (sym (own_here plan before stack shown nothing))
         ∙ fills.filled.meant
 
     held_so : IsSome (value_of kept.body)
@@ -294,13 +300,13 @@ module _ (plan : Plan) (before after : List Slot) (stack : List ℕ) (shown : Is
         subst (λ (x : ℕ). IfInUse after x (λ (at : Node). IsSome (value_of at.body))) same value_there
 
     -- and is left with it
-    pub ended : (slots : List Slot) (next : List ℕ)
+    pub ended : (slots : List Slot) (next : List ℕ) → NothingStored slots
         → AtTop after stack (λ (at : Node). (v : Val) → value_of at.body ≡ Some v
         → IsOpenAt plan slots next (up (cursor_in after stack))
         (change_at (cursor_in after stack) (λ old. whole v) (tree_in_slots after stack)))
         → IsEnded means table (shape_here table root.0 before stack) plan slots next (tree_in_slots before stack)
         (cursor_in before stack)
-    ended slots next left =
+    ended slots next stores left =
         let v : Val = fills.filled.value in
         let now : IsOpenAt plan slots next (up (cursor_in after stack))
         (change_at (cursor_in after stack) (λ old. whole v) (tree_in_slots after stack))
@@ -319,15 +325,16 @@ module _ (plan : Plan) (before after : List Slot) (stack : List ℕ) (shown : Is
               (subst
               (λ (p : Place). IsOpenAt plan slots next (up p) (change_at p (λ old. whole v) (tree_in_slots after stack)))
               cursor_after now);
+          stores = stores;
         }
 
     -- the root's value
     pub root_value : cursor_in before stack ≡ [] → (v : Val) → IfInUse after n (λ (at : Node). value_of at.body ≡ Some v)
-        → complete means table root.0 (tree_in_slots before stack) ≡ Some v
+        → complete strict_column means table root.0 (tree_in_slots before stack) ≡ Some v
     root_value at_root v is =
         let same : value_of kept.body ≡ Some v = after_so (λ (at : Node). value_of at.body ≡ Some v) is in
         ap
-        (λ (p : Place). complete means table (shape_in table root.0 p (tree_in_slots before stack))
+        (λ (p : Place). complete strict_column means table (shape_in table root.0 p (tree_in_slots before stack))
         (tree_at p (tree_in_slots before stack)))
         (sym at_root)
         ∙ meant ∙ sym held ∙ same

@@ -11,8 +11,8 @@ use Rattle.fr_shape.specs.Look.{Table, def_of, settled}
 use Rattle.fr_shape.specs.Val.{Val, Vals, unit, product, no_vals, first}
 use Rattle.fr_model.specs.Places.{Place, array_limit, child_shape, count_children, parts_of}
 use Rattle.fr_model.specs.Step.{field_refusal, enter, enter_child, opened_as, opened_value}
-use Rattle.fr_model.specs.Tree.{Form, as_struct, as_array, form_of, child_as, Tree, hole, entered, whole, begun, Trees, no_trees, branch, tree_nth, change_nth, child_tree, tree_at, change_child, change_at, wholes, holes, count_trees}
-use Rattle.fr_model.specs.Well.{IsFullAs, Suits, DoneBut, Leads}
+use Rattle.fr_model.specs.Tree.{Form, as_struct, as_array, form_of, child_as, Tree, hole, entered, whole, begun, Trees, no_trees, branch, tree_nth, change_nth, child_tree, tree_at, change_child, change_at, wholes, holes, count_trees, Mode}
+use Rattle.fr_model.specs.Well.{IsFullAs, Suits, OffBut, Leads}
 use Rattle.fr_plan.specs.declared.nodes.NodeId.{NodeId}
 use Rattle.fr_plan.specs.TypePlan.{Plan}
 use Rattle.fr_frame.specs.Bodies.{MayOpen}
@@ -27,26 +27,26 @@ use Rattle.fr_partial.proofs.ShapeLaws.{IsOfShape}
 
 -- Changes at a place of a tree.
 
-nth_changed : (i : ℕ) (Below : Tree → Type 0) (change : Tree → Tree) (ts : Trees) → DoneBut i Below ts
+nth_changed : (mode : Mode) (i : ℕ) (Below : Tree → Type 0) (change : Tree → Tree) (ts : Trees) → OffBut mode i Below ts
     → tree_nth i (change_nth i change ts) ≡ change (tree_nth i ts)
-nth_changed i Below change no_trees leads = absurd leads
-nth_changed zero Below change (branch t ts) leads = refl
-nth_changed (suc i) Below change (branch t ts) leads = nth_changed i Below change ts leads.1
+nth_changed mode i Below change no_trees leads = absurd leads
+nth_changed mode zero Below change (branch t ts) leads = refl
+nth_changed mode (suc i) Below change (branch t ts) leads = nth_changed mode i Below change ts leads.1
 
-nth_leads : (i : ℕ) (Below : Tree → Type 0) (ts : Trees) → DoneBut i Below ts → Below (tree_nth i ts)
-nth_leads i Below no_trees leads = absurd leads
-nth_leads zero Below (branch t ts) leads = leads.0
-nth_leads (suc i) Below (branch t ts) leads = nth_leads i Below ts leads.1
+nth_leads : (mode : Mode) (i : ℕ) (Below : Tree → Type 0) (ts : Trees) → OffBut mode i Below ts → Below (tree_nth i ts)
+nth_leads mode i Below no_trees leads = absurd leads
+nth_leads mode zero Below (branch t ts) leads = leads.0
+nth_leads mode (suc i) Below (branch t ts) leads = nth_leads mode i Below ts leads.1
 
-pub changed_at : (place : Place) (change : Tree → Tree) (t : Tree) → Leads place t
+pub changed_at : (mode : Mode) (place : Place) (change : Tree → Tree) (t : Tree) → Leads mode place t
     → tree_at place (change_at place change t) ≡ change (tree_at place t)
-changed_at [] change t leads = refl
-changed_at (i ∷ place) change (begun form ts) leads =
-    ap (tree_at place) (nth_changed i (λ child. Leads place child) (λ child. change_at place change child) ts leads)
-    ∙ changed_at place change (tree_nth i ts) (nth_leads i (λ child. Leads place child) ts leads)
-changed_at (i ∷ place) change hole leads = absurd leads
-changed_at (i ∷ place) change entered leads = absurd leads
-changed_at (i ∷ place) change (whole v) leads = absurd leads
+changed_at mode [] change t leads = refl
+changed_at mode (i ∷ place) change (begun form ts) leads =
+    ap (tree_at place) (nth_changed mode i (λ child. Leads mode place child) (λ child. change_at place change child) ts leads)
+    ∙ changed_at mode place change (tree_nth i ts) (nth_leads mode i (λ child. Leads mode place child) ts leads)
+changed_at mode (i ∷ place) change hole leads = absurd leads
+changed_at mode (i ∷ place) change entered leads = absurd leads
+changed_at mode (i ∷ place) change (whole v) leads = absurd leads
 
 nth_twice : (i : ℕ) (f g h : Tree → Tree) → ((t : Tree) → f (g t) ≡ h t) → (ts : Trees)
     → change_nth i f (change_nth i g ts) ≡ change_nth i h ts
@@ -73,8 +73,10 @@ pub entered_so : (table : Table) (s i : ℕ) (place : Place) (t : Tree) (form : 
 entered_so table s i place t form count def is counts of =
     changed_twice place (change_child i (enter def)) (opened_as form count) t
     ∙ ap (λ (d : Def). change_at place (λ x. change_child i (enter d) (opened_as form count x)) t) of
-    ∙ ap (λ (f : Form). change_at place (λ x. change_child i (enter (def_of table (child_shape table s i))) (opened_as f count x)) t) is
-    ∙ ap (λ (n : ℕ). change_at place (λ x. change_child i (enter (def_of table (child_shape table s i))) (opened_as (form_of (def_of table s)) n x)) t) counts
+    ∙ ap (λ (f : Form). change_at place
+    (λ x. change_child i (enter (def_of table (child_shape table s i))) (opened_as f count x)) t) is
+    ∙ ap (λ (n : ℕ). change_at place
+    (λ x. change_child i (enter (def_of table (child_shape table s i))) (opened_as (form_of (def_of table s)) n x)) t) counts
 
 -- What may be begun.
 
@@ -192,35 +194,36 @@ along_tree plan node (i ∷ place) k =
     ∙ ap (node_in_tree plan (node_by plan node i (tree_of k)) place) (tree_of_below i k)
 
 -- what is put at the place itself doesn't matter
-same_node : (plan : Plan) (node : NodeId) (place : Place) (change : Tree → Tree) (t : Tree) → Leads place t
+same_node : (mode : Mode) (plan : Plan) (node : NodeId) (place : Place) (change : Tree → Tree) (t : Tree) → Leads mode place t
     → node_in_tree plan node place (change_at place change t) ≡ node_in_tree plan node place t
 unfolding node_in_tree
-same_node plan node [] change t leads = refl
-same_node plan node (i ∷ place) change (begun form ts) leads =
+same_node mode plan node [] change t leads = refl
+same_node mode plan node (i ∷ place) change (begun form ts) leads =
     ap (node_in_tree plan (child_node plan node form i) place)
-    (nth_changed i (λ child. Leads place child) (λ child. change_at place change child) ts leads)
-    ∙ same_node plan (child_node plan node form i) place change (tree_nth i ts)
-    (nth_leads i (λ child. Leads place child) ts leads)
-same_node plan node (i ∷ place) change hole leads = absurd leads
-same_node plan node (i ∷ place) change entered leads = absurd leads
-same_node plan node (i ∷ place) change (whole v) leads = absurd leads
+    (nth_changed mode i (λ child. Leads mode place child) (λ child. change_at place change child) ts leads)
+    ∙ same_node mode plan (child_node plan node form i) place change (tree_nth i ts)
+    (nth_leads mode i (λ child. Leads mode place child) ts leads)
+same_node mode plan node (i ∷ place) change hole leads = absurd leads
+same_node mode plan node (i ∷ place) change entered leads = absurd leads
+same_node mode plan node (i ∷ place) change (whole v) leads = absurd leads
 
 -- the node stays where something else is put at the place
-pub node_stays : (plan : Plan) (node : NodeId) (place now : Place) (change : Tree → Tree) (before after : Kid) → now ≡ place
-    → Leads place (tree_of before) → tree_of after ≡ change_at place change (tree_of before)
+pub node_stays : (mode : Mode) (plan : Plan) (node : NodeId) (place now : Place) (change : Tree → Tree) (before after : Kid)
+    → now ≡ place → Leads mode place (tree_of before) → tree_of after ≡ change_at place change (tree_of before)
     → node_along plan node now after ≡ node_along plan node place before
-node_stays plan node place now change before after same leads is =
+node_stays mode plan node place now change before after same leads is =
     ap (λ (p : Place). node_along plan node p after) same
     ∙ along_tree plan node place after
     ∙ ap (node_in_tree plan node place) is
-    ∙ same_node plan node place change (tree_of before) leads
+    ∙ same_node mode plan node place change (tree_of before) leads
     ∙ sym (along_tree plan node place before)
 
 -- The definition of an entered child.
 pub def_entered : (table : Table) (plan : Plan) (node : NodeId) (s i : ℕ) (form : Form)
     → IsOfShape plan node (child_as table s form i) → def_of table (shape_of plan node) ≡ def_of table (child_shape table s i)
 def_entered table plan node s i form shaped =
-    ap (λ (found : Option TypePlanNode). def_of table (unwrap_or (option_map (λ (n : TypePlanNode). n.shape) found) (record { 0 = 0 })).0)
+    ap (λ (found : Option TypePlanNode). def_of table
+    (unwrap_or (option_map (λ (n : TypePlanNode). n.shape) found) (record { 0 = 0 })).0)
     shaped.there
     ∙ ap (def_of table) (shaped.shape ∙ by_form form)
   where

@@ -1,5 +1,5 @@
 -- The first place: the root's, in a slot by itself.
-use Rattle.std.proofs.Common.{◌≡◌, ℕ, ◌<◌, ◌≤◌, Bool, true, false, List, [], ◌∷◌, ◌++◌, nat_eq, Option, Some, unwrap_or, refl, sym, ◌∙◌, ap, subst, arith}
+use Rattle.std.proofs.Common.{◌≡◌, ℕ, ◌<◌, ◌≤◌, Bool, true, false, List, [], ◌∷◌, ◌++◌, nat_eq, Option, Some, None, unwrap_or, refl, sym, ◌∙◌, ap, subst, arith}
 use Rattle.std.specs.Prelude.{if◌then◌else◌}
 use Rattle.fr_shape.specs.declared.shape.Def.{Def}
 use Rattle.fr_shape.specs.declared.shape.ShapeId.{ShapeId}
@@ -11,7 +11,7 @@ use Rattle.fr_shape.specs.Served.{IsServed}
 use Rattle.fr_shape.specs.Val.{product, no_vals}
 use Rattle.fr_model.specs.Laws.{StartIsWell}
 use Rattle.fr_model.specs.Paths.{path_of}
-use Rattle.fr_model.specs.Tree.{Tree, State, whole, entered, fresh, initial}
+use Rattle.fr_model.specs.Tree.{Tree, State, whole, entered, fresh, initial, strict}
 use Rattle.fr_model.specs.Well.{Suits, Leads}
 use Rattle.fr_path.specs.declared.path_steps.PathStep.{PathStep}
 use Rattle.fr_plan.specs.declared.nodes.NodeId.{NodeId}
@@ -22,15 +22,15 @@ use Rattle.fr_frame.specs.declared.places.Slot.{Slot}
 use Rattle.fr_frame.specs.Bodies.{Body, entered_body, whole_body, fresh_body, IsClosed}
 use Rattle.fr_frame.specs.Changes.{SameTokens, Shows}
 use Rattle.fr_frame.specs.Completing.{shape_of}
-use Rattle.fr_frame.specs.Heap.{heap_of, slots_occur, entered_node, with_entered, depth_limit}
+use Rattle.fr_frame.specs.Heap.{heap_of, slots_occur, entered_node, with_entered, depth_limit, stored_in}
 use Rattle.fr_frame.specs.Kids.{at, Plot, entered_plot, whole_plot, tree_in, body_in, plot_occurs}
-use Rattle.fr_store.specs.EnterLaws.{fresh_plot}
 use Rattle.fr_store.specs.MoveLaws.{open_at_from}
 use Rattle.fr_store.specs.Moves.{IsOpenAt}
+use Rattle.fr_store.specs.Stored.{IsKept, NothingStored}
 use Rattle.fr_store.specs.TopLaws.{slot_here, closed_uses, closed_holds, closed_marked}
 use Rattle.fr_store.specs.Ways.{counts_if, uses_in}
 use Rattle.fr_partial.specs.Underway.{state_of, IsUnderway}
-use Rattle.fr_partial.proofs.StateLaws.{state_is}
+use Rattle.fr_partial.proofs.StateLaws.{kept_none, state_is}
 
 -- the plan's root has the root's shape
 pub shape_is : LookupPathsAgree → (table : Table) (root : ShapeId) (plan : Plan) → IsChecked table → IsIn table root.0
@@ -40,6 +40,9 @@ shape_is paths table root plan checked inside planned =
     (paths table root plan [] checked inside planned)
 
 -- What is entered where nothing was.
+
+abbrev pub fresh_plot : Def → Plot
+fresh_plot def = if is_empty_struct def then whole_plot (product no_vals) else entered_plot
 
 fresh_put : (def : Def) → fresh_body def ≡ body_in (fresh_plot def)
 fresh_put def = go (is_empty_struct def)
@@ -91,7 +94,6 @@ alone plan slots stack n plot tree closed found limit tokens along is =
       leads = (refl, closed_marked true plot closed);
       along = along;
     })
-    (refl, closed_marked false plot closed)
     tokens is
 
 -- the root is entered
@@ -119,16 +121,26 @@ first_open paths table root plan checked inside planned before after node n old 
     (along ∙ ap (λ (above : List ℕ). above ++ n ∷ []) none)
     (fresh_grown def)
 
+-- it isn't stored, and nothing else is there
+pub first_unstored : (def : Def) (before after : List Slot) (node : NodeId) (n : ℕ) → ((m : ℕ) → heap_of before m ≡ None)
+    → Shows after (with_entered def (heap_of before) node FrameOwner.Root n) → NothingStored after
+first_unstored def before after node n free shows m = ap stored_in (shows m) ∙ go (nat_eq m n)
+  where
+    go : (same : Bool)
+        → stored_in (if same then Some (entered_node def (heap_of before) node FrameOwner.Root) else heap_of before m) ≡ false
+    go true = refl
+    go false = ap stored_in (free m)
+
 -- A builder at the root, with no call yet.
 module _ (table : Table) (root : ShapeId) (plan : Plan) (slots : List Slot) (stack : List ℕ)
     (first : IsOpenAt plan slots stack [] (fresh (def_of table root.0))) where
-  pub starts_at : state_of slots stack 0 ≡ initial table root.0
-  starts_at = state_is plan slots stack [] (fresh (def_of table root.0)) 0 0 first refl
+  pub starts_at : state_of slots stack strict 0 ≡ initial table root.0
+  starts_at = state_is plan slots stack [] (fresh (def_of table root.0)) strict 0 0 first refl
 
   pub starts_underway : StartIsWell → IsIn table root.0 → IsNumbered table → IsChecked table → IsServed table
-      → IsPlanOf table root plan → (steps : List PathStep) → steps ≡ []
-      → IsUnderway table root plan steps slots stack 0
-  starts_underway well inside numbered checked served planned steps none =
+      → IsPlanOf table root plan → NothingStored slots → (store : List ℕ) → store ≡ [] → (steps : List PathStep) → steps ≡ []
+      → IsUnderway table root plan steps slots stack store strict 0
+  starts_underway well inside numbered checked served planned nothing store empty steps none =
       let start = well table root.0 in
       record {
         numbered = numbered;
@@ -139,7 +151,10 @@ module _ (table : Table) (root : ShapeId) (plan : Plan) (slots : List Slot) (sta
           planned = planned;
           shown = first.open_still;
           suits = subst (λ (s : State). Suits table root.0 s.tree) (sym starts_at) start.in_order.suits;
-          leads = subst (λ (s : State). Leads s.cursor s.tree) (sym starts_at) start.in_order.leads;
         };
+        kept = subst (λ (listed : List ℕ). IsKept listed slots) (sym empty) (kept_none slots nothing);
+        stores = empty;
+        leads = subst (λ (s : State). Leads s.mode s.cursor s.tree) (sym starts_at) start.in_order.leads;
+        began = tt;
         path = none ∙ ap path_of (sym starts_at);
       }

@@ -9,7 +9,7 @@ use Rattle.fr_shape.specs.Look.{Table, def_of}
 use Rattle.fr_shape.specs.Served.{IsServed}
 use Rattle.fr_shape.specs.Val.{Val}
 use Rattle.fr_model.specs.Complete.{complete, lack, lack_among, lack_of_hole, lack_of_holes, lack_of_entered, lack_by, unless_there, missing_child, missing_value, hole_takes, failing_child}
-use Rattle.fr_model.specs.Places.{child_count}
+use Rattle.fr_model.specs.Places.{strict_column, child_count}
 use Rattle.fr_model.specs.Step.{cause}
 use Rattle.fr_model.specs.Tree.{Form, as_struct, as_array, Tree, hole, entered, whole, begun, Trees, no_trees, branch, child_as}
 use Rattle.fr_frame.specs.Completing.{IsOfValidator}
@@ -56,10 +56,10 @@ module _ (hooks : Meanings) (table : Table) (served : IsServed table) where
 
   hole_missing : (s : ℕ) (form : Form) (i : ℕ) → AreMissing (lack_of_hole hooks table s form i)
   hole_missing s form i =
-      either_missing (unless_there (hole_takes table s form i) (missing_child s form i))
-      (failing_child hooks table s form i (hole_takes table s form i))
-      (there_missing (hole_takes table s form i) (missing_child s form i) (child_missing s form i))
-      (failing_missing s form i (hole_takes table s form i))
+      either_missing (unless_there (hole_takes strict_column table s form i) (missing_child s form i))
+      (failing_child hooks table s form i (hole_takes strict_column table s form i))
+      (there_missing (hole_takes strict_column table s form i) (missing_child s form i) (child_missing s form i))
+      (failing_missing s form i (hole_takes strict_column table s form i))
 
   holes_missing : (s : ℕ) (form : Form) (count i : ℕ) → AreMissing (lack_of_holes hooks table s form count i)
   holes_missing s form zero i = nothing_missing
@@ -122,15 +122,16 @@ module _ (hooks : Meanings) (table : Table) (served : IsServed table) where
 
   -- where a place isn't completed since there is no memory, it makes a value and takes a template
   pub only_wants : (s : ℕ) (t : Tree) (kind : ReflectErrorKind) → WhyNot hooks table s t kind
-      → kind ≡ ReflectErrorKind.OutOfMemory → IsSome (complete hooks table s t)
+      → kind ≡ ReflectErrorKind.OutOfMemory → IsSome (complete strict_column hooks table s t)
   only_wants s t kind (inl lacking) memory =
       let no : true ≡ false
       = sym (cause_missing s t) ∙ ap is_missing (sym lacking.lacks ∙ memory) ∙ memory_not_missing in
       cc
   only_wants s t kind (inr wants) memory = go wants.needed
     where
-      go : (IsSome (complete hooks table s t) × (fills_nothing t ≡ false)) ⊎ ((complete hooks table s t ≡ None) × IsOfValidator (cause hooks table s t))
-          → IsSome (complete hooks table s t)
+      go : (IsSome (complete strict_column hooks table s t) × (fills_nothing t ≡ false))
+          ⊎ ((complete strict_column hooks table s t ≡ None) × IsOfValidator (cause hooks table s t))
+          → IsSome (complete strict_column hooks table s t)
       go (inl made) = made.0
       go (inr said) = absurd (of_validator (cause hooks table s t) said.1 (cause_missing s t))
 
@@ -142,8 +143,8 @@ module _ (hooks : Meanings) (table : Table) (served : IsServed table) where
       cc
   only_takes s t kind (inr wants) memory = go wants.needed
     where
-      go : (IsSome (complete hooks table s t) × (fills_nothing t ≡ false))
-          ⊎ ((complete hooks table s t ≡ None) × IsOfValidator (cause hooks table s t))
+      go : (IsSome (complete strict_column hooks table s t) × (fills_nothing t ≡ false))
+          ⊎ ((complete strict_column hooks table s t ≡ None) × IsOfValidator (cause hooks table s t))
           → fills_nothing t ≡ false
       go (inl made) = made.1
       go (inr said) = absurd (of_validator (cause hooks table s t) said.1 (cause_missing s t))

@@ -2,6 +2,7 @@ pub mod BeginLaws
 pub mod EndLaws
 pub mod EndingLaws
 pub mod EnterLaws
+pub mod FinishLaws
 pub mod FirstLaws
 pub mod FitLaws
 pub mod LackLaws

@@ -8,7 +8,7 @@ use Rattle.fr_shape.specs.Fills.{preset_of}
 use Rattle.fr_shape.specs.Look.{Table}
 use Rattle.fr_shape.specs.Val.{Val}
 use Rattle.fr_model.specs.Step.{set, set_default, puts}
-use Rattle.fr_model.specs.Tree.{State}
+use Rattle.fr_model.specs.Tree.{Mode, State}
 use Rattle.fr_frame.specs.declared.places.Slot.{Slot}
 use Rattle.fr_partial.specs.Builder.{Builder, here}
 use Rattle.fr_partial.proofs.BeginLaws.{shape_of_number}
@@ -27,8 +27,9 @@ set_refused builder expected given v same different =
     = ne_eqb (here builder) given.0 (λ h. different (sym h ∙ sym same)) in
     rw test (ap (λ (s : ShapeId). Err (ReflectErrorKind.WrongShape s given)) (shape_of_number builder expected same))
 
-module _ {H : Type 0} {h : H} (table : Table) (root : ℕ) (slots : List Slot) (stack : List ℕ) (calls : ℕ) (builder : Builder H)
-    (is : builder_of h table root slots stack calls ≡ builder) (shape : ShapeId) (same : shape.0 ≡ here builder) where
+module _ {H : Type 0} {h : H} (table : Table) (root : ℕ) (slots : List Slot) (stack : List ℕ)
+    (mode : Mode) (calls : ℕ) (builder : Builder H) (is : builder_of h table root slots stack mode calls ≡ builder)
+    (shape : ShapeId) (same : shape.0 ≡ here builder) where
   preset_is : preset_of builder.shapes (here builder) ≡ preset_of table shape.0
   preset_is = ap (λ (b : Builder H). preset_of b.shapes (here builder)) (sym is) ∙ ap (preset_of table) (sym same)
 

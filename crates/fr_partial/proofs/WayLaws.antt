@@ -62,8 +62,9 @@ entered_path enter builder ordered i s form after steps path at as_form entered 
     ∙ ap path_of entered
 
 -- the path after the builder went up
-pub left_path : LeavingDropsAStep → PathIsAsDeep → (state after : State) (v : Val) (above : List ℕ) (i : ℕ) (steps left : List PathStep)
-    → Leads state.cursor state.tree → state.cursor ≡ above ++ i ∷ [] → steps ≡ path_of state
+pub left_path : LeavingDropsAStep → PathIsAsDeep → (state after : State) (v : Val) (above : List ℕ) (i : ℕ)
+    (steps left : List PathStep)
+    → Leads state.mode state.cursor state.tree → state.cursor ≡ above ++ i ∷ [] → steps ≡ path_of state
     → ((before : List PathStep) (last : PathStep) → steps ≡ before ++ last ∷ [] → left ≡ before)
     → puts_and_leaves state v ≡ after → left ≡ path_of after
 left_path leave deep state after v above i steps left leads cursor path back is =

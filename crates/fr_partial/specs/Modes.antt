@@ -1,5 +1,5 @@
 -- The mode of a builder, as its state tells it.
-use Rattle.std.specs.Prelude.{ℕ, ◌<◌, length}
+use Rattle.std.specs.Prelude.{◌<◌, length}
 use Rattle.fr_model.specs.Places.{Place}
 use Rattle.fr_model.specs.Tree.{Mode as StateMode, strict, deferred}
 use Rattle.fr_partial.specs.declared.mode.Mode.{Mode}

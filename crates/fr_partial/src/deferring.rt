@@ -1,5 +1,5 @@
 //! `begin_deferred`, `enter_deferred` and `finish_deferred`: the builder's mode, and the end of deferred mode.
-ghost use Rattle.std.specs.Prelude.{◌≡◌, Ok};
+ghost use Rattle.std.specs.Prelude.{◌≡◌, ◌≢◌, Ok};
 ghost use Rattle.fr_shape.specs.Released.{Room, Conserved};
 ghost use Rattle.fr_model.specs.Commands.{Call};
 ghost use Rattle.fr_model.specs.Tree.{strict};
@@ -9,6 +9,7 @@ ghost use Rattle.fr_model.specs.Step.{begin_deferred};
 use crate::mode::Mode;
 use crate::{Partial, ReflectError};
 use fr_model::{law_paths, law_removed, law_well};
+use fr_plan::law_plan_lookups;
 use fr_shape::{Hooks, Invariant, Ledger, ReflectErrorKind};
 
 impl<'t, H: Hooks> Partial<'t, H> {
@@ -42,7 +43,6 @@ impl<'t, H: Hooks> Partial<'t, H> {
         ensures root { result.root ≡ self.entry.root }
         ensures hooks { result.hooks ≡ self.entry.hooks }
     {
-        law_paths();
         law_well();
         let Partial {
             alloc,
@@ -84,14 +84,29 @@ impl<'t, H: Hooks> Partial<'t, H> {
         ensures removed { RisesByRemoved (H.means self.entry.hooks) self.entry
             Call.FinishDeferred result ledger.old ledger.new }
     {
+        law_removed();
+        match self.mode {
+            Mode::Strict => {
+                let invariant = Invariant::NotDeferred;
+                let kind = ReflectErrorKind::InvariantViolation { invariant };
+                Err(self.refuse(kind, ledger))
+            }
+            Mode::Deferred(_) => self.finish_all(ledger),
+        }
+    }
+
+    /// `finish_deferred` in deferred mode.
+    fn finish_all(self, ledger: &mut Ledger) -> Result<Partial<'t, H>, ReflectError>
+        requires room { Room (holds self) ledger.old }
+        requires deferred { self.state.mode ≢ strict }
+        ensures step { IsStep (H.means self.entry.hooks) self.entry Call.FinishDeferred result }
+        ensures path { TellsPlaceBefore self.entry result }
+        ensures tokens { Conserved (holds self.entry) ledger.old (left result) ledger.new }
+    {
         law_paths();
+        law_plan_lookups();
         law_removed();
         law_well();
-        if self.mode == Mode::Strict {
-            let invariant = Invariant::NotDeferred;
-            let kind = ReflectErrorKind::InvariantViolation { invariant };
-            return Err(self.refuse(kind, ledger));
-        }
         let Partial {
             alloc,
             table,

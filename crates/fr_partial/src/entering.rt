@@ -72,7 +72,9 @@ impl<'t, H: Hooks> Partial<'t, H> {
             return Err(out_of_memory(path));
         };
         let plan_core = plan.core();
-        match enter_child(table, root, plan_core, slots, stack, &mut store, i, child, ledger) {
+        match enter_child(
+            table, root, plan_core, slots, stack, &mut store, i, child, ledger,
+        ) {
             Ok((slots, stack)) => Ok(Partial {
                 alloc,
                 table,

@@ -11,8 +11,8 @@ ghost use Rattle.fr_partial.specs.Filling.{fills_nothing};
 ghost use Rattle.fr_partial.specs.Modes.{IsBelowStart};
 ghost use Rattle.fr_partial.specs.Builder.{holds, left, left_built, BuildRefusesBeforeMemory, IsBuilt, IsNotOutOfMemory, IsStep, IsStepTo, RefusesBeforeMemory, RisesByRemoved, RisesByRemovedAtBuild, TellsPlaceBefore};
 
-use crate::finishing::{abandon, end_here, take_root};
 use crate::entering::out_of_memory;
+use crate::finishing::{abandon, end_here, take_root};
 use crate::mode::Mode;
 use crate::paths::step_back;
 use crate::{Built, Partial, ReflectError};
@@ -169,13 +169,34 @@ impl<'t, H: Hooks> Partial<'t, H> {
             → IsNotOutOfMemory result }
         ensures refused { BuildRefusesBeforeMemory (H.means self.entry.hooks) self.entry result }
     {
+        law_removed();
+        match self.mode {
+            Mode::Strict => self.build_strict(ledger),
+            Mode::Deferred(_) => {
+                let invariant = Invariant::BuildDeferred;
+                let kind = ReflectErrorKind::InvariantViolation { invariant };
+                Err(self.refuse(kind, ledger))
+            }
+        }
+    }
+
+    /// `build` in strict mode.
+    fn build_strict(self, ledger: &mut Ledger) -> Result<Built, ReflectError>
+        requires room { Room (holds self) ledger.old }
+        requires strict { self.state.mode ≡ strict }
+        ensures built { IsBuilt (H.means self.entry.hooks) self.entry result }
+        ensures path { TellsPlaceBefore self.entry result }
+        ensures fits { IfOk result (λ built.
+            fits self.entry.shapes self.entry.root built.value ≡ true) }
+        ensures tokens { Conserved (holds self.entry) ledger.old (left_built result) ledger.new }
+        ensures removed { RisesByRemovedAtBuild (H.means self.entry.hooks) self.entry result
+            ledger.old ledger.new }
+        ensures memory { fills_nothing (cursor_tree self.entry.state) ≡ true
+            → IsNotOutOfMemory result }
+        ensures refused { BuildRefusesBeforeMemory (H.means self.entry.hooks) self.entry result }
+    {
         law_completes();
         law_removed();
-        if self.mode != Mode::Strict {
-            let invariant = Invariant::BuildDeferred;
-            let kind = ReflectErrorKind::InvariantViolation { invariant };
-            return Err(self.refuse(kind, ledger));
-        }
         let Partial {
             alloc: _,
             table,

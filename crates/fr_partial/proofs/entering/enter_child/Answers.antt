@@ -4,9 +4,9 @@ use Rattle.fr_shape.specs.Look.{Table, def_of}
 use Rattle.fr_shape.specs.declared.shape.ShapeId.{ShapeId}
 use Rattle.fr_shape.specs.TokenLaws.{Room_same, RoseBy_same}
 use Rattle.fr_model.specs.Step.{enter, opened_as, field_refusal}
-use Rattle.fr_model.specs.Tree.{Form, Tree, tree_at, change_child, change_at, child_as, tree_occurs}
+use Rattle.fr_model.specs.Tree.{Form, Tree, tree_at, change_child, change_at, child_as, tree_occurs, deferred}
 use Rattle.fr_model.specs.Places.{Place}
-use Rattle.fr_model.specs.Well.{IsFullAs, Suits}
+use Rattle.fr_model.specs.Well.{IsFullAs, Suits, Leads}
 use Rattle.fr_plan.specs.declared.nodes.NodeId.{NodeId}
 use Rattle.fr_plan.specs.LookupLaws.{LookupsAgree, LookupPathsAgree}
 use Rattle.fr_plan.specs.TypePlan.{Plan}
@@ -24,6 +24,7 @@ use Rattle.fr_partial.specs.Underway.{shape_here, IsReady}
 use Rattle.fr_partial.proofs.EnterLaws.{may_open, has_child, changed_at, entered_so, node_stays, def_entered}
 use Rattle.fr_partial.proofs.FitLaws.{is_there}
 use Rattle.fr_partial.proofs.PlaceLaws.{here_found, here_along, held_is, open_shown, plot_here}
+use Rattle.fr_partial.proofs.ReachLaws.{tree_leads}
 use Rattle.fr_partial.proofs.ShapeLaws.{IsOfShape, child_shaped}
 use Rattle.fr_partial.proofs.entering.enter_child.Goals as goal
 
@@ -60,13 +61,17 @@ module _ (agree : LookupsAgree) (paths : LookupPathsAgree) (table : Table) (root
   module _ (after : List Slot)
       (begun : IsOpenAt plan after stack (cursor_in slots stack)
       (change_at (cursor_in slots stack) (opened_as form count) (tree_in_slots slots stack))) where
+    -- the tree leads there
+    leads : Leads (deferred 0) (cursor_in slots stack) (tree_in_slots slots stack)
+    leads = tree_leads 0 (cursor_in slots stack) (kid_shown (heap_of slots) stack) ready.shown.stands.leads
+
     has : HasChild form i (tree_here after stack)
     has =
         subst (λ (t : Tree). HasChild form i t)
         (sym
         (ap (λ (p : Place). tree_at p (tree_in_slots after stack)) begun.cursor
         ∙ ap (tree_at (cursor_in slots stack)) begun.built
-        ∙ changed_at (cursor_in slots stack) (opened_as form count) (tree_in_slots slots stack) ready.leads
+        ∙ changed_at (deferred 0) (cursor_in slots stack) (opened_as form count) (tree_in_slots slots stack) leads
         ∙ ap (opened_as form count) (sym (plot_here plan slots stack ready.shown))))
         (has_child table (shape_here table root.0 slots stack) i form count (open_top plan slots stack ready.shown).plot full
         below
@@ -79,8 +84,8 @@ module _ (agree : LookupsAgree) (paths : LookupPathsAgree) (table : Table) (root
 
     stays : node_on_top plan after stack ≡ node_on_top plan slots stack
     stays =
-        node_stays plan plan.root (cursor_in slots stack) (cursor_in after stack) (opened_as form count)
-        (kid_shown (heap_of slots) stack) (kid_shown (heap_of after) stack) begun.cursor ready.leads begun.built
+        node_stays (deferred 0) plan plan.root (cursor_in slots stack) (cursor_in after stack) (opened_as form count)
+        (kid_shown (heap_of slots) stack) (kid_shown (heap_of after) stack) begun.cursor leads begun.built
 
 pub begin-requires-clause-may_open : goal.begin-requires-clause-may_open
 begin-requires-clause-may_open c =
@@ -88,8 +93,8 @@ begin-requires-clause-may_open c =
     c.args.slots c.args.stack c.requires.ready (as_form c.args.child.form) c.args.child.count c.args.i
     c.requires.child.begun c.requires.child.within c.requires.admitted
 
-pub abandon-requires-clause-is_open : goal.abandon-requires-clause-is_open
-abandon-requires-clause-is_open c =
+pub abandon-requires-clause-shown : goal.abandon-requires-clause-shown
+abandon-requires-clause-shown c =
     open_shown c.args.plan.now c.args.slots c.begin.new.slots c.args.stack c.requires.ready.shown
     c.in_default.ensures.refused c.begin.ensures.tokens
 
@@ -98,7 +103,7 @@ abandon-requires-clause-room c =
     Room_same (tree_occurs (tree_in_slots c.args.slots c.args.stack))
     (tree_occurs (tree_in_slots c.begin.new.slots c.args.stack)) c.args.ledger.now
     (same_tokens c.args.plan.now c.args.slots c.begin.new.slots c.args.stack c.requires.ready.shown
-    (abandon-requires-clause-is_open c) c.begin.ensures.tokens)
+    (abandon-requires-clause-shown c) c.begin.ensures.tokens)
     c.requires.room
 
 pub returns-in_default-clause-released : goal.returns-in_default-clause-released
@@ -140,10 +145,10 @@ enter-requires-clause-planned c =
     ∙ ap (λ (n : NodeId). child_node c.args.plan.now n (as_form c.args.child.form) c.args.i) c.node_here.ensures))
     (is_there c.args.plan.now.nodes _ shaped.found shaped.there)
 
-pub abandon-requires-in-Err-clause-is_open : goal.abandon-requires-in-Err-clause-is_open
-abandon-requires-in-Err-clause-is_open c =
+pub abandon-requires-in-Err-clause-shown : goal.abandon-requires-in-Err-clause-shown
+abandon-requires-in-Err-clause-shown c =
     subst (λ (slots : List Slot). IsOpen c.args.plan.now slots c.enter.new.self) (sym c.in-Err.ensures.slots_kept)
-    (subst (λ (stack : List ℕ). IsOpen c.args.plan.now c.begin.new.slots stack) (sym c.in-Err.ensures.kept)
+    (subst (λ (stack : List ℕ). IsOpen c.args.plan.now c.begin.new.slots stack) (sym c.in-Err.ensures.refused)
     c.in-Ok.ensures.begun.open_still)
 
 pub abandon-requires-in-Err-clause-room : goal.abandon-requires-in-Err-clause-room
@@ -154,7 +159,7 @@ abandon-requires-in-Err-clause-room c =
     same_tokens c.args.plan.now c.args.slots c.begin.new.slots c.args.stack c.requires.ready.shown
     c.in-Ok.ensures.begun.open_still c.begin.ensures.tokens t
     ∙ ap (λ (slots : List Slot). tree_occurs (tree_in_slots slots c.args.stack) t) (sym c.in-Err.ensures.slots_kept)
-    ∙ ap (λ (stack : List ℕ). tree_occurs (tree_in_slots c.enter.new.slots stack) t) (sym c.in-Err.ensures.kept))
+    ∙ ap (λ (stack : List ℕ). tree_occurs (tree_in_slots c.enter.new.slots stack) t) (sym c.in-Err.ensures.refused))
     c.requires.room
 
 pub returns-in-Err-clause-released : goal.returns-in-Err-clause-released
@@ -166,7 +171,7 @@ returns-in-Err-clause-released c =
     (same_tokens c.args.plan.now c.args.slots c.begin.new.slots c.args.stack c.requires.ready.shown
     c.in-Ok.ensures.begun.open_still c.begin.ensures.tokens t
     ∙ ap (λ (slots : List Slot). tree_occurs (tree_in_slots slots c.args.stack) t) (sym c.in-Err.ensures.slots_kept)
-    ∙ ap (λ (stack : List ℕ). tree_occurs (tree_in_slots c.enter.new.slots stack) t) (sym c.in-Err.ensures.kept)))
+    ∙ ap (λ (stack : List ℕ). tree_occurs (tree_in_slots c.enter.new.slots stack) t) (sym c.in-Err.ensures.refused)))
     c.abandon-in-Err.ensures.released
 
 pub returns-in-Ok-enter-clause-entered : goal.returns-in-Ok-enter-clause-entered
@@ -202,3 +207,9 @@ returns-in-Ok-enter-clause-entered c =
           ∙ ap (λ (n : NodeId). child_node c.args.plan.now n (as_form c.args.child.form) c.args.i) c.node_here.ensures))
           shaped));
     }
+
+pub begin-requires-clause-scaffold : goal.begin-requires-clause-scaffold
+begin-requires-clause-scaffold c = ?
+
+pub enter-requires-clause-scaffold : goal.enter-requires-clause-scaffold
+enter-requires-clause-scaffold c = ?

@@ -11,23 +11,26 @@ fill_and_require_fields-requires-clause-in_use g c =
 pub fill_and_require_fields-requires-clause-place : goal.fill_and_require_fields-requires-clause-place
 fill_and_require_fields-requires-clause-place g c =
     may_complete c.law_plan_lookups.ensures.agree c.law_plan_lookups.ensures.paths c.args.table.now c.args.root
-    c.args.plan.now c.args.slots c.args.stack c.requires.ready c.in-Some.top.0 c.in-Some.ensures.last
+    c.args.plan.now c.args.slots c.args.stack c.requires.ready c.requires.strict c.in-Some.top.0 c.in-Some.ensures.last
 
 pub end-requires-clause-is_open : goal.end-requires-clause-is_open
 end-requires-clause-is_open g c =
     open_after c.args.plan.now c.args.slots c.fill_and_require_fields.new.slots c.args.stack c.requires.ready.shown
+    c.requires.strict
     c.in-Some.top.0 c.in-Some.ensures.last c.fill_and_require_fields.ensures.closed c.fill_and_require_fields.ensures.tokens
 
 pub end-requires-clause-below : goal.end-requires-clause-below
 end-requires-clause-below g c =
     ap is_root
     (cursor_after c.args.plan.now c.args.slots c.fill_and_require_fields.new.slots c.args.stack c.requires.ready.shown
+    c.requires.strict
     c.in-Some.top.0 c.in-Some.ensures.last c.fill_and_require_fields.ensures.closed c.fill_and_require_fields.ensures.tokens)
     ∙ c.requires.below
 
 pub end-requires-clause-complete : goal.end-requires-clause-complete
 end-requires-clause-complete g c =
     value_at_top c.args.plan.now c.args.slots c.fill_and_require_fields.new.slots c.args.stack c.requires.ready.shown
+    c.requires.strict
     c.in-Some.top.0 c.in-Some.ensures.last c.fill_and_require_fields.ensures.closed c.fill_and_require_fields.ensures.tokens
     (g.H.Hooks.means c.args.hooks.now) c.args.table.now c.args.root c.law_plan_lookups.ensures.agree
     c.law_plan_lookups.ensures.paths c.requires.ready c.in-Ok.ensures.filled
@@ -35,30 +38,34 @@ end-requires-clause-complete g c =
 pub abandon-requires-clause-shown : goal.abandon-requires-clause-shown
 abandon-requires-clause-shown g c =
     open_after c.args.plan.now c.args.slots c.fill_and_require_fields.new.slots c.args.stack c.requires.ready.shown
+    c.requires.strict
     c.in-Some.top.0 c.in-Some.ensures.last c.fill_and_require_fields.ensures.closed c.fill_and_require_fields.ensures.tokens
 
 pub abandon-requires-clause-room : goal.abandon-requires-clause-room
 abandon-requires-clause-room g c =
     room_after c.args.plan.now c.args.slots c.fill_and_require_fields.new.slots c.args.stack c.requires.ready.shown
+    c.requires.strict
     c.in-Some.top.0 c.in-Some.ensures.last c.fill_and_require_fields.ensures.closed c.fill_and_require_fields.ensures.tokens
     c.args.ledger.now c.requires.room
 
 pub returns-in-Ok-clause-ended : goal.returns-in-Ok-clause-ended
 returns-in-Ok-clause-ended g c =
-    ended c.args.plan.now c.args.slots c.fill_and_require_fields.new.slots c.args.stack c.requires.ready.shown
+    ended c.args.plan.now c.args.slots c.fill_and_require_fields.new.slots c.args.stack c.requires.ready.shown c.requires.strict
     c.in-Some.top.0 c.in-Some.ensures.last c.fill_and_require_fields.ensures.closed c.fill_and_require_fields.ensures.tokens
     (g.H.Hooks.means c.args.hooks.now) c.args.table.now c.args.root c.law_plan_lookups.ensures.agree
     c.law_plan_lookups.ensures.paths c.requires.ready c.in-Ok.ensures.filled c.end.new.slots c.end.new.self
-    c.end.ensures.ended
+    c.end.ensures.strict c.end.ensures.ended
 
 pub returns-in-Err-clause-why : goal.returns-in-Err-clause-why
 returns-in-Err-clause-why g c =
     why_here c.law_plan_lookups.ensures.agree c.law_plan_lookups.ensures.paths c.args.table.now c.args.root
-    c.args.plan.now c.args.slots c.args.stack c.requires.ready (g.H.Hooks.means c.args.hooks.now) c.in-Some.top.0
+    c.args.plan.now c.args.slots c.args.stack c.requires.ready c.requires.strict (g.H.Hooks.means c.args.hooks.now)
+    c.in-Some.top.0
     c.in-Some.ensures.last c.in-Err.kind c.in-Err.ensures.why
 
 pub returns-in-Err-clause-released : goal.returns-in-Err-clause-released
 returns-in-Err-clause-released g c =
     rose_after c.args.plan.now c.args.slots c.fill_and_require_fields.new.slots c.args.stack c.requires.ready.shown
+    c.requires.strict
     c.in-Some.top.0 c.in-Some.ensures.last c.fill_and_require_fields.ensures.closed c.fill_and_require_fields.ensures.tokens
     c.args.ledger.now c.abandon.new.ledger c.abandon.ensures.released

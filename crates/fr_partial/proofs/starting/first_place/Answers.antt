@@ -1,4 +1,4 @@
-use Rattle.fr_partial.proofs.FirstLaws.{first_open}
+use Rattle.fr_partial.proofs.FirstLaws.{first_open, first_unstored}
 use Rattle.fr_partial.proofs.starting.first_place.Goals as goal
 
 pub returns : goal.returns
@@ -8,4 +8,6 @@ returns c = record {
       c.requires.inside c.requires.planned c.new-slots.result c.enter.new.self c.root_id.result c.in_ok-top.top.0
       c.new-stack.result c.push.new.self c.new-slots.ensures.nothing c.root_id.ensures.root c.in_ok-top.ensures.entered
       c.in_ok-top.ensures.limit c.in_ok-top.ensures.tokens c.new-stack.ensures.empty c.in_ok-push.ensures.appended;
+  nothing = first_unstored _ c.new-slots.result c.enter.new.self c.root_id.result c.in_ok-top.top.0 c.new-slots.ensures.free
+      c.in_ok-top.ensures.entered;
 }

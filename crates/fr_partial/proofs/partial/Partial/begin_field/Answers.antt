@@ -3,6 +3,7 @@ use Rattle.fr_shape.specs.declared.error.ReflectErrorKind.{ReflectErrorKind}
 use Rattle.fr_model.specs.Commands.{Call}
 use Rattle.fr_model.specs.Tree.{State}
 use Rattle.fr_partial.specs.Builder.{holds, IsStepTo}
+use Rattle.fr_partial.specs.Modes.{mode_of}
 use Rattle.fr_partial.proofs.BeginLaws.{named_there, named_admitted, named_refused, named_unknown}
 use Rattle.fr_partial.proofs.RemovedLaws.{rises_by_removed, all_released}
 use Rattle.fr_partial.proofs.StateLaws.{in_order}
@@ -12,14 +13,16 @@ pub returns-in-Some-clause-step : goal.returns-in-Some-clause-step
 returns-in-Some-clause-step g c =
     inr
     (named_refused c.self.inside.table.now c.self.inside.root.0 c.self.inside.slots c.self.inside.stack
-    c.self.inside.calls c.args.self c.self.view_is c.shape-shape.result c.shape-shape.ensures.shape c.args.field_name.now
+    (mode_of c.self.inside.mode) c.self.inside.calls c.args.self c.self.view_is c.shape-shape.result c.shape-shape.ensures.shape
+    c.args.field_name.now
     c.in-Some.operation (sym c.in-Some.ensures)
     ∙ ap Err (sym c.refuse.ensures.kind))
 
 pub enter-requires-clause-admitted : goal.enter-requires-clause-admitted
 enter-requires-clause-admitted g c =
     named_there c.self.inside.table.now c.self.inside.root.0 c.self.inside.slots c.self.inside.stack
-    c.self.inside.calls c.args.self c.self.view_is c.shape-shape.result c.shape-shape.ensures.shape c.args.field_name.now
+    (mode_of c.self.inside.mode) c.self.inside.calls c.args.self c.self.view_is c.shape-shape.result c.shape-shape.ensures.shape
+    c.args.field_name.now
     c.in-Some-field_named.i (sym c.in-Some-field_named.ensures)
 
 pub returns-in-Some-field_named-clause-step : goal.returns-in-Some-field_named-clause-step
@@ -27,7 +30,8 @@ returns-in-Some-field_named-clause-step g c =
     subst (λ (meant : Result State ReflectErrorKind). IsStepTo c.args.self meant c.enter.result)
     (sym
     (named_admitted c.self.inside.table.now c.self.inside.root.0 c.self.inside.slots c.self.inside.stack
-    c.self.inside.calls c.args.self c.self.view_is c.shape-shape.result c.shape-shape.ensures.shape c.args.field_name.now
+    (mode_of c.self.inside.mode) c.self.inside.calls c.args.self c.self.view_is c.shape-shape.result c.shape-shape.ensures.shape
+    c.args.field_name.now
     c.in-Some-field_named.i (sym c.in_default.ensures) (sym c.in-Some-field_named.ensures)))
     c.enter.ensures.step
 
@@ -35,7 +39,8 @@ pub returns-in-None-clause-step : goal.returns-in-None-clause-step
 returns-in-None-clause-step g c =
     inr
     (named_unknown c.self.inside.table.now c.self.inside.root.0 c.self.inside.slots c.self.inside.stack
-    c.self.inside.calls c.args.self c.self.view_is c.shape-shape.result c.shape-shape.ensures.shape c.args.field_name.now
+    (mode_of c.self.inside.mode) c.self.inside.calls c.args.self c.self.view_is c.shape-shape.result c.shape-shape.ensures.shape
+    c.args.field_name.now
     (sym c.in_default.ensures) (sym c.in-None.ensures)
     ∙ ap Err (sym c.refuse-in-None.ensures.kind))
 
@@ -43,7 +48,8 @@ pub returns-in-Some-field_named-clause-refused : goal.returns-in-Some-field_name
 returns-in-Some-field_named-clause-refused g c refused =
     let no : false ≡ true =
     rw (named_admitted c.self.inside.table.now c.self.inside.root.0 c.self.inside.slots c.self.inside.stack
-    c.self.inside.calls c.args.self c.self.view_is c.shape-shape.result c.shape-shape.ensures.shape c.args.field_name.now
+    (mode_of c.self.inside.mode) c.self.inside.calls c.args.self c.self.view_is c.shape-shape.result c.shape-shape.ensures.shape
+    c.args.field_name.now
     c.in-Some-field_named.i (sym c.in_default.ensures) (sym c.in-Some-field_named.ensures))
     at refused in
     absurd (cc)

@@ -5,6 +5,7 @@ use Rattle.fr_model.specs.Commands.{Call}
 use Rattle.fr_model.specs.Step.{field_refusal}
 use Rattle.fr_model.specs.Tree.{State, cursor_tree}
 use Rattle.fr_partial.specs.Builder.{here, holds, IsStepTo}
+use Rattle.fr_partial.specs.Modes.{mode_of}
 use Rattle.fr_partial.proofs.BeginLaws.{refusal_is, begin_admitted, begin_refused}
 use Rattle.fr_partial.proofs.RemovedLaws.{rises_by_removed, all_released}
 use Rattle.fr_partial.proofs.StateLaws.{in_order}
@@ -16,8 +17,9 @@ admitted : (g : Over) (c : In-None g)
     → field_refusal (def_of c.args.self.shapes (here c.args.self)) (cursor_tree c.args.self.state) c.args.idx ≡ None
 admitted g c =
     sym
-    (refusal_is c.self.inside.table.now c.self.inside.root.0 c.self.inside.slots c.self.inside.stack c.self.inside.calls
-    c.args.self c.self.view_is c.shape-shape.result.0 c.shape-shape.ensures.shape _ c.piece_here.ensures c.args.idx)
+    (refusal_is c.self.inside.table.now c.self.inside.root.0 c.self.inside.slots c.self.inside.stack
+    (mode_of c.self.inside.mode) c.self.inside.calls c.args.self c.self.view_is c.shape-shape.result.0
+    c.shape-shape.ensures.shape _ c.piece_here.ensures c.args.idx)
     ∙ sym c.in-None.ensures
 
 pub enter-requires-clause-admitted : goal.enter-requires-clause-admitted
@@ -28,8 +30,9 @@ returns-in-Some-clause-step g c =
     inr
     (begin_refused c.args.self c.args.idx c.shape-shape.result c.in-Some.operation c.shape-shape.ensures.shape
     (sym
-    (refusal_is c.self.inside.table.now c.self.inside.root.0 c.self.inside.slots c.self.inside.stack c.self.inside.calls
-    c.args.self c.self.view_is c.shape-shape.result.0 c.shape-shape.ensures.shape _ c.piece_here.ensures c.args.idx)
+    (refusal_is c.self.inside.table.now c.self.inside.root.0 c.self.inside.slots c.self.inside.stack
+    (mode_of c.self.inside.mode) c.self.inside.calls c.args.self c.self.view_is c.shape-shape.result.0
+    c.shape-shape.ensures.shape _ c.piece_here.ensures c.args.idx)
     ∙ sym c.in-Some.ensures)
     ∙ ap Err (sym c.refuse.ensures.kind))
 

@@ -1,148 +1,28 @@
-use Rattle.std.proofs.Common.{◌≡◌, length, slice_index, true, false, IsErr, Ok, Err, inl, inr, sym, ap, ◌∙◌, subst, arith}
+use Rattle.std.proofs.Common.{◌≡◌, Err, inr, sym, ap, ◌∙◌, subst}
 use Rattle.fr_shape.specs.declared.error.Invariant.{Invariant}
 use Rattle.fr_shape.specs.declared.error.ReflectErrorKind.{ReflectErrorKind}
-use Rattle.fr_shape.specs.Fits.{fits}
-use Rattle.fr_shape.specs.Released.{Room, RoseBy}
-use Rattle.fr_shape.specs.Tokens.{occurs}
-use Rattle.fr_shape.specs.View.{view}
 use Rattle.fr_model.specs.Step.{violates}
-use Rattle.fr_model.specs.Tree.{cursor_tree, tree_occurs}
-use Rattle.fr_store.specs.Moves.{tree_in_slots}
 use Rattle.fr_partial.specs.Builder.{Builder, holds, meaning_of_build}
-use Rattle.fr_partial.specs.Filling.{fills_nothing}
+use Rattle.fr_partial.specs.Modes.{mode_of}
 use Rattle.fr_partial.specs.Underway.{state_of}
-use Rattle.fr_partial.proofs.EndLaws.{below, only_root, builds, builds_not, builds_below, never_unbuilt, root_tree}
-use Rattle.fr_partial.proofs.LackLaws.{only_wants, only_takes}
+use Rattle.fr_partial.proofs.EndLaws.{builds_deferred}
 use Rattle.fr_partial.proofs.RemovedLaws.{rises_by_removed_at_build, all_released}
 use Rattle.fr_partial.proofs.StateLaws.{in_order}
 use Rattle.fr_partial.proofs.partial.Partial.build.Goals as goal
 
-pub take_root-result-requires-clause-at_root : goal.take_root-result-requires-clause-at_root
-take_root-result-requires-clause-at_root g c =
-    only_root _ c.self.inside.slots c.self.inside.stack c.self.invariant.ready.shown c.len-open.result
-    c.len-open.ensures.count c.if-open-eq1.true
-
-pub take_root-result-requires-clause-room : goal.take_root-result-requires-clause-room
-take_root-result-requires-clause-room g c =
-    subst (λ (b : Builder _). Room (holds b) c.args.ledger.now) (sym c.self.view_is) c.requires.room
-
-pub abandon-requires-clause-room : goal.abandon-requires-clause-room
-abandon-requires-clause-room g c =
-    subst (λ (b : Builder _). Room (holds b) c.args.ledger.now) (sym c.self.view_is) c.requires.room
-
-pub returns-in-Ok-clause-built : goal.returns-in-Ok-clause-built
-returns-in-Ok-clause-built g c = (
-  subst (λ (b : Builder _). meaning_of_build (g.H.Hooks.means b.hooks) b ≡ Ok (view c.in-Ok.value)) c.self.view_is
-      (builds (g.H.Hooks.means c.self.inside.hooks.now) c.self.inside.table.now c.self.inside.root.0
-      (state_of c.self.inside.slots c.self.inside.stack c.self.inside.calls) (view c.in-Ok.value)
-      (only_root _ c.self.inside.slots c.self.inside.stack c.self.invariant.ready.shown c.len-open.result
-      c.len-open.ensures.count c.if-open-eq1.true)
-      c.in-Ok.ensures.value),
-  ap (λ (b : Builder _). b.state.calls) c.self.view_is,
-)
-
-pub returns-in-Ok-clause-fits : goal.returns-in-Ok-clause-fits
-returns-in-Ok-clause-fits g c =
-    subst (λ (b : Builder _). fits b.shapes b.root (view c.in-Ok.value) ≡ true) c.self.view_is
-    (c.law_completes.ensures.fits (g.H.Hooks.means c.self.inside.hooks.now) c.self.inside.table.now c.self.inside.root.0
-    (tree_in_slots c.self.inside.slots c.self.inside.stack) (view c.in-Ok.value) c.self.invariant.ready.checked
-    c.self.invariant.ready.suits c.in-Ok.ensures.value)
-
-pub returns-in-Ok-clause-tokens : goal.returns-in-Ok-clause-tokens
-returns-in-Ok-clause-tokens g c = record {
-  same_length = ap length c.in-Ok.ensures.kept;
-  kept_or_released = λ t.
-      let all : holds c.args.self t ≡ tree_occurs (tree_in_slots c.self.inside.slots c.self.inside.stack) t
-      = ap (λ (b : Builder _). holds b t) (sym c.self.view_is) in
-      let kept : occurs (view c.in-Ok.value) t ≡ tree_occurs (tree_in_slots c.self.inside.slots c.self.inside.stack) t
-      = c.law_completes.ensures.tokens (g.H.Hooks.means c.self.inside.hooks.now) c.self.inside.table.now
-      c.self.inside.root.0 (tree_in_slots c.self.inside.slots c.self.inside.stack) (view c.in-Ok.value) t
-      c.self.invariant.ready.checked c.self.invariant.ready.suits c.in-Ok.ensures.value in
-      let same : slice_index c.take_root-result.new.ledger t ≡ slice_index c.args.ledger.now t
-      = ap (λ ledger. slice_index ledger t) c.in-Ok.ensures.kept in
-      omega arith;
-  none_falls = λ t.
-      let same : slice_index c.take_root-result.new.ledger t ≡ slice_index c.args.ledger.now t
-      = ap (λ ledger. slice_index ledger t) c.in-Ok.ensures.kept in
-      omega arith;
-}
-
-pub returns-in-Ok-clause-removed : goal.returns-in-Ok-clause-removed
-returns-in-Ok-clause-removed g c =
-    rises_by_removed_at_build (g.H.Hooks.means c.args.self.hooks) c.law_removed.ensures.build c.args.self
-    (in_order c.self.invariant c.self.view_is)
-    (Ok (record { value = view c.in-Ok.value; calls = c.self.inside.calls })) c.args.ledger.now
-    c.take_root-result.new.ledger (returns-in-Ok-clause-built g c) (returns-in-Ok-clause-tokens g c)
-
-pub returns-in-Err-clause-built : goal.returns-in-Err-clause-built
-returns-in-Err-clause-built g c =
-    elim c.in-Err.ensures.why [
-      | inl lacking ↦
-          inr
-          (subst (λ (b : Builder _). meaning_of_build (g.H.Hooks.means b.hooks) b ≡ Err c.in-Err.kind) c.self.view_is
-          (builds_not (g.H.Hooks.means c.self.inside.hooks.now) c.self.inside.table.now c.self.inside.root.0
-          (state_of c.self.inside.slots c.self.inside.stack c.self.inside.calls) c.in-Err.kind
-          (only_root _ c.self.inside.slots c.self.inside.stack c.self.invariant.ready.shown c.len-open.result
-          c.len-open.ensures.count c.if-open-eq1.true)
-          lacking))
-      | inr wants ↦ inl wants.memory
-    ]
-
-pub returns-in-Err-clause-tokens : goal.returns-in-Err-clause-tokens
-returns-in-Err-clause-tokens g c =
-    all_released (holds c.args.self) c.args.ledger.now c.take_root-result.new.ledger
-    (subst (λ (b : Builder _). RoseBy (holds b) c.args.ledger.now c.take_root-result.new.ledger) c.self.view_is
-    c.in-Err.ensures.released)
-
-pub returns-in-Err-clause-memory : goal.returns-in-Err-clause-memory
-returns-in-Err-clause-memory g c nothing is =
-    let takes = only_takes (g.H.Hooks.means c.self.inside.hooks.now) c.self.inside.table.now c.self.invariant.served _ _
-    c.in-Err.kind c.in-Err.ensures.why is in
-    let root = root_tree (state_of c.self.inside.slots c.self.inside.stack c.self.inside.calls)
-    (only_root _ c.self.inside.slots c.self.inside.stack c.self.invariant.ready.shown c.len-open.result
-    c.len-open.ensures.count c.if-open-eq1.true) in
-    let no : false ≡ true
-    = sym takes ∙ ap fills_nothing (sym root)
-    ∙ ap (λ (b : Builder _). fills_nothing (cursor_tree b.state)) c.self.view_is ∙ nothing in
-    cc
-
-pub returns-in-Err-clause-refused : goal.returns-in-Err-clause-refused
-returns-in-Err-clause-refused g c refused is =
-    never_unbuilt (g.H.Hooks.means c.self.inside.hooks.now) c.self.inside.table.now c.self.inside.root.0
-    (state_of c.self.inside.slots c.self.inside.stack c.self.inside.calls)
-    (only_root _ c.self.inside.slots c.self.inside.stack c.self.invariant.ready.shown c.len-open.result
-    c.len-open.ensures.count c.if-open-eq1.true)
-    (only_wants (g.H.Hooks.means c.self.inside.hooks.now) c.self.inside.table.now c.self.invariant.served _ _ c.in-Err.kind
-    c.in-Err.ensures.why is)
-    (subst (λ (b : Builder _). IsErr (meaning_of_build (g.H.Hooks.means b.hooks) b)) (sym c.self.view_is) refused)
-
-pub returns-in-Err-clause-removed : goal.returns-in-Err-clause-removed
-returns-in-Err-clause-removed g c =
-    rises_by_removed_at_build (g.H.Hooks.means c.args.self.hooks) c.law_removed.ensures.build c.args.self
-    (in_order c.self.invariant c.self.view_is)
-    (Err (record { kind = c.in-Err.kind; path = c.self.inside.path })) c.args.ledger.now c.take_root-result.new.ledger
-    (returns-in-Err-clause-built g c) (returns-in-Err-clause-tokens g c)
-
-pub returns-else-open-eq1-clause-built : goal.returns-else-open-eq1-clause-built
-returns-else-open-eq1-clause-built g c =
+pub returns-in-Deferred-clause-built : goal.returns-in-Deferred-clause-built
+returns-in-Deferred-clause-built g c =
     inr
-    (subst
-    (λ (b : Builder _). meaning_of_build (g.H.Hooks.means b.hooks) b ≡ Err (violates Invariant.BuildOpenFrames))
+    (subst (λ (b : Builder _). meaning_of_build (g.H.Hooks.means b.hooks) b ≡ Err (violates Invariant.BuildDeferred))
     c.self.view_is
-    (builds_below (g.H.Hooks.means c.self.inside.hooks.now) c.self.inside.table.now c.self.inside.root.0
-    (state_of c.self.inside.slots c.self.inside.stack c.self.inside.calls)
-    (below _ c.self.inside.slots c.self.inside.stack c.self.invariant.ready.shown c.len-open.result
-    c.len-open.ensures.count c.if-open-eq1.false)))
+    (builds_deferred (g.H.Hooks.means c.self.inside.hooks.now) c.self.inside.table.now c.self.inside.root.0
+    (state_of c.self.inside.slots c.self.inside.stack (mode_of c.self.inside.mode) c.self.inside.calls)
+    c.in-Deferred.field-0 (ap mode_of c.in-Deferred.is))
+    ∙ ap (λ (kind : ReflectErrorKind). Err kind) (sym c.refuse.ensures.kind))
 
-pub returns-else-open-eq1-clause-tokens : goal.returns-else-open-eq1-clause-tokens
-returns-else-open-eq1-clause-tokens g c =
-    all_released (holds c.args.self) c.args.ledger.now c.abandon.new.ledger
-    (subst (λ (b : Builder _). RoseBy (holds b) c.args.ledger.now c.abandon.new.ledger) c.self.view_is
-    c.abandon.ensures.released)
-
-pub returns-else-open-eq1-clause-removed : goal.returns-else-open-eq1-clause-removed
-returns-else-open-eq1-clause-removed g c =
+pub returns-in-Deferred-clause-removed : goal.returns-in-Deferred-clause-removed
+returns-in-Deferred-clause-removed g c =
     rises_by_removed_at_build (g.H.Hooks.means c.args.self.hooks) c.law_removed.ensures.build c.args.self
-    (in_order c.self.invariant c.self.view_is)
-    (Err (record { kind = ReflectErrorKind.InvariantViolation Invariant.BuildOpenFrames; path = c.self.inside.path }))
-    c.args.ledger.now c.abandon.new.ledger (returns-else-open-eq1-clause-built g c) (returns-else-open-eq1-clause-tokens g c)
+    (in_order c.self.invariant c.self.view_is) (Err c.refuse.result)
+    c.args.ledger.now c.refuse.new.ledger (returns-in-Deferred-clause-built g c)
+    (all_released (holds c.args.self) c.args.ledger.now c.refuse.new.ledger c.refuse.ensures.released)

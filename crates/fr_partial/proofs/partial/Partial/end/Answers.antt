@@ -1,178 +1,84 @@
-use Rattle.std.proofs.Common.{◌≡◌, ℕ, ◌+◌, length, slice_index, true, false, IsErr, Ok, Err, inl, inr, refl, sym, ap, ◌∙◌, subst, arith}
+use Rattle.std.proofs.Common.{◌≡◌, Result, IsErr, Err, inr, sym, ap, ◌∙◌, subst, arith}
 use Rattle.fr_shape.specs.declared.error.Invariant.{Invariant}
-use Rattle.fr_shape.specs.Released.{Room, RoseBy}
+use Rattle.fr_shape.specs.declared.error.ReflectErrorKind.{ReflectErrorKind}
 use Rattle.fr_model.specs.Commands.{Call}
-use Rattle.fr_model.specs.Step.{puts_and_leaves, violates}
-use Rattle.fr_model.specs.Tree.{Tree, State, cursor_tree, tree_occurs}
-use Rattle.fr_plan.specs.TypePlan.{Plan}
-use Rattle.fr_store.specs.Moves.{cursor_in, tree_in_slots}
-use Rattle.fr_store.specs.Stands.{IsOpen}
-use Rattle.fr_partial.specs.Builder.{Builder, holds, meaning}
-use Rattle.fr_partial.specs.Filling.{fills_nothing}
+use Rattle.fr_model.specs.Step.{violates}
+use Rattle.fr_model.specs.Tree.{State, cursor_shape}
+use Rattle.fr_partial.specs.Builder.{Builder, holds, meaning, IsStepTo}
+use Rattle.fr_partial.specs.Modes.{mode_of}
 use Rattle.fr_partial.specs.Underway.{shape_here, state_of}
-use Rattle.fr_partial.proofs.EndLaws.{below, only_root, ends_at_root, ends, ends_not, never_refused}
-use Rattle.fr_partial.proofs.LackLaws.{only_wants, only_takes}
+use Rattle.fr_partial.proofs.EndLaws.{as_deep, ends_at_root, ends_at_start, ends_below, far_below, none_above, some_above}
 use Rattle.fr_partial.proofs.RemovedLaws.{rises_by_removed, all_released}
-use Rattle.fr_partial.proofs.StateLaws.{in_order, state_is, underway_after, order_after, tokens_after, last_of}
-use Rattle.fr_partial.proofs.WayLaws.{left_path}
+use Rattle.fr_partial.proofs.StateLaws.{in_order}
 use Rattle.fr_partial.proofs.partial.Partial.end.Goals as goal
 
-pub abandon-requires-clause-room : goal.abandon-requires-clause-room
-abandon-requires-clause-room g c =
-    subst (λ (b : Builder _). Room (holds b) c.args.ledger.now) (sym c.self.view_is) c.requires.room
+pub leave-requires-clause-below : goal.leave-requires-clause-below
+leave-requires-clause-below g c =
+    far_below _ c.self.invariant.ready.shown c.self.inside.mode c.in-Deferred.start c.len-depth.result c.len-depth.ensures.count
+    c.in-Deferred.is c.if-depth-start.false c.self.view_is
 
-pub end_here-requires-clause-below : goal.end_here-requires-clause-below
-end_here-requires-clause-below g c =
-    below _ c.self.inside.slots c.self.inside.stack c.self.invariant.ready.shown c.len-open.result c.len-open.ensures.count
-    c.if-open-eq1.false
-
-pub end_here-requires-clause-room : goal.end_here-requires-clause-room
-end_here-requires-clause-room g c =
-    subst (λ (b : Builder _). Room (holds b) c.args.ledger.now) (sym c.self.view_is) c.requires.room
-
-pub returns-then-open-eq1-clause-step : goal.returns-then-open-eq1-clause-step
-returns-then-open-eq1-clause-step g c =
+pub returns-then-depth-eq0-clause-step : goal.returns-then-depth-eq0-clause-step
+returns-then-depth-eq0-clause-step g c =
     inr
-    (subst (λ (b : Builder _). meaning (g.H.Hooks.means b.hooks) b Call.End ≡ Err (violates Invariant.EndAtRoot))
-    c.self.view_is
+    (subst (λ (b : Builder _). meaning (g.H.Hooks.means b.hooks) b Call.End ≡ Err (violates Invariant.EndAtRoot)) c.self.view_is
     (ends_at_root (g.H.Hooks.means c.self.inside.hooks.now) c.self.inside.table.now
     (shape_here c.self.inside.table.now c.self.inside.root.0 c.self.inside.slots c.self.inside.stack)
-    (state_of c.self.inside.slots c.self.inside.stack c.self.inside.calls)
-    (only_root _ c.self.inside.slots c.self.inside.stack c.self.invariant.ready.shown c.len-open.result
-    c.len-open.ensures.count c.if-open-eq1.true)))
+    (state_of c.self.inside.slots c.self.inside.stack (mode_of c.self.inside.mode) c.self.inside.calls)
+    (none_above _ c.self.inside.slots c.self.inside.stack c.self.invariant.ready.shown c.len-depth.result
+    c.len-depth.ensures.count c.if-depth-eq0.true))
+    ∙ ap (λ (kind : ReflectErrorKind). Err kind) (sym c.refuse.ensures.kind))
 
-pub returns-then-open-eq1-clause-tokens : goal.returns-then-open-eq1-clause-tokens
-returns-then-open-eq1-clause-tokens g c =
-    all_released (holds c.args.self) c.args.ledger.now c.abandon.new.ledger
-    (subst (λ (b : Builder _). RoseBy (holds b) c.args.ledger.now c.abandon.new.ledger) c.self.view_is
-    c.abandon.ensures.released)
-
-pub returns-then-open-eq1-clause-removed : goal.returns-then-open-eq1-clause-removed
-returns-then-open-eq1-clause-removed g c =
+pub returns-then-depth-eq0-clause-removed : goal.returns-then-depth-eq0-clause-removed
+returns-then-depth-eq0-clause-removed g c =
     rises_by_removed (g.H.Hooks.means c.args.self.hooks) c.law_removed.ensures.step c.args.self
-    (in_order c.self.invariant c.self.view_is)
-    Call.End (holds c.args.self) (λ t. omega arith)
-    (Err (record { kind = violates Invariant.EndAtRoot; path = c.self.inside.path })) c.args.ledger.now
-    c.abandon.new.ledger
-    (returns-then-open-eq1-clause-step g c) (returns-then-open-eq1-clause-tokens g c)
+    (in_order c.self.invariant c.self.view_is) Call.End (holds c.args.self) (λ t. omega arith) (Err c.refuse.result)
+    c.args.ledger.now c.refuse.new.ledger (returns-then-depth-eq0-clause-step g c)
+    (all_released (holds c.args.self) c.args.ledger.now c.refuse.new.ledger c.refuse.ensures.released)
 
-pub invariant_of-result : goal.invariant_of-result
-invariant_of-result g c =
-    let s : ℕ = shape_here c.self.inside.table.now c.self.inside.root.0 c.self.inside.slots c.self.inside.stack in
-    let state : State = state_of c.self.inside.slots c.self.inside.stack c.self.inside.calls in
-    let v = c.in-Ok.ensures.ended.value in
-    let deep = below _ c.self.inside.slots c.self.inside.stack c.self.invariant.ready.shown c.len-open.result
-    c.len-open.ensures.count c.if-open-eq1.false in
-    let last = last_of (cursor_in c.self.inside.slots c.self.inside.stack) deep in
-    underway_after c.self.invariant c.step_back.new.path c.in-Ok.slots c.in-Ok.stack c.saturating_add.result
-    (puts_and_leaves state v)
-    (subst (λ (p : Plan). IsOpen p c.in-Ok.slots c.in-Ok.stack) c.core-2.ensures c.in-Ok.ensures.ended.after.open_still)
-    (state_is _ c.in-Ok.slots c.in-Ok.stack _ _ c.saturating_add.result _ c.in-Ok.ensures.ended.after
-    c.saturating_add.ensures)
-    (order_after c.self.invariant c.law_well.ensures.in_order (g.H.Hooks.means c.self.inside.hooks.now)
-    (puts_and_leaves state v) Call.End tt
-    (ends (g.H.Hooks.means c.self.inside.hooks.now) c.self.inside.table.now s state v deep c.in-Ok.ensures.ended.meant))
-    (left_path c.law_paths.ensures.leave c.law_paths.ensures.deep state (puts_and_leaves state v) v last.0 last.1
-    c.self.inside.path c.step_back.new.path c.self.invariant.ready.leads last.2 c.self.invariant.path c.step_back.ensures
-    refl)
-
-pub returns-in-Ok-clause-step : goal.returns-in-Ok-clause-step
-returns-in-Ok-clause-step g c =
-    let s : ℕ = shape_here c.self.inside.table.now c.self.inside.root.0 c.self.inside.slots c.self.inside.stack in
-    let state : State = state_of c.self.inside.slots c.self.inside.stack c.self.inside.calls in
-    let v = c.in-Ok.ensures.ended.value in
-    let deep = below _ c.self.inside.slots c.self.inside.stack c.self.invariant.ready.shown c.len-open.result
-    c.len-open.ensures.count c.if-open-eq1.false in (
-      subst (λ (b : Builder _). meaning (g.H.Hooks.means b.hooks) b Call.End ≡ Ok (puts_and_leaves state v)) c.self.view_is
-          (ends (g.H.Hooks.means c.self.inside.hooks.now) c.self.inside.table.now s state v deep
-          c.in-Ok.ensures.ended.meant)
-          ∙ ap (λ (next : State). Ok next)
-          (sym
-          (state_is _ c.in-Ok.slots c.in-Ok.stack _ _ c.saturating_add.result _ c.in-Ok.ensures.ended.after
-          c.saturating_add.ensures)),
-      ap (λ (b : Builder _). b.shapes) c.self.view_is,
-      ap (λ (b : Builder _). b.root) c.self.view_is,
-      ap (λ (b : Builder _). b.hooks) c.self.view_is,
-    )
-
-pub returns-in-Ok-clause-tokens : goal.returns-in-Ok-clause-tokens
-returns-in-Ok-clause-tokens g c = record {
-  same_length = ap length c.in-Ok.ensures.kept;
-  kept_or_released = λ t.
-      let s : ℕ = shape_here c.self.inside.table.now c.self.inside.root.0 c.self.inside.slots c.self.inside.stack in
-      let state : State = state_of c.self.inside.slots c.self.inside.stack c.self.inside.calls in
-      let v = c.in-Ok.ensures.ended.value in
-      let deep = below _ c.self.inside.slots c.self.inside.stack c.self.invariant.ready.shown c.len-open.result
-      c.len-open.ensures.count c.if-open-eq1.false in
-      let all : holds c.args.self t ≡ tree_occurs state.tree t
-      = ap (λ (b : Builder _). holds b t) (sym c.self.view_is) in
-      let kept : tree_occurs state.tree t + 0 ≡ tree_occurs (puts_and_leaves state v).tree t + 0
-      = tokens_after c.self.invariant c.law_removed.ensures.step (g.H.Hooks.means c.self.inside.hooks.now)
-      (puts_and_leaves state v) Call.End
-      (ends (g.H.Hooks.means c.self.inside.hooks.now) c.self.inside.table.now s state v deep c.in-Ok.ensures.ended.meant)
-      t in
-      let now : tree_occurs (tree_in_slots c.in-Ok.slots c.in-Ok.stack) t ≡ tree_occurs (puts_and_leaves state v).tree t
-      = ap (λ (tree : Tree). tree_occurs tree t) c.in-Ok.ensures.ended.after.built in
-      let same : slice_index c.end_here.new.ledger t ≡ slice_index c.args.ledger.now t
-      = ap (λ ledger. slice_index ledger t) c.in-Ok.ensures.kept in
-      omega arith;
-  none_falls = λ t.
-      let same : slice_index c.end_here.new.ledger t ≡ slice_index c.args.ledger.now t
-      = ap (λ ledger. slice_index ledger t) c.in-Ok.ensures.kept in
-      omega arith;
-}
-
-pub returns-in-Ok-clause-removed : goal.returns-in-Ok-clause-removed
-returns-in-Ok-clause-removed g c =
-    rises_by_removed (g.H.Hooks.means c.args.self.hooks) c.law_removed.ensures.step c.args.self
-    (in_order c.self.invariant c.self.view_is)
-    Call.End (holds c.args.self) (λ t. omega arith) (Ok _) c.args.ledger.now c.end_here.new.ledger
-    (returns-in-Ok-clause-step g c) (returns-in-Ok-clause-tokens g c)
-
-pub returns-in-Err-clause-step : goal.returns-in-Err-clause-step
-returns-in-Err-clause-step g c =
-    elim c.in-Err.ensures.why [
-      | inl lacking ↦
-          inr
-          (subst (λ (b : Builder _). meaning (g.H.Hooks.means b.hooks) b Call.End ≡ Err c.in-Err.kind) c.self.view_is
-          (ends_not (g.H.Hooks.means c.self.inside.hooks.now) c.self.inside.table.now
-          (shape_here c.self.inside.table.now c.self.inside.root.0 c.self.inside.slots c.self.inside.stack)
-          (state_of c.self.inside.slots c.self.inside.stack c.self.inside.calls) c.in-Err.kind
-          (below _ c.self.inside.slots c.self.inside.stack c.self.invariant.ready.shown c.len-open.result
-          c.len-open.ensures.count c.if-open-eq1.false)
-          lacking))
-      | inr wants ↦ inl wants.memory
-    ]
-
-pub returns-in-Err-clause-tokens : goal.returns-in-Err-clause-tokens
-returns-in-Err-clause-tokens g c =
-    all_released (holds c.args.self) c.args.ledger.now c.end_here.new.ledger
-    (subst (λ (b : Builder _). RoseBy (holds b) c.args.ledger.now c.end_here.new.ledger) c.self.view_is
-    c.in-Err.ensures.released)
-
-pub returns-in-Err-clause-memory : goal.returns-in-Err-clause-memory
-returns-in-Err-clause-memory g c nothing is =
-    let takes = only_takes (g.H.Hooks.means c.self.inside.hooks.now) c.self.inside.table.now c.self.invariant.served _ _
-    c.in-Err.kind c.in-Err.ensures.why is in
-    let no : false ≡ true
-    = sym takes ∙ ap (λ (b : Builder _). fills_nothing (cursor_tree b.state)) c.self.view_is ∙ nothing in
-    cc
-
-pub returns-in-Err-clause-refused : goal.returns-in-Err-clause-refused
-returns-in-Err-clause-refused g c refused is =
-    never_refused (g.H.Hooks.means c.self.inside.hooks.now) c.self.inside.table.now
+pub returns-in-Deferred-clause-step : goal.returns-in-Deferred-clause-step
+returns-in-Deferred-clause-step g c =
+    inr
+    (subst (λ (b : Builder _). meaning (g.H.Hooks.means b.hooks) b Call.End ≡ Err (violates Invariant.EndAtStart)) c.self.view_is
+    (ends_at_start (g.H.Hooks.means c.self.inside.hooks.now) c.self.inside.table.now
     (shape_here c.self.inside.table.now c.self.inside.root.0 c.self.inside.slots c.self.inside.stack)
-    (state_of c.self.inside.slots c.self.inside.stack c.self.inside.calls)
-    (below _ c.self.inside.slots c.self.inside.stack c.self.invariant.ready.shown c.len-open.result
-    c.len-open.ensures.count c.if-open-eq1.false)
-    (only_wants (g.H.Hooks.means c.self.inside.hooks.now) c.self.inside.table.now c.self.invariant.served _ _ c.in-Err.kind
-    c.in-Err.ensures.why is)
-    (subst (λ (b : Builder _). IsErr (meaning (g.H.Hooks.means b.hooks) b Call.End)) (sym c.self.view_is) refused)
+    (state_of c.self.inside.slots c.self.inside.stack (mode_of c.self.inside.mode) c.self.inside.calls)
+    c.in-Deferred.start (ap mode_of c.in-Deferred.is)
+    (some_above _ c.self.inside.slots c.self.inside.stack c.self.invariant.ready.shown c.len-depth.result
+    c.len-depth.ensures.count c.if-depth-eq0.false)
+    (let same = as_deep _ c.self.inside.slots c.self.inside.stack c.self.invariant.ready.shown c.len-depth.result
+    c.len-depth.ensures.count in
+    omega (arith, c.if-depth-start.true, same)))
+    ∙ ap (λ (kind : ReflectErrorKind). Err kind) (sym c.refuse-in-Deferred.ensures.kind))
 
-pub returns-in-Err-clause-removed : goal.returns-in-Err-clause-removed
-returns-in-Err-clause-removed g c =
+pub returns-in-Deferred-clause-removed : goal.returns-in-Deferred-clause-removed
+returns-in-Deferred-clause-removed g c =
     rises_by_removed (g.H.Hooks.means c.args.self.hooks) c.law_removed.ensures.step c.args.self
-    (in_order c.self.invariant c.self.view_is)
-    Call.End (holds c.args.self) (λ t. omega arith)
-    (Err (record { kind = c.in-Err.kind; path = c.self.inside.path })) c.args.ledger.now c.end_here.new.ledger
-    (returns-in-Err-clause-step g c) (returns-in-Err-clause-tokens g c)
+    (in_order c.self.invariant c.self.view_is) Call.End (holds c.args.self) (λ t. omega arith) (Err c.refuse-in-Deferred.result)
+    c.args.ledger.now c.refuse-in-Deferred.new.ledger (returns-in-Deferred-clause-step g c)
+    (all_released (holds c.args.self) c.args.ledger.now c.refuse-in-Deferred.new.ledger c.refuse-in-Deferred.ensures.released)
+
+pub returns-in-Deferred-2-clause-step : goal.returns-in-Deferred-2-clause-step
+returns-in-Deferred-2-clause-step g c =
+    subst (λ (meant : Result State ReflectErrorKind). IsStepTo c.args.self meant c.leave.result)
+    (sym
+    (ends_below (g.H.Hooks.means c.args.self.hooks) c.args.self.shapes
+    (cursor_shape c.args.self.shapes c.args.self.root c.args.self.state) c.args.self.state
+    (far_below _ c.self.invariant.ready.shown c.self.inside.mode c.in-Deferred.start c.len-depth.result c.len-depth.ensures.count
+    c.in-Deferred.is c.if-depth-start.false c.self.view_is)))
+    c.leave.ensures.step
+
+pub returns-in-Deferred-2-clause-removed : goal.returns-in-Deferred-2-clause-removed
+returns-in-Deferred-2-clause-removed g c =
+    rises_by_removed (g.H.Hooks.means c.args.self.hooks) c.law_removed.ensures.step c.args.self
+    (in_order c.self.invariant c.self.view_is) Call.End (holds c.args.self) (λ t. omega arith) c.leave.result
+    c.args.ledger.now c.leave.new.ledger (returns-in-Deferred-2-clause-step g c) c.leave.ensures.tokens
+
+pub returns-in-Deferred-2-clause-refused : goal.returns-in-Deferred-2-clause-refused
+returns-in-Deferred-2-clause-refused g c refused =
+    let no = subst (λ (meant : Result State ReflectErrorKind). IsErr meant)
+    (ends_below (g.H.Hooks.means c.args.self.hooks) c.args.self.shapes
+    (cursor_shape c.args.self.shapes c.args.self.root c.args.self.state) c.args.self.state
+    (far_below _ c.self.invariant.ready.shown c.self.inside.mode c.in-Deferred.start c.len-depth.result c.len-depth.ensures.count
+    c.in-Deferred.is c.if-depth-start.false c.self.view_is))
+    refused in
+    cc

@@ -14,8 +14,9 @@ use Rattle.fr_store.specs.Stands.{IsOpen}
 use Rattle.fr_partial.specs.Builder.{Builder, here, holds}
 use Rattle.fr_partial.specs.Entering.{Describes}
 use Rattle.fr_partial.specs.Underway.{shape_here, state_of}
+use Rattle.fr_partial.specs.Modes.{mode_of}
 use Rattle.fr_partial.proofs.BeginLaws.{admitted_within, begins}
-use Rattle.fr_partial.proofs.StateLaws.{admitted_now, order, state_is, underway_after, order_after, tokens_after}
+use Rattle.fr_partial.proofs.StateLaws.{admitted_now, order, state_is, stores_after, underway_after, order_after, tokens_after}
 use Rattle.fr_partial.proofs.partial.Partial.enter.Goals as goal
 
 pub child_of-child-requires : goal.child_of-child-requires
@@ -24,8 +25,8 @@ child_of-child-requires g c =
     (tree_here c.self.inside.slots c.self.inside.stack) c.args.i
     (ap (λ (s : ℕ). field_refusal (def_of c.self.inside.table.now s) (tree_here c.self.inside.slots c.self.inside.stack) c.args.i)
     c.shape_here-shape.ensures
-    ∙ (admitted_now c.self.inside.table.now c.self.inside.root.0 c.self.inside.slots c.self.inside.stack c.self.inside.calls
-    c.args.self c.self.view_is c.args.i c.requires.admitted))
+    ∙ (admitted_now c.self.inside.table.now c.self.inside.root.0 c.self.inside.slots c.self.inside.stack
+    (mode_of c.self.inside.mode) c.self.inside.calls c.args.self c.self.view_is c.args.i c.requires.admitted))
 
 pub abandon-requires-clause-room : goal.abandon-requires-clause-room
 abandon-requires-clause-room g c =
@@ -37,8 +38,9 @@ enter_child-requires-clause-child g c =
     c.child_of-child.ensures
 
 pub enter_child-requires-clause-admitted : goal.enter_child-requires-clause-admitted
-enter_child-requires-clause-admitted g c = (admitted_now c.self.inside.table.now c.self.inside.root.0 c.self.inside.slots c.self.inside.stack c.self.inside.calls
-    c.args.self c.self.view_is c.args.i c.requires.admitted)
+enter_child-requires-clause-admitted g c =
+    admitted_now c.self.inside.table.now c.self.inside.root.0 c.self.inside.slots c.self.inside.stack
+    (mode_of c.self.inside.mode) c.self.inside.calls c.args.self c.self.view_is c.args.i c.requires.admitted
 
 pub enter_child-requires-clause-room : goal.enter_child-requires-clause-room
 enter_child-requires-clause-room g c =
@@ -54,8 +56,8 @@ returns-in_default-clause-tokens g c = record {
   none_falls = λ t. omega (arith, c.abandon.ensures.released.each t);
 }
 
-pub returns-in-Err-clause-tokens : goal.returns-in-Err-clause-tokens
-returns-in-Err-clause-tokens g c = record {
+pub returns-clause-tokens : goal.returns-clause-tokens
+returns-clause-tokens g c = record {
   same_length = c.in-Err.ensures.released.same_length;
   kept_or_released = λ t.
       let all : holds c.args.self t ≡ tree_occurs (tree_in_slots c.self.inside.slots c.self.inside.stack) t
@@ -67,14 +69,18 @@ returns-in-Err-clause-tokens g c = record {
 pub invariant_of-result : goal.invariant_of-result
 invariant_of-result g c =
     let s : ℕ = shape_here c.self.inside.table.now c.self.inside.root.0 c.self.inside.slots c.self.inside.stack in
-    let state : State = state_of c.self.inside.slots c.self.inside.stack c.self.inside.calls in
-    let may = (admitted_now c.self.inside.table.now c.self.inside.root.0 c.self.inside.slots c.self.inside.stack c.self.inside.calls
-    c.args.self c.self.view_is c.args.i c.requires.admitted) in
-    underway_after c.self.invariant _ c.in-Ok-enter_child.slots c.in-Ok-enter_child.stack c.saturating_add.result
-    (enters c.self.inside.table.now s state c.args.i)
-    (subst (λ (p : Plan). IsOpen p c.in-Ok-enter_child.slots c.in-Ok-enter_child.stack) c.core-2.ensures
+    let state : State = state_of c.self.inside.slots c.self.inside.stack (mode_of c.self.inside.mode) c.self.inside.calls in
+    let may = (admitted_now c.self.inside.table.now c.self.inside.root.0 c.self.inside.slots c.self.inside.stack
+    (mode_of c.self.inside.mode) c.self.inside.calls c.args.self c.self.view_is c.args.i c.requires.admitted) in
+    underway_after c.self.invariant _ c.in-Ok-enter_child.slots c.in-Ok-enter_child.stack c.enter_child.new.store
+    (mode_of c.self.inside.mode) c.saturating_add.result (enters c.self.inside.table.now s state c.args.i)
+    (subst (λ (p : Plan). IsOpen p c.in-Ok-enter_child.slots c.in-Ok-enter_child.stack) c.core-plan_core.ensures
     c.in-Ok-enter_child.ensures.entered.open_still)
-    (state_is _ c.in-Ok-enter_child.slots c.in-Ok-enter_child.stack _ _ c.saturating_add.result _
+    c.in-Ok-enter_child.ensures.stored
+    (stores_after (mode_of c.self.inside.mode) c.self.inside.store c.enter_child.new.store c.self.inside.slots
+    c.in-Ok-enter_child.slots c.self.invariant.stores c.self.invariant.kept c.in-Ok-enter_child.ensures.stored
+    c.in-Ok-enter_child.ensures.marks)
+    (state_is _ c.in-Ok-enter_child.slots c.in-Ok-enter_child.stack _ _ (mode_of c.self.inside.mode) c.saturating_add.result _
     c.in-Ok-enter_child.ensures.entered c.saturating_add.ensures)
     (order_after c.self.invariant c.law_well.ensures.in_order no_hooks (enters c.self.inside.table.now s state c.args.i)
     (Call.BeginNthField c.args.i) tt (begins c.self.inside.table.now s state c.args.i may))
@@ -92,7 +98,7 @@ returns-in-Ok-enter_child-clause-step g c = (
   ap (λ (b : Builder _). Ok (enters b.shapes (here b) b.state c.args.i)) (sym c.self.view_is)
       ∙ ap (λ (s : State). Ok s)
       (sym
-      (state_is _ c.in-Ok-enter_child.slots c.in-Ok-enter_child.stack _ _ c.saturating_add.result _
+      (state_is _ c.in-Ok-enter_child.slots c.in-Ok-enter_child.stack _ _ (mode_of c.self.inside.mode) c.saturating_add.result _
       c.in-Ok-enter_child.ensures.entered c.saturating_add.ensures)),
   ap (λ (b : Builder _). b.shapes) c.self.view_is,
   ap (λ (b : Builder _). b.root) c.self.view_is,
@@ -104,9 +110,9 @@ returns-in-Ok-enter_child-clause-tokens g c = record {
   same_length = ap length c.in-Ok-enter_child.ensures.kept;
   kept_or_released = λ t.
       let s : ℕ = shape_here c.self.inside.table.now c.self.inside.root.0 c.self.inside.slots c.self.inside.stack in
-      let state : State = state_of c.self.inside.slots c.self.inside.stack c.self.inside.calls in
-      let may = (admitted_now c.self.inside.table.now c.self.inside.root.0 c.self.inside.slots c.self.inside.stack c.self.inside.calls
-      c.args.self c.self.view_is c.args.i c.requires.admitted) in
+      let state : State = state_of c.self.inside.slots c.self.inside.stack (mode_of c.self.inside.mode) c.self.inside.calls in
+      let may = (admitted_now c.self.inside.table.now c.self.inside.root.0 c.self.inside.slots c.self.inside.stack
+      (mode_of c.self.inside.mode) c.self.inside.calls c.args.self c.self.view_is c.args.i c.requires.admitted) in
       let all : holds c.args.self t ≡ tree_occurs state.tree t
       = ap (λ (b : Builder _). holds b t) (sym c.self.view_is) in
       let kept : tree_occurs state.tree t + 0 ≡ tree_occurs (enters c.self.inside.table.now s state c.args.i).tree t + 0

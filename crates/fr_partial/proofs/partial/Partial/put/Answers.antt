@@ -12,9 +12,10 @@ use Rattle.fr_store.specs.Moves.{tokens_here, tree_in_slots}
 use Rattle.fr_store.specs.Stands.{IsOpen}
 use Rattle.fr_partial.specs.Builder.{Builder, here, holds}
 use Rattle.fr_partial.specs.Underway.{shape_here, state_of}
+use Rattle.fr_partial.specs.Modes.{mode_of}
 use Rattle.fr_partial.proofs.FitLaws.{fits_in}
 use Rattle.fr_partial.proofs.PutLaws.{set_admitted}
-use Rattle.fr_partial.proofs.StateLaws.{put_keeps, state_is, underway_after, order_after}
+use Rattle.fr_partial.proofs.StateLaws.{put_keeps, state_is, stores_after, underway_after, order_after}
 use Rattle.fr_partial.proofs.partial.Partial.put.Goals as goal
 
 pub set-requires-clause-room : goal.set-requires-clause-room
@@ -26,28 +27,32 @@ set-requires-clause-room g c =
       put_keeps c.self.invariant c.self.view_is c.law_removed.ensures.step (view c.args.value) t
           (set_admitted (shape_here c.self.inside.table.now c.self.inside.root.0 c.self.inside.slots c.self.inside.stack)
           (shape_here c.self.inside.table.now c.self.inside.root.0 c.self.inside.slots c.self.inside.stack)
-          (state_of c.self.inside.slots c.self.inside.stack c.self.inside.calls) (view c.args.value) refl),
+          (state_of c.self.inside.slots c.self.inside.stack (mode_of c.self.inside.mode) c.self.inside.calls) (view c.args.value)
+          refl),
     )) c.requires.room
 
 pub invariant_of-result : goal.invariant_of-result
 invariant_of-result g c =
     let s : ℕ = shape_here c.self.inside.table.now c.self.inside.root.0 c.self.inside.slots c.self.inside.stack in
-    let state : State = state_of c.self.inside.slots c.self.inside.stack c.self.inside.calls in
+    let state : State = state_of c.self.inside.slots c.self.inside.stack (mode_of c.self.inside.mode) c.self.inside.calls in
     let fitting : fits c.self.inside.table.now s (view c.args.value) ≡ true
     = ap (λ (b : Builder _). fits b.shapes (here b) (view c.args.value)) c.self.view_is ∙ c.requires.fits in
-    underway_after c.self.invariant c.self.inside.path c.set.new.slots c.self.inside.stack c.saturating_add.result
-    (puts state (view c.args.value))
+    underway_after c.self.invariant c.self.inside.path c.set.new.slots c.self.inside.stack c.set.new.store
+    (mode_of c.self.inside.mode) c.saturating_add.result (puts state (view c.args.value))
     (subst (λ (p : Plan). IsOpen p c.set.new.slots c.self.inside.stack) c.core.ensures c.set.ensures.set.open_still)
-    (state_is _ c.set.new.slots c.self.inside.stack _ _ c.saturating_add.result _ c.set.ensures.set
+    c.set.ensures.kept
+    (stores_after (mode_of c.self.inside.mode) c.self.inside.store c.set.new.store c.self.inside.slots c.set.new.slots
+    c.self.invariant.stores c.self.invariant.kept c.set.ensures.kept c.set.ensures.marks)
+    (state_is _ c.set.new.slots c.self.inside.stack _ _ (mode_of c.self.inside.mode) c.saturating_add.result _ c.set.ensures.set
     c.saturating_add.ensures)
     (order_after c.self.invariant c.law_well.ensures.in_order no_hooks (puts state (view c.args.value))
     (Call.Set s (view c.args.value)) (fits_in c.self.inside.table.now s (view c.args.value) fitting, fitting)
     (set_admitted s s state (view c.args.value) refl))
-    (c.self.invariant.path ∙ sym (c.law_paths.ensures.put state (view c.args.value) c.self.invariant.ready.leads))
+    (c.self.invariant.path ∙ sym (c.law_paths.ensures.put state (view c.args.value) c.self.invariant.leads))
 
 pub returns-clause-state : goal.returns-clause-state
 returns-clause-state g c =
-    state_is _ c.set.new.slots c.self.inside.stack _ _ c.saturating_add.result _ c.set.ensures.set
+    state_is _ c.set.new.slots c.self.inside.stack _ _ (mode_of c.self.inside.mode) c.saturating_add.result _ c.set.ensures.set
     c.saturating_add.ensures
     ∙ ap (λ (b : Builder _). puts b.state (view c.args.value)) c.self.view_is
 
@@ -56,15 +61,20 @@ returns-clause-tokens g c = record {
   same_length = c.set.ensures.released.same_length;
   kept_or_released = λ t.
       let now : tree_occurs (tree_in_slots c.set.new.slots c.self.inside.stack) t
-      ≡ tree_occurs (puts (state_of c.self.inside.slots c.self.inside.stack c.self.inside.calls) (view c.args.value)).tree t
+      ≡ tree_occurs (puts (state_of c.self.inside.slots c.self.inside.stack (mode_of c.self.inside.mode) c.self.inside.calls)
+      (view c.args.value)).tree t
       = ap (λ (tree : Tree). tree_occurs tree t) c.set.ensures.set.built in
       omega (
         arith,
         put_keeps c.self.invariant c.self.view_is c.law_removed.ensures.step (view c.args.value) t
             (set_admitted (shape_here c.self.inside.table.now c.self.inside.root.0 c.self.inside.slots c.self.inside.stack)
             (shape_here c.self.inside.table.now c.self.inside.root.0 c.self.inside.slots c.self.inside.stack)
-            (state_of c.self.inside.slots c.self.inside.stack c.self.inside.calls) (view c.args.value) refl),
+            (state_of c.self.inside.slots c.self.inside.stack (mode_of c.self.inside.mode) c.self.inside.calls)
+            (view c.args.value) refl),
         c.set.ensures.released.each t,
       );
   none_falls = λ t. omega (arith, c.set.ensures.released.each t);
 }
+
+pub set-requires-clause-scaffold : goal.set-requires-clause-scaffold
+set-requires-clause-scaffold g c = ?

@@ -7,6 +7,7 @@ use Rattle.fr_shape.specs.View.{view}
 use Rattle.fr_model.specs.Step.{puts, set_default}
 use Rattle.fr_model.specs.Tree.{State}
 use Rattle.fr_partial.specs.Builder.{Builder, holds, here, left}
+use Rattle.fr_partial.specs.Modes.{mode_of}
 use Rattle.fr_partial.proofs.PutLaws.{default_there, default_missing}
 use Rattle.fr_partial.proofs.TemplateLaws.{IsTemplate, preset_template, light_occurs}
 use Rattle.fr_model.specs.Commands.{Call}
@@ -33,7 +34,7 @@ pub returns-in_default-clause-step : goal.returns-in_default-clause-step
 returns-in_default-clause-step g c =
     inr
     (default_missing c.self.inside.table.now c.self.inside.root.0 c.self.inside.slots c.self.inside.stack
-    c.self.inside.calls c.args.self c.self.view_is c.shape-shape.result c.shape-shape.ensures.shape
+    (mode_of c.self.inside.mode) c.self.inside.calls c.args.self c.self.view_is c.shape-shape.result c.shape-shape.ensures.shape
     (sym c.in_default.ensures.template)
     ∙ ap Err (sym c.refuse.ensures.kind))
 
@@ -55,7 +56,8 @@ put-requires-clause-room g c =
 pub returns-in-Ok-clause-step : goal.returns-in-Ok-clause-step
 returns-in-Ok-clause-step g c = (
   default_there c.self.inside.table.now c.self.inside.root.0 c.self.inside.slots c.self.inside.stack
-      c.self.inside.calls c.args.self c.self.view_is c.shape-shape.result c.shape-shape.ensures.shape c.in-Some.template.now
+      (mode_of c.self.inside.mode) c.self.inside.calls c.args.self c.self.view_is c.shape-shape.result
+      c.shape-shape.ensures.shape c.in-Some.template.now
       (sym c.in-Some.ensures.template)
       ∙ ap (λ (v : Val). Ok (puts c.args.self.state v)) (sym c.in-Ok.ensures.copy)
       ∙ ap (λ (s : State). Ok s) (sym c.put.ensures.state),
@@ -75,7 +77,8 @@ returns-in-Err-clause-refused g c refused =
     let there : set_default c.args.self.shapes (here c.args.self) c.args.self.state
     ≡ Ok (puts c.args.self.state c.in-Some.template.now)
     = default_there c.self.inside.table.now c.self.inside.root.0 c.self.inside.slots c.self.inside.stack
-    c.self.inside.calls c.args.self c.self.view_is c.shape-shape.result c.shape-shape.ensures.shape c.in-Some.template.now
+    (mode_of c.self.inside.mode) c.self.inside.calls c.args.self c.self.view_is c.shape-shape.result c.shape-shape.ensures.shape
+    c.in-Some.template.now
     (sym c.in-Some.ensures.template) in
     let no : false ≡ true = rw there at refused in
     absurd (cc)
