@@ -207,9 +207,3 @@ returns-in-Ok-enter-clause-entered c =
           ∙ ap (λ (n : NodeId). child_node c.args.plan.now n (as_form c.args.child.form) c.args.i) c.node_here.ensures))
           shaped));
     }
-
-pub begin-requires-clause-scaffold : goal.begin-requires-clause-scaffold
-begin-requires-clause-scaffold c = ?
-
-pub enter-requires-clause-scaffold : goal.enter-requires-clause-scaffold
-enter-requires-clause-scaffold c = ?

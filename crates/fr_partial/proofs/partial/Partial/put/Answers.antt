@@ -75,6 +75,3 @@ returns-clause-tokens g c = record {
       );
   none_falls = λ t. omega (arith, c.set.ensures.released.each t);
 }
-
-pub set-requires-clause-scaffold : goal.set-requires-clause-scaffold
-set-requires-clause-scaffold g c = ?
