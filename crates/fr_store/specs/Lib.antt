@@ -6,10 +6,13 @@ pub mod LeaveLaws
 pub mod MoveLaws
 pub mod Moves
 pub mod Numbers
+pub mod OffLaws
+pub mod ShapeLaws
 pub mod StandLaws
 pub mod Stands
 pub mod Stored
 pub mod TopLaws
+pub mod Turning
 pub mod Turns
 pub mod Walks
 pub mod WayLaws
