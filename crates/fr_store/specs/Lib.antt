@@ -1,4 +1,5 @@
 pub mod BeginLaws
+pub mod ClosingLaws
 pub mod EndLaws
 pub mod EnterLaws
 pub mod HoldLaws

@@ -1,5 +1,5 @@
 -- Laws of places off the way, for proofs: what something else there changes, and what it leaves as it is.
-use Rattle.std.proofs.Common.{◌≡◌, ◌≢◌, ◌⊎◌, ℕ, zero, suc, ◌+◌, ◌<◌, Bool, true, false, List, [], ◌∷◌, ◌++◌, inl, inr, refl, sym, ◌∙◌, ap, subst, arith}
+use Rattle.std.proofs.Common.{◌≡◌, ◌≢◌, ◌⊎◌, ℕ, zero, suc, ◌+◌, ◌<◌, Bool, true, false, List, [], ◌∷◌, ◌++◌, append-nil, inl, inr, refl, sym, ◌∙◌, ap, subst, arith}
 use Rattle.fr_shape.specs.Val.{Val}
 use Rattle.fr_model.specs.Finishing.{IsOffTheWay}
 use Rattle.fr_model.specs.Places.{Place}
@@ -10,7 +10,7 @@ use Rattle.fr_frame.specs.Kids.{Kid, gone, there, at, Plot, entered_plot, whole_
 use Rattle.fr_store.specs.LeaveLaws.{kid_at_append}
 use Rattle.fr_store.specs.Walks.{IsStoredAt}
 use Rattle.fr_store.specs.Ways.{count_kids, kid_nth, kid_below, kid_at, put_nth, put_at, slots_along, AllMarked, AllMarkedIn, AllMarkedAmong, StoredBut, Leads, Reaches}
-use Rattle.fr_store.specs.WayLaws.{same_or_other, nth_put, count_put, marked_at, marked_put_nth, marked_put_at, tree_of_nth, leads_at}
+use Rattle.fr_store.specs.WayLaws.{same_or_other, nth_put, count_put, kid_put_at, marked_at, marked_put_nth, marked_put_at, tree_of_nth, leads_at}
 
 -- Children of one place.
 
@@ -90,12 +90,15 @@ marked_off place (i ∷ here) (at slot stored entered_plot) leads off reach = ab
 marked_off place (i ∷ here) (at slot stored (whole_plot v)) leads off reach = absurd reach
 marked_off [] (i ∷ here) (at slot stored (begun_plot form kids)) leads off reach =
     marked_at true here (kid_nth i kids) (among_nth i kids leads.1)
-marked_off (j ∷ place) (i ∷ here) (at slot stored (begun_plot form kids)) leads off reach = go (same_or_other i j)
+marked_off (j ∷ place) (i ∷ here) (at slot stored (begun_plot form kids)) leads off reach =
+    go (same_or_other i j)
+    (λ e.
+    marked_off place here (kid_nth i kids) (leads_same i j place kids e leads.1) (off_same i j place here e off) reach.1)
   where
-    go : (i ≡ j) ⊎ (i ≢ j) → AllMarked true (kid_at here (kid_nth i kids))
-    go (inl e) =
-        marked_off place here (kid_nth i kids) (leads_same i j place kids e leads.1) (off_same i j place here e off) reach.1
-    go (inr ne) = marked_at true here (kid_nth i kids) (but_nth i j (λ below. Leads place below) kids leads.1 ne)
+    go : (i ≡ j) ⊎ (i ≢ j) → (i ≡ j → AllMarked true (kid_at here (kid_nth i kids)))
+        → AllMarked true (kid_at here (kid_nth i kids))
+    go (inl e) below = below e
+    go (inr ne) below = marked_at true here (kid_nth i kids) (but_nth i j (λ below. Leads place below) kids leads.1 ne)
 
 -- the way goes on where something else is put off it
 pub leads_off : (place here : Place) (new k : Kid) → Leads place k → IsOffTheWay place here → Reaches here k
@@ -111,18 +114,22 @@ leads_off [] (i ∷ here) new (at slot stored (begun_plot form kids)) leads off 
       (marked_put_at true here new (kid_nth i kids) (among_nth i kids leads.1) is),
 )
 leads_off (j ∷ place) (i ∷ here) new (at slot stored (begun_plot form kids)) leads off reach is =
-    (leads.0, go (same_or_other i j))
+    (
+      leads.0,
+      go (same_or_other i j)
+          (λ e.
+          leads_off place here new (kid_nth i kids) (leads_same i j place kids e leads.1)
+          (off_same i j place here e off) reach.1 is),
+    )
   where
-    go : (i ≡ j) ⊎ (i ≢ j)
+    go : (i ≡ j) ⊎ (i ≢ j) → (i ≡ j → Leads place (put_at here new (kid_nth i kids)))
         → StoredBut j (λ below. Leads place below) (put_nth i (put_at here new (kid_nth i kids)) kids)
-    go (inl e) =
+    go (inl e) on =
         subst
         (λ (n : ℕ). StoredBut j (λ below. Leads place below) (put_nth n (put_at here new (kid_nth i kids)) kids))
         (sym e)
-        (but_same j (λ below. Leads place below) (put_at here new (kid_nth i kids)) kids leads.1
-        (leads_off place here new (kid_nth i kids) (leads_same i j place kids e leads.1) (off_same i j place here e off)
-        reach.1 is))
-    go (inr ne) =
+        (but_same j (λ below. Leads place below) (put_at here new (kid_nth i kids)) kids leads.1 (on e))
+    go (inr ne) on =
         but_other i j (λ below. Leads place below) (put_at here new (kid_nth i kids)) kids leads.1 ne
         (marked_put_at true here new (kid_nth i kids) (but_nth i j (λ below. Leads place below) kids leads.1 ne) is)
 
@@ -136,18 +143,21 @@ along_off place (i ∷ here) new (at slot stored entered_plot) leads off reach =
 along_off place (i ∷ here) new (at slot stored (whole_plot v)) leads off reach = absurd reach
 along_off [] (i ∷ here) new (at slot stored (begun_plot form kids)) leads off reach = refl
 along_off (j ∷ place) (i ∷ here) new (at slot stored (begun_plot form kids)) leads off reach =
-    ap (λ (slots : List ℕ). slot ∷ slots) (go (same_or_other i j))
+    ap (λ (slots : List ℕ). slot ∷ slots)
+    (go (same_or_other i j)
+    (λ e.
+    along_off place here new (kid_nth i kids) (leads_same i j place kids e leads.1) (off_same i j place here e off)
+    reach.1))
   where
     go : (i ≡ j) ⊎ (i ≢ j)
+        → (i ≡ j → slots_along place (put_at here new (kid_nth i kids)) ≡ slots_along place (kid_nth i kids))
         → slots_along place (kid_nth j (put_nth i (put_at here new (kid_nth i kids)) kids))
         ≡ slots_along place (kid_nth j kids)
-    go (inl e) =
+    go (inl e) below =
         ap (λ (n : ℕ). slots_along place (kid_nth n (put_nth i (put_at here new (kid_nth i kids)) kids))) (sym e)
         ∙ ap (slots_along place) (nth_put i (put_at here new (kid_nth i kids)) kids reach.0)
-        ∙ along_off place here new (kid_nth i kids) (leads_same i j place kids e leads.1) (off_same i j place here e off)
-        reach.1
-        ∙ ap (λ (n : ℕ). slots_along place (kid_nth n kids)) e
-    go (inr ne) = ap (slots_along place) (nth_other i j (put_at here new (kid_nth i kids)) kids ne)
+        ∙ below e ∙ ap (λ (n : ℕ). slots_along place (kid_nth n kids)) e
+    go (inr ne) below = ap (slots_along place) (nth_other i j (put_at here new (kid_nth i kids)) kids ne)
 
 -- Places of the tree.
 
@@ -201,10 +211,7 @@ IsNotBeneath here other = (way : Place) → other ≡ here ++ way → ⊥
 -- a stored place other than a closed one isn't beneath it
 pub stored_beside : (here other : Place) (k : Kid) (n m : ℕ) (plot : Plot) → kid_at here k ≡ at n true plot
     → IsClosed (body_in plot) → IsStoredAt k m other → other ≢ here → IsNotBeneath here other
-stored_beside here other k n m plot is closed stored ne [] e = go here e
-  where
-    go : (p : Place) → other ≡ p ++ [] → ⊥
-    go p e = ?
+stored_beside here other k n m plot is closed stored ne [] e = ne (e ∙ append-nil here)
 stored_beside here other k n m plot is closed stored ne (j ∷ way) e =
     closed_below j way n true plot m true stored.plot closed
     (ap (kid_at (j ∷ way)) (sym is) ∙ sym (kid_at_append here (j ∷ way) k) ∙ ap (λ (p : Place). kid_at p k) (sym e)
@@ -227,7 +234,13 @@ stored_still (i ∷ here) [] (at slot mark (begun_plot form kids)) v m reach bes
       reaches = tt;
       is = ap (λ (n : ℕ). at n mark rest) same ∙ ap (λ (b : Bool). at m b rest) marked;
     }
-stored_still (i ∷ here) (j ∷ other) (at slot mark (begun_plot form kids)) v m reach beside stored = go (same_or_other i j)
+stored_still (i ∷ here) (j ∷ other) (at slot mark (begun_plot form kids)) v m reach beside stored =
+    go (same_or_other i j)
+    (λ e.
+    stored_still here other (kid_nth i kids) v m reach.1
+    (λ way same. beside way (ap (λ (n : ℕ). n ∷ other) (sym e) ∙ ap (λ (p : Place). i ∷ p) same))
+    (subst (λ (n : ℕ). IsStoredAt (kid_nth n kids) m other) (sym e)
+    (record { plot = stored.plot; reaches = stored.reaches.1; is = stored.is })))
   where
     new : Kid
     new = put_at here (there v) (kid_nth i kids)
@@ -239,16 +252,13 @@ stored_still (i ∷ here) (j ∷ other) (at slot mark (begun_plot form kids)) v 
         → IsStoredAt (at slot mark (begun_plot form (put_nth i new kids))) m (j ∷ other)
     from child = record { plot = child.plot; reaches = (within, child.reaches); is = child.is }
 
-    go : (i ≡ j) ⊎ (i ≢ j) → IsStoredAt (at slot mark (begun_plot form (put_nth i new kids))) m (j ∷ other)
-    go (inl e) =
+    go : (i ≡ j) ⊎ (i ≢ j) → (i ≡ j → IsStoredAt new m other)
+        → IsStoredAt (at slot mark (begun_plot form (put_nth i new kids))) m (j ∷ other)
+    go (inl e) below =
         from
         (subst (λ (n : ℕ). IsStoredAt (kid_nth n (put_nth i new kids)) m other) e
-        (subst (λ (x : Kid). IsStoredAt x m other) (sym (nth_put i new kids reach.0))
-        (stored_still here other (kid_nth i kids) v m reach.1
-        (λ way same. beside way (ap (λ (n : ℕ). n ∷ other) (sym e) ∙ ap (λ (p : Place). i ∷ p) same))
-        (subst (λ (n : ℕ). IsStoredAt (kid_nth n kids) m other) (sym e)
-        (record { plot = stored.plot; reaches = stored.reaches.1; is = stored.is })))))
-    go (inr ne) =
+        (subst (λ (x : Kid). IsStoredAt x m other) (sym (nth_put i new kids reach.0)) (below e)))
+    go (inr ne) below =
         from
         (subst (λ (x : Kid). IsStoredAt x m other) (sym (nth_other i j new kids ne))
         (record { plot = stored.plot; reaches = stored.reaches.1; is = stored.is }))
@@ -270,7 +280,8 @@ stored_before (i ∷ here) [] (at slot mark (begun_plot form kids)) v m reach st
       reaches = tt;
       is = ap (λ (n : ℕ). at n mark rest) same ∙ ap (λ (b : Bool). at m b rest) marked;
     }
-stored_before (i ∷ here) (j ∷ other) (at slot mark (begun_plot form kids)) v m reach stored = go (same_or_other i j)
+stored_before (i ∷ here) (j ∷ other) (at slot mark (begun_plot form kids)) v m reach stored =
+    go (same_or_other i j) (λ below. stored_before here other (kid_nth i kids) v m reach.1 below)
   where
     new : Kid
     new = put_at here (there v) (kid_nth i kids)
@@ -284,16 +295,19 @@ stored_before (i ∷ here) (j ∷ other) (at slot mark (begun_plot form kids)) v
     from : IsStoredAt (kid_nth j kids) m other → IsStoredAt (at slot mark (begun_plot form kids)) m (j ∷ other)
     from below = record { plot = below.plot; reaches = (within, below.reaches); is = below.is }
 
-    go : (i ≡ j) ⊎ (i ≢ j) → IsStoredAt (at slot mark (begun_plot form kids)) m (j ∷ other)
-    go (inl e) =
+    go : (i ≡ j) ⊎ (i ≢ j) → (IsStoredAt new m other → IsStoredAt (kid_nth i kids) m other)
+        → IsStoredAt (at slot mark (begun_plot form kids)) m (j ∷ other)
+    go (inl e) was =
         from
         (subst (λ (n : ℕ). IsStoredAt (kid_nth n kids) m other) e
-        (stored_before here other (kid_nth i kids) v m reach.1
+        (was
         (subst (λ (x : Kid). IsStoredAt x m other) (nth_put i new kids reach.0)
         (subst (λ (n : ℕ). IsStoredAt (kid_nth n (put_nth i new kids)) m other) (sym e) child))))
-    go (inr ne) = from (subst (λ (x : Kid). IsStoredAt x m other) (nth_other i j new kids ne) child)
+    go (inr ne) was = from (subst (λ (x : Kid). IsStoredAt x m other) (nth_other i j new kids ne) child)
 
 -- what was put there is stored no more
 pub stored_no_more : (here : Place) (k : Kid) (v : Val) (m : ℕ) → Reaches here k
     → IsStoredAt (put_at here (there v) k) m here → ⊥
-stored_no_more here k v m reach stored = ?
+stored_no_more here k v m reach stored =
+    let both : there v ≡ at m true stored.plot = sym (kid_put_at here (there v) k reach) ∙ stored.is in
+    cc
