@@ -13,6 +13,7 @@ pub mod StandLaws
 pub mod Stands
 pub mod Stored
 pub mod TopLaws
+pub mod TurnLaws
 pub mod Turning
 pub mod Turns
 pub mod Walks
