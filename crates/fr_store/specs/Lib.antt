@@ -14,6 +14,7 @@ pub mod Stands
 pub mod Stored
 pub mod TopLaws
 pub mod TurnLaws
+pub mod TurnedLaws
 pub mod Turning
 pub mod Turns
 pub mod Walks

@@ -31,7 +31,7 @@ module _ (heap first mid last : Heap) (n q i : ℕ) (below above : Node) (body :
     (child : cell_of (kid_nth i kids) ≡ placed n) (owner : below.owner ≡ child_owner q form i)
     (puts : (m : ℕ) → first m ≡ with_slot heap n (Some (record below { body = body })) m)
     (leaves : (m : ℕ) → mid m ≡ without first n below.owner m) where
-  pub first_here : first n ≡ Some (record below { body = body })
+  first_here : first n ≡ Some (record below { body = body })
   first_here = puts n ∙ slot_here heap n (Some (record below { body = body }))
 
   first_over : first q ≡ Some above

@@ -3,6 +3,7 @@ use Rattle.fr_store.specs.ClosingLaws.{suits_change}
 use Rattle.fr_store.specs.OffLaws.{leads_off}
 use Rattle.fr_store.specs.ShapeLaws.{along}
 use Rattle.fr_store.specs.TurnLaws.{stands_turned}
+use Rattle.fr_store.specs.TurnedLaws.{refused}
 use Rattle.fr_store.proofs.finishing.turn.Goals as goal
 
 pub law_closing-requires : goal.law_closing-requires
