@@ -11,7 +11,7 @@ use Rattle.fr_frame.specs.declared.places.Slot.{Slot}
 use Rattle.fr_frame.specs.Changes.{SameTokens, Shows}
 use Rattle.fr_frame.specs.Bodies.{begun_body}
 use Rattle.fr_frame.specs.Cells.{Cell}
-use Rattle.fr_frame.specs.Heap.{heap_of, Node, Heap, marked, stored_in, with_mark}
+use Rattle.fr_frame.specs.Heap.{heap_of, Node, Heap, with_mark}
 use Rattle.fr_frame.specs.Kids.{Kid, at, Plot, entered_plot, whole_plot, begun_plot, Kids, tree_of, tree_in, trees_in, cell_of, cells_in, body_in, kid_occurs, plot_occurs, kids_occur, child_node, child_owner, Holds}
 use Rattle.fr_store.specs.ChildLaws.{child_held, kids_held, kids_stored, not_parent, parent_is, part_uses, placed_child, plot_has}
 use Rattle.fr_store.specs.HoldLaws.{AgreeBeside, Replaces, cells_put_nth, holds_frame_in, holds_put_nth}
@@ -20,8 +20,8 @@ use Rattle.fr_store.specs.Moves.{HasChild, IsOpenAt, cursor_in, tree_here, tree_
 use Rattle.fr_store.specs.Numbers.{IsLast}
 use Rattle.fr_store.specs.StandLaws.{stands_change}
 use Rattle.fr_store.specs.Stands.{Stands, IsOpen, kid_shown}
-use Rattle.fr_store.specs.Stored.{IsStoredChild, StoresNoMore}
-use Rattle.fr_store.specs.TopLaws.{slot_here, slot_other, top_held, unmarked_slot, Top}
+use Rattle.fr_store.specs.Stored.{IsStoredChild}
+use Rattle.fr_store.specs.TopLaws.{slot_here, slot_other, top_held, Top}
 use Rattle.fr_store.specs.Ways.{count_kids, kid_nth, kid_at, put_nth, put_at, slots_along, slots_above, counts_if, uses, uses_in, uses_among, AllMarked, AllMarkedIn, Leads, Reaches, node_along, owner_along}
 use Rattle.fr_store.specs.WayLaws.{counts_same, nth_put, uses_at, uses_nth, uses_put_nth, occurs_put_nth, occurs_put_at, leads_reach, marked_nth, stored_but, tree_change_at, tree_put_nth, tree_of_nth, tree_of_at}
 
@@ -30,14 +30,6 @@ entered_as_is : (def : Def) (plot : Plot) → tree_in plot ≡ enter def (tree_i
 entered_as_is def entered_plot = refl
 entered_as_is def (whole_plot v) = refl
 entered_as_is def (begun_plot form kids) = refl
-
-pub unmarked_now : (heap : Heap) (n m : ℕ) → marked heap m ≡ false → marked (with_mark heap n false) m ≡ false
-unmarked_now heap n m unmarked =
-    unmarked_slot heap n (option_map (λ (x : Node). record x { stored = false }) (heap n)) m (go (heap n)) unmarked
-  where
-    go : (found : Option Node) → stored_in (option_map (λ (x : Node). record x { stored = false }) found) ≡ false
-    go (Some found) = refl
-    go None = refl
 
 -- Child i of the top, which is in a slot, isn't stored any more.
 module _ (plan : Plan) (heap other : Heap) (stack : List ℕ) (place : Place) (k : Kid)

@@ -16,7 +16,7 @@ use Rattle.fr_frame.specs.declared.places.FrameOwner.{FrameOwner}
 use Rattle.fr_frame.specs.declared.places.Slot.{Slot}
 use Rattle.fr_frame.specs.Changes.{IsOwnerInUse, SameTokens, Shows}
 use Rattle.fr_frame.specs.Bodies.{Body, entered_body, whole_body, begun_body, fresh_body, cell_at, taken_over, linked, linked_by, AreUnplaced, IsUnplaced, IsClosed}
-use Rattle.fr_frame.specs.Heap.{heap_of, Node, Heap, with_entered, entered_node, links, held_by, depth_below, depth_above, depth_limit}
+use Rattle.fr_frame.specs.Heap.{heap_of, marked, stored_in, Node, Heap, with_entered, entered_node, links, held_by, depth_below, depth_above, depth_limit}
 use Rattle.fr_frame.specs.Kids.{Kid, gone, there, at, Plot, entered_plot, whole_plot, begun_plot, Kids, no_kids, kid, tree_of, tree_in, cell_of, cells_in, body_in, trees_in, kid_occurs, plot_occurs, kids_occur, child_node, child_owner, Holds, HoldsAll}
 use Rattle.fr_store.specs.ChildLaws.{child_cell, kids_held, kids_stored, not_parent, parent_is, part_uses, plot_has, unplaced_child}
 use Rattle.fr_store.specs.HoldLaws.{Replaces, holds_put_nth, unused}
@@ -26,8 +26,8 @@ use Rattle.fr_store.specs.Moves.{HasChild, IsOpenAt, cursor_in, node_here, tree_
 use Rattle.fr_store.specs.Numbers.{IsLast}
 use Rattle.fr_store.specs.StandLaws.{stands_change}
 use Rattle.fr_store.specs.Stands.{Stands, IsOpen, kid_shown}
-use Rattle.fr_store.specs.Stored.{IsStoredChild}
-use Rattle.fr_store.specs.TopLaws.{slot_here, slot_other, body_here, body_other, closed_marked, closed_holds, closed_uses, not_beside, top_held, Top}
+use Rattle.fr_store.specs.Stored.{IsKept, IsStoredChild}
+use Rattle.fr_store.specs.TopLaws.{slot_here, slot_other, body_here, body_other, closed_marked, closed_holds, closed_uses, marked_entered, not_beside, top_held, Top}
 use Rattle.fr_store.specs.Ways.{count_kids, kid_nth, kid_at, put_nth, put_at, slots_along, slots_above, counts_if, uses, uses_among, Leads, Reaches, node_along, owner_along}
 use Rattle.fr_store.specs.WayLaws.{counts_same, counts_other, same_or_other, nth_put, uses_at, uses_put_nth, occurs_put_nth, occurs_put_at, leads_reach, stored_but, tree_change_at, tree_put_nth, tree_of_nth, tree_of_at}
 
@@ -317,3 +317,12 @@ module _ (plan : Plan) (before : List Slot) (stack : List ℕ) (open_now : IsOpe
       (λ t. tokens t ∙ open_now.tokens t
       ∙ sym (tokens_entered plan (heap_of before) (heap_of after) stack place k open_now.stands top form found.0 found.1 i found.2 unplaced def n free shown deep t))
       (tree_entered plan (heap_of before) (heap_of after) stack place k open_now.stands top form found.0 found.1 i found.2 unplaced def n free shown deep))
+
+-- no place is stored that wasn't
+pub kept_entered : (store : List ℕ) (before after : List Slot) (def : Def) (node : NodeId) (owner : FrameOwner) (n : ℕ)
+    → IsKept store before → heap_of before n ≡ None → Shows after (with_entered def (heap_of before) node owner n)
+    → IsKept store after
+kept_entered store before after def node owner n kept free shows m =
+    let same : marked (heap_of after) m ≡ marked (heap_of before) m
+    = ap stored_in (shows m) ∙ marked_entered def (heap_of before) node owner n m free in
+    (λ stored. (kept m).0 (sym same ∙ stored), λ listed. same ∙ (kept m).1 listed)
