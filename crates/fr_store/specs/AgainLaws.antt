@@ -15,7 +15,7 @@ use Rattle.fr_frame.specs.Heap.{heap_of, Node, Heap, with_mark}
 use Rattle.fr_frame.specs.Kids.{Kid, at, Plot, entered_plot, whole_plot, begun_plot, Kids, tree_of, tree_in, trees_in, cell_of, cells_in, body_in, kid_occurs, plot_occurs, kids_occur, child_node, child_owner, Holds}
 use Rattle.fr_store.specs.ChildLaws.{child_held, kids_held, kids_stored, not_parent, parent_is, part_uses, placed_child, plot_has}
 use Rattle.fr_store.specs.HoldLaws.{AgreeBeside, Replaces, cells_put_nth, holds_frame_in, holds_put_nth}
-use Rattle.fr_store.specs.MoveLaws.{open_at_from, open_top, top_slot}
+use Rattle.fr_store.specs.MoveLaws.{open_at_from, open_top, tokens_kept, top_slot}
 use Rattle.fr_store.specs.Moves.{HasChild, IsOpenAt, cursor_in, tree_here, tree_in_slots}
 use Rattle.fr_store.specs.Numbers.{IsLast}
 use Rattle.fr_store.specs.StandLaws.{stands_change}
@@ -185,13 +185,17 @@ open_again plan before after stack next open_now p last form i def child has sto
     = subst (λ (x : ℕ). IsStoredChild (heap_of before) x (step_as form i) child) (sym same) stored in
     let placed = placed_child plan (heap_of before) stack place k open_now.stands top form found.0 found.1 i found.2 child
     at_top.slot in
+    let now : Kid = put_at place (again_kid plan (heap_of before) (heap_of after) stack place k open_now.stands top form found.0 found.1 i found.2
+    child placed.0 placed.1 shows) k in
+    let stands : Stands plan (heap_of after) (stack ++ child ∷ []) (place ++ i ∷ []) now = stands_again plan (heap_of before) (heap_of after) stack place k open_now.stands top form found.0 found.1 i found.2
+    child placed.0 placed.1 shows in
+    let same_tokens : (t : ℕ) → kid_occurs now t ≡ kid_occurs k t = tokens_again plan (heap_of before) (heap_of after) stack place k open_now.stands top form found.0 found.1 i found.2
+    child placed.0 placed.1 shows in
+    let tree : tree_of now ≡ change_at place (change_child i (enter def)) (tree_of k) = tree_again plan (heap_of before) (heap_of after) stack place k open_now.stands top form found.0 found.1 i found.2
+    child placed.0 placed.1 shows def in
     subst
     (λ (s : List ℕ). IsOpenAt plan after s (place ++ i ∷ [])
     (change_at place (change_child i (enter def)) (tree_of k))) (sym along)
-    (open_at_from plan after (stack ++ child ∷ []) (place ++ i ∷ [])
-    (put_at place (again_kid plan (heap_of before) (heap_of after) stack place k open_now.stands top form found.0 found.1 i found.2 child placed.0 placed.1 shows) k)
-    (change_at place (change_child i (enter def)) (tree_of k))
-    (stands_again plan (heap_of before) (heap_of after) stack place k open_now.stands top form found.0 found.1 i found.2 child placed.0 placed.1 shows)
-    (λ t. tokens t ∙ open_now.tokens t
-    ∙ sym (tokens_again plan (heap_of before) (heap_of after) stack place k open_now.stands top form found.0 found.1 i found.2 child placed.0 placed.1 shows t))
-    (tree_again plan (heap_of before) (heap_of after) stack place k open_now.stands top form found.0 found.1 i found.2 child placed.0 placed.1 shows def))
+    (open_at_from plan after (stack ++ child ∷ []) (place ++ i ∷ []) now
+    (change_at place (change_child i (enter def)) (tree_of k)) stands
+    (tokens_kept before after k now tokens open_now.tokens same_tokens) tree)

@@ -21,7 +21,7 @@ use Rattle.fr_frame.specs.Kids.{Kid, gone, there, at, Plot, entered_plot, whole_
 use Rattle.fr_store.specs.ChildLaws.{child_cell, kids_held, kids_stored, not_parent, parent_is, part_uses, plot_has, unplaced_child}
 use Rattle.fr_store.specs.HoldLaws.{Replaces, holds_put_nth, unused}
 use Rattle.fr_store.specs.LeaveLaws.{cell_of_child, with_child}
-use Rattle.fr_store.specs.MoveLaws.{open_at_from, open_top, top_in_use, top_slot}
+use Rattle.fr_store.specs.MoveLaws.{open_at_from, open_top, tokens_kept, top_in_use, top_slot}
 use Rattle.fr_store.specs.Moves.{HasChild, IsOpenAt, cursor_in, node_here, tree_here, tree_in_slots}
 use Rattle.fr_store.specs.Numbers.{IsLast}
 use Rattle.fr_store.specs.StandLaws.{stands_change}
@@ -307,16 +307,20 @@ module _ (plan : Plan) (before : List Slot) (stack : List ℕ) (open_now : IsOpe
       (child_node plan (node_along plan plan.root place k) form i) (child_owner x form i) n m) (sym same) in
       let deep : depth_below (heap_of before) (child_owner top.slot form i) < depth_limit
       = subst (λ (x : ℕ). depth_below (heap_of before) (child_owner x form i) < depth_limit) (sym same) limit in
+      let now : Kid = put_at place (entered_kid plan (heap_of before) (heap_of after) stack place k open_now.stands top form found.0 found.1 i found.2
+      unplaced def n free shown deep) k in
+      let stands : Stands plan (heap_of after) (stack ++ n ∷ []) (place ++ i ∷ []) now = stands_entered plan (heap_of before) (heap_of after) stack place k open_now.stands top form found.0 found.1 i found.2
+      unplaced def n free shown deep in
+      let same_tokens : (t : ℕ) → kid_occurs now t ≡ kid_occurs k t = tokens_entered plan (heap_of before) (heap_of after) stack place k open_now.stands top form found.0 found.1 i found.2
+      unplaced def n free shown deep in
+      let tree : tree_of now ≡ change_at place (change_child i (enter def)) (tree_of k) = tree_entered plan (heap_of before) (heap_of after) stack place k open_now.stands top form found.0 found.1 i found.2
+      unplaced def n free shown deep in
       subst
       (λ (s : List ℕ). IsOpenAt plan after s (place ++ i ∷ [])
       (change_at place (change_child i (enter def)) (tree_of k))) (sym along)
-      (open_at_from plan after (stack ++ n ∷ []) (place ++ i ∷ [])
-      (put_at place (entered_kid plan (heap_of before) (heap_of after) stack place k open_now.stands top form found.0 found.1 i found.2 unplaced def n free shown deep) k)
-      (change_at place (change_child i (enter def)) (tree_of k))
-      (stands_entered plan (heap_of before) (heap_of after) stack place k open_now.stands top form found.0 found.1 i found.2 unplaced def n free shown deep)
-      (λ t. tokens t ∙ open_now.tokens t
-      ∙ sym (tokens_entered plan (heap_of before) (heap_of after) stack place k open_now.stands top form found.0 found.1 i found.2 unplaced def n free shown deep t))
-      (tree_entered plan (heap_of before) (heap_of after) stack place k open_now.stands top form found.0 found.1 i found.2 unplaced def n free shown deep))
+      (open_at_from plan after (stack ++ n ∷ []) (place ++ i ∷ []) now
+      (change_at place (change_child i (enter def)) (tree_of k)) stands
+      (tokens_kept before after k now tokens open_now.tokens same_tokens) tree)
 
 -- no place is stored that wasn't
 pub kept_entered : (store : List ℕ) (before after : List Slot) (def : Def) (node : NodeId) (owner : FrameOwner) (n : ℕ)

@@ -11,7 +11,7 @@ use Rattle.fr_plan.specs.TypePlan.{Plan}
 use Rattle.fr_frame.specs.declared.places.FrameOwner.{FrameOwner}
 use Rattle.fr_frame.specs.declared.places.Slot.{Slot}
 use Rattle.fr_frame.specs.Bodies.{Body, whole_body, body_occurs, IsClosed}
-use Rattle.fr_frame.specs.Changes.{IfInUse, IsInUse, Shows}
+use Rattle.fr_frame.specs.Changes.{IfInUse, IsInUse, SameTokens, Shows}
 use Rattle.fr_frame.specs.Heap.{Node, with_body, heap_of, slots_occur}
 use Rattle.fr_frame.specs.Kids.{Kid, at, Plot, whole_plot, tree_of, tree_in, body_in, kid_occurs, plot_occurs}
 use Rattle.fr_store.specs.Moves.{IsOpenAt, cursor_in, tree_in_slots, tree_here, tokens_here}
@@ -123,6 +123,17 @@ open_at_from plan slots stack place k tree stands tokens is = record {
   cursor = cursor_is plan (heap_of slots) stack place k stands;
   built = tree_is plan (heap_of slots) stack place k stands ∙ is;
 }
+
+-- the slots hold the tokens of the tree
+pub slots_tokens : (plan : Plan) (slots : List Slot) (stack : List ℕ) → IsOpen plan slots stack
+    → (t : ℕ) → slots_occur slots t ≡ tree_occurs (tree_in_slots slots stack) t
+slots_tokens plan slots stack open_now t = open_now.tokens t ∙ tree_tokens (kid_shown (heap_of slots) stack) t
+
+-- where no token came or went they still do
+pub tokens_kept : (before after : List Slot) (k now : Kid) → SameTokens before after
+    → ((t : ℕ) → slots_occur before t ≡ kid_occurs k t) → ((t : ℕ) → kid_occurs now t ≡ kid_occurs k t)
+    → (t : ℕ) → slots_occur after t ≡ kid_occurs now t
+tokens_kept before after k now tokens was same t = tokens t ∙ was t ∙ sym (same t)
 
 -- Something else is put at the top: of its children those that are in slots were there before, and stay as they are.
 pub top_changed : (plan : Plan) (before after : List Slot) (stack : List ℕ) (open_now : IsOpen plan before stack) (n : ℕ)
