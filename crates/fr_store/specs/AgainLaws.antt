@@ -1,5 +1,5 @@
 -- Laws of entering again, for proofs: a child of the top that was stored is on top then, as it is.
-use Rattle.std.proofs.Common.{◌≡◌, ◌≢◌, ◌⊎◌, ℕ, suc, ◌+◌, ◌<◌, ◌≤◌, true, false, List, [], ◌∷◌, ◌++◌, append-nil, append_assoc, length, nat_eq, option_map, Option, Some, None, refl, sym, ◌∙◌, ap, subst, arith}
+use Rattle.std.proofs.Common.{◌≡◌, ◌≢◌, ℕ, suc, ◌+◌, ◌<◌, ◌≤◌, true, false, List, [], ◌∷◌, ◌++◌, append-nil, append_assoc, length, nat_eq, option_map, Some, refl, sym, ◌∙◌, ap, subst, arith}
 use Rattle.fr_shape.specs.declared.shape.Def.{Def}
 use Rattle.fr_model.specs.Paths.{step_as}
 use Rattle.fr_model.specs.Places.{Place}
@@ -12,7 +12,7 @@ use Rattle.fr_frame.specs.Changes.{SameTokens, Shows}
 use Rattle.fr_frame.specs.Bodies.{begun_body}
 use Rattle.fr_frame.specs.Cells.{Cell}
 use Rattle.fr_frame.specs.Heap.{heap_of, Node, Heap, with_mark}
-use Rattle.fr_frame.specs.Kids.{Kid, at, Plot, entered_plot, whole_plot, begun_plot, Kids, tree_of, tree_in, trees_in, cell_of, cells_in, body_in, kid_occurs, plot_occurs, kids_occur, child_node, child_owner, Holds}
+use Rattle.fr_frame.specs.Kids.{Kid, at, Plot, entered_plot, whole_plot, begun_plot, Kids, tree_of, tree_in, trees_in, cell_of, cells_in, kid_occurs, plot_occurs, kids_occur, child_node, child_owner, Holds}
 use Rattle.fr_store.specs.ChildLaws.{child_held, kids_held, kids_stored, not_parent, parent_is, part_uses, placed_child, plot_has}
 use Rattle.fr_store.specs.HoldLaws.{AgreeBeside, Replaces, cells_put_nth, holds_frame_in, holds_put_nth}
 use Rattle.fr_store.specs.MoveLaws.{open_at_from, open_top, tokens_kept, top_slot}
@@ -22,7 +22,7 @@ use Rattle.fr_store.specs.StandLaws.{stands_change}
 use Rattle.fr_store.specs.Stands.{Stands, IsOpen, kid_shown}
 use Rattle.fr_store.specs.Stored.{IsStoredChild}
 use Rattle.fr_store.specs.TopLaws.{slot_here, slot_other, top_held, Top}
-use Rattle.fr_store.specs.Ways.{count_kids, kid_nth, kid_at, put_nth, put_at, slots_along, slots_above, counts_if, uses, uses_in, uses_among, AllMarked, AllMarkedIn, Leads, Reaches, node_along, owner_along}
+use Rattle.fr_store.specs.Ways.{count_kids, kid_nth, kid_at, put_nth, put_at, slots_along, slots_above, counts_if, uses, uses_in, uses_among, AllMarked, Leads, Reaches, node_along, owner_along}
 use Rattle.fr_store.specs.WayLaws.{counts_same, nth_put, uses_at, uses_nth, uses_put_nth, occurs_put_nth, occurs_put_at, leads_reach, marked_nth, stored_but, tree_change_at, tree_put_nth, tree_of_nth, tree_of_at}
 
 -- a place in a slot is entered already
@@ -185,14 +185,18 @@ open_again plan before after stack next open_now p last form i def child has sto
     = subst (λ (x : ℕ). IsStoredChild (heap_of before) x (step_as form i) child) (sym same) stored in
     let placed = placed_child plan (heap_of before) stack place k open_now.stands top form found.0 found.1 i found.2 child
     at_top.slot in
-    let now : Kid = put_at place (again_kid plan (heap_of before) (heap_of after) stack place k open_now.stands top form found.0 found.1 i found.2
-    child placed.0 placed.1 shows) k in
-    let stands : Stands plan (heap_of after) (stack ++ child ∷ []) (place ++ i ∷ []) now = stands_again plan (heap_of before) (heap_of after) stack place k open_now.stands top form found.0 found.1 i found.2
-    child placed.0 placed.1 shows in
-    let same_tokens : (t : ℕ) → kid_occurs now t ≡ kid_occurs k t = tokens_again plan (heap_of before) (heap_of after) stack place k open_now.stands top form found.0 found.1 i found.2
-    child placed.0 placed.1 shows in
-    let tree : tree_of now ≡ change_at place (change_child i (enter def)) (tree_of k) = tree_again plan (heap_of before) (heap_of after) stack place k open_now.stands top form found.0 found.1 i found.2
-    child placed.0 placed.1 shows def in
+    let now : Kid = put_at place
+    (again_kid plan (heap_of before) (heap_of after) stack place k open_now.stands top form found.0 found.1 i
+    found.2 child placed.0 placed.1 shows) k in
+    let stands : Stands plan (heap_of after) (stack ++ child ∷ []) (place ++ i ∷ []) now
+    = stands_again plan (heap_of before) (heap_of after) stack place k open_now.stands top form found.0 found.1 i
+    found.2 child placed.0 placed.1 shows in
+    let same_tokens : (t : ℕ) → kid_occurs now t ≡ kid_occurs k t
+    = tokens_again plan (heap_of before) (heap_of after) stack place k open_now.stands top form found.0 found.1 i
+    found.2 child placed.0 placed.1 shows in
+    let tree : tree_of now ≡ change_at place (change_child i (enter def)) (tree_of k)
+    = tree_again plan (heap_of before) (heap_of after) stack place k open_now.stands top form found.0 found.1 i
+    found.2 child placed.0 placed.1 shows def in
     subst
     (λ (s : List ℕ). IsOpenAt plan after s (place ++ i ∷ [])
     (change_at place (change_child i (enter def)) (tree_of k))) (sym along)

@@ -1,5 +1,5 @@
 -- Laws of the children of the top, for proofs.
-use Rattle.std.proofs.Common.{◌≡◌, ℕ, suc, ◌+◌, ◌<◌, Bool, true, false, List, length, nat_eq, Option, Some, refl, sym, ◌∙◌, ap, subst, arith}
+use Rattle.std.proofs.Common.{◌≡◌, ℕ, suc, ◌+◌, ◌<◌, Bool, true, false, List, length, nat_eq, Some, refl, sym, ◌∙◌, ap, subst, arith}
 use Rattle.std.specs.Option.{option_and_then}
 use Rattle.fr_model.specs.Paths.{step_as}
 use Rattle.fr_model.specs.Places.{Place}
@@ -7,7 +7,7 @@ use Rattle.fr_model.specs.Tree.{Form, count_trees}
 use Rattle.fr_plan.specs.TypePlan.{Plan}
 use Rattle.fr_frame.specs.declared.places.FrameOwner.{FrameOwner}
 use Rattle.fr_frame.specs.Bodies.{begun_body, cell_at, IsUnplaced}
-use Rattle.fr_frame.specs.Cells.{Cell, slot_of_cell}
+use Rattle.fr_frame.specs.Cells.{slot_of_cell}
 use Rattle.fr_frame.specs.Heap.{Node, Heap, stored_in}
 use Rattle.fr_frame.specs.Kids.{Kid, gone, there, at, Plot, entered_plot, whole_plot, begun_plot, Kids, no_kids, kid, tree_in, trees_in, cell_of, cells_in, body_in, child_node, child_owner, Holds, HoldsIn, HoldsAll}
 use Rattle.fr_store.specs.HoldLaws.{holds_nth}

@@ -69,7 +69,9 @@ module _ (plan : Plan) (slots : List Slot) (stack : List ℕ) (open_now : IsOpen
 
   pub stands_now : Stands plan (heap_of slots) stack (above ++ i ∷ []) kid_now
   unfolding kid_now
-  stands_now = subst (λ (p : Place). Stands plan (heap_of slots) stack p (kid_shown (heap_of slots) stack)) is_below open_now.stands
+  stands_now =
+      subst (λ (p : Place). Stands plan (heap_of slots) stack p (kid_shown (heap_of slots) stack)) is_below
+      open_now.stands
 
   pub strict_now : NoneStored kid_now
   unfolding kid_now
@@ -300,8 +302,9 @@ module _ (plan : Plan) (slots : List Slot) (stack : List ℕ) (open_now : IsOpen
         let here : kid_occurs (kid_at (above ++ i ∷ []) kid_now) t ≡ plot_occurs top_now.plot t
         = ap (λ (x : Kid). kid_occurs x t) top_now.is in
         let now : slots_occur slots t ≡ kid_occurs kid_now t = open_now.tokens t in
-        omega
-        (arith, occurs_put_at (above ++ i ∷ []) (there v) kid_now t reach_now, closed_occur top_now.plot t closed_now, value_tokens (body_in top_now.plot) v t value, taken t, put t))
+        let worth : body_occurs (body_in top_now.plot) t ≡ occurs v t = value_tokens (body_in top_now.plot) v t value in
+        let own : plot_occurs top_now.plot t ≡ body_occurs (body_in top_now.plot) t = closed_occur top_now.plot t closed_now in
+        omega (arith, occurs_put_at (above ++ i ∷ []) (there v) kid_now t reach_now, own, worth, taken t, put t))
         (tree_put_at (above ++ i ∷ []) (there v) kid_now) in
         subst
         (λ (p : Place). IsOpenAt plan after next (up p) (change_at p (λ old. whole v) (tree_in_slots slots stack)))

@@ -1,23 +1,22 @@
 -- Laws of entering, for proofs: a child of the top gets a slot, and is on top then.
-use Rattle.std.proofs.Common.{◌≡◌, ◌≢◌, ◌⊎◌, ℕ, zero, suc, ◌+◌, ◌<◌, ◌≤◌, Bool, true, false, List, [], ◌∷◌, ◌++◌, append-nil, append_assoc, length, nat_eq, Option, Some, None, inl, inr, refl, sym, ◌∙◌, ap, subst, arith}
+use Rattle.std.proofs.Common.{◌≡◌, ◌≢◌, ◌⊎◌, ℕ, suc, ◌+◌, ◌<◌, ◌≤◌, Bool, true, false, List, [], ◌∷◌, ◌++◌, append-nil, append_assoc, length, nat_eq, Some, None, inl, inr, refl, sym, ◌∙◌, ap, subst, arith}
 use Rattle.std.specs.Prelude.{if◌then◌else◌}
-use Rattle.std.specs.Option.{option_and_then}
 use Rattle.fr_shape.specs.declared.shape.Def.{Def}
 use Rattle.fr_shape.specs.Fills.{is_empty_struct}
 use Rattle.fr_shape.specs.Val.{product, no_vals}
 use Rattle.fr_model.specs.Paths.{step_as}
 use Rattle.fr_model.specs.Places.{Place}
 use Rattle.fr_model.specs.Step.{enter}
-use Rattle.fr_model.specs.Tree.{Form, Tree, Trees, whole, entered, begun, fresh, count_trees, change_child, tree_at, change_at}
+use Rattle.fr_model.specs.Tree.{Form, Tree, Trees, whole, entered, begun, fresh, change_child, tree_at, change_at}
 use Rattle.fr_plan.specs.declared.nodes.NodeId.{NodeId}
 use Rattle.fr_plan.specs.TypePlan.{Plan}
 use Rattle.fr_path.specs.declared.path_steps.PathStep.{PathStep}
 use Rattle.fr_frame.specs.declared.places.FrameOwner.{FrameOwner}
 use Rattle.fr_frame.specs.declared.places.Slot.{Slot}
 use Rattle.fr_frame.specs.Changes.{IsOwnerInUse, SameTokens, Shows}
-use Rattle.fr_frame.specs.Bodies.{Body, entered_body, whole_body, begun_body, fresh_body, cell_at, taken_over, linked, linked_by, AreUnplaced, IsUnplaced, IsClosed}
+use Rattle.fr_frame.specs.Bodies.{Body, entered_body, whole_body, begun_body, fresh_body, taken_over, linked, linked_by, IsUnplaced, IsClosed}
 use Rattle.fr_frame.specs.Heap.{heap_of, marked, stored_in, Node, Heap, with_entered, entered_node, links, held_by, depth_below, depth_above, depth_limit}
-use Rattle.fr_frame.specs.Kids.{Kid, gone, there, at, Plot, entered_plot, whole_plot, begun_plot, Kids, no_kids, kid, tree_of, tree_in, cell_of, cells_in, body_in, trees_in, kid_occurs, plot_occurs, kids_occur, child_node, child_owner, Holds, HoldsAll}
+use Rattle.fr_frame.specs.Kids.{Kid, gone, there, at, Plot, entered_plot, whole_plot, begun_plot, Kids, tree_of, tree_in, cell_of, cells_in, body_in, trees_in, kid_occurs, plot_occurs, kids_occur, child_node, child_owner, Holds}
 use Rattle.fr_store.specs.ChildLaws.{child_cell, kids_held, kids_stored, not_parent, parent_is, part_uses, plot_has, unplaced_child}
 use Rattle.fr_store.specs.HoldLaws.{Replaces, holds_put_nth, unused}
 use Rattle.fr_store.specs.LeaveLaws.{cell_of_child, with_child}
@@ -202,8 +201,8 @@ module _ (plan : Plan) (heap other : Heap) (stack : List ℕ) (place : Place) (k
   once : (m : ℕ) → uses k m + uses entered_kid m ≤ 1 + uses (kid_at place k) m
   once m =
       let added = uses_put_nth i (at n false (child_plot def (kid_nth i kids))) kids m within in
-      omega
-      (arith, added, part m, closed_uses (child_plot def (kid_nth i kids)) m (child_closed def (kid_nth i kids)), go (same_or_other n m))
+      let fresh = closed_uses (child_plot def (kid_nth i kids)) m (child_closed def (kid_nth i kids)) in
+      omega (arith, added, fresh, part m, go (same_or_other n m))
     where
       go : (n ≡ m) ⊎ (n ≢ m) → uses k m + counts_if (nat_eq n m) ≤ 1
       go (inl e) =
@@ -307,14 +306,18 @@ module _ (plan : Plan) (before : List Slot) (stack : List ℕ) (open_now : IsOpe
       (child_node plan (node_along plan plan.root place k) form i) (child_owner x form i) n m) (sym same) in
       let deep : depth_below (heap_of before) (child_owner top.slot form i) < depth_limit
       = subst (λ (x : ℕ). depth_below (heap_of before) (child_owner x form i) < depth_limit) (sym same) limit in
-      let now : Kid = put_at place (entered_kid plan (heap_of before) (heap_of after) stack place k open_now.stands top form found.0 found.1 i found.2
-      unplaced def n free shown deep) k in
-      let stands : Stands plan (heap_of after) (stack ++ n ∷ []) (place ++ i ∷ []) now = stands_entered plan (heap_of before) (heap_of after) stack place k open_now.stands top form found.0 found.1 i found.2
-      unplaced def n free shown deep in
-      let same_tokens : (t : ℕ) → kid_occurs now t ≡ kid_occurs k t = tokens_entered plan (heap_of before) (heap_of after) stack place k open_now.stands top form found.0 found.1 i found.2
-      unplaced def n free shown deep in
-      let tree : tree_of now ≡ change_at place (change_child i (enter def)) (tree_of k) = tree_entered plan (heap_of before) (heap_of after) stack place k open_now.stands top form found.0 found.1 i found.2
-      unplaced def n free shown deep in
+      let now : Kid = put_at place
+      (entered_kid plan (heap_of before) (heap_of after) stack place k open_now.stands top form found.0 found.1 i
+      found.2 unplaced def n free shown deep) k in
+      let stands : Stands plan (heap_of after) (stack ++ n ∷ []) (place ++ i ∷ []) now
+      = stands_entered plan (heap_of before) (heap_of after) stack place k open_now.stands top form found.0 found.1 i
+      found.2 unplaced def n free shown deep in
+      let same_tokens : (t : ℕ) → kid_occurs now t ≡ kid_occurs k t
+      = tokens_entered plan (heap_of before) (heap_of after) stack place k open_now.stands top form found.0 found.1 i
+      found.2 unplaced def n free shown deep in
+      let tree : tree_of now ≡ change_at place (change_child i (enter def)) (tree_of k)
+      = tree_entered plan (heap_of before) (heap_of after) stack place k open_now.stands top form found.0 found.1 i
+      found.2 unplaced def n free shown deep in
       subst
       (λ (s : List ℕ). IsOpenAt plan after s (place ++ i ∷ [])
       (change_at place (change_child i (enter def)) (tree_of k))) (sym along)

@@ -72,7 +72,8 @@ closed_open plan slots stack open_now none =
     closed_top plan (heap_of slots) stack (cursor_in slots stack) (kid_shown (heap_of slots) stack)
     (open_top plan slots stack open_now) (open_strict plan slots stack open_now none)
 
-module _ (plan : Plan) (slots : List Slot) (stack : List ℕ) (open_now : IsOpen plan slots stack) (n : ℕ) (last : IsLast stack n) where
+module _ (plan : Plan) (slots : List Slot) (stack : List ℕ) (open_now : IsOpen plan slots stack) (n : ℕ)
+    (last : IsLast stack n) where
   pub top_slot : (open_top plan slots stack open_now).slot ≡ n
   top_slot =
       same_last (slots_above (cursor_in slots stack) (kid_shown (heap_of slots) stack)) last.0

@@ -23,12 +23,14 @@ returns-in-Ok-clause-entered c =
     let owner : FrameOwner.Child c.in-Some.above c.step_of-step.result
     ≡ child_owner c.in-Some.above.0 (as_form c.args.form) c.args.i
     = ap (FrameOwner.Child c.in-Some.above) c.step_of-step.ensures in
-    let none : (child : ℕ) → IsStoredChild (heap_of c.args.slots.now) c.in-Some.above.0 (step_as (as_form c.args.form) c.args.i) child
-    → ⊥
+    let none : (child : ℕ)
+    → IsStoredChild (heap_of c.args.slots.now) c.in-Some.above.0 (step_as (as_form c.args.form) c.args.i) child → ⊥
     = λ child so.
-    let stored = c.contains.ensures.stored.1
-    (child, subst (λ (s : PathStep). IsStoredChild (heap_of c.args.slots.now) c.in-Some.above.0 s child)
-    (sym c.step_of-step.ensures) so) in
+    let stored = c.contains.ensures.stored.1 (
+      child,
+      subst (λ (s : PathStep). IsStoredChild (heap_of c.args.slots.now) c.in-Some.above.0 s child)
+          (sym c.step_of-step.ensures) so,
+    ) in
     cc (stored, c.if-contains.false) in
     open_entered c.args.plan.now c.args.slots.now c.args.self.now c.requires.is_open c.in-Some.above.0
     c.in-Some.ensures.last c.enter.new.self c.put_top-in-Ok.new.self (as_form c.args.form) c.args.i
