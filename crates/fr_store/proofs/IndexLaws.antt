@@ -231,3 +231,14 @@ module _ (slots front : List SlotId) (positions : List ℕ) (last place : SlotId
       (λ (l : List ℕ). Contains (set (numbers front) p last.0) n ↔ (Contains l n × (n ≢ place.0)))
       (sym all)
       (rest_less (numbers front) positions last.0 indexed_so p within place.0 held n))
+
+-- The same of slots of which there is one more.
+pub slots_more : (slots after : List SlotId) (positions : List ℕ) (place : SlotId) (at : ℕ) → after ≡ slots ++ place ∷ []
+    → at ≡ length slots → IsIndexed (numbers slots) positions → ¬ Contains (numbers slots) place.0
+    → place.0 < length positions → IsIndexed (numbers after) (set positions place.0 at)
+slots_more slots after positions place at items is indexed apart room =
+    let all : numbers after ≡ numbers slots ++ place.0 ∷ [] = ap numbers items ∙ map_push number_of slots place in
+    let count : length (numbers slots) ≡ at = length-map slots number_of ∙ sym is in
+    subst (λ (l : List ℕ). IsIndexed l (set positions place.0 at)) (sym all)
+    (subst (λ (k : ℕ). IsIndexed (numbers slots ++ place.0 ∷ []) (set positions place.0 k)) count
+    (indexed_more (numbers slots) positions place.0 indexed apart room))
