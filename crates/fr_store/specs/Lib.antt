@@ -1,4 +1,6 @@
+pub mod AgainLaws
 pub mod BeginLaws
+pub mod ChildLaws
 pub mod EndLaws
 pub mod EnterLaws
 pub mod HoldLaws
