@@ -10,6 +10,7 @@ pub mod Moves
 pub mod Numbers
 pub mod StandLaws
 pub mod Stands
+pub mod StoreLaws
 pub mod Stored
 pub mod TopLaws
 pub mod Turns
