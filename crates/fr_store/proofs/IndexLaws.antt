@@ -1,15 +1,11 @@
 -- Lists of numbers and, under each number, where it stands in the list.
-use Rattle.std.proofs.Common.{◌≡◌, ◌≢◌, ◌⊎◌, ◌↔◌, ℕ, zero, suc, ◌+◌, ◌-◌, ◌<◌, ◌≤◌, List, [], ◌∷◌, ◌++◌, length, set, get_or, slice_get, Option, Some, None, Contains, length-set, inl, inr, refl, sym, ◌∙◌, ap, subst, arith}
-use Rattle.std.proofs.lemmas.Bool.Decides.{nat_tests}
-use Rattle.std.proofs.lemmas.Grind.{common_steps}
+use Rattle.std.proofs.Common.{◌≡◌, ◌≢◌, ◌⊎◌, ◌↔◌, ℕ, zero, suc, ◌+◌, ◌<◌, ◌≤◌, List, [], ◌∷◌, ◌++◌, length, set, get_or, slice_get, Some, Contains, length-set, inl, inr, refl, sym, ◌∙◌, ap, subst, arith}
 use Rattle.std.proofs.lemmas.List.{length-map, get_or_default, get_or_append_left, get_or_push, get_or-set_same, get_or-set_other, length_push, map_push, map-set}
 use Rattle.fr_frame.specs.declared.places.SlotId.{SlotId}
 use Rattle.fr_store.specs.Numbers.{number_of, numbers, IsIndexed}
+use Rattle.fr_store.specs.WayLaws.{same_or_other}
 
 -- Reading.
-
-number_cases : (m n : ℕ) → (m ≡ n) ⊎ (m ≢ n)
-number_cases m n = grind (arith, common_steps, nat_tests)
 
 pub there : (xs : List ℕ) (n x : ℕ) → slice_get xs n ≡ Some x → n < length xs
 there [] n x e = absurd (cc)
@@ -48,7 +44,7 @@ indexed_still all before after kept indexed i h = kept (get_or all i 0) i (index
 -- One more number.
 module _ (all positions : List ℕ) (n : ℕ) (indexed : IsIndexed all positions) where
   pub indexed_more : ¬ Contains all n → n < length positions → IsIndexed (all ++ n ∷ []) (set positions n (length all))
-  indexed_more apart room i h = go (number_cases i (length all))
+  indexed_more apart room i h = go (same_or_other i (length all))
     where
       long : length (all ++ n ∷ []) ≡ length all + 1
       long = length_push all n
@@ -96,7 +92,7 @@ module _ (front positions : List ℕ) (last : ℕ) (indexed : IsIndexed (front +
 
   module _ (p : ℕ) (inside : p < length front) where
     pub indexed_less : IsIndexed (set front p last) (set positions last p)
-    indexed_less i h = go (number_cases i p)
+    indexed_less i h = go (same_or_other i p)
       where
         within : i < length front
         within = omega (arith, length-set front p last)
@@ -154,10 +150,10 @@ module _ (front positions : List ℕ) (last : ℕ) (indexed : IsIndexed (front +
 
       pub rest_less : (n : ℕ) → Contains (set front p last) n ↔ (Contains (front ++ last ∷ []) n × (n ≢ place))
       rest_less n = (
-        λ found. stays n found.0 (omega (arith, length-set front p last, found.1)) found.2 (number_cases found.0 p),
+        λ found. stays n found.0 (omega (arith, length-set front p last, found.1)) found.2 (same_or_other found.0 p),
         λ both.
-            was_there n both.0.0 (omega (arith, long, both.0.1)) both.0.2 both.1 (number_cases both.0.0 (length front))
-            (number_cases both.0.0 p),
+            was_there n both.0.0 (omega (arith, long, both.0.1)) both.0.2 both.1 (same_or_other both.0.0 (length front))
+            (same_or_other both.0.0 p),
       )
 
   pub rest_front : (n : ℕ) → Contains front n ↔ (Contains (front ++ last ∷ []) n × (n ≢ last))
@@ -170,7 +166,7 @@ module _ (front positions : List ℕ) (last : ℕ) (indexed : IsIndexed (front +
       )
 
       was_there : Contains (front ++ last ∷ []) n → n ≢ last → Contains front n
-      was_there found apart = go (number_cases found.0 (length front))
+      was_there found apart = go (same_or_other found.0 (length front))
         where
           go : (found.0 ≡ length front) ⊎ (found.0 ≢ length front) → Contains front n
           go (inl e) = absurd (apart (sym found.2 ∙ get_or_push front last n found.0 (sym e)))
@@ -179,7 +175,9 @@ module _ (front positions : List ℕ) (last : ℕ) (indexed : IsIndexed (front +
               (found.0, within, sym (first found.0 n within) ∙ found.2)
 
 -- The same of slots, as the store has them: p is what stands under the number of the place that is taken out.
-module _ (slots front : List SlotId) (positions : List ℕ) (last place : SlotId) (p : ℕ) (items : slots ≡ front ++ last ∷ []) (indexed : IsIndexed (numbers slots) positions) (found : Contains (numbers slots) place.0) (is : p ≡ get_or positions place.0 p) where
+module _ (slots front : List SlotId) (positions : List ℕ) (last place : SlotId) (p : ℕ) (items : slots ≡ front ++ last ∷ [])
+    (indexed : IsIndexed (numbers slots) positions) (found : Contains (numbers slots) place.0)
+    (is : p ≡ get_or positions place.0 p) where
   all : numbers slots ≡ numbers front ++ last.0 ∷ []
   all = ap numbers items ∙ map_push number_of front last
 
@@ -190,7 +188,9 @@ module _ (slots front : List SlotId) (positions : List ℕ) (last place : SlotId
   found_so = subst (λ (l : List ℕ). Contains l place.0) all found
 
   found_at : p ≡ found_so.0
-  found_at = read positions place.0 found_so.0 p (stands_at (numbers front ++ last.0 ∷ []) positions place.0 indexed_so found_so) is
+  found_at =
+      read positions place.0 found_so.0 p
+      (stands_at (numbers front ++ last.0 ∷ []) positions place.0 indexed_so found_so) is
 
   long_so : length (numbers front ++ last.0 ∷ []) ≡ length (numbers front) + 1
   long_so = length_push (numbers front) last.0

@@ -9,9 +9,7 @@ use Rattle.fr_frame.specs.declared.places.Slot.{Slot}
 use Rattle.fr_frame.specs.Changes.{IsInUse, Shows}
 use Rattle.fr_frame.specs.Heap.{Node, Heap, heap_of, marked, stored_in, with_mark}
 use Rattle.fr_store.specs.Stored.{IsKept}
-
-number_cases : (m n : ℕ) → (m ≡ n) ⊎ (m ≢ n)
-number_cases m n = grind (arith, common_steps, nat_tests)
+use Rattle.fr_store.specs.WayLaws.{same_or_other}
 
 other_number : (m n : ℕ) → m ≢ n → nat_eq m n ≡ false
 other_number m n ne = grind (arith, common_steps, nat_tests)
@@ -28,7 +26,7 @@ pub mark_here : (heap : Heap) (n : ℕ) (mark : Bool) → IsSome (heap n) → ma
 mark_here heap n mark h =
     ap
     (λ (b : Bool).
-        stored_in (if b then option_map (λ (at : Node). record at { stored = mark }) (heap n) else heap n))
+    stored_in (if b then option_map (λ (at : Node). record at { stored = mark }) (heap n) else heap n))
     (same_number n)
     ∙ now_marked (heap n) mark h
 
@@ -36,7 +34,7 @@ pub mark_other : (heap : Heap) (n : ℕ) (mark : Bool) (m : ℕ) → m ≢ n →
 mark_other heap n mark m ne =
     ap
     (λ (b : Bool).
-        stored_in (if b then option_map (λ (at : Node). record at { stored = mark }) (heap n) else heap m))
+    stored_in (if b then option_map (λ (at : Node). record at { stored = mark }) (heap n) else heap m))
     (other_number m n ne)
 
 marked_found : (found : Option Node) → stored_in found ≡ true → IsSome found
@@ -50,7 +48,7 @@ marked_in_use slots n h = marked_found (heap_of slots n) h
 module _ (store : List ℕ) (slots after : List Slot) (place : ℕ) (kept : IsKept store slots) (in_use : IsInUse slots place) where
   -- a place is stored
   pub kept_more : Shows after (with_mark (heap_of slots) place true) → IsKept (store ++ place ∷ []) after
-  kept_more shows n = go (number_cases n place)
+  kept_more shows n = go (same_or_other n place)
     where
       is : marked (heap_of after) n ≡ marked (with_mark (heap_of slots) place true) n
       is = ap stored_in (shows n)
@@ -74,7 +72,7 @@ module _ (store : List ℕ) (slots after : List Slot) (place : ℕ) (kept : IsKe
   -- a place is stored no more
   pub kept_less : (rest : List ℕ) → Shows after (with_mark (heap_of slots) place false)
       → ((n : ℕ) → Contains rest n ↔ (Contains store n × (n ≢ place))) → IsKept rest after
-  kept_less rest shows less n = go (number_cases n place)
+  kept_less rest shows less n = go (same_or_other n place)
     where
       is : marked (heap_of after) n ≡ marked (with_mark (heap_of slots) place false) n
       is = ap stored_in (shows n)

@@ -7,17 +7,17 @@ use Rattle.fr_frame.specs.declared.places.Slot.{Slot}
 use Rattle.fr_frame.specs.declared.places.SlotId.{SlotId}
 use Rattle.fr_frame.specs.Changes.{SameTokens, Shows}
 use Rattle.fr_frame.specs.Heap.{Node, Heap, heap_of, marked, stored_in, with_mark}
-use Rattle.fr_frame.specs.Kids.{Kid, gone, there, at, Plot, entered_plot, whole_plot, begun_plot, Kids, no_kids, kid, tree_of, trees_in, cell_of, kid_occurs, Holds}
+use Rattle.fr_frame.specs.Kids.{Kid, gone, there, at, entered_plot, whole_plot, begun_plot, Kids, no_kids, kid, tree_of, trees_in, cell_of, kid_occurs, Holds}
 use Rattle.fr_store.specs.HoldLaws.{AgreeBeside, Replaces, holds_frame_in, replaces_at}
 use Rattle.fr_store.specs.LeaveLaws.{above_append, below_root, kid_at_append, put_append, up_append}
-use Rattle.fr_store.specs.MoveLaws.{open_at_from, open_top, same_front, same_last, top_found, top_node, top_slot}
+use Rattle.fr_store.specs.MoveLaws.{open_at_from, same_front, same_last, top_found, top_node}
 use Rattle.fr_store.specs.Moves.{IsOpenAt, cursor_in, tree_in_slots}
 use Rattle.fr_store.specs.Numbers.{IsLast}
 use Rattle.fr_store.specs.StandLaws.{stands_change}
 use Rattle.fr_store.specs.Stands.{Stands, IsOpen, kid_shown}
 use Rattle.fr_store.specs.TopLaws.{slot_here, slot_other, Top, top_of}
-use Rattle.fr_store.specs.Ways.{count_kids, kid_nth, kid_below, kid_at, put_nth, put_at, slots_above, counts_if, uses, uses_in, uses_among, AllMarked, AllMarkedAmong, StoredBut, Leads, Reaches}
-use Rattle.fr_store.specs.WayLaws.{counts_same, leads_reach, leads_at, occurs_put_at, tree_of_at, uses_at, uses_nth, uses_put_nth}
+use Rattle.fr_store.specs.Ways.{count_kids, kid_nth, kid_at, put_nth, put_at, slots_above, counts_if, uses, uses_in, uses_among, AllMarked, AllMarkedAmong, StoredBut, Leads, Reaches}
+use Rattle.fr_store.specs.WayLaws.{counts_same, leads_reach, leads_at, occurs_put_at, uses_at, uses_nth, uses_put_nth}
 
 -- A part with the same tree.
 
@@ -115,9 +115,9 @@ module _ (plan : Plan) (heap other : Heap) (stack next : List ℕ) (above : Plac
   beneath m h =
       elsewhere m
       (λ e.
-          let one : counts_if (nat_eq top.slot m) ≡ 1
-          = ap (λ (x : ℕ). counts_if (nat_eq top.slot x)) e ∙ counts_same top.slot in
-          absurd (omega (arith, child_uses m, part m, uses_nth i found.kids m, uses_at above k m, stands.once m)))
+      let one : counts_if (nat_eq top.slot m) ≡ 1
+      = ap (λ (x : ℕ). counts_if (nat_eq top.slot x)) e ∙ counts_same top.slot in
+      absurd (omega (arith, child_uses m, part m, uses_nth i found.kids m, uses_at above k m, stands.once m)))
 
   child_stored : Replaces plan heap other (kid_nth i found.kids) stored_top
   child_stored node owner depth holds =

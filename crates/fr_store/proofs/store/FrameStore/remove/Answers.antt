@@ -20,7 +20,7 @@ returns-then-at-len c = record {
   rest = λ n.
       subst
       (λ (l : List ℕ).
-          Contains (numbers (set c.pop.new.self.items c.index.result.now c.in-Some.last)) n ↔ (Contains l n × (n ≢ c.args.place.0)))
+      Contains (numbers (set c.pop.new.self.items c.index.result.now c.in-Some.last)) n ↔ (Contains l n × (n ≢ c.args.place.0)))
       c.self.view_is
       (slots_rest_less c.self.inside.places.items c.pop.new.self.items c.self.inside.positions.items c.in-Some.last c.args.place
       c.index.result.now c.in-Some.ensures.items c.self.invariant
