@@ -13,6 +13,7 @@ pub mod OffLaws
 pub mod ShapeLaws
 pub mod StandLaws
 pub mod Stands
+pub mod StoreLaws
 pub mod Stored
 pub mod TopLaws
 pub mod TurnLaws
