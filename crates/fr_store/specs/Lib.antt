@@ -6,6 +6,7 @@ pub mod LeaveLaws
 pub mod MoveLaws
 pub mod Moves
 pub mod Numbers
+pub mod Places
 pub mod StandLaws
 pub mod Stands
 pub mod Stored
