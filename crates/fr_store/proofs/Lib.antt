@@ -1,1 +1,4 @@
 pub mod LastLaws
+pub mod PairLaws
+pub mod PlaceLaws
+pub mod TurnLaws
