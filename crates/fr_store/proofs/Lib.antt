@@ -1,4 +1,6 @@
+pub mod EarlierLaws
 pub mod LastLaws
 pub mod PairLaws
 pub mod PlaceLaws
+pub mod SpreadLaws
 pub mod TurnLaws

@@ -1,2 +1,1 @@
-use Rattle.fr_store.proofs.PlaceLaws.{same_place}
-use Rattle.fr_store.proofs.TurnLaws.{keys_once}
+use Rattle.fr_store.proofs.SpreadLaws.{spread_all}
