@@ -4,3 +4,4 @@ pub mod PairLaws
 pub mod PlaceLaws
 pub mod SpreadLaws
 pub mod TurnLaws
+pub mod WalkLaws

@@ -1,1 +1,1 @@
-use Rattle.fr_store.proofs.SpreadLaws.{spread_all}
+use Rattle.fr_store.proofs.WalkLaws.{walk_of}
