@@ -1,3 +1,9 @@
+pub mod EarlierLaws
 pub mod IndexLaws
 pub mod KeptLaws
 pub mod LastLaws
+pub mod PairLaws
+pub mod PlaceLaws
+pub mod SpreadLaws
+pub mod TurnLaws
+pub mod WalkLaws

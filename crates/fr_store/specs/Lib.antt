@@ -10,6 +10,7 @@ pub mod MoveLaws
 pub mod Moves
 pub mod Numbers
 pub mod OffLaws
+pub mod Places
 pub mod ShapeLaws
 pub mod StandLaws
 pub mod Stands

@@ -3,6 +3,8 @@ ghost use Rattle.std.specs.Prelude.{◌≡◌, ◌≢◌, ◌↔◌, ℕ, ◌<�
 ghost use Rattle.std.specs.List.{Contains};
 ghost use Rattle.fr_frame.specs.Changes.{IsInUse, SameTokens, Shows};
 ghost use Rattle.fr_frame.specs.Heap.{heap_of, marked, with_mark};
+ghost use Rattle.fr_store.specs.Numbers.{numbers};
+ghost use Rattle.fr_store.specs.Places.{AreOnce};
 ghost use Rattle.fr_store.specs.Stored.{child_slot, IsKept, IsStoredChild};
 
 use fr_frame::{SlotId, Slots};
@@ -57,6 +59,19 @@ impl FrameStore {
             places: Vec::new(alloc),
             positions: Vec::new(alloc),
         }
+    }
+
+    /// What the store takes its memory from.
+    pub(crate) fn alloc(&self) -> Global {
+        self.alloc
+    }
+
+    /// All places, in any order.
+    pub(crate) fn places(&self) -> &[SlotId]
+        ensures places { numbers result.now ≡ self.now }
+        ensures once { AreOnce self.now }
+    {
+        self.places.as_slice()
     }
 
     /// How many places there are.

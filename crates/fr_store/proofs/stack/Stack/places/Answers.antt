@@ -1,0 +1,1 @@
+use Rattle.fr_store.proofs.WalkLaws.{walk_of}
