@@ -6,6 +6,8 @@ pub mod LeaveLaws
 pub mod MoveLaws
 pub mod Moves
 pub mod Numbers
+pub mod Prunes
+pub mod PruneLaws
 pub mod StandLaws
 pub mod Stands
 pub mod Stored

@@ -1,0 +1,2 @@
+-- Laws of pruning, for proofs.
+use Rattle.std.proofs.Common.{◌≡◌, refl}
