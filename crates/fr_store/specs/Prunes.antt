@@ -1,11 +1,13 @@
 -- What releasing all that is stored beneath a place does, as contracts see it.
 use Rattle.std.specs.Prelude.{◌≡◌, ◌≢◌, ℕ, zero, suc, ◌+◌, ◌<◌, ◌≤◌, true, List, [], ◌∷◌, map, Option, Some, None, nat_eq}
-use Rattle.fr_model.specs.Tree.{Form, as_struct}
+use Rattle.fr_shape.specs.Released.{RoseBy}
 use Rattle.fr_plan.specs.TypePlan.{Plan}
+use Rattle.fr_frame.specs.declared.places.Slot.{Slot}
 use Rattle.fr_frame.specs.Bodies.{Body, entered_body, whole_body, begun_body}
 use Rattle.fr_frame.specs.Cells.{Cell, absent, given, placed}
-use Rattle.fr_frame.specs.Heap.{Node, Heap, depth_limit, with_body}
+use Rattle.fr_frame.specs.Heap.{Node, Heap, depth_limit, heap_of, slots_occur, with_body}
 use Rattle.fr_frame.specs.Kids.{Kid, gone, there, at, Plot, entered_plot, whole_plot, begun_plot, Kids, no_kids, kid, body_in, kid_of, HoldsIn, plot_occurs}
+use Rattle.fr_store.specs.Stored.{IsKept, StoresNoMore}
 use Rattle.fr_store.specs.Ways.{counts_if, uses_in, uses_among, AllMarkedIn}
 
 -- What lies beneath a place.
@@ -98,3 +100,13 @@ first_kids (suc i) (kid k ks) = kid k (first_kids i ks)
 abbrev pub depth_found : Option Node → ℕ
 depth_found (Some node) = node.depth
 depth_found None = 0
+
+-- the first so many children of the place in slot n are released
+pub record Pruning (i n : ℕ) (store : List ℕ) (before after : List Slot) (ledger now : List ℕ) : Type 0 where
+  pub heap : IsPruned (heap_of before) (heap_of after) n (pruned_first i) (first_kids i (beneath (heap_of before) n))
+  pub released : RoseBy (slotted_occur (first_kids i (beneath (heap_of before) n))) ledger now
+  pub tokens :
+      (t : ℕ) → slots_occur before t
+      ≡ slots_occur after t + slotted_occur (first_kids i (beneath (heap_of before) n)) t
+  pub kept : IsKept store after
+  pub marks : StoresNoMore before after
