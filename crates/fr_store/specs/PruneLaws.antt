@@ -1,29 +1,20 @@
--- Laws of pruning, for proofs: one child after another.
-use Rattle.std.proofs.Common.{◌≡◌, ◌≢◌, ◌⊎◌, ℕ, zero, suc, ◌+◌, ◌<◌, ◌≤◌, Bool, true, false, List, [], ◌∷◌, length, map, set, nat_eq, option_map, slice_get, Option, Some, None, inl, inr, refl, sym, ◌∙◌, ap, subst, arith}
-use Rattle.std.specs.Prelude.{IsSome, is_some, IsSomeAnd, if◌then◌else◌}
-use Rattle.std.specs.List.{Contains}
+-- Laws of pruning, for proofs: what lies beneath a place, and what is left of it once the first so many children are released.
+use Rattle.std.proofs.Common.{◌≡◌, ℕ, zero, suc, ◌+◌, ◌<◌, ◌≤◌, Bool, true, List, [], ◌∷◌, length, map, set, nat_eq, slice_get, Option, Some, None, refl, sym, ◌∙◌, ap, subst, arith}
+use Rattle.std.specs.Prelude.{if◌then◌else◌}
+use Rattle.std.specs.Option.{option_and_then}
 use Rattle.std.proofs.lemmas.Grind.{common_steps}
 use Rattle.std.proofs.lemmas.Bool.Decides.{nat_tests}
-use Rattle.fr_shape.specs.Released.{Room, RoseBy}
-use Rattle.fr_shape.specs.TokenLaws.{both, Room_same, Room_fewer, Room_risen, RoseBy_same, RoseBy_both, RoseBy_nothing}
 use Rattle.fr_model.specs.Paths.{step_as}
 use Rattle.fr_model.specs.Tree.{Form, as_struct, as_array}
 use Rattle.fr_plan.specs.declared.nodes.NodeId.{NodeId}
 use Rattle.fr_plan.specs.TypePlan.{Plan}
 use Rattle.fr_frame.specs.declared.places.FrameOwner.{FrameOwner}
-use Rattle.fr_frame.specs.declared.places.Slot.{Slot}
-use Rattle.std.specs.Option.{option_and_then}
 use Rattle.fr_frame.specs.Bodies.{Body, entered_body, whole_body, begun_body, body_occurs, cell_at, with_cell, unlinked, unlinked_by, IsClosed, AreUnplaced}
 use Rattle.fr_frame.specs.Cells.{Cell, absent, given, placed, cells_occur, slot_at, slot_of_cell}
-use Rattle.fr_frame.specs.Changes.{IfInUse, IsInUse, Shows}
-use Rattle.fr_frame.specs.Heap.{Node, Heap, depth_limit, with_slot, with_body, without, heap_of, slots_occur, marked, stored_in}
-use Rattle.fr_frame.specs.Kids.{Kid, gone, there, at, Plot, entered_plot, whole_plot, begun_plot, Kids, no_kids, kid, cell_of, cells_in, body_in, kid_in, kids_in, plot_in, kid_by, kid_from, kid_of, child_node, child_owner, Holds, HoldsIn, HoldsAll, plot_occurs, kids_occur}
-use Rattle.fr_store.specs.HoldLaws.{holds_at, holds_frame, read_back_in}
-use Rattle.fr_store.specs.Prunes.{kids_in_plot, kids_below, beneath, IsRooted, slotted_occurs, slotted_occur, emptied, pruned, IsPruned, cells_in_body, cells_found, emptied_first, pruned_first, first_kids, depth_found}
-use Rattle.fr_store.specs.Stored.{IsKept, StoresNoMore}
-use Rattle.fr_store.specs.TopLaws.{slot_here, slot_other, body_here, body_other}
-use Rattle.fr_store.specs.Ways.{count_kids, kid_nth, counts_if, uses, uses_in, uses_among, AllMarked, AllMarkedIn, AllMarkedAmong}
-use Rattle.fr_store.specs.WayLaws.{counts_same, same_or_other, uses_nth, marked_nth}
+use Rattle.fr_frame.specs.Heap.{Node, Heap, depth_limit}
+use Rattle.fr_frame.specs.Kids.{Kid, gone, there, at, Plot, entered_plot, whole_plot, begun_plot, Kids, no_kids, kid, cell_of, cells_in, body_in, kid_in, kids_in, plot_in, kid_by, kid_from, child_node, child_owner, Holds, HoldsIn, HoldsAll, plot_occurs, kids_occur}
+use Rattle.fr_store.specs.Prunes.{kids_in_plot, kids_below, beneath, IsRooted, slotted_occurs, slotted_occur, emptied, pruned, cells_in_body, emptied_first, pruned_first, first_kids}
+use Rattle.fr_store.specs.Ways.{kid_nth, uses, uses_in, uses_among, AllMarkedIn, AllMarkedAmong}
 
 -- Reading back, at more levels than need be.
 
@@ -79,38 +70,38 @@ beneath_is heap n rooted = go (one_level depth_limit 0 (omega arith) (omega (ari
 
 -- Children of one place.
 
-plot_uses : (plot : Plot) (m : ℕ) → uses_in plot m ≡ uses_among (kids_in_plot plot) m
+pub plot_uses : (plot : Plot) (m : ℕ) → uses_in plot m ≡ uses_among (kids_in_plot plot) m
 plot_uses entered_plot m = refl
 plot_uses (whole_plot v) m = refl
 plot_uses (begun_plot form kids) m = refl
 
-plot_marked : (plot : Plot) → AllMarkedIn true plot → AllMarkedAmong true (kids_in_plot plot)
+pub plot_marked : (plot : Plot) → AllMarkedIn true plot → AllMarkedAmong true (kids_in_plot plot)
 plot_marked entered_plot all = tt
 plot_marked (whole_plot v) all = tt
 plot_marked (begun_plot form kids) all = all
 
-plot_cells : (plot : Plot) → cells_in_body (body_in plot) ≡ cells_in (kids_in_plot plot)
+pub plot_cells : (plot : Plot) → cells_in_body (body_in plot) ≡ cells_in (kids_in_plot plot)
 plot_cells entered_plot = refl
 plot_cells (whole_plot v) = refl
 plot_cells (begun_plot form kids) = refl
 
-kids_tokens : (ks : Kids) (t : ℕ) → kids_occur ks t ≡ slotted_occur ks t + cells_occur (cells_in ks) t
-kids_tokens no_kids t = refl
-kids_tokens (kid gone ks) t = kids_tokens ks t
+pub kids_tokens : (ks : Kids) (t : ℕ) → kids_occur ks t ≡ slotted_occur ks t + cells_occur (cells_in ks) t
+kids_tokens no_kids t = omega arith
+kids_tokens (kid gone ks) t = omega (arith, kids_tokens ks t)
 kids_tokens (kid (there v) ks) t = omega (arith, kids_tokens ks t)
 kids_tokens (kid (at slot stored plot) ks) t = omega (arith, kids_tokens ks t)
 
 -- the tokens of a place are those in slots beneath it and its own
 pub plot_tokens : (plot : Plot) (t : ℕ) → plot_occurs plot t ≡ slotted_occur (kids_in_plot plot) t + body_occurs (body_in plot) t
-plot_tokens entered_plot t = refl
-plot_tokens (whole_plot v) t = refl
+plot_tokens entered_plot t = omega arith
+plot_tokens (whole_plot v) t = omega arith
 plot_tokens (begun_plot form kids) t = kids_tokens kids t
 
 emptied_tokens : (cs : List Cell) (t : ℕ) → cells_occur (map emptied cs) t ≡ cells_occur cs t
 emptied_tokens [] t = refl
-emptied_tokens (absent ∷ cs) t = emptied_tokens cs t
+emptied_tokens (absent ∷ cs) t = omega (arith, emptied_tokens cs t)
 emptied_tokens (given v ∷ cs) t = omega (arith, emptied_tokens cs t)
-emptied_tokens (placed n ∷ cs) t = emptied_tokens cs t
+emptied_tokens (placed n ∷ cs) t = omega (arith, emptied_tokens cs t)
 
 pub pruned_tokens : (body : Body) (t : ℕ) → body_occurs (pruned body) t ≡ body_occurs body t
 pruned_tokens entered_body t = refl
@@ -121,33 +112,33 @@ pruned_tokens (begun_body form cells) t = emptied_tokens cells t
 
 pub first_uses : (i : ℕ) (ks : Kids) (m : ℕ)
     → uses_among (first_kids (suc i) ks) m ≡ uses_among (first_kids i ks) m + uses (kid_nth i ks) m
-first_uses i no_kids m = refl
+first_uses i no_kids m = omega arith
 first_uses zero (kid k no_kids) m = omega arith
 first_uses zero (kid k (kid l ks)) m = omega arith
 first_uses (suc i) (kid k ks) m = omega (arith, first_uses i ks m)
 
 pub first_tokens : (i : ℕ) (ks : Kids) (t : ℕ)
     → slotted_occur (first_kids (suc i) ks) t ≡ slotted_occur (first_kids i ks) t + slotted_occurs (kid_nth i ks) t
-first_tokens i no_kids t = refl
+first_tokens i no_kids t = omega arith
 first_tokens zero (kid k no_kids) t = omega arith
 first_tokens zero (kid k (kid l ks)) t = omega arith
 first_tokens (suc i) (kid k ks) t = omega (arith, first_tokens i ks t)
 
-uses_first : (i : ℕ) (ks : Kids) (m : ℕ) → uses_among (first_kids i ks) m + uses (kid_nth i ks) m ≤ uses_among ks m
+pub uses_first : (i : ℕ) (ks : Kids) (m : ℕ) → uses_among (first_kids i ks) m + uses (kid_nth i ks) m ≤ uses_among ks m
 uses_first i no_kids m = omega arith
 uses_first zero (kid k ks) m = omega arith
 uses_first (suc i) (kid k ks) m = omega (arith, uses_first i ks m)
 
-tokens_first : (i : ℕ) (ks : Kids) (t : ℕ) → slotted_occur (first_kids i ks) t + slotted_occurs (kid_nth i ks) t ≤ slotted_occur ks t
+pub tokens_first : (i : ℕ) (ks : Kids) (t : ℕ) → slotted_occur (first_kids i ks) t + slotted_occurs (kid_nth i ks) t ≤ slotted_occur ks t
 tokens_first i no_kids t = omega arith
 tokens_first zero (kid k ks) t = omega arith
 tokens_first (suc i) (kid k ks) t = omega (arith, tokens_first i ks t)
 
-first_all : (ks : Kids) → first_kids (length (cells_in ks)) ks ≡ ks
+pub first_all : (ks : Kids) → first_kids (length (cells_in ks)) ks ≡ ks
 first_all no_kids = refl
 first_all (kid k ks) = ap (λ (xs : Kids). kid k xs) (first_all ks)
 
-first_none : (ks : Kids) → first_kids 0 ks ≡ no_kids
+pub first_none : (ks : Kids) → first_kids 0 ks ≡ no_kids
 first_none no_kids = refl
 first_none (kid k ks) = refl
 
@@ -164,7 +155,7 @@ emptied_get i [] = refl
 emptied_get zero (c ∷ cs) = refl
 emptied_get (suc i) (c ∷ cs) = emptied_get i cs
 
-emptied_length : (i : ℕ) (cs : List Cell) → length (emptied_first i cs) ≡ length cs
+pub emptied_length : (i : ℕ) (cs : List Cell) → length (emptied_first i cs) ≡ length cs
 emptied_length i [] = refl
 emptied_length zero (c ∷ cs) = refl
 emptied_length (suc i) (c ∷ cs) = ap suc (emptied_length i cs)

@@ -1,4 +1,4 @@
-use Rattle.fr_store.specs.PruneLaws.{beneath_is}
+use Rattle.fr_store.proofs.PruneSteps.{child_of}
 use Rattle.fr_store.proofs.store.FrameStore.+prune.Goals as goal
 
 pub returns-then-is_empty-clause-pruned : goal.returns-then-is_empty-clause-pruned
