@@ -154,7 +154,7 @@ module _ (before mid : Heap) (n : ℕ) (rooted : IsRooted before n) (i : ℕ)
     child_uses : (x : ℕ) → uses (kid_nth i (beneath before n)) x ≡ counts_if (nat_eq m x) + uses_among (beneath mid m) x
     child_uses x = ap (λ (k : Kid). uses k x) child.is ∙ omega (arith, beneath_uses mid m child.below x)
 
-    child_tokens : (t : ℕ) → slotted_occurs (kid_nth i (beneath before n)) t
+    pub child_tokens : (t : ℕ) → slotted_occurs (kid_nth i (beneath before n)) t
         ≡ slotted_occur (beneath mid m) t + body_occurs child.below.found.body t
     child_tokens t =
         ap (λ (k : Kid). slotted_occurs k t) child.is ∙ plot_tokens child.below.plot t
@@ -167,7 +167,7 @@ module _ (before mid : Heap) (n : ℕ) (rooted : IsRooted before n) (i : ℕ)
     -- all that the child has beneath it and itself has room
     module _ (ledger now : List ℕ) (room : Room (slotted_occur (beneath before n)) ledger)
         (rose : RoseBy (slotted_occur (first_kids i (beneath before n))) ledger now) where
-      child_room : Room (both (slotted_occur (beneath mid m)) (body_occurs child.below.found.body)) now
+      pub child_room : Room (both (slotted_occur (beneath mid m)) (body_occurs child.below.found.body)) now
       child_room =
           Room_risen (slotted_occur (first_kids i (beneath before n)))
           (both (slotted_occur (beneath mid m)) (body_occurs child.below.found.body)) ledger now
@@ -252,7 +252,7 @@ module _ (before mid : Heap) (n : ℕ) (rooted : IsRooted before n) (i : ℕ)
                 after_other x a ne ∙ later.rest x ne (omega (arith, first_now x)) ∙ so_far.rest x a (omega (arith, first_now x))
 
         -- marks
-        after_marked : (x : ℕ) → x ≢ m → marked after x ≡ marked late x
+        pub after_marked : (x : ℕ) → x ≢ m → marked after x ≡ marked late x
         after_marked x ne = go (same_or_other x n)
           where
             go : (x ≡ n) ⊎ (x ≢ n) → marked after x ≡ marked late x
@@ -260,5 +260,5 @@ module _ (before mid : Heap) (n : ℕ) (rooted : IsRooted before n) (i : ℕ)
                 ap (marked after) e ∙ ap stored_in after_here ∙ sym (ap stored_in above_here) ∙ ap (marked late) (sym e)
             go (inr other) = ap stored_in (after_other x other ne)
 
-        after_unmarked : marked after m ≡ false
+        pub after_unmarked : marked after m ≡ false
         after_unmarked = ap stored_in after_free
