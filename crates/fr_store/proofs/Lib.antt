@@ -1,3 +1,5 @@
+pub mod IndexLaws
+pub mod KeptLaws
 pub mod LastLaws
 pub mod PruneSteps
 pub mod PruneTurns

@@ -14,7 +14,7 @@ use Rattle.fr_frame.specs.declared.places.Slot.{Slot}
 use Rattle.fr_frame.specs.Bodies.{Body, entered_body, whole_body, begun_body, value_of, body_occurs, cell_at, with_cell, AreUnplaced, IsClosed}
 use Rattle.fr_frame.specs.Cells.{Cell, absent, given, placed, cells_occur, values_of}
 use Rattle.fr_frame.specs.Changes.{IfInUse, IsInUse, Shows}
-use Rattle.fr_frame.specs.Heap.{Node, with_body, without, heap_of, slots_occur}
+use Rattle.fr_frame.specs.Heap.{Node, with_body, without, heap_of, marked, stored_in, slots_occur}
 use Rattle.fr_frame.specs.Kids.{Kid, gone, there, at, Plot, begun_plot, Kids, no_kids, kid, tree_of, cell_of, cells_in, body_in, kid_occurs, plot_occurs, child_owner}
 use Rattle.fr_store.specs.LeaveLaws.{Above, above_of, gone_above, gone_is, left_top, owner_append, put_append, above_append, up_append, cell_of_child, with_child}
 use Rattle.fr_store.specs.MoveLaws.{same_last, same_front, open_at_from, open_strict}
@@ -22,9 +22,13 @@ use Rattle.fr_store.specs.Moves.{IsOpenAt, IsStepTo, IsNumbered, cursor_in, tree
 use Rattle.fr_store.specs.Numbers.{IsLast}
 use Rattle.fr_store.specs.Stands.{Stands, IsOpen, kid_shown}
 use Rattle.fr_store.specs.Stored.{NothingStored}
+<<<<<<< HEAD
 use Rattle.fr_store.specs.TopLaws.{Top, top_of, closed_top, keeps_closed, top_replaced, body_here, body_other, closed_occur}
+=======
+use Rattle.fr_store.specs.TopLaws.{Top, top_of, closed_top, keeps_closed, top_replaced, body_here, body_other, closed_occur, marked_body, unmarked_without}
+>>>>>>> abe27c394dbd10107045723090fa733df36665dd
 use Rattle.fr_store.specs.Ways.{kid_at, put_nth, put_below, put_at, slots_above, NoneStored, Leads, Reaches, node_along, owner_along, owner_below}
-use Rattle.fr_store.specs.WayLaws.{nth_put, count_put, leads_reach, marked_put_at, occurs_put_at, tree_put_at, kid_put_at, put_at_twice, put_below_twice}
+use Rattle.fr_store.specs.WayLaws.{nth_put, count_put, leads_reach, occurs_put_at, tree_put_at, kid_put_at, put_at_twice, put_below_twice}
 
 -- The value that a place comes to has its tokens.
 
@@ -113,9 +117,6 @@ module _ (plan : Plan) (slots : List Slot) (stack : List ℕ) (open_now : IsOpen
       (sym (same_front (slots_above (above ++ i ∷ []) kid_now) next top_now.slot n (sym top_now.last ∙ last))
       ∙ above_append above i kid_now stands_now.leads above_now.slot false (begun_plot above_now.form above_now.kids)
       above_now.is)
-
-  pub strict_left : NoneStored (put_at (above ++ i ∷ []) gone kid_now)
-  strict_left = marked_put_at false (above ++ i ∷ []) gone kid_now strict_now tt
 
   reach_above : Reaches above kid_now
   reach_above = leads_reach above (i ∷ []) kid_now stands_now.leads
@@ -265,6 +266,18 @@ module _ (plan : Plan) (slots : List Slot) (stack : List ℕ) (open_now : IsOpen
         ∙ put_at_twice above (gone_above above i kid_now above_now) (at top_left.slot false new) kid_now reach_above
         ∙ ap (λ (x : Kid). put_at above x kid_now) (sym one ∙ two) ∙ sym (put_append above (i ∷ []) (there v) kid_now))
         ended
+
+    -- nothing is stored
+    pub strict_ended : (after : List Slot) (m : ℕ) (change : Body → Body) → Shows after (with_body (heap_of mid) m change)
+        → NothingStored after
+    strict_ended after m change puts x =
+        ap stored_in (puts x) ∙ marked_body (heap_of mid) m change x
+        ∙ go (heap_of slots n) shows
+      where
+        go : (found : Option Node) → IsSomeAnd found (λ (at : Node). Shows mid (without (heap_of slots) n at.owner))
+            → marked (heap_of mid) x ≡ false
+        go (Some found) so = ap stored_in (so x) ∙ unmarked_without (heap_of slots) n found.owner x (nothing x)
+        go None so = absurd so
 
     pub not_empty : next ≡ [] → ⊥
     not_empty none = go (slots_above above (put_at (above ++ i ∷ []) gone kid_now)) (sym none ∙ top_left.last)

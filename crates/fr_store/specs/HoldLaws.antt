@@ -160,6 +160,28 @@ replaced_nth plan heap other node slot form first depth (kid k ks) (suc i) new s
   replaced_nth plan heap other node slot form (suc first) depth ks i new step (λ n h. agree n (omega arith)) holds.1,
 )
 
+<<<<<<< HEAD
+=======
+-- another child in the stead of one, the others as they were
+pub holds_put_nth : (plan : Plan) (heap other : Heap) (node : NodeId) (slot : ℕ) (form : Form) (first depth : ℕ) (ks : Kids)
+    (i m : ℕ) (new : Kid) → m ≡ first + i → ((n : ℕ) → uses (kid_nth i ks) n < uses_among ks n → other n ≡ heap n)
+    → HoldsAll plan heap node slot form first depth ks
+    → Holds plan other (child_node plan node form m) (child_owner slot form m) depth new
+    → HoldsAll plan other node slot form first depth (put_nth i new ks)
+holds_put_nth plan heap other node slot form first depth no_kids i m new e agree holds is = tt
+holds_put_nth plan heap other node slot form first depth (kid k ks) zero m new e agree holds is =
+    let same : m ≡ first = omega arith in (
+      subst (λ (j : ℕ). Holds plan other (child_node plan node form j) (child_owner slot form j) depth new) same is,
+      holds_frame_among plan heap other node slot form (suc first) depth ks holds.1 (λ n h. agree n (omega arith)),
+    )
+holds_put_nth plan heap other node slot form first depth (kid k ks) (suc i) m new e agree holds is = (
+  holds_frame plan heap other (child_node plan node form first) (child_owner slot form first) depth k holds.0
+      (λ n h. agree n (omega (arith, uses_nth i ks n))),
+  holds_put_nth plan heap other node slot form (suc first) depth ks i m new (omega arith) (λ n h. agree n (omega arith))
+      holds.1 is,
+)
+
+>>>>>>> abe27c394dbd10107045723090fa733df36665dd
 pub cells_put_nth : (i : ℕ) (new : Kid) (ks : Kids) → cell_of new ≡ cell_of (kid_nth i ks)
     → cells_in (put_nth i new ks) ≡ cells_in ks
 cells_put_nth i new no_kids same = refl

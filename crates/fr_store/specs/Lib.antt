@@ -1,4 +1,6 @@
+pub mod AgainLaws
 pub mod BeginLaws
+pub mod ChildLaws
 pub mod EndLaws
 pub mod EnterLaws
 pub mod HoldLaws
@@ -10,6 +12,7 @@ pub mod Prunes
 pub mod PruneLaws
 pub mod StandLaws
 pub mod Stands
+pub mod StoreLaws
 pub mod Stored
 pub mod TopLaws
 pub mod Turns

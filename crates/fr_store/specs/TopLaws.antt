@@ -1,22 +1,23 @@
 -- Laws of the place on top of the stack, for proofs: what it is, and what a change of it does.
-use Rattle.std.proofs.Common.{◌≡◌, ◌≢◌, ◌⊎◌, ℕ, suc, ◌+◌, ◌<◌, ◌≤◌, Bool, true, false, List, [], ◌∷◌, ◌++◌, append-nil, length, nat_eq, option_map, Option, Some, inl, inr, refl, sym, ◌∙◌, ap, subst, arith}
+use Rattle.std.proofs.Common.{◌≡◌, ◌≢◌, ◌⊎◌, ℕ, suc, ◌+◌, ◌<◌, ◌≤◌, Bool, true, false, List, [], ◌∷◌, ◌++◌, append-nil, length, nat_eq, option_map, Option, Some, None, inl, inr, refl, sym, ◌∙◌, ap, subst, arith}
 use Rattle.std.specs.Prelude.{if◌then◌else◌}
 use Rattle.std.proofs.lemmas.Grind.{common_steps}
 use Rattle.std.proofs.lemmas.Bool.Decides.{nat_tests}
+use Rattle.fr_shape.specs.declared.shape.Def.{Def}
 use Rattle.fr_model.specs.Places.{Place}
 use Rattle.fr_model.specs.Tree.{Form, Trees, begun, branch}
 use Rattle.fr_plan.specs.declared.nodes.NodeId.{NodeId}
 use Rattle.fr_plan.specs.TypePlan.{Plan}
 use Rattle.fr_frame.specs.declared.places.FrameOwner.{FrameOwner}
-use Rattle.fr_frame.specs.Bodies.{Body, body_occurs, IsClosed, AreUnplaced, own_tree, trees_of}
+use Rattle.fr_frame.specs.Bodies.{Body, body_occurs, linked, unlinked, IsClosed, AreUnplaced, own_tree, trees_of}
 use Rattle.fr_frame.specs.Cells.{cells_occur}
-use Rattle.fr_frame.specs.Heap.{Node, Heap, with_slot, with_body, depth_limit}
+use Rattle.fr_frame.specs.Heap.{Node, Heap, with_slot, with_body, without, with_entered, entered_node, links, marked, stored_in, depth_limit}
 use Rattle.fr_frame.specs.Kids.{Kid, gone, there, at, Plot, entered_plot, whole_plot, begun_plot, Kids, no_kids, kid, tree_of, tree_in, trees_in, cell_of, cells_in, body_in, plot_occurs, kids_occur, Holds, HoldsIn, HoldsAll}
 use Rattle.fr_store.specs.HoldLaws.{Replaces, holds_at, holds_frame_in}
 use Rattle.fr_store.specs.StandLaws.{stands_change}
 use Rattle.fr_store.specs.Stands.{Stands}
 use Rattle.fr_store.specs.Ways.{kid_at, put_at, slots_along, slots_above, counts_if, uses, uses_in, uses_among, AllMarked, AllMarkedIn, AllMarkedAmong, NoneStored, Leads, node_along, owner_along}
-use Rattle.fr_store.specs.WayLaws.{counts_same, leads_reach, leads_at, along_at, marked_at, uses_at}
+use Rattle.fr_store.specs.WayLaws.{counts_same, same_or_other, leads_reach, leads_at, along_at, marked_at, uses_at}
 
 -- Heaps.
 
@@ -38,6 +39,57 @@ body_here heap n change found is =
 
 pub body_other : (heap : Heap) (n : ℕ) (change : Body → Body) (m : ℕ) → m ≢ n → with_body heap n change m ≡ heap m
 body_other heap n change m ne = slot_other heap n (option_map (λ (x : Node). record x { body = change x.body }) (heap n)) m ne
+
+-- Marks.
+
+pub marked_body : (heap : Heap) (n : ℕ) (change : Body → Body) (m : ℕ) → marked (with_body heap n change) m ≡ marked heap m
+marked_body heap n change m = go (same_or_other m n)
+  where
+    kept : (found : Option Node)
+        → stored_in (option_map (λ (x : Node). record x { body = change x.body }) found) ≡ stored_in found
+    kept (Some found) = refl
+    kept None = refl
+
+    go : (m ≡ n) ⊎ (m ≢ n) → marked (with_body heap n change) m ≡ marked heap m
+    go (inl e) =
+        ap (λ (x : ℕ). marked (with_body heap n change) x) e
+        ∙ ap stored_in (slot_here heap n (option_map (λ (x : Node). record x { body = change x.body }) (heap n)))
+        ∙ kept (heap n) ∙ ap (marked heap) (sym e)
+    go (inr ne) = ap stored_in (body_other heap n change m ne)
+
+-- a slot that is free again, or holds a place that isn't stored
+pub unmarked_slot : (heap : Heap) (n : ℕ) (found : Option Node) (m : ℕ) → stored_in found ≡ false → marked heap m ≡ false
+    → marked (with_slot heap n found) m ≡ false
+unmarked_slot heap n found m is unmarked = go (same_or_other m n)
+  where
+    go : (m ≡ n) ⊎ (m ≢ n) → marked (with_slot heap n found) m ≡ false
+    go (inl e) =
+        ap (λ (x : ℕ). marked (with_slot heap n found) x) e ∙ ap stored_in (slot_here heap n found) ∙ is
+    go (inr ne) = ap stored_in (slot_other heap n found m ne) ∙ unmarked
+
+pub unmarked_without : (heap : Heap) (n : ℕ) (owner : FrameOwner) (m : ℕ) → marked heap m ≡ false
+    → marked (without heap n owner) m ≡ false
+unmarked_without heap n FrameOwner.Root m unmarked = unmarked_slot heap n None m refl unmarked
+unmarked_without heap n (FrameOwner.Child parent step) m unmarked =
+    marked_body (with_slot heap n None) parent.0 (unlinked n step) m ∙ unmarked_slot heap n None m refl unmarked
+
+marked_links : (heap : Heap) (n : ℕ) (owner : FrameOwner) (m : ℕ) → marked (links owner n heap) m ≡ marked heap m
+marked_links heap n FrameOwner.Root m = refl
+marked_links heap n (FrameOwner.Child parent step) m = marked_body heap parent.0 (linked n step) m
+
+-- a place that enters a free slot isn't stored
+pub marked_entered : (def : Def) (heap : Heap) (node : NodeId) (owner : FrameOwner) (n m : ℕ) → heap n ≡ None
+    → marked (with_entered def heap node owner n) m ≡ marked heap m
+marked_entered def heap node owner n m free = go (same_or_other m n)
+  where
+    go : (m ≡ n) ⊎ (m ≢ n) → marked (with_entered def heap node owner n) m ≡ marked heap m
+    go (inl e) =
+        ap (λ (x : ℕ). marked (with_entered def heap node owner n) x) e
+        ∙ ap stored_in (slot_here (links owner n heap) n (Some (entered_node def heap node owner)))
+        ∙ ap stored_in (sym free) ∙ ap (marked heap) (sym e)
+    go (inr ne) =
+        ap stored_in (slot_other (links owner n heap) n (Some (entered_node def heap node owner)) m ne)
+        ∙ marked_links heap n owner m
 
 -- Places none of whose children is in a slot.
 

@@ -123,9 +123,9 @@ impl FrameStore {
         ensures slots_kept { OnErr result (slots.new ≡ slots.old) }
         ensures refused { OnErr result (self.new ≡ self.old) }
     {
-        let _slots = slots;
-        let _place = place;
-        Err(OutOfMemory)
+        self.append(place)?;
+        place.mark(slots, true);
+        Ok(())
     }
 
     /// Takes the child to which a step leads out of the store, where it is stored. Takes no memory.
@@ -142,10 +142,13 @@ impl FrameStore {
         ensures kept { IsKept self.new slots.new }
         ensures tokens { SameTokens slots.old slots.new }
     {
-        let _slots = slots;
-        let _parent = parent;
-        let _step = step;
-        None
+        let child = parent.child(slots, step)?;
+        if !child.is_stored(slots) {
+            return None;
+        }
+        self.remove(child);
+        child.mark(slots, false);
+        Some(child)
     }
 
     /// Whether the child to which a step leads is stored.
