@@ -22,11 +22,7 @@ use Rattle.fr_store.specs.Moves.{IsOpenAt, IsStepTo, IsNumbered, cursor_in, tree
 use Rattle.fr_store.specs.Numbers.{IsLast}
 use Rattle.fr_store.specs.Stands.{Stands, IsOpen, kid_shown}
 use Rattle.fr_store.specs.Stored.{NothingStored}
-<<<<<<< HEAD
-use Rattle.fr_store.specs.TopLaws.{Top, top_of, closed_top, keeps_closed, top_replaced, body_here, body_other, closed_occur}
-=======
 use Rattle.fr_store.specs.TopLaws.{Top, top_of, closed_top, keeps_closed, top_replaced, body_here, body_other, closed_occur, marked_body, unmarked_without}
->>>>>>> abe27c394dbd10107045723090fa733df36665dd
 use Rattle.fr_store.specs.Ways.{kid_at, put_nth, put_below, put_at, slots_above, NoneStored, Leads, Reaches, node_along, owner_along, owner_below}
 use Rattle.fr_store.specs.WayLaws.{nth_put, count_put, leads_reach, occurs_put_at, tree_put_at, kid_put_at, put_at_twice, put_below_twice}
 

@@ -160,8 +160,6 @@ replaced_nth plan heap other node slot form first depth (kid k ks) (suc i) new s
   replaced_nth plan heap other node slot form (suc first) depth ks i new step (λ n h. agree n (omega arith)) holds.1,
 )
 
-<<<<<<< HEAD
-=======
 -- another child in the stead of one, the others as they were
 pub holds_put_nth : (plan : Plan) (heap other : Heap) (node : NodeId) (slot : ℕ) (form : Form) (first depth : ℕ) (ks : Kids)
     (i m : ℕ) (new : Kid) → m ≡ first + i → ((n : ℕ) → uses (kid_nth i ks) n < uses_among ks n → other n ≡ heap n)
@@ -181,7 +179,6 @@ holds_put_nth plan heap other node slot form first depth (kid k ks) (suc i) m ne
       holds.1 is,
 )
 
->>>>>>> abe27c394dbd10107045723090fa733df36665dd
 pub cells_put_nth : (i : ℕ) (new : Kid) (ks : Kids) → cell_of new ≡ cell_of (kid_nth i ks)
     → cells_in (put_nth i new ks) ≡ cells_in ks
 cells_put_nth i new no_kids same = refl
