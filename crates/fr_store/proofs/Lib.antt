@@ -3,3 +3,4 @@ pub mod KeptLaws
 pub mod LastLaws
 pub mod PruneSteps
 pub mod PruneTurns
+pub mod SetLaws
