@@ -1,25 +1,18 @@
 -- One child after another leaves its slot.
-use Rattle.std.proofs.Common.{◌≡◌, ◌≢◌, ◌⊎◌, ℕ, zero, suc, ◌+◌, ◌-◌, ◌<◌, ◌≤◌, Bool, true, false, List, [], length, nat_eq, option_map, Option, Some, None, inl, inr, refl, sym, ◌∙◌, ap, subst, arith}
-use Rattle.std.specs.Prelude.{◌↔◌, is_some, IsSomeAnd}
-use Rattle.std.specs.List.{Contains}
+use Rattle.std.proofs.Common.{◌≡◌, ◌≢◌, ◌⊎◌, ℕ, zero, suc, ◌+◌, ◌-◌, ◌<◌, ◌≤◌, true, false, List, nat_eq, Option, Some, None, inl, inr, refl, sym, ◌∙◌, ap, subst, arith}
 use Rattle.fr_shape.specs.Released.{Room, RoseBy}
-use Rattle.fr_shape.specs.TokenLaws.{both, nothing, Room_fewer, Room_left, Room_risen, RoseBy_same, RoseBy_both, RoseBy_nothing}
+use Rattle.fr_shape.specs.TokenLaws.{both, Room_fewer, Room_left, Room_risen}
 use Rattle.fr_model.specs.Paths.{step_as}
 use Rattle.fr_model.specs.Tree.{Form}
-use Rattle.fr_plan.specs.TypePlan.{Plan}
-use Rattle.fr_frame.specs.declared.places.FrameOwner.{FrameOwner}
-use Rattle.fr_frame.specs.declared.places.Slot.{Slot}
-use Rattle.fr_frame.specs.Bodies.{Body, begun_body, body_occurs, unlinked, IsClosed}
+use Rattle.fr_frame.specs.Bodies.{Body, begun_body, body_occurs, unlinked}
 use Rattle.fr_frame.specs.Cells.{Cell, slot_at}
-use Rattle.fr_frame.specs.Changes.{IfInUse, IsInUse, Shows}
-use Rattle.fr_frame.specs.Heap.{Node, Heap, depth_limit, with_slot, with_body, without, heap_of, slots_occur, marked, stored_in}
-use Rattle.fr_frame.specs.Kids.{Kid, at, Plot, entered_plot, whole_plot, begun_plot, Kids, no_kids, kid, cells_in, body_in, child_node, child_owner, Holds, HoldsIn, plot_occurs}
-use Rattle.fr_store.specs.HoldLaws.{AgreeOn, holds_frame, none_stored}
-use Rattle.fr_store.specs.PruneLaws.{beneath_is, plot_uses, plot_marked, plot_cells, plot_tokens, pruned_tokens, first_uses, first_tokens, uses_first, tokens_first, first_all, first_none, pruned_kept, pruned_none, pruned_all, pruned_slot, unlinked_first, closed_pruned, kid_in_slot, cell_in_slot, slotless_uses, slotless_tokens, held_nth}
-use Rattle.fr_store.specs.Prunes.{kids_in_plot, beneath, IsRooted, slotted_occurs, slotted_occur, pruned, IsPruned, cells_in_body, cells_found, pruned_first, first_kids, depth_found, Pruning}
-use Rattle.fr_store.specs.Stored.{IsKept, StoresNoMore}
-use Rattle.fr_store.specs.TopLaws.{slot_here, slot_other, body_here, body_other, closed_by_marks, closed_uses, closed_occur}
-use Rattle.fr_store.specs.Ways.{kid_nth, counts_if, uses, uses_in, uses_among, AllMarked, AllMarkedIn, AllMarkedAmong, NoneStored}
+use Rattle.fr_frame.specs.Heap.{Node, Heap, depth_limit, with_slot, without, marked, stored_in}
+use Rattle.fr_frame.specs.Kids.{Kid, at, Plot, entered_plot, whole_plot, begun_plot, Kids, no_kids, kid, cells_in, body_in, child_node, child_owner, Holds, HoldsIn}
+use Rattle.fr_store.specs.HoldLaws.{AgreeOn, holds_frame}
+use Rattle.fr_store.specs.PruneLaws.{pruned_first, first_kids, depth_found, beneath_is, plot_uses, plot_marked, plot_cells, plot_tokens, first_uses, uses_first, tokens_first, pruned_slot, unlinked_first, kid_in_slot, cell_in_slot, held_nth}
+use Rattle.fr_store.specs.Prunes.{kids_in_plot, beneath, IsRooted, slotted_occurs, slotted_occur, pruned, IsPruned, cells_in_body, cells_found}
+use Rattle.fr_store.specs.TopLaws.{slot_here, slot_other, body_here, body_other}
+use Rattle.fr_store.specs.Ways.{kid_nth, counts_if, uses, uses_in, uses_among, AllMarked, AllMarkedAmong}
 use Rattle.fr_store.specs.WayLaws.{counts_same, counts_other, same_or_other}
 
 -- What lies beneath the place.

@@ -1,5 +1,5 @@
 -- The turns of the loop that prunes: slots, store and ledger after the first so many children.
-use Rattle.std.proofs.Common.{◌≡◌, ◌≢◌, ◌⊎◌, ℕ, suc, ◌+◌, ◌-◌, ◌<◌, Bool, true, false, List, [], length, map, Option, Some, None, inl, inr, refl, sym, ◌∙◌, ap, subst, arith}
+use Rattle.std.proofs.Common.{◌≡◌, ◌≢◌, ◌⊎◌, ℕ, suc, ◌+◌, ◌-◌, ◌<◌, Bool, true, false, List, [], length, Option, Some, None, inl, inr, refl, sym, ◌∙◌, ap, subst, arith}
 use Rattle.std.specs.Prelude.{◌↔◌, is_some, IsSomeAnd}
 use Rattle.std.specs.List.{Contains}
 use Rattle.fr_shape.specs.Released.{Room, RoseBy}
@@ -9,14 +9,14 @@ use Rattle.fr_frame.specs.declared.places.Slot.{Slot}
 use Rattle.fr_frame.specs.Bodies.{Body, body_occurs, IsClosed}
 use Rattle.fr_frame.specs.Cells.{Cell, slot_at}
 use Rattle.fr_frame.specs.Changes.{IfInUse, IsInUse, Shows}
-use Rattle.fr_frame.specs.Heap.{Node, Heap, depth_limit, with_body, without, heap_of, slots_occur, marked, stored_in}
-use Rattle.fr_frame.specs.Kids.{Kid, at, Kids, no_kids, cells_in, body_in, child_owner, Holds, plot_occurs}
+use Rattle.fr_frame.specs.Heap.{Node, depth_limit, without, heap_of, slots_occur, marked, stored_in}
+use Rattle.fr_frame.specs.Kids.{at, Kids, no_kids, cells_in, body_in, child_owner}
 use Rattle.fr_store.specs.HoldLaws.{none_stored}
-use Rattle.fr_store.specs.PruneLaws.{beneath_is, plot_tokens, pruned_tokens, first_uses, first_tokens, first_all, first_none, pruned_kept, pruned_none, pruned_all, closed_pruned, slotless_uses, slotless_tokens}
-use Rattle.fr_store.specs.Prunes.{beneath, IsRooted, slotted_occurs, slotted_occur, pruned, IsPruned, cells_in_body, cells_found, pruned_first, first_kids, depth_found, Pruning}
+use Rattle.fr_store.specs.PruneLaws.{pruned_first, first_kids, depth_found, Pruning, beneath_is, plot_tokens, pruned_tokens, first_uses, first_tokens, first_all, first_none, pruned_kept, pruned_none, pruned_all, closed_pruned, slotless_uses, slotless_tokens}
+use Rattle.fr_store.specs.Prunes.{beneath, IsRooted, slotted_occur, pruned, IsPruned, cells_in_body, cells_found}
 use Rattle.fr_store.specs.Stored.{IsKept, StoresNoMore}
 use Rattle.fr_store.specs.TopLaws.{body_here, closed_by_marks, closed_uses, closed_occur}
-use Rattle.fr_store.specs.Ways.{kid_nth, uses, uses_among, NoneStored}
+use Rattle.fr_store.specs.Ways.{uses_among}
 use Rattle.fr_store.specs.WayLaws.{same_or_other}
 use Rattle.fr_store.proofs.PruneSteps.{beneath_uses, beneath_cells, Child, slot_is, child_of, child_falls, child_tokens, child_room, below_room, child_here, child_left, after_marked, after_unmarked}
 

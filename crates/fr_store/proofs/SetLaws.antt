@@ -1,5 +1,5 @@
 -- A whole value at the top, after all that is stored beneath it was released.
-use Rattle.std.proofs.Common.{◌≡◌, ◌≢◌, ◌⊎◌, ℕ, suc, ◌+◌, ◌<◌, ◌≤◌, Bool, true, false, List, [], ◌∷◌, ◌++◌, append-nil, length, nat_eq, Option, Some, inl, inr, refl, sym, ◌∙◌, ap, subst, arith}
+use Rattle.std.proofs.Common.{◌≡◌, ◌≢◌, ◌⊎◌, ℕ, suc, ◌+◌, ◌≤◌, false, List, [], ◌∷◌, ◌++◌, append-nil, length, nat_eq, Option, Some, inl, inr, refl, sym, ◌∙◌, ap, subst, arith}
 use Rattle.std.specs.Prelude.{is_some, IsSomeAnd}
 use Rattle.fr_shape.specs.Released.{Room, RoseBy}
 use Rattle.fr_shape.specs.TokenLaws.{both, Room_same, Room_fewer, Room_risen, RoseBy_same, RoseBy_both}
@@ -7,17 +7,15 @@ use Rattle.fr_shape.specs.Tokens.{occurs}
 use Rattle.fr_shape.specs.Val.{Val}
 use Rattle.fr_model.specs.Places.{Place}
 use Rattle.fr_model.specs.Tree.{Tree, whole, change_at, tree_occurs}
-use Rattle.fr_plan.specs.declared.nodes.NodeId.{NodeId}
 use Rattle.fr_plan.specs.TypePlan.{Plan}
-use Rattle.fr_frame.specs.declared.places.FrameOwner.{FrameOwner}
 use Rattle.fr_frame.specs.declared.places.Slot.{Slot}
-use Rattle.fr_frame.specs.Bodies.{Body, whole_body, body_occurs}
+use Rattle.fr_frame.specs.Bodies.{whole_body, body_occurs}
 use Rattle.fr_frame.specs.Changes.{IfInUse, IsInUse, Shows}
-use Rattle.fr_frame.specs.Heap.{Node, Heap, with_body, heap_of, slots_occur, marked, stored_in}
-use Rattle.fr_frame.specs.Kids.{Kid, at, Kids, whole_plot, cell_of, tree_of, body_in, kid_occurs, plot_occurs, Holds, HoldsIn}
+use Rattle.fr_frame.specs.Heap.{Node, with_body, heap_of, slots_occur, marked, stored_in}
+use Rattle.fr_frame.specs.Kids.{Kid, at, Kids, whole_plot, cell_of, tree_of, body_in, kid_occurs, Holds, HoldsIn}
 use Rattle.fr_store.specs.HoldLaws.{AgreeBeside, Replaces}
 use Rattle.fr_store.specs.MoveLaws.{open_top, top_slot, top_node, top_found, open_at_from}
-use Rattle.fr_store.specs.Moves.{IsOpenAt, cursor_in, tree_in_slots, tree_here, tokens_here}
+use Rattle.fr_store.specs.Moves.{IsOpenAt, cursor_in, tree_in_slots, tokens_here}
 use Rattle.fr_store.specs.Numbers.{IsLast}
 use Rattle.fr_store.specs.PruneLaws.{beneath_is, plot_tokens, pruned_tokens}
 use Rattle.fr_store.specs.Prunes.{beneath, IsRooted, slotted_occur, pruned, IsPruned}
@@ -25,7 +23,7 @@ use Rattle.fr_store.specs.StandLaws.{stands_change}
 use Rattle.fr_store.specs.Stands.{Stands, IsOpen, kid_shown}
 use Rattle.fr_store.specs.Stored.{IsKept, StoresNoMore}
 use Rattle.fr_store.specs.TopLaws.{body_here, body_other, top_uses, not_beside, top_held}
-use Rattle.fr_store.specs.Ways.{kid_at, put_at, slots_above, counts_if, uses, uses_in, uses_among, Leads, Reaches, node_along, owner_along}
+use Rattle.fr_store.specs.Ways.{kid_at, put_at, slots_above, counts_if, uses, uses_in, Leads, Reaches, node_along}
 use Rattle.fr_store.specs.WayLaws.{same_or_other, leads_reach, uses_at, occurs_put_at, tree_put_at, tree_of_at, tree_tokens}
 use Rattle.fr_store.proofs.PruneSteps.{beneath_uses}
 

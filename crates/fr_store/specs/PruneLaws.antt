@@ -4,17 +4,53 @@ use Rattle.std.specs.Prelude.{if◌then◌else◌}
 use Rattle.std.specs.Option.{option_and_then}
 use Rattle.std.proofs.lemmas.Grind.{common_steps}
 use Rattle.std.proofs.lemmas.Bool.Decides.{nat_tests}
+use Rattle.fr_shape.specs.Released.{RoseBy}
 use Rattle.fr_model.specs.Paths.{step_as}
 use Rattle.fr_model.specs.Tree.{Form, as_struct, as_array}
 use Rattle.fr_plan.specs.declared.nodes.NodeId.{NodeId}
 use Rattle.fr_plan.specs.TypePlan.{Plan}
 use Rattle.fr_frame.specs.declared.places.FrameOwner.{FrameOwner}
+use Rattle.fr_frame.specs.declared.places.Slot.{Slot}
 use Rattle.fr_frame.specs.Bodies.{Body, entered_body, whole_body, begun_body, body_occurs, cell_at, with_cell, unlinked, unlinked_by, IsClosed, AreUnplaced}
 use Rattle.fr_frame.specs.Cells.{Cell, absent, given, placed, cells_occur, slot_at, slot_of_cell}
-use Rattle.fr_frame.specs.Heap.{Node, Heap, depth_limit}
+use Rattle.fr_frame.specs.Heap.{Node, Heap, depth_limit, heap_of, slots_occur}
 use Rattle.fr_frame.specs.Kids.{Kid, gone, there, at, Plot, entered_plot, whole_plot, begun_plot, Kids, no_kids, kid, cell_of, cells_in, body_in, kid_in, kids_in, plot_in, kid_by, kid_from, child_node, child_owner, Holds, HoldsIn, HoldsAll, plot_occurs, kids_occur}
-use Rattle.fr_store.specs.Prunes.{kids_in_plot, kids_below, beneath, IsRooted, slotted_occurs, slotted_occur, emptied, pruned, cells_in_body, emptied_first, pruned_first, first_kids}
+use Rattle.fr_store.specs.Prunes.{kids_in_plot, kids_below, beneath, IsRooted, slotted_occurs, slotted_occur, emptied, pruned, IsPruned, cells_in_body}
+use Rattle.fr_store.specs.Stored.{IsKept, StoresNoMore}
 use Rattle.fr_store.specs.Ways.{kid_nth, uses, uses_in, uses_among, AllMarkedIn, AllMarkedAmong}
+
+-- The first so many children.
+
+-- the first so many of them, if they were in slots, aren't there
+abbrev pub emptied_first : ℕ → List Cell → List Cell
+emptied_first i [] = []
+emptied_first zero (c ∷ cs) = c ∷ cs
+emptied_first (suc i) (c ∷ cs) = emptied c ∷ emptied_first i cs
+
+abbrev pub pruned_first : ℕ → Body → Body
+pruned_first i entered_body = entered_body
+pruned_first i (whole_body v) = whole_body v
+pruned_first i (begun_body form cells) = begun_body form (emptied_first i cells)
+
+abbrev pub first_kids : ℕ → Kids → Kids
+first_kids i no_kids = no_kids
+first_kids zero (kid k ks) = no_kids
+first_kids (suc i) (kid k ks) = kid k (first_kids i ks)
+
+-- how deep the place lies that was found
+abbrev pub depth_found : Option Node → ℕ
+depth_found (Some node) = node.depth
+depth_found None = 0
+
+-- the first so many children of the place in slot n are released
+pub record Pruning (i n : ℕ) (store : List ℕ) (before after : List Slot) (ledger now : List ℕ) : Type 0 where
+  pub heap : IsPruned (heap_of before) (heap_of after) n (pruned_first i) (first_kids i (beneath (heap_of before) n))
+  pub released : RoseBy (slotted_occur (first_kids i (beneath (heap_of before) n))) ledger now
+  pub tokens :
+      (t : ℕ) → slots_occur before t
+      ≡ slots_occur after t + slotted_occur (first_kids i (beneath (heap_of before) n)) t
+  pub kept : IsKept store after
+  pub marks : StoresNoMore before after
 
 -- Reading back, at more levels than need be.
 
@@ -108,7 +144,7 @@ pruned_tokens entered_body t = refl
 pruned_tokens (whole_body v) t = refl
 pruned_tokens (begun_body form cells) t = emptied_tokens cells t
 
--- The first so many children.
+-- What the first so many children use and hold.
 
 pub first_uses : (i : ℕ) (ks : Kids) (m : ℕ)
     → uses_among (first_kids (suc i) ks) m ≡ uses_among (first_kids i ks) m + uses (kid_nth i ks) m

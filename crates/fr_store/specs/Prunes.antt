@@ -1,13 +1,10 @@
 -- What releasing all that is stored beneath a place does, as contracts see it.
-use Rattle.std.specs.Prelude.{◌≡◌, ◌≢◌, ℕ, zero, suc, ◌+◌, ◌<◌, ◌≤◌, true, List, [], ◌∷◌, map, Option, Some, None, nat_eq}
-use Rattle.fr_shape.specs.Released.{RoseBy}
+use Rattle.std.specs.Prelude.{◌≡◌, ◌≢◌, ℕ, suc, ◌+◌, ◌<◌, ◌≤◌, true, List, [], map, Option, Some, None, nat_eq}
 use Rattle.fr_plan.specs.TypePlan.{Plan}
-use Rattle.fr_frame.specs.declared.places.Slot.{Slot}
 use Rattle.fr_frame.specs.Bodies.{Body, entered_body, whole_body, begun_body}
 use Rattle.fr_frame.specs.Cells.{Cell, absent, given, placed}
-use Rattle.fr_frame.specs.Heap.{Node, Heap, depth_limit, heap_of, slots_occur, with_body}
+use Rattle.fr_frame.specs.Heap.{Node, Heap, depth_limit, with_body}
 use Rattle.fr_frame.specs.Kids.{Kid, gone, there, at, Plot, entered_plot, whole_plot, begun_plot, Kids, no_kids, kid, body_in, kid_of, HoldsIn, plot_occurs}
-use Rattle.fr_store.specs.Stored.{IsKept, StoresNoMore}
 use Rattle.fr_store.specs.Ways.{counts_if, uses_in, uses_among, AllMarkedIn}
 
 -- What lies beneath a place.
@@ -79,34 +76,3 @@ cells_in_body (begun_body form cells) = cells
 abbrev pub cells_found : Option Node → List Cell
 cells_found (Some node) = cells_in_body node.body
 cells_found None = []
-
--- the first so many of them pruned
-abbrev pub emptied_first : ℕ → List Cell → List Cell
-emptied_first i [] = []
-emptied_first zero (c ∷ cs) = c ∷ cs
-emptied_first (suc i) (c ∷ cs) = emptied c ∷ emptied_first i cs
-
-abbrev pub pruned_first : ℕ → Body → Body
-pruned_first i entered_body = entered_body
-pruned_first i (whole_body v) = whole_body v
-pruned_first i (begun_body form cells) = begun_body form (emptied_first i cells)
-
-abbrev pub first_kids : ℕ → Kids → Kids
-first_kids i no_kids = no_kids
-first_kids zero (kid k ks) = no_kids
-first_kids (suc i) (kid k ks) = kid k (first_kids i ks)
-
--- how deep the place lies that was found
-abbrev pub depth_found : Option Node → ℕ
-depth_found (Some node) = node.depth
-depth_found None = 0
-
--- the first so many children of the place in slot n are released
-pub record Pruning (i n : ℕ) (store : List ℕ) (before after : List Slot) (ledger now : List ℕ) : Type 0 where
-  pub heap : IsPruned (heap_of before) (heap_of after) n (pruned_first i) (first_kids i (beneath (heap_of before) n))
-  pub released : RoseBy (slotted_occur (first_kids i (beneath (heap_of before) n))) ledger now
-  pub tokens :
-      (t : ℕ) → slots_occur before t
-      ≡ slots_occur after t + slotted_occur (first_kids i (beneath (heap_of before) n)) t
-  pub kept : IsKept store after
-  pub marks : StoresNoMore before after

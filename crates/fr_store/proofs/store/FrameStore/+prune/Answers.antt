@@ -1,7 +1,7 @@
-use Rattle.std.proofs.Common.{◌≡◌, ◌+◌, ℕ, suc, Some, None, length, sym, ◌∙◌, ap, subst, arith}
+use Rattle.std.proofs.Common.{◌≡◌, ◌+◌, suc, Some, sym, subst, arith}
 use Rattle.fr_frame.specs.Cells.{slot_at}
 use Rattle.fr_frame.specs.Heap.{heap_of}
-use Rattle.fr_store.specs.Prunes.{cells_found, Pruning}
+use Rattle.fr_store.specs.Prunes.{cells_found}
 use Rattle.fr_store.specs.Stored.{IsKept}
 use Rattle.fr_store.proofs.PruneTurns.{nothing_pruned, nothing_rose, nothing_slotted, pruning_none, pruning_skips, next_falls, next_rooted, next_room, next_in_use, next_stored, frame_room, pruning_child, pruning_same, pruned_now, released_now, tokens_now}
 use Rattle.fr_store.proofs.store.FrameStore.+prune.Goals as goal
