@@ -28,7 +28,6 @@ use Rattle.fr_store.specs.WayLaws.{same_or_other, leads_reach, uses_at, occurs_p
 use Rattle.fr_store.proofs.PruneSteps.{beneath_uses}
 
 module _ (plan : Plan) (slots : List Slot) (stack : List ℕ) (open_now : IsOpen plan slots stack) (n : ℕ) (last : IsLast stack n) where
-
   -- what is at the top can be pruned
   pub top_rooted : IsRooted (heap_of slots) n
   unfolding top_node
@@ -87,7 +86,7 @@ module _ (plan : Plan) (slots : List Slot) (stack : List ℕ) (open_now : IsOpen
   module _ (mid : List Slot) (is : IsPruned (heap_of slots) (heap_of mid) n pruned (beneath (heap_of slots) n)) where
     pruned_here : heap_of mid n
         ≡ Some (record (top_node plan slots stack open_now n last) {
-          body = pruned (top_node plan slots stack open_now n last).body
+          body = pruned (top_node plan slots stack open_now n last).body;
         })
     pruned_here =
         is.here
@@ -130,7 +129,7 @@ module _ (plan : Plan) (slots : List Slot) (stack : List ℕ) (open_now : IsOpen
           puts n
           ∙ body_here (heap_of mid) n (λ old. whole_body v)
           (record (top_node plan slots stack open_now n last) {
-            body = pruned (top_node plan slots stack open_now n last).body
+            body = pruned (top_node plan slots stack open_now n last).body;
           })
           pruned_here
 

@@ -32,11 +32,15 @@ prune-requires t c =
     = sym c.in-Some.ensures in (
       omega
           (arith, c.decreases, next_falls c.args.place.0 c.args.slots.now c.requires.rooted c.args.ledger.now c.loop-i.i c.loop-i.self c.loop-i.slots c.loop-i.ledger c.loop-i.invariant c.in-Some.child.0 found),
-      (next_rooted c.args.place.0 c.args.slots.now c.requires.rooted c.args.ledger.now c.loop-i.i c.loop-i.self
-          c.loop-i.slots c.loop-i.ledger c.loop-i.invariant c.in-Some.child.0 found,
-      (c.loop-i.invariant.kept,
-      next_room c.args.place.0 c.args.slots.now c.requires.rooted c.args.ledger.now c.loop-i.i c.loop-i.self
-          c.loop-i.slots c.loop-i.ledger c.loop-i.invariant c.in-Some.child.0 found c.requires.room)),
+      (
+        next_rooted c.args.place.0 c.args.slots.now c.requires.rooted c.args.ledger.now c.loop-i.i c.loop-i.self
+            c.loop-i.slots c.loop-i.ledger c.loop-i.invariant c.in-Some.child.0 found,
+        (
+          c.loop-i.invariant.kept,
+          next_room c.args.place.0 c.args.slots.now c.requires.rooted c.args.ledger.now c.loop-i.i c.loop-i.self
+              c.loop-i.slots c.loop-i.ledger c.loop-i.invariant c.in-Some.child.0 found c.requires.room,
+        ),
+      ),
     )
 
 pub remove-requires : goal.remove-requires
@@ -63,22 +67,22 @@ release_frame-requires-clause-room t c =
 pub loop-i-preserved : goal.loop-i-preserved
 loop-i-preserved t c =
     elim c.match-slot_of_child.branch [
-      in-Some w ↦
-      pruning_same (suc c.loop-i.i) c.args.place.0 (c.loop-i.i + 1) w.remove.new.self c.match-slot_of_child.self
-      c.args.slots.now w.release_frame.new.slots c.match-slot_of_child.slots c.args.ledger.now w.release_frame.new.ledger
-      c.match-slot_of_child.ledger (omega arith) w.self-is w.slots-is w.ledger-is
-      (pruning_child c.args.place.0 c.args.slots.now c.requires.rooted c.args.ledger.now c.loop-i.i c.loop-i.self
-      c.loop-i.slots c.loop-i.ledger c.loop-i.invariant w.in-Some.child.0 (sym w.in-Some.ensures) c.requires.room
-      w.prune.new.self w.prune.new.slots w.prune.new.ledger w.prune.ensures.pruned w.prune.ensures.released
-      w.prune.ensures.tokens w.prune.ensures.kept w.prune.ensures.marks w.remove.new.self w.release_frame.new.slots
-      w.release_frame.new.ledger w.remove.ensures.rest w.release_frame.ensures.left w.release_frame.ensures.released
-      w.release_frame.ensures.tokens)
+      | in-Some w ↦
+          pruning_same (suc c.loop-i.i) c.args.place.0 (c.loop-i.i + 1) w.remove.new.self c.match-slot_of_child.self
+          c.args.slots.now w.release_frame.new.slots c.match-slot_of_child.slots c.args.ledger.now w.release_frame.new.ledger
+          c.match-slot_of_child.ledger (omega arith) w.self-is w.slots-is w.ledger-is
+          (pruning_child c.args.place.0 c.args.slots.now c.requires.rooted c.args.ledger.now c.loop-i.i c.loop-i.self
+          c.loop-i.slots c.loop-i.ledger c.loop-i.invariant w.in-Some.child.0 (sym w.in-Some.ensures) c.requires.room
+          w.prune.new.self w.prune.new.slots w.prune.new.ledger w.prune.ensures.pruned w.prune.ensures.released
+          w.prune.ensures.tokens w.prune.ensures.kept w.prune.ensures.marks w.remove.new.self w.release_frame.new.slots
+          w.release_frame.new.ledger w.remove.ensures.rest w.release_frame.ensures.left w.release_frame.ensures.released
+          w.release_frame.ensures.tokens)
       | in_default w ↦
-      pruning_same (suc c.loop-i.i) c.args.place.0 (c.loop-i.i + 1) c.loop-i.self c.match-slot_of_child.self
-      c.args.slots.now c.loop-i.slots c.match-slot_of_child.slots c.args.ledger.now c.loop-i.ledger
-      c.match-slot_of_child.ledger (omega arith) w.self-is w.slots-is w.ledger-is
-      (pruning_skips c.args.place.0 c.args.slots.now c.requires.rooted c.args.ledger.now c.loop-i.i c.loop-i.self
-      c.loop-i.slots c.loop-i.ledger c.loop-i.invariant (sym w.in_default.ensures))
+          pruning_same (suc c.loop-i.i) c.args.place.0 (c.loop-i.i + 1) c.loop-i.self c.match-slot_of_child.self
+          c.args.slots.now c.loop-i.slots c.match-slot_of_child.slots c.args.ledger.now c.loop-i.ledger
+          c.match-slot_of_child.ledger (omega arith) w.self-is w.slots-is w.ledger-is
+          (pruning_skips c.args.place.0 c.args.slots.now c.requires.rooted c.args.ledger.now c.loop-i.i c.loop-i.self
+          c.loop-i.slots c.loop-i.ledger c.loop-i.invariant (sym w.in_default.ensures))
     ]
 
 pub returns-clause-pruned : goal.returns-clause-pruned
