@@ -241,7 +241,8 @@ module _ (before mid : Heap) (n : ℕ) (rooted : IsRooted before n) (i : ℕ)
 
             rest : (x : ℕ) → x ≢ n → uses_among (first_kids (suc i) (beneath before n)) x ≡ 0 → after x ≡ before x
             rest x a h =
-                let ne : x ≢ m = λ e. absurd (omega (arith, first_now x, counts_same m, ap (λ (y : ℕ). counts_if (nat_eq m y)) e)) in
+                let ne : x ≢ m
+                = λ e. absurd (omega (arith, first_now x, counts_same m, ap (λ (y : ℕ). counts_if (nat_eq m y)) e)) in
                 after_other x a ne ∙ later.rest x ne (omega (arith, first_now x)) ∙ so_far.rest x a (omega (arith, first_now x))
 
         -- marks

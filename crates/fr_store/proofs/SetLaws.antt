@@ -27,7 +27,8 @@ use Rattle.fr_store.specs.Ways.{kid_at, put_at, slots_above, counts_if, uses, us
 use Rattle.fr_store.specs.WayLaws.{same_or_other, leads_reach, uses_at, occurs_put_at, tree_put_at, tree_of_at, tree_tokens}
 use Rattle.fr_store.proofs.PruneSteps.{beneath_uses}
 
-module _ (plan : Plan) (slots : List Slot) (stack : List ℕ) (open_now : IsOpen plan slots stack) (n : ℕ) (last : IsLast stack n) where
+module _ (plan : Plan) (slots : List Slot) (stack : List ℕ) (open_now : IsOpen plan slots stack) (n : ℕ)
+    (last : IsLast stack n) where
   -- what is at the top can be pruned
   pub top_rooted : IsRooted (heap_of slots) n
   unfolding top_node

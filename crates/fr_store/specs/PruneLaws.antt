@@ -165,7 +165,8 @@ uses_first i no_kids m = omega arith
 uses_first zero (kid k ks) m = omega arith
 uses_first (suc i) (kid k ks) m = omega (arith, uses_first i ks m)
 
-pub tokens_first : (i : ℕ) (ks : Kids) (t : ℕ) → slotted_occur (first_kids i ks) t + slotted_occurs (kid_nth i ks) t ≤ slotted_occur ks t
+pub tokens_first : (i : ℕ) (ks : Kids) (t : ℕ)
+    → slotted_occur (first_kids i ks) t + slotted_occurs (kid_nth i ks) t ≤ slotted_occur ks t
 tokens_first i no_kids t = omega arith
 tokens_first zero (kid k ks) t = omega arith
 tokens_first (suc i) (kid k ks) t = omega (arith, tokens_first i ks t)
