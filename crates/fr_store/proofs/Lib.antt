@@ -4,6 +4,9 @@ pub mod KeptLaws
 pub mod LastLaws
 pub mod PairLaws
 pub mod PlaceLaws
+pub mod PruneSteps
+pub mod PruneTurns
+pub mod SetLaws
 pub mod SpreadLaws
 pub mod TurnLaws
 pub mod WalkLaws

@@ -11,6 +11,8 @@ pub mod Moves
 pub mod Numbers
 pub mod OffLaws
 pub mod Places
+pub mod PruneLaws
+pub mod Prunes
 pub mod ShapeLaws
 pub mod StandLaws
 pub mod Stands
