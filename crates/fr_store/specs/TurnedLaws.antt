@@ -1,5 +1,5 @@
 -- Laws of a turn in slots, for proofs: from what its calls say to what it owes.
-use Rattle.std.proofs.Common.{◌≡◌, ◌≢◌, ◌⊎◌, ℕ, zero, suc, ◌+◌, ◌<◌, true, List, [], ◌∷◌, length, slice_get, Option, Some, None, option_map, unwrap_or, inl, inr, refl, sym, ◌∙◌, ap, subst, arith}
+use Rattle.std.proofs.Common.{◌≡◌, ◌≢◌, ◌⊎◌, ℕ, zero, suc, ◌+◌, ◌<◌, true, List, [], ◌∷◌, append-nil, length, slice_get, Option, Some, None, option_map, unwrap_or, inl, inr, refl, sym, ◌∙◌, ap, subst, arith}
 use Rattle.std.specs.Prelude.{is_some, IsSomeAnd}
 use Rattle.fr_shape.specs.declared.error.ReflectErrorKind.{ReflectErrorKind}
 use Rattle.fr_shape.specs.Checked.{IsChecked}
@@ -44,8 +44,8 @@ use Rattle.fr_store.specs.TurnLaws.{Over, due_apart, due_found, due_node, due_of
 use Rattle.fr_store.specs.Turning.{HasTurned, IsLackingAt, KeepsTheRest, MayTurn, kid_here}
 use Rattle.fr_store.specs.Turns.{CompletesAsBefore, root_shape}
 use Rattle.fr_store.specs.Walks.{IsStoredAt}
-use Rattle.fr_store.specs.Ways.{kid_at, kid_nth, put_at, put_nth, Reaches, node_along, owner_along}
-use Rattle.fr_store.specs.WayLaws.{occurs_put_at, tree_of_at, tree_put_at, tree_tokens}
+use Rattle.fr_store.specs.Ways.{kid_at, kid_nth, put_at, put_nth, Leads, Reaches, node_along, owner_along}
+use Rattle.fr_store.specs.WayLaws.{leads_reach, occurs_put_at, tree_of_at, tree_put_at, tree_tokens}
 
 -- A place of a plan.
 
@@ -374,17 +374,11 @@ module _ (plan : Plan) (before : List Slot) (stack : List ℕ) (n : ℕ) (open_n
         pub keeps_the_rest : ClosingKeepsCompletion → ClosingKeepsFailures → ClosingKeepsFinish → ClosingKeepsFailuresOff
             → KeepsTheRest means table plan before stack last
         keeps_the_rest completion failing finish failing_off = record {
-          still = λ slot place lies.
-              let reaches : Reaches place (put_at due.place (there v) (kid_here before stack))
-              = subst (λ (x : Kid). Reaches place x) kid_is_after lies.reaches in
-              let has : HasPlace place (closed_at due.place v (tree_in_slots before stack))
-              = subst (λ (t : Tree). HasPlace place t) (tree_put_at due.place (there v) (kid_here before stack))
-              (reach_place place (put_at due.place (there v) (kid_here before stack)) reaches) in
-              subst
-              (λ (t : Tree). CompletesAsBefore means table (root_shape plan) (tree_in_slots before stack) t place)
-              (sym open_after.built)
-              (completes_still completion failing means table (root_shape plan) due.place place v
-              (tree_in_slots before stack) closing has);
+          still = λ slot place lies. as_before place lies.reaches;
+          cursor =
+              as_before (cursor_in before stack)
+              (leads_reach (cursor_in before stack) [] (kid_here last stack)
+              (subst (λ (p : Place). Leads p (kid_here last stack)) (sym (append-nil (cursor_in before stack))) on_the_way));
           finish =
               ap (finished means table (root_shape plan) (cursor_in before stack)) open_after.built
               ∙ finish means table (root_shape plan) (cursor_in before stack) due.place v (tree_in_slots before stack) closing
@@ -395,6 +389,24 @@ module _ (plan : Plan) (before : List Slot) (stack : List ℕ) (n : ℕ) (open_n
               (tree_in_slots before stack) closing off;
         }
           where
+            on_the_way : Leads (cursor_in before stack) (kid_here last stack)
+            on_the_way =
+                subst (λ (p : Place). Leads p (kid_here last stack)) open_after.cursor open_after.open_still.stands.leads
+
+            as_before : (place : Place) → Reaches place (kid_here last stack)
+                → CompletesAsBefore means table (root_shape plan) (tree_in_slots before stack) (tree_in_slots last stack) place
+            as_before place lies =
+                let reaches : Reaches place (put_at due.place (there v) (kid_here before stack))
+                = subst (λ (x : Kid). Reaches place x) kid_is_after lies in
+                let has : HasPlace place (closed_at due.place v (tree_in_slots before stack))
+                = subst (λ (t : Tree). HasPlace place t) (tree_put_at due.place (there v) (kid_here before stack))
+                (reach_place place (put_at due.place (there v) (kid_here before stack)) reaches) in
+                subst
+                (λ (t : Tree). CompletesAsBefore means table (root_shape plan) (tree_in_slots before stack) t place)
+                (sym open_after.built)
+                (completes_still completion failing means table (root_shape plan) due.place place v
+                (tree_in_slots before stack) closing has)
+
             off : IsOffTheWay (cursor_in before stack) due.place
             off =
                 due_off plan (heap_of before) stack (cursor_in before stack) due.place (kid_here before stack) n due.plot

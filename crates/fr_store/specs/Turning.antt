@@ -51,11 +51,14 @@ pub record HasTurned (means : Meanings) (table : Table) (plan : Plan) (before : 
   pub others : (n : ℕ) → n ≢ slot → is_some (heap_of after n) ≡ is_some (heap_of before n)
   pub marks : (n : ℕ) → marked (heap_of after) n ≡ true → marked (heap_of before) n ≡ true
 
--- Second: each place that is stored still completes as before, and so does the whole, along the way to the place at which the
--- builder works.
+-- Second: each place that is stored still completes as before, so does the one at which the builder works, and so does the whole
+-- along the way there.
 pub record KeepsTheRest (means : Meanings) (table : Table) (plan : Plan) (before : List Slot) (stack : List ℕ) (after : List Slot) : Type 0 where
   pub still : (slot : ℕ) (place : Place) → IsStoredAt (kid_here after stack) slot place
       → CompletesAsBefore means table (root_shape plan) (tree_in_slots before stack) (tree_in_slots after stack) place
+  pub cursor :
+      CompletesAsBefore means table (root_shape plan) (tree_in_slots before stack) (tree_in_slots after stack)
+      (cursor_in before stack)
   pub finish :
       finished means table (root_shape plan) (cursor_in before stack) (tree_in_slots after stack)
       ≡ finished means table (root_shape plan) (cursor_in before stack) (tree_in_slots before stack)
