@@ -4,6 +4,7 @@ pub mod ChildLaws
 pub mod ClosingLaws
 pub mod EndLaws
 pub mod EnterLaws
+pub mod FailLaws
 pub mod HeadLaws
 pub mod HoldLaws
 pub mod LeaveLaws
