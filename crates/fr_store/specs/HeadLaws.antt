@@ -175,7 +175,7 @@ reaches_child (i ∷ place) gone n mark form kids j reach is h = absurd reach
 reaches_child (i ∷ place) (there v) n mark form kids j reach is h = absurd reach
 
 module _ (k : Kid) (n : ℕ) (rest : List ℕ) (walk : IsWalk k (n ∷ rest)) (head : Head k n rest walk.places) where
-  later : (slot : ℕ) (place : Place) → IsStoredAt k slot place → (head.place ≡ place) ⊎ Contains head.places place
+  pub later : (slot : ℕ) (place : Place) → IsStoredAt k slot place → (head.place ≡ place) ⊎ Contains head.places place
   later slot place stored =
       contains_cases head.place head.places place
       (subst (λ (ps : List Place). Contains ps place) head.is (walk.all slot place stored))

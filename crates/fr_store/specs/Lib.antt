@@ -6,6 +6,7 @@ pub mod EndLaws
 pub mod EnterLaws
 pub mod FailLaws
 pub mod HeadLaws
+pub mod HeldLaws
 pub mod HoldLaws
 pub mod LeaveLaws
 pub mod MoveLaws
