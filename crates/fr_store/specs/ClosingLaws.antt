@@ -209,6 +209,26 @@ suit_all table s form first zero m change (branch t ts) e all step =
 suit_all table s form first (suc i) m change (branch t ts) e all step =
     (all.0, suit_all table s form (suc first) i m change ts (omega arith) all.1 step)
 
+suits_nth : (table : Table) (s : ℕ) (form : Form) (first : ℕ) (ts : Trees) (i m : ℕ) → m ≡ first + i → i < count_trees ts
+    → SuitAll table (shapes_from table s form (count_trees ts) first) ts → Suits table (child_as table s form m) (tree_nth i ts)
+suits_nth table s form first no_trees i m e h all = absurd (omega arith)
+suits_nth table s form first (branch t ts) zero m e h all =
+    let same : first ≡ m = omega arith in
+    subst (λ (n : ℕ). Suits table (child_as table s form n) t) same all.0
+suits_nth table s form first (branch t ts) (suc i) m e h all =
+    suits_nth table s form (suc first) ts i m (omega arith) (omega arith) all.1
+
+-- what stands at a place suits its shape
+pub suits_at : (table : Table) (s : ℕ) (place : Place) (tree : Tree) → HasPlace place tree → Suits table s tree
+    → Suits table (shape_in table s place tree) (tree_at place tree)
+suits_at table s [] tree has suits = suits
+suits_at table s (i ∷ place) hole has suits = absurd has
+suits_at table s (i ∷ place) entered has suits = absurd has
+suits_at table s (i ∷ place) (whole v) has suits = absurd has
+suits_at table s (i ∷ place) (begun form ts) has suits =
+    suits_at table (child_as table s form i) place (tree_nth i ts) has.1
+    (suits_nth table s form 0 ts i i (omega arith) has.0 suits.1)
+
 -- something else that suits the place's shape is put there
 pub suits_change : (table : Table) (s : ℕ) (place : Place) (new tree : Tree) → HasPlace place tree → Suits table s tree
     → Suits table (shape_in table s place tree) new → Suits table s (change_at place (λ old. new) tree)

@@ -26,6 +26,7 @@ pub mod TurnLaws
 pub mod TurnedLaws
 pub mod Turning
 pub mod Turns
+pub mod WalkedLaws
 pub mod Walks
 pub mod WayLaws
 pub mod Ways

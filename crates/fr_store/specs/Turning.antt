@@ -1,5 +1,5 @@
 -- One turn of the walk over stored places: what it asks for, and the three things that it owes.
-use Rattle.std.specs.Prelude.{◌≡◌, ◌≢◌, ℕ, true, List, is_some, Some, None}
+use Rattle.std.specs.Prelude.{◌≡◌, ◌≢◌, ℕ, true, List, ◌++◌, is_some, Some, None}
 use Rattle.fr_shape.specs.declared.error.ReflectErrorKind.{ReflectErrorKind}
 use Rattle.fr_shape.specs.Hooks.{Meanings}
 use Rattle.fr_shape.specs.Look.{Table}
@@ -10,15 +10,17 @@ use Rattle.fr_model.specs.Failing.{own_lack}
 use Rattle.fr_model.specs.Finish.{finished, failures_off}
 use Rattle.fr_model.specs.Places.{Place, deferred_column}
 use Rattle.fr_model.specs.Tree.{whole, tree_at, change_at, shape_in}
+use Rattle.fr_model.specs.Well.{Suits}
 use Rattle.fr_plan.specs.TypePlan.{Plan}
 use Rattle.fr_frame.specs.declared.places.Slot.{Slot}
 use Rattle.fr_frame.specs.Bodies.{IsClosed}
+use Rattle.fr_frame.specs.Changes.{SameTokens}
 use Rattle.fr_frame.specs.Heap.{heap_of, marked}
 use Rattle.fr_frame.specs.Kids.{Kid, at, Plot, there, body_in}
 use Rattle.fr_store.specs.Moves.{IsOpenAt, cursor_in, tree_in_slots}
-use Rattle.fr_store.specs.Stands.{kid_shown}
-use Rattle.fr_store.specs.Turns.{root_shape, CompletesAsBefore}
-use Rattle.fr_store.specs.Walks.{IsStoredAt}
+use Rattle.fr_store.specs.Stands.{kid_shown, IsOpen}
+use Rattle.fr_store.specs.Turns.{root_shape, CompletesAsBefore, Turned}
+use Rattle.fr_store.specs.Walks.{IsStoredAt, IsWalk}
 use Rattle.fr_store.specs.Ways.{kid_at, put_at, Reaches}
 
 -- what lies in the slots of an open builder
@@ -78,3 +80,26 @@ pub record IsLackingAt (means : Meanings) (table : Table) (plan : Plan) (slots :
       own_lack means table (shape_in table (root_shape plan) place (tree_in_slots slots stack))
       (tree_at place (tree_in_slots slots stack))
       ≡ Some kind
+
+-- Some places of a walk had their turn, each at its own turn, and these are left: the builder works where it did, and what becomes
+-- of the tree, or fails, is as at the start.
+pub record Walked (means : Meanings) (table : Table) (plan : Plan) (before : List Slot) (stack : List ℕ) (now : List Slot) (walk rest : List ℕ) : Type 0 where
+  pub first : IsWalk (kid_here before stack) walk
+  pub still : IsOpen plan now stack
+  pub cursor : cursor_in now stack ≡ cursor_in before stack
+  pub suits : Suits table (root_shape plan) (tree_in_slots now stack)
+  pub left : IsWalk (kid_here now stack) rest
+  pub done : List Place
+  pub split : first.places ≡ done ++ left.places
+  pub turned : Turned means table (root_shape plan) (tree_in_slots before stack) done (tree_in_slots now stack)
+  pub here :
+      CompletesAsBefore means table (root_shape plan) (tree_in_slots before stack) (tree_in_slots now stack)
+      (cursor_in before stack)
+  pub finish :
+      finished means table (root_shape plan) (cursor_in before stack) (tree_in_slots now stack)
+      ≡ finished means table (root_shape plan) (cursor_in before stack) (tree_in_slots before stack)
+  pub failing : (path : List PathStep)
+      → failures_off means table (root_shape plan) path (cursor_in before stack) (tree_in_slots now stack)
+      ≡ failures_off means table (root_shape plan) path (cursor_in before stack) (tree_in_slots before stack)
+  pub tokens : SameTokens before now
+  pub marks : (n : ℕ) → marked (heap_of now) n ≡ true → marked (heap_of before) n ≡ true
