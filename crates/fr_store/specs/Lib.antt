@@ -7,6 +7,7 @@ pub mod EnterLaws
 pub mod FailLaws
 pub mod HeadLaws
 pub mod HeldLaws
+pub mod HereLaws
 pub mod HoldLaws
 pub mod LeaveLaws
 pub mod MoveLaws
