@@ -1,9 +1,7 @@
 -- What the turns tell of the places gives the list of all places, and that the walk.
-use Rattle.std.proofs.Common.{◌≡◌, ◌++◌, ◌∙◌, ◌↔◌, sym, ap, subst, true, filter, reverse, ℕ, List, IsPermutation, Contains}
+use Rattle.std.proofs.Common.{◌≡◌, ◌++◌, ◌∙◌, ◌↔◌, sym, ap, subst, true, ℕ, List, IsPermutation, Contains}
 use Rattle.std.specs.List.{All, filter_map}
 use Rattle.std.specs.List.Sorted.{IsNonDecreasingBy}
-use Rattle.std.proofs.lemmas.Result.{IfOk-weaker}
-use Rattle.fr_frame.specs.declared.places.SlotId.{SlotId}
 use Rattle.fr_frame.specs.Heap.{heap_of, marked}
 use Rattle.fr_store.specs.declared.turning.Turn.{Turn}
 use Rattle.fr_store.specs.Numbers.{numbers}
@@ -39,13 +37,9 @@ pub returns : goal.returns
 returns c =
     let heap = heap_of c.args.slots.now in
     let k = kid_shown heap c.args.stack.now in
-    let meant : IsWalk k (filter (marked heap) (reverse (numbers c.deref-2.result.now)))
-    = subst (λ (l : List SlotId). IsWalk k (filter (marked heap) (reverse (numbers l)))) (sym c.deref-2.ensures.value)
-    (walk_of c.args.plan.now heap c.args.stack.now (cursor_shown heap c.args.stack.now) k (numbers c.in_ok-order.order.items)
-    c.requires.is_open.stands c.in_ok-order.ensures.spread) in
     record {
-      walk = IfOk-weaker c.stored_from_last.result
-          (λ stored. numbers stored.items ≡ filter (marked heap) (reverse (numbers c.deref-2.result.now)))
-          (λ walk. IsWalk k (numbers walk.items)) (λ walk is. subst (λ (l : List ℕ). IsWalk k l) (sym is) meant)
-          c.stored_from_last.ensures.stored;
+      walk =
+          subst (λ (l : List ℕ). IsWalk k l) (sym c.keep_stored.ensures.stored)
+          (walk_of c.args.plan.now heap c.args.stack.now (cursor_shown heap c.args.stack.now) k (numbers c.in_ok-walk.walk.items)
+          c.requires.is_open.stands c.in_ok-walk.ensures.spread);
     }
