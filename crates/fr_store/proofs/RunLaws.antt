@@ -1,5 +1,5 @@
 -- The run of one place's children in sorted turns, and steps of the loops over turns and places.
-use Rattle.std.proofs.Common.{◌≡◌, ◌≢◌, ◌⊎◌, ℕ, zero, suc, ◌+◌, ◌-◌, ◌*◌, ◌<◌, ◌≤◌, Bool, true, false, cond, List, [], ◌∷◌, ◌++◌, map, length, get_or, take, drop, nat_eq, ltb, Option, Some, None, append_assoc, refl, sym, ◌∙◌, ap, subst, arith}
+use Rattle.std.proofs.Common.{◌≡◌, ◌≢◌, ℕ, zero, suc, ◌+◌, ◌-◌, ◌<◌, ◌≤◌, Bool, true, false, cond, List, [], ◌∷◌, ◌++◌, length, get_or, take, drop, nat_eq, ltb, Option, Some, None, append_assoc, refl, sym, ◌∙◌, ap, subst, arith}
 use Rattle.std.specs.List.{All, cons_option, filter, filter_map}
 use Rattle.std.specs.List.Sorted.{IsNonDecreasingBy, IsPartitionPoint}
 use borrow.Author.Tests.{ltb-true, ltb-false}
@@ -65,7 +65,7 @@ run_over n turns start i e up high within ne =
 
 -- the turns from the first one of a place that isn't lower
 module _ (n : ℕ) (turns : List Turn) (start : ℕ)
-  (point : IsPartitionPoint (λ (t : Turn). ltb t.parent n ≡ true) (λ (t : Turn). ltb t.parent n ≡ false) turns start) where
+    (point : IsPartitionPoint (λ (t : Turn). ltb t.parent n ≡ true) (λ (t : Turn). ltb t.parent n ≡ false) turns start) where
   abbrev pub ahead : List Turn
   ahead = take (length turns - start) (drop start turns)
 

@@ -1,5 +1,5 @@
 -- What comes before the run's start is of lower places, and what comes after its end of higher ones.
-use Rattle.std.proofs.Common.{rules, ◌≡◌, ◌++◌, ◌∙◌, sym, ap, map, ltb, List}
+use Rattle.std.proofs.Common.{rules, ◌++◌, ◌∙◌, sym, ap, map, ltb, List}
 use Rattle.std.proofs.lemmas.List.{append-nil}
 use Rattle.std.proofs.lemmas.List.Sorted.{IsPartitionedBy-ltb, IsPartitionPoint-from_clause}
 use Rattle.fr_store.specs.declared.turning.Turn.{Turn}

@@ -1,4 +1,4 @@
-use Rattle.std.proofs.Common.{◌≡◌, ◌++◌, ◌∙◌, sym, ap, subst, length, ℕ, ◌+◌, ◌-◌, ◌<◌, ◌≤◌, List, [], ◌∷◌, arith}
+use Rattle.std.proofs.Common.{◌≡◌, ◌++◌, ◌∙◌, sym, ap, subst, ℕ, ◌+◌, List, [], ◌∷◌, arith}
 use Rattle.std.proofs.lemmas.List.{length-map}
 use Rattle.fr_frame.specs.declared.places.SlotId.{SlotId}
 use Rattle.fr_frame.specs.Heap.{heap_of}
@@ -29,7 +29,8 @@ loop-i-smaller c =
 pub loop-i-preserved : goal.loop-i-preserved
 loop-i-preserved c =
     let long = length-map c.loop-i.order.items number_of in
-    subst (λ (l : List ℕ). IsSpreading (kid_shown (heap_of c.args.slots.now) c.args.stack.now) c.args.turns.now l (c.loop-i.i + 1))
+    subst (λ (l : List ℕ). IsSpreading (kid_shown (heap_of c.args.slots.now) c.args.stack.now) c.args.turns.now l
+    (c.loop-i.i + 1))
     (sym c.in_ok-add_children.ensures.added)
     (spreads_next (kid_shown (heap_of c.args.slots.now) c.args.stack.now) c.args.stack.now c.args.turns.now
     (numbers c.loop-i.order.items) c.loop-i.i c.index-place.result.now.0 0 c.requires.spread c.loop-i.invariant (omega arith)

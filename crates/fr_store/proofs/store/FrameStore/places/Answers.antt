@@ -1,4 +1,4 @@
-use Rattle.std.proofs.Common.{ℕ, ◌+◌, Some, ◌∙◌, ap, subst, arith}
+use Rattle.std.proofs.Common.{ℕ, Some, ◌∙◌, ap, subst, arith}
 use Rattle.fr_store.specs.Numbers.{numbers}
 use Rattle.fr_store.specs.Places.{AreOnce}
 use Rattle.fr_store.proofs.PairLaws.{indexed_once}

@@ -22,8 +22,8 @@ spread-requires-clause-spread c =
     let open_slots = c.places-2.result.now in
     let gathered : c.gather-2.new.turns.items ≡ filter_map (turn_at heap) stored ++ filter_map (turn_at heap) open_slots
     = c.in_ok-gather-2.ensures.turns
-        ∙ ap (λ (l : List Turn). l ++ filter_map (turn_at heap) open_slots)
-        (c.in_ok-gather.ensures.turns ∙ ap (λ (l : List Turn). l ++ filter_map (turn_at heap) stored) c.new-turns.ensures.items) in
+    ∙ ap (λ (l : List Turn). l ++ filter_map (turn_at heap) open_slots)
+    (c.in_ok-gather.ensures.turns ∙ ap (λ (l : List Turn). l ++ filter_map (turn_at heap) stored) c.new-turns.ensures.items) in
     subst (λ (l : List Turn). MaySpread (kid_shown heap c.args.stack.now) c.args.stack.now l) (sym c.deref.ensures.value)
     (may_spread c.args.plan.now heap c.args.stack.now (cursor_shown heap c.args.stack.now) (kid_shown heap c.args.stack.now)
     c.requires.is_open.stands stored open_slots c.places-2.ensures.places
