@@ -1,1 +1,13 @@
+pub mod EarlierLaws
+pub mod IndexLaws
+pub mod KeptLaws
 pub mod LastLaws
+pub mod PairLaws
+pub mod PlaceLaws
+pub mod PruneSteps
+pub mod PruneTurns
+pub mod RunLaws
+pub mod SetLaws
+pub mod SpreadLaws
+pub mod TurnLaws
+pub mod WalkLaws

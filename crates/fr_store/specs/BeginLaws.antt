@@ -16,6 +16,7 @@ use Rattle.fr_store.specs.MoveLaws.{open_top, top_changed}
 use Rattle.fr_store.specs.Moves.{IsOpenAt, cursor_in, tree_in_slots}
 use Rattle.fr_store.specs.Numbers.{IsLast}
 use Rattle.fr_store.specs.Stands.{IsOpen, kid_shown}
+use Rattle.fr_store.specs.TopLaws.{keeps_closed, keeps_same, KeepsChildren}
 use Rattle.fr_store.specs.WayLaws.{tree_put_at, tree_change_at, tree_of_at}
 
 abbrev pub gones : ℕ → Kids
@@ -77,14 +78,15 @@ theres_unplaced : (vs : Vals) → AreUnplaced (cells_in (theres vs))
 theres_unplaced no_vals = tt
 theres_unplaced (first v vs) = (tt, theres_unplaced vs)
 
-opened_closed : (form : Form) (count : ℕ) (plot : Plot) → IsClosed (body_in plot) → IsClosed (body_in (opened_plot form count plot))
-opened_closed form count entered_plot closed = gones_unplaced count
-opened_closed form count (whole_plot v) closed = go (parts_of v)
+opened_keeps : (form : Form) (count : ℕ) (plot : Plot) → KeepsChildren plot (opened_plot form count plot)
+opened_keeps form count entered_plot = keeps_closed entered_plot (begun_plot form (gones count)) (gones_unplaced count)
+opened_keeps form count (whole_plot v) =
+    keeps_closed (whole_plot v) (opened_whole form v (parts_of v)) (go (parts_of v))
   where
     go : (parts : Option Vals) → IsClosed (body_in (opened_whole form v parts))
     go (Some vs) = theres_unplaced vs
     go None = tt
-opened_closed form count (begun_plot made kids) closed = closed
+opened_keeps form count (begun_plot made kids) = keeps_same (begun_plot made kids)
 
 gones_tokens : (count t : ℕ) → kids_occur (gones count) t ≡ 0
 gones_tokens zero t = refl
@@ -121,5 +123,5 @@ open_begun plan before after stack open_now n last form count shows tokens =
     ∙ ap (opened_as form count) (ap tree_of (sym top.is) ∙ tree_of_at place k)) in
     subst (λ (t : Tree). IsOpenAt plan after stack place t) same
     (top_changed plan before after stack open_now n last (opened form count) new (opened_body form count top.plot)
-    (opened_closed form count top.plot top.closed) shows
+    (opened_keeps form count top.plot) shows
     (λ t. omega (arith, tokens t, opened_tokens form count top.plot t)))

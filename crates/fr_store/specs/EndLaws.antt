@@ -11,19 +11,20 @@ use Rattle.fr_model.specs.Tree.{Form, as_struct, as_array, whole, change_at}
 use Rattle.fr_plan.specs.TypePlan.{Plan}
 use Rattle.fr_frame.specs.declared.places.FrameOwner.{FrameOwner}
 use Rattle.fr_frame.specs.declared.places.Slot.{Slot}
-use Rattle.fr_frame.specs.Bodies.{Body, entered_body, whole_body, begun_body, value_of, body_occurs, cell_at, with_cell, AreUnplaced}
+use Rattle.fr_frame.specs.Bodies.{Body, entered_body, whole_body, begun_body, value_of, body_occurs, cell_at, with_cell, AreUnplaced, IsClosed}
 use Rattle.fr_frame.specs.Cells.{Cell, absent, given, placed, cells_occur, values_of}
 use Rattle.fr_frame.specs.Changes.{IfInUse, IsInUse, Shows}
-use Rattle.fr_frame.specs.Heap.{Node, with_body, without, heap_of, slots_occur}
+use Rattle.fr_frame.specs.Heap.{Node, with_body, without, heap_of, marked, stored_in, slots_occur}
 use Rattle.fr_frame.specs.Kids.{Kid, gone, there, at, Plot, begun_plot, Kids, no_kids, kid, tree_of, cell_of, cells_in, body_in, kid_occurs, plot_occurs, child_owner}
 use Rattle.fr_store.specs.LeaveLaws.{Above, above_of, gone_above, gone_is, left_top, owner_append, put_append, above_append, up_append, cell_of_child, with_child}
-use Rattle.fr_store.specs.MoveLaws.{same_last, same_front, open_at_from}
+use Rattle.fr_store.specs.MoveLaws.{same_last, same_front, open_at_from, open_strict}
 use Rattle.fr_store.specs.Moves.{IsOpenAt, IsStepTo, IsNumbered, cursor_in, tree_in_slots}
 use Rattle.fr_store.specs.Numbers.{IsLast}
 use Rattle.fr_store.specs.Stands.{Stands, IsOpen, kid_shown}
-use Rattle.fr_store.specs.TopLaws.{Top, top_of, top_replaced, body_here, body_other, closed_occur}
+use Rattle.fr_store.specs.Stored.{NothingStored}
+use Rattle.fr_store.specs.TopLaws.{Top, top_of, closed_top, keeps_closed, top_replaced, body_here, body_other, closed_occur, marked_body, unmarked_without}
 use Rattle.fr_store.specs.Ways.{kid_at, put_nth, put_below, put_at, slots_above, NoneStored, Leads, Reaches, node_along, owner_along, owner_below}
-use Rattle.fr_store.specs.WayLaws.{nth_put, count_put, leads_reach, marked_put_at, occurs_put_at, tree_put_at, kid_put_at, put_at_twice, put_below_twice}
+use Rattle.fr_store.specs.WayLaws.{nth_put, count_put, leads_reach, occurs_put_at, tree_put_at, kid_put_at, put_at_twice, put_below_twice}
 
 -- The value that a place comes to has its tokens.
 
@@ -60,22 +61,27 @@ unplaced_given i v no_kids closed = tt
 unplaced_given zero v (kid k ks) closed = (tt, closed.1)
 unplaced_given (suc i) v (kid k ks) closed = (closed.0, unplaced_given i v ks closed.1)
 
--- An open builder whose top isn't the root.
-module _ (plan : Plan) (slots : List Slot) (stack : List ℕ) (open_now : IsOpen plan slots stack) (above : Place) (i : ℕ)
-    (is_below : cursor_in slots stack ≡ above ++ i ∷ []) where
+-- An open builder whose top isn't the root, where nothing is stored.
+module _ (plan : Plan) (slots : List Slot) (stack : List ℕ) (open_now : IsOpen plan slots stack)
+    (nothing : NothingStored slots) (above : Place) (i : ℕ) (is_below : cursor_in slots stack ≡ above ++ i ∷ []) where
   unfoldable pub kid_now : Kid
   kid_now = kid_shown (heap_of slots) stack
 
   pub stands_now : Stands plan (heap_of slots) stack (above ++ i ∷ []) kid_now
   unfolding kid_now
-  stands_now = subst (λ (p : Place). Stands plan (heap_of slots) stack p (kid_shown (heap_of slots) stack)) is_below open_now.stands
+  stands_now =
+      subst (λ (p : Place). Stands plan (heap_of slots) stack p (kid_shown (heap_of slots) stack)) is_below
+      open_now.stands
 
   pub strict_now : NoneStored kid_now
   unfolding kid_now
-  strict_now = open_now.strict
+  strict_now = open_strict plan slots stack open_now nothing
 
   pub top_now : Top plan (heap_of slots) stack (above ++ i ∷ []) kid_now
-  top_now = top_of plan (heap_of slots) stack (above ++ i ∷ []) kid_now stands_now strict_now
+  top_now = top_of plan (heap_of slots) stack (above ++ i ∷ []) kid_now stands_now
+
+  pub closed_now : IsClosed (body_in top_now.plot)
+  closed_now = closed_top plan (heap_of slots) stack (above ++ i ∷ []) kid_now top_now strict_now
 
   pub above_now : Above above i kid_now
   above_now = above_of above i kid_now stands_now.leads strict_now
@@ -104,14 +110,11 @@ module _ (plan : Plan) (slots : List Slot) (stack : List ℕ) (open_now : IsOpen
       = subst
       (λ (o : Option Node). IsSomeAnd o (λ (found : Node). Shows after (without (heap_of slots) n found.owner))) found
       shows in
-      left_top plan (heap_of slots) (heap_of after) stack next above i kid_now n stands_now strict_now top_now above_now same
+      left_top plan (heap_of slots) (heap_of after) stack next above i kid_now n stands_now top_now above_now same
       left
       (sym (same_front (slots_above (above ++ i ∷ []) kid_now) next top_now.slot n (sym top_now.last ∙ last))
       ∙ above_append above i kid_now stands_now.leads above_now.slot false (begun_plot above_now.form above_now.kids)
       above_now.is)
-
-  pub strict_left : NoneStored (put_at (above ++ i ∷ []) gone kid_now)
-  strict_left = marked_put_at false (above ++ i ∷ []) gone kid_now strict_now tt
 
   reach_above : Reaches above kid_now
   reach_above = leads_reach above (i ∷ []) kid_now stands_now.leads
@@ -128,7 +131,7 @@ module _ (plan : Plan) (slots : List Slot) (stack : List ℕ) (open_now : IsOpen
       let here : kid_occurs (kid_at (above ++ i ∷ []) kid_now) t ≡ plot_occurs top_now.plot t
       = ap (λ (x : Kid). kid_occurs x t) top_now.is in
       omega
-      (arith, occurs_put_at (above ++ i ∷ []) gone kid_now t reach_now, closed_occur top_now.plot t top_now.closed)
+      (arith, occurs_put_at (above ++ i ∷ []) gone kid_now t reach_now, closed_occur top_now.plot t closed_now)
 
   -- the step that the top's owner tells
   pub step_now : (n : ℕ) (step : PathStep) → top_now.slot ≡ n
@@ -170,7 +173,6 @@ module _ (plan : Plan) (slots : List Slot) (stack : List ℕ) (open_now : IsOpen
     pub top_left : Top plan (heap_of mid) next above (put_at (above ++ i ∷ []) gone kid_now)
     top_left =
         top_of plan (heap_of mid) next above (put_at (above ++ i ∷ []) gone kid_now) (stands_left mid next n last shows)
-        strict_left
 
     left_is : gone_above above i kid_now above_now ≡ at top_left.slot false top_left.plot
     left_is =
@@ -249,7 +251,8 @@ module _ (plan : Plan) (slots : List Slot) (stack : List ℕ) (open_now : IsOpen
         ∙ ap (λ (y : ℕ). with_body (heap_of mid) y (λ old. with_cell old step (given v)) x) (sym same)
         ∙ body_other (heap_of mid) top_left.slot (λ old. with_cell old step (given v)) x ne in
         let ended = top_replaced plan (heap_of mid) (heap_of after) next above (put_at (above ++ i ∷ []) gone kid_now) new
-        (stands_left mid next n last shows) top_left (unplaced_given i v rest above_now.rest) here beside in
+        (stands_left mid next n last shows) top_left
+        (keeps_closed top_left.plot new (unplaced_given i v rest above_now.rest)) here beside in
         let one : put_below i (there v) (gone_above above i kid_now above_now) ≡ at top_left.slot false new
         = ap (λ (x : ℕ). at x false new) (sym slot_left) in
         let two : put_below i (there v) (gone_above above i kid_now above_now)
@@ -261,6 +264,18 @@ module _ (plan : Plan) (slots : List Slot) (stack : List ℕ) (open_now : IsOpen
         ∙ put_at_twice above (gone_above above i kid_now above_now) (at top_left.slot false new) kid_now reach_above
         ∙ ap (λ (x : Kid). put_at above x kid_now) (sym one ∙ two) ∙ sym (put_append above (i ∷ []) (there v) kid_now))
         ended
+
+    -- nothing is stored
+    pub strict_ended : (after : List Slot) (m : ℕ) (change : Body → Body) → Shows after (with_body (heap_of mid) m change)
+        → NothingStored after
+    strict_ended after m change puts x =
+        ap stored_in (puts x) ∙ marked_body (heap_of mid) m change x
+        ∙ go (heap_of slots n) shows
+      where
+        go : (found : Option Node) → IsSomeAnd found (λ (at : Node). Shows mid (without (heap_of slots) n at.owner))
+            → marked (heap_of mid) x ≡ false
+        go (Some found) so = ap stored_in (so x) ∙ unmarked_without (heap_of slots) n found.owner x (nothing x)
+        go None so = absurd so
 
     pub not_empty : next ≡ [] → ⊥
     not_empty none = go (slots_above above (put_at (above ++ i ∷ []) gone kid_now)) (sym none ∙ top_left.last)
@@ -283,13 +298,13 @@ module _ (plan : Plan) (slots : List Slot) (stack : List ℕ) (open_now : IsOpen
         let ended = open_at_from plan after next above (put_at (above ++ i ∷ []) (there v) kid_now)
         (change_at (above ++ i ∷ []) (λ old. whole v) (tree_of kid_now))
         (stands_ended after m step v ends told puts)
-        (marked_put_at false (above ++ i ∷ []) (there v) kid_now strict_now tt)
         (λ t.
         let here : kid_occurs (kid_at (above ++ i ∷ []) kid_now) t ≡ plot_occurs top_now.plot t
         = ap (λ (x : Kid). kid_occurs x t) top_now.is in
         let now : slots_occur slots t ≡ kid_occurs kid_now t = open_now.tokens t in
-        omega
-        (arith, occurs_put_at (above ++ i ∷ []) (there v) kid_now t reach_now, closed_occur top_now.plot t top_now.closed, value_tokens (body_in top_now.plot) v t value, taken t, put t))
+        let worth : body_occurs (body_in top_now.plot) t ≡ occurs v t = value_tokens (body_in top_now.plot) v t value in
+        let own : plot_occurs top_now.plot t ≡ body_occurs (body_in top_now.plot) t = closed_occur top_now.plot t closed_now in
+        omega (arith, occurs_put_at (above ++ i ∷ []) (there v) kid_now t reach_now, own, worth, taken t, put t))
         (tree_put_at (above ++ i ∷ []) (there v) kid_now) in
         subst
         (λ (p : Place). IsOpenAt plan after next (up p) (change_at p (λ old. whole v) (tree_in_slots slots stack)))

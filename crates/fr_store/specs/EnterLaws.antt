@@ -1,33 +1,34 @@
 -- Laws of entering, for proofs: a child of the top gets a slot, and is on top then.
-use Rattle.std.proofs.Common.{◌≡◌, ◌≢◌, ◌⊎◌, ℕ, zero, suc, ◌+◌, ◌<◌, ◌≤◌, Bool, true, false, List, [], ◌∷◌, ◌++◌, append-nil, append_assoc, length, nat_eq, Option, Some, None, inl, inr, refl, sym, ◌∙◌, ap, subst, arith}
+use Rattle.std.proofs.Common.{◌≡◌, ◌≢◌, ◌⊎◌, ℕ, suc, ◌+◌, ◌<◌, ◌≤◌, Bool, true, false, List, [], ◌∷◌, ◌++◌, append-nil, append_assoc, length, nat_eq, Some, None, inl, inr, refl, sym, ◌∙◌, ap, subst, arith}
 use Rattle.std.specs.Prelude.{if◌then◌else◌}
-use Rattle.std.specs.Option.{option_and_then}
 use Rattle.fr_shape.specs.declared.shape.Def.{Def}
 use Rattle.fr_shape.specs.Fills.{is_empty_struct}
 use Rattle.fr_shape.specs.Val.{product, no_vals}
 use Rattle.fr_model.specs.Paths.{step_as}
 use Rattle.fr_model.specs.Places.{Place}
 use Rattle.fr_model.specs.Step.{enter}
-use Rattle.fr_model.specs.Tree.{Form, Tree, Trees, whole, entered, begun, fresh, count_trees, change_child, tree_at, change_at}
+use Rattle.fr_model.specs.Tree.{Form, Tree, Trees, whole, entered, begun, fresh, change_child, tree_at, change_at}
 use Rattle.fr_plan.specs.declared.nodes.NodeId.{NodeId}
 use Rattle.fr_plan.specs.TypePlan.{Plan}
 use Rattle.fr_path.specs.declared.path_steps.PathStep.{PathStep}
 use Rattle.fr_frame.specs.declared.places.FrameOwner.{FrameOwner}
 use Rattle.fr_frame.specs.declared.places.Slot.{Slot}
 use Rattle.fr_frame.specs.Changes.{IsOwnerInUse, SameTokens, Shows}
-use Rattle.fr_frame.specs.Bodies.{Body, entered_body, whole_body, begun_body, fresh_body, cell_at, taken_over, linked, linked_by, AreUnplaced, IsUnplaced, IsClosed}
-use Rattle.fr_frame.specs.Heap.{heap_of, Node, Heap, with_entered, entered_node, links, held_by, depth_below, depth_above, depth_limit}
-use Rattle.fr_frame.specs.Kids.{Kid, gone, there, at, Plot, entered_plot, whole_plot, begun_plot, Kids, no_kids, kid, tree_of, tree_in, cell_of, cells_in, body_in, trees_in, kid_occurs, plot_occurs, kids_occur, child_node, child_owner, Holds, HoldsAll}
-use Rattle.fr_store.specs.HoldLaws.{AgreeBeside, Replaces, unused}
+use Rattle.fr_frame.specs.Bodies.{Body, entered_body, whole_body, begun_body, fresh_body, taken_over, linked, linked_by, IsUnplaced, IsClosed}
+use Rattle.fr_frame.specs.Heap.{heap_of, marked, stored_in, Node, Heap, with_entered, entered_node, links, held_by, depth_below, depth_above, depth_limit}
+use Rattle.fr_frame.specs.Kids.{Kid, gone, there, at, Plot, entered_plot, whole_plot, begun_plot, Kids, tree_of, tree_in, cell_of, cells_in, body_in, trees_in, kid_occurs, plot_occurs, kids_occur, child_node, child_owner, Holds}
+use Rattle.fr_store.specs.ChildLaws.{child_cell, kids_held, kids_stored, not_parent, parent_is, part_uses, plot_has, unplaced_child}
+use Rattle.fr_store.specs.HoldLaws.{Replaces, holds_put_nth, unused}
 use Rattle.fr_store.specs.LeaveLaws.{cell_of_child, with_child}
-use Rattle.fr_store.specs.MoveLaws.{open_at_from, open_top, top_in_use, top_slot}
+use Rattle.fr_store.specs.MoveLaws.{open_at_from, open_top, tokens_kept, top_in_use, top_slot}
 use Rattle.fr_store.specs.Moves.{HasChild, IsOpenAt, cursor_in, node_here, tree_here, tree_in_slots}
 use Rattle.fr_store.specs.Numbers.{IsLast}
 use Rattle.fr_store.specs.StandLaws.{stands_change}
 use Rattle.fr_store.specs.Stands.{Stands, IsOpen, kid_shown}
-use Rattle.fr_store.specs.TopLaws.{slot_here, slot_other, body_here, body_other, unplaced_uses, unplaced_holds, closed_marked, closed_holds, closed_uses, unplaced_marked, Top}
-use Rattle.fr_store.specs.Ways.{count_kids, kid_nth, kid_at, put_nth, put_at, slots_along, slots_above, counts_if, uses, AllMarkedAmong, StoredBut, NoneStored, Leads, Reaches, node_along, owner_along}
-use Rattle.fr_store.specs.WayLaws.{counts_same, counts_other, same_or_other, nth_put, uses_put_nth, occurs_put_nth, occurs_put_at, leads_reach, marked_put_nth, marked_put_at, tree_change_at, tree_put_nth, tree_of_nth, tree_of_at}
+use Rattle.fr_store.specs.Stored.{IsKept, IsStoredChild}
+use Rattle.fr_store.specs.TopLaws.{slot_here, slot_other, body_here, body_other, closed_marked, closed_holds, closed_uses, marked_entered, not_beside, top_held, Top}
+use Rattle.fr_store.specs.Ways.{count_kids, kid_nth, kid_at, put_nth, put_at, slots_along, slots_above, counts_if, uses, uses_among, Leads, Reaches, node_along, owner_along}
+use Rattle.fr_store.specs.WayLaws.{counts_same, counts_other, same_or_other, nth_put, uses_at, uses_put_nth, occurs_put_nth, occurs_put_at, leads_reach, stored_but, tree_change_at, tree_put_nth, tree_of_nth, tree_of_at}
 
 -- A child that is entered: what it held, or fresh.
 
@@ -90,16 +91,11 @@ child_tokens def gone t u = fresh_tokens def t
 child_tokens def (there v) t u = refl
 child_tokens def (at slot stored plot) t u = absurd u
 
-pub unplaced_nth : (i : ℕ) (ks : Kids) → AreUnplaced (cells_in ks) → IsUnplaced (cell_of (kid_nth i ks))
-unplaced_nth i no_kids closed = tt
-unplaced_nth zero (kid k ks) closed = closed.0
-unplaced_nth (suc i) (kid k ks) closed = unplaced_nth i ks closed.1
-
-linked_child : (form : Form) (i n : ℕ) (ks : Kids) (plot : Plot) → i < count_kids ks → AreUnplaced (cells_in ks)
+linked_child : (form : Form) (i n : ℕ) (ks : Kids) (plot : Plot) → i < count_kids ks → IsUnplaced (cell_of (kid_nth i ks))
     → linked n (step_as form i) (begun_body form (cells_in ks)) ≡ begun_body form (cells_in (put_nth i (at n false plot) ks))
-linked_child form i n ks plot h closed =
+linked_child form i n ks plot h unplaced =
     ap (linked_by n (step_as form i) (begun_body form (cells_in ks))) (cell_of_child form i ks h)
-    ∙ go (kid_nth i ks) (unplaced_nth i ks closed)
+    ∙ go (kid_nth i ks) unplaced
   where
     go : (k : Kid) → IsUnplaced (cell_of k)
         → linked_by n (step_as form i) (begun_body form (cells_in ks)) (Some (cell_of k))
@@ -108,41 +104,11 @@ linked_child form i n ks plot h closed =
     go (there v) u = with_child form i (at n false plot) ks
     go (at slot stored other) u = absurd u
 
-placed_holds : (plan : Plan) (heap : Heap) (node : NodeId) (slot : ℕ) (form : Form) (first depth : ℕ) (ks : Kids) (i m : ℕ)
-    (new : Kid) → m ≡ first + i → AreUnplaced (cells_in ks)
-    → Holds plan heap (child_node plan node form m) (child_owner slot form m) depth new
-    → HoldsAll plan heap node slot form first depth (put_nth i new ks)
-placed_holds plan heap node slot form first depth no_kids i m new e closed holds = tt
-placed_holds plan heap node slot form first depth (kid k ks) zero m new e closed holds =
-    let same : m ≡ first = omega arith in (
-      subst (λ (j : ℕ). Holds plan heap (child_node plan node form j) (child_owner slot form j) depth new) same holds,
-      unplaced_holds plan heap node slot form (suc first) depth ks closed.1,
-    )
-placed_holds plan heap node slot form first depth (kid gone ks) (suc i) m new e closed holds =
-    (tt, placed_holds plan heap node slot form (suc first) depth ks i m new (omega arith) closed.1 holds)
-placed_holds plan heap node slot form first depth (kid (there v) ks) (suc i) m new e closed holds =
-    (tt, placed_holds plan heap node slot form (suc first) depth ks i m new (omega arith) closed.1 holds)
-placed_holds plan heap node slot form first depth (kid (at s b p) ks) (suc i) m new e closed holds = absurd closed.0
-
-unplaced_marks : (ks : Kids) → AreUnplaced (cells_in ks) → AllMarkedAmong true ks
-unplaced_marks no_kids closed = tt
-unplaced_marks (kid gone ks) closed = (tt, unplaced_marks ks closed.1)
-unplaced_marks (kid (there v) ks) closed = (tt, unplaced_marks ks closed.1)
-unplaced_marks (kid (at s b p) ks) closed = absurd closed.0
-
-stored_but : (i : ℕ) (Below : Kid → Type 0) (new : Kid) (ks : Kids) → i < count_kids ks → AreUnplaced (cells_in ks)
-    → Below new → StoredBut i Below (put_nth i new ks)
-stored_but i Below new no_kids h closed so = absurd (omega arith)
-stored_but zero Below new (kid k ks) h closed so = (so, unplaced_marks ks closed.1)
-stored_but (suc i) Below new (kid gone ks) h closed so = (tt, stored_but i Below new ks (omega arith) closed.1 so)
-stored_but (suc i) Below new (kid (there v) ks) h closed so = (tt, stored_but i Below new ks (omega arith) closed.1 so)
-stored_but (suc i) Below new (kid (at s b p) ks) h closed so = absurd closed.0
-
--- Child i of the top is entered into slot n, which was free.
+-- Child i of the top, which is in no slot, is entered into slot n, which was free.
 module _ (plan : Plan) (heap other : Heap) (stack : List ℕ) (place : Place) (k : Kid)
     (stands : Stands plan heap stack place k) (top : Top plan heap stack place k) (form : Form) (kids : Kids)
-    (begun_now : top.plot ≡ begun_plot form kids) (i : ℕ) (within : i < count_kids kids) (def : Def) (n : ℕ)
-    (free : heap n ≡ None)
+    (begun_now : top.plot ≡ begun_plot form kids) (i : ℕ) (within : i < count_kids kids)
+    (unplaced : IsUnplaced (cell_of (kid_nth i kids))) (def : Def) (n : ℕ) (free : heap n ≡ None)
     (shows : (m : ℕ) → other m ≡ with_entered def heap (child_node plan (node_along plan plan.root place k) form i)
     (child_owner top.slot form i) n m)
     (limit : depth_below heap (child_owner top.slot form i) < depth_limit) where
@@ -152,27 +118,8 @@ module _ (plan : Plan) (heap other : Heap) (stack : List ℕ) (place : Place) (k
   abbrev pub entered_kid : Kid
   entered_kid = at top.slot false (begun_plot form entered_kids)
 
-  closed_kids : AreUnplaced (cells_in kids)
-  closed_kids = subst (λ (p : Plot). IsClosed (body_in p)) begun_now top.closed
-
-  parent_is : heap top.slot ≡ Some (record {
-    node = node_along plan plan.root place k;
-    owner = owner_along FrameOwner.Root place k;
-    stored = false;
-    depth = length place;
-    body = begun_body form (cells_in kids);
-  })
-  parent_is =
-      top.here ∙ ap (λ (p : Plot). Some (record {
-        node = node_along plan plan.root place k;
-        owner = owner_along FrameOwner.Root place k;
-        stored = false;
-        depth = length place;
-        body = body_in p;
-      })) begun_now
-
   apart : top.slot ≢ n
-  apart e = let is = sym parent_is ∙ ap heap e ∙ free in cc
+  apart e = let is = sym top.here ∙ ap heap e ∙ free in cc
 
   parent_now : other top.slot ≡ Some (record {
     node = node_along plan plan.root place k;
@@ -192,17 +139,17 @@ module _ (plan : Plan) (heap other : Heap) (stack : List ℕ) (place : Place) (k
         stored = false;
         depth = length place;
         body = begun_body form (cells_in kids);
-      }) parent_is
+      }) (parent_is plan heap stack place k stands top form kids begun_now i within)
       ∙ ap (λ (b : Body). Some (record {
         node = node_along plan plan.root place k;
         owner = owner_along FrameOwner.Root place k;
         stored = false;
         depth = length place;
         body = b;
-      })) (linked_child form i n kids (child_plot def (kid_nth i kids)) within closed_kids)
+      })) (linked_child form i n kids (child_plot def (kid_nth i kids)) within unplaced)
 
   depth_is : depth_below heap (child_owner top.slot form i) ≡ suc (length place)
-  depth_is = ap depth_above parent_is
+  depth_is = ap depth_above top.here
 
   child_now : other n ≡ Some (record {
     node = child_node plan (node_along plan plan.root place k) form i;
@@ -213,7 +160,7 @@ module _ (plan : Plan) (heap other : Heap) (stack : List ℕ) (place : Place) (k
   })
   child_now =
       let held : held_by heap (child_owner top.slot form i) ≡ Some (cell_of (kid_nth i kids))
-      = ap (option_and_then (λ (x : Node). cell_at x.body (step_as form i))) parent_is ∙ cell_of_child form i kids within in
+      = child_cell plan heap stack place k stands top form kids begun_now i within in
       shows n
       ∙ slot_here (links (child_owner top.slot form i) n heap) n
       (Some (entered_node def heap (child_node plan (node_along plan plan.root place k) form i) (child_owner top.slot form i)))
@@ -230,37 +177,32 @@ module _ (plan : Plan) (heap other : Heap) (stack : List ℕ) (place : Place) (k
         stored = false;
         depth = suc (length place);
         body = b;
-      })) (ap (taken_over def) held ∙ sym (child_body def (kid_nth i kids) (unplaced_nth i kids closed_kids)))
+      })) (ap (taken_over def) held ∙ sym (child_body def (kid_nth i kids) unplaced))
 
-  part : (m : ℕ) → uses (kid_at place k) m ≡ counts_if (nat_eq top.slot m)
-  part m = ap (λ (x : Kid). uses x m) top.is ∙ (omega (arith, closed_uses top.plot m top.closed))
+  part : (m : ℕ) → uses (kid_at place k) m ≡ counts_if (nat_eq top.slot m) + uses_among kids m
+  part m = part_uses plan heap stack place k stands top form kids begun_now i within m
 
   unused_now : uses k n ≡ 0
   unused_now = unused plan heap plan.root FrameOwner.Root 0 k n stands.holds free
 
-  agree : AgreeBeside heap other k (kid_at place k)
-  agree m h = go (same_or_other m top.slot) (same_or_other m n)
+  elsewhere : (m : ℕ) → m ≢ top.slot → 0 < uses k m → other m ≡ heap m
+  elsewhere m ne h =
+      shows m
+      ∙ slot_other (links (child_owner top.slot form i) n heap) n
+      (Some (entered_node def heap (child_node plan (node_along plan plan.root place k) form i) (child_owner top.slot form i)))
+      m serves
+      ∙ body_other heap top.slot (linked n (step_as form i)) m ne
     where
-      go : (m ≡ top.slot) ⊎ (m ≢ top.slot) → (m ≡ n) ⊎ (m ≢ n) → other m ≡ heap m
-      go (inl e) x =
-          let one : counts_if (nat_eq top.slot m) ≡ 1
-          = ap (λ (y : ℕ). counts_if (nat_eq top.slot y)) e ∙ counts_same top.slot in
-          absurd (omega (arith, part m, stands.once m))
-      go (inr ne) (inl e) =
+      serves : m ≢ n
+      serves e =
           let none : uses k m ≡ 0 = ap (uses k) e ∙ unused_now in
           absurd (omega (arith, none))
-      go (inr ne) (inr ne2) =
-          shows m
-          ∙ slot_other (links (child_owner top.slot form i) n heap) n
-          (Some (entered_node def heap (child_node plan (node_along plan plan.root place k) form i)
-          (child_owner top.slot form i))) m ne2
-          ∙ body_other heap top.slot (linked n (step_as form i)) m ne
 
   once : (m : ℕ) → uses k m + uses entered_kid m ≤ 1 + uses (kid_at place k) m
   once m =
       let added = uses_put_nth i (at n false (child_plot def (kid_nth i kids))) kids m within in
-      omega
-      (arith, added, part m, unplaced_uses kids m closed_kids, closed_uses (child_plot def (kid_nth i kids)) m (child_closed def (kid_nth i kids)), go (same_or_other n m))
+      let fresh = closed_uses (child_plot def (kid_nth i kids)) m (child_closed def (kid_nth i kids)) in
+      omega (arith, added, fresh, part m, go (same_or_other n m))
     where
       go : (n ≡ m) ⊎ (n ≢ m) → uses k m + counts_if (nat_eq n m) ≤ 1
       go (inl e) =
@@ -271,33 +213,7 @@ module _ (plan : Plan) (heap other : Heap) (stack : List ℕ) (place : Place) (k
 
   replaces : Replaces plan heap other (kid_at place k) entered_kid
   replaces node owner depth holds =
-      let was = subst (λ (x : Kid). Holds plan heap node owner depth x) top.is holds in
-      let both : ◌≡◌ {A = Option Node} (Some (record {
-        node = node;
-        owner = owner;
-        stored = false;
-        depth = depth;
-        body = body_in top.plot;
-      })) (Some (record {
-        node = node_along plan plan.root place k;
-        owner = owner_along FrameOwner.Root place k;
-        stored = false;
-        depth = length place;
-        body = body_in top.plot;
-      })) = sym was.0 ∙ top.here in
-      let same : ◌≡◌ {A = Node} (record {
-        node = node;
-        owner = owner;
-        stored = false;
-        depth = depth;
-        body = body_in top.plot;
-      }) (record {
-        node = node_along plan plan.root place k;
-        owner = owner_along FrameOwner.Root place k;
-        stored = false;
-        depth = length place;
-        body = body_in top.plot;
-      }) = cc in
+      let same = top_held plan heap stack place k stands top node owner depth holds in
       let child : Holds plan other (child_node plan (node_along plan plan.root place k) form i)
       (child_owner top.slot form i) (suc (length place)) (at n false (child_plot def (kid_nth i kids)))
       = (
@@ -309,8 +225,12 @@ module _ (plan : Plan) (heap other : Heap) (stack : List ℕ) (place : Place) (k
       subst (λ (x : Node). Holds plan other x.node x.owner x.depth entered_kid) (sym same) (
         parent_now,
         top.limit,
-        placed_holds plan other (node_along plan plan.root place k) top.slot form 0 (suc (length place)) kids i i
-            (at n false (child_plot def (kid_nth i kids))) (omega arith) closed_kids child,
+        holds_put_nth plan heap other (node_along plan plan.root place k) top.slot form 0 (suc (length place)) kids i i
+            (at n false (child_plot def (kid_nth i kids))) (omega arith)
+            (λ m h. elsewhere m
+            (not_parent plan heap stack place k stands top form kids begun_now i within m (omega arith))
+            (omega (arith, part m, uses_at place k m)))
+            (kids_held plan heap stack place k stands top form kids begun_now i within) child,
       )
 
   pub stands_entered : Stands plan other (stack ++ n ∷ []) (place ++ i ∷ []) (put_at place entered_kid k)
@@ -318,9 +238,11 @@ module _ (plan : Plan) (heap other : Heap) (stack : List ℕ) (place : Place) (k
       let longer : Stands plan heap stack (place ++ []) k
       = subst (λ (p : Place). Stands plan heap stack p k) (sym (append-nil place)) stands in
       stands_change plan heap other stack (stack ++ n ∷ []) place [] (i ∷ []) entered_kid k longer
-      (ap cell_of (sym top.is)) agree replaces once (
+      (ap cell_of (sym top.is))
+      (λ m h. elsewhere m (not_beside plan heap stack place k stands top m h) (omega arith)) replaces once (
         refl,
-        stored_but i (λ below. Leads [] below) (at n false (child_plot def (kid_nth i kids))) kids within closed_kids
+        stored_but i (λ below. Leads [] below) (at n false (child_plot def (kid_nth i kids))) kids within
+            (kids_stored plan heap stack place k stands top form kids begun_now i within)
             (refl, closed_marked true (child_plot def (kid_nth i kids)) (child_closed def (kid_nth i kids))),
       )
       (ap (λ (s : List ℕ). s ++ n ∷ []) top.last ∙ append_assoc (slots_above place k) (top.slot ∷ []) (n ∷ [])
@@ -335,17 +257,8 @@ module _ (plan : Plan) (heap other : Heap) (stack : List ℕ) (place : Place) (k
       tree_change_at place (change_child i (enter def)) entered_kid k
       (ap (λ (ts : Trees). begun form ts)
       (tree_put_nth i (at n false (child_plot def (kid_nth i kids))) (enter def) kids
-      (child_tree_is def (kid_nth i kids) (unplaced_nth i kids closed_kids) ∙ ap (enter def) (tree_of_nth i kids)))
+      (child_tree_is def (kid_nth i kids) unplaced ∙ ap (enter def) (tree_of_nth i kids)))
       ∙ ap (change_child i (enter def)) (sym before))
-
-  pub strict_entered : NoneStored k → NoneStored (put_at place entered_kid k)
-  strict_entered strict =
-      marked_put_at false place entered_kid k strict (
-        refl,
-        marked_put_nth false i (at n false (child_plot def (kid_nth i kids))) kids
-            (unplaced_marked false kids closed_kids)
-            (refl, closed_marked false (child_plot def (kid_nth i kids)) (child_closed def (kid_nth i kids))),
-      )
 
   pub tokens_entered : (t : ℕ) → kid_occurs (put_at place entered_kid k) t ≡ kid_occurs k t
   tokens_entered t =
@@ -355,20 +268,9 @@ module _ (plan : Plan) (heap other : Heap) (stack : List ℕ) (place : Place) (k
       let reach : Reaches place k
       = leads_reach place [] k (subst (λ (p : Place). Leads p k) (sym (append-nil place)) stands.leads) in
       omega
-      (arith, was, now, occurs_put_at place entered_kid k t reach, child_tokens def (kid_nth i kids) t (unplaced_nth i kids closed_kids))
+      (arith, was, now, occurs_put_at place entered_kid k t reach, child_tokens def (kid_nth i kids) t unplaced)
 
-count_kids_trees : (ks : Kids) → count_trees (trees_in ks) ≡ count_kids ks
-count_kids_trees no_kids = refl
-count_kids_trees (kid k ks) = ap suc (count_kids_trees ks)
-
-plot_has : (form : Form) (i : ℕ) (plot : Plot) → HasChild form i (tree_in plot)
-    → (kids : Kids) × (plot ≡ begun_plot form kids) × (i < count_kids kids)
-plot_has form i entered_plot has = absurd has
-plot_has form i (whole_plot v) has = absurd has
-plot_has form i (begun_plot made kids) has =
-    (kids, ap (λ (f : Form). begun_plot f kids) has.0, subst (λ (n : ℕ). i < n) (count_kids_trees kids) has.1)
-
--- A child of an open builder's top is entered.
+-- A child of an open builder's top that isn't stored is entered.
 module _ (plan : Plan) (before : List Slot) (stack : List ℕ) (open_now : IsOpen plan before stack) (p : ℕ)
     (last : IsLast stack p) where
   pub owner_used : (owner : FrameOwner) (step : PathStep) → owner ≡ FrameOwner.Child (record { 0 = p }) step
@@ -378,13 +280,13 @@ module _ (plan : Plan) (before : List Slot) (stack : List ℕ) (open_now : IsOpe
 
   pub open_entered : (after : List Slot) (next : List ℕ) (form : Form) (i : ℕ) (def : Def) (n : ℕ) (node : NodeId)
       → HasChild form i (tree_here before stack) → node ≡ child_node plan (node_here plan before stack) form i
-      → heap_of before n ≡ None
+      → ((child : ℕ) → IsStoredChild (heap_of before) p (step_as form i) child → ⊥) → heap_of before n ≡ None
       → Shows after (with_entered def (heap_of before) node (child_owner p form i) n)
       → depth_below (heap_of before) (child_owner p form i) < depth_limit → SameTokens before after
       → next ≡ stack ++ n ∷ []
       → IsOpenAt plan after next (cursor_in before stack ++ i ∷ [])
       (change_at (cursor_in before stack) (change_child i (enter def)) (tree_in_slots before stack))
-  open_entered after next form i def n node has is free shows limit tokens along =
+  open_entered after next form i def n node has is none free shows limit tokens along =
       let place : Place = cursor_in before stack in
       let k : Kid = kid_shown (heap_of before) stack in
       let top = open_top plan before stack open_now in
@@ -392,6 +294,9 @@ module _ (plan : Plan) (before : List Slot) (stack : List ℕ) (open_now : IsOpe
       let here : HasChild form i (tree_in top.plot)
       = subst (λ (t : Tree). HasChild form i t) (sym (tree_of_at place k) ∙ ap tree_of top.is) has in
       let found = plot_has form i top.plot here in
+      let unplaced : IsUnplaced (cell_of (kid_nth i found.0))
+      = unplaced_child plan (heap_of before) stack place k open_now.stands top form found.0 found.1 i found.2
+      (subst (λ (x : ℕ). (child : ℕ) → IsStoredChild (heap_of before) x (step_as form i) child → ⊥) (sym same) none) in
       let shown : (m : ℕ) → heap_of after m
       ≡ with_entered def (heap_of before) (child_node plan (node_along plan plan.root place k) form i)
       (child_owner top.slot form i) n m
@@ -401,14 +306,30 @@ module _ (plan : Plan) (before : List Slot) (stack : List ℕ) (open_now : IsOpe
       (child_node plan (node_along plan plan.root place k) form i) (child_owner x form i) n m) (sym same) in
       let deep : depth_below (heap_of before) (child_owner top.slot form i) < depth_limit
       = subst (λ (x : ℕ). depth_below (heap_of before) (child_owner x form i) < depth_limit) (sym same) limit in
+      let now : Kid = put_at place
+      (entered_kid plan (heap_of before) (heap_of after) stack place k open_now.stands top form found.0 found.1 i
+      found.2 unplaced def n free shown deep) k in
+      let stands : Stands plan (heap_of after) (stack ++ n ∷ []) (place ++ i ∷ []) now
+      = stands_entered plan (heap_of before) (heap_of after) stack place k open_now.stands top form found.0 found.1 i
+      found.2 unplaced def n free shown deep in
+      let same_tokens : (t : ℕ) → kid_occurs now t ≡ kid_occurs k t
+      = tokens_entered plan (heap_of before) (heap_of after) stack place k open_now.stands top form found.0 found.1 i
+      found.2 unplaced def n free shown deep in
+      let tree : tree_of now ≡ change_at place (change_child i (enter def)) (tree_of k)
+      = tree_entered plan (heap_of before) (heap_of after) stack place k open_now.stands top form found.0 found.1 i
+      found.2 unplaced def n free shown deep in
       subst
       (λ (s : List ℕ). IsOpenAt plan after s (place ++ i ∷ [])
       (change_at place (change_child i (enter def)) (tree_of k))) (sym along)
-      (open_at_from plan after (stack ++ n ∷ []) (place ++ i ∷ [])
-      (put_at place (entered_kid plan (heap_of before) (heap_of after) stack place k open_now.stands top form found.0 found.1 i found.2 def n free shown deep) k)
-      (change_at place (change_child i (enter def)) (tree_of k))
-      (stands_entered plan (heap_of before) (heap_of after) stack place k open_now.stands top form found.0 found.1 i found.2 def n free shown deep)
-      (strict_entered plan (heap_of before) (heap_of after) stack place k open_now.stands top form found.0 found.1 i found.2 def n free shown deep open_now.strict)
-      (λ t. tokens t ∙ open_now.tokens t
-      ∙ sym (tokens_entered plan (heap_of before) (heap_of after) stack place k open_now.stands top form found.0 found.1 i found.2 def n free shown deep t))
-      (tree_entered plan (heap_of before) (heap_of after) stack place k open_now.stands top form found.0 found.1 i found.2 def n free shown deep))
+      (open_at_from plan after (stack ++ n ∷ []) (place ++ i ∷ []) now
+      (change_at place (change_child i (enter def)) (tree_of k)) stands
+      (tokens_kept before after k now tokens open_now.tokens same_tokens) tree)
+
+-- no place is stored that wasn't
+pub kept_entered : (store : List ℕ) (before after : List Slot) (def : Def) (node : NodeId) (owner : FrameOwner) (n : ℕ)
+    → IsKept store before → heap_of before n ≡ None → Shows after (with_entered def (heap_of before) node owner n)
+    → IsKept store after
+kept_entered store before after def node owner n kept free shows m =
+    let same : marked (heap_of after) m ≡ marked (heap_of before) m
+    = ap stored_in (shows m) ∙ marked_entered def (heap_of before) node owner n m free in
+    (λ stored. (kept m).0 (sym same ∙ stored), λ listed. same ∙ (kept m).1 listed)

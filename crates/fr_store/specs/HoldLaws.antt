@@ -1,5 +1,5 @@
 -- Laws of what heaps hold, for proofs: other heaps that hold the same, or the same with something else at one place.
-use Rattle.std.proofs.Common.{◌≡◌, ◌≢◌, ◌⊎◌, ℕ, zero, suc, ◌+◌, ◌<◌, List, [], ◌∷◌, ◌++◌, length, nat_eq, Option, Some, None, inl, inr, refl, sym, ◌∙◌, ap, subst, arith}
+use Rattle.std.proofs.Common.{◌≡◌, ◌≢◌, ◌⊎◌, ℕ, zero, suc, ◌+◌, ◌<◌, false, List, [], ◌∷◌, ◌++◌, length, nat_eq, Option, Some, None, inl, inr, refl, sym, ◌∙◌, ap, subst, arith}
 use Rattle.fr_path.specs.declared.path_steps.PathStep.{PathStep}
 use Rattle.fr_model.specs.Paths.{step_as, steps_in}
 use Rattle.fr_model.specs.Places.{Place}
@@ -9,10 +9,10 @@ use Rattle.fr_plan.specs.TypePlan.{Plan}
 use Rattle.fr_frame.specs.declared.places.FrameOwner.{FrameOwner}
 use Rattle.fr_frame.specs.Bodies.{begun_body}
 use Rattle.fr_frame.specs.Cells.{Cell}
-use Rattle.fr_frame.specs.Heap.{Node, Heap, depth_limit}
+use Rattle.fr_frame.specs.Heap.{Node, Heap, depth_limit, marked, stored_in}
 use Rattle.fr_frame.specs.Kids.{Kid, gone, there, at, Plot, entered_plot, whole_plot, begun_plot, Kids, no_kids, kid, tree_of, cell_of, cells_in, body_in, kid_in, kids_in, plot_in, kid_by, kid_from, child_node, child_owner, Holds, HoldsIn, HoldsAll}
 use Rattle.fr_store.specs.Stands.{step_of_owner, step_to, steps_to}
-use Rattle.fr_store.specs.Ways.{count_kids, kid_nth, kid_at, put_nth, put_at, slots_along, counts_if, uses, uses_in, uses_among, Leads, Reaches, node_along, owner_along}
+use Rattle.fr_store.specs.Ways.{count_kids, kid_nth, kid_at, put_nth, put_at, slots_along, counts_if, uses, uses_in, uses_among, AllMarkedIn, AllMarkedAmong, NoneStored, Leads, Reaches, node_along, owner_along}
 use Rattle.fr_store.specs.WayLaws.{counts_same, counts_other, same_or_other, leads_reach, leads_at, uses_nth, uses_at, tree_of_nth}
 
 -- the other heap has the same under each number that serves in it
@@ -31,7 +31,7 @@ mutual
     holds_frame_in plan heap other node slot (suc depth) plot holds.2 (λ n h. agree n (omega arith)),
   )
 
-  holds_frame_in : (plan : Plan) (heap other : Heap) (node : NodeId) (slot depth : ℕ) (plot : Plot)
+  pub holds_frame_in : (plan : Plan) (heap other : Heap) (node : NodeId) (slot depth : ℕ) (plot : Plot)
       → HoldsIn plan heap node slot depth plot → ((n : ℕ) → 0 < uses_in plot n → other n ≡ heap n)
       → HoldsIn plan other node slot depth plot
   holds_frame_in plan heap other node slot depth entered_plot holds agree = tt
@@ -39,7 +39,7 @@ mutual
   holds_frame_in plan heap other node slot depth (begun_plot form kids) holds agree =
       holds_frame_among plan heap other node slot form 0 depth kids holds agree
 
-  holds_frame_among : (plan : Plan) (heap other : Heap) (node : NodeId) (slot : ℕ) (form : Form) (i depth : ℕ) (ks : Kids)
+  pub holds_frame_among : (plan : Plan) (heap other : Heap) (node : NodeId) (slot : ℕ) (form : Form) (i depth : ℕ) (ks : Kids)
       → HoldsAll plan heap node slot form i depth ks → ((n : ℕ) → 0 < uses_among ks n → other n ≡ heap n)
       → HoldsAll plan other node slot form i depth ks
   holds_frame_among plan heap other node slot form i depth no_kids holds agree = tt
@@ -76,9 +76,33 @@ mutual
       omega
       (arith, unused plan heap (child_node plan node form i) (child_owner slot form i) depth k n holds.0 free, unused_among plan heap node slot form (suc i) depth ks n holds.1 free)
 
+-- where nothing that the heap holds is stored
+mutual
+  pub none_stored : (plan : Plan) (heap : Heap) (node : NodeId) (owner : FrameOwner) (depth : ℕ) (k : Kid)
+      → Holds plan heap node owner depth k → ((n : ℕ) → marked heap n ≡ false) → NoneStored k
+  none_stored plan heap node owner depth gone holds none = tt
+  none_stored plan heap node owner depth (there v) holds none = tt
+  none_stored plan heap node owner depth (at slot stored plot) holds none =
+      (sym (ap stored_in holds.0) ∙ none slot, none_stored_in plan heap node slot (suc depth) plot holds.2 none)
+
+  none_stored_in : (plan : Plan) (heap : Heap) (node : NodeId) (slot depth : ℕ) (plot : Plot)
+      → HoldsIn plan heap node slot depth plot → ((n : ℕ) → marked heap n ≡ false) → AllMarkedIn false plot
+  none_stored_in plan heap node slot depth entered_plot holds none = tt
+  none_stored_in plan heap node slot depth (whole_plot v) holds none = tt
+  none_stored_in plan heap node slot depth (begun_plot form kids) holds none =
+      none_stored_among plan heap node slot form 0 depth kids holds none
+
+  none_stored_among : (plan : Plan) (heap : Heap) (node : NodeId) (slot : ℕ) (form : Form) (i depth : ℕ) (ks : Kids)
+      → HoldsAll plan heap node slot form i depth ks → ((n : ℕ) → marked heap n ≡ false) → AllMarkedAmong false ks
+  none_stored_among plan heap node slot form i depth no_kids holds none = tt
+  none_stored_among plan heap node slot form i depth (kid k ks) holds none = (
+    none_stored plan heap (child_node plan node form i) (child_owner slot form i) depth k holds.0 none,
+    none_stored_among plan heap node slot form (suc i) depth ks holds.1 none,
+  )
+
 -- One child of many, and one place.
 
-holds_nth : (plan : Plan) (heap : Heap) (node : NodeId) (slot : ℕ) (form : Form) (first depth : ℕ) (ks : Kids) (i m : ℕ)
+pub holds_nth : (plan : Plan) (heap : Heap) (node : NodeId) (slot : ℕ) (form : Form) (first depth : ℕ) (ks : Kids) (i m : ℕ)
     → m ≡ first + i → i < count_kids ks → HoldsAll plan heap node slot form first depth ks
     → Holds plan heap (child_node plan node form m) (child_owner slot form m) depth (kid_nth i ks)
 holds_nth plan heap node slot form first depth no_kids i m e h holds = absurd (omega arith)
@@ -121,7 +145,7 @@ Replaces plan heap other old new =
 abbrev pub AgreeBeside : Heap → Heap → Kid → (part : Kid) → Type 0
 AgreeBeside heap other k part = (n : ℕ) → uses part n < uses k n → other n ≡ heap n
 
-replaced_nth : (plan : Plan) (heap other : Heap) (node : NodeId) (slot : ℕ) (form : Form) (first depth : ℕ) (ks : Kids)
+pub replaced_nth : (plan : Plan) (heap other : Heap) (node : NodeId) (slot : ℕ) (form : Form) (first depth : ℕ) (ks : Kids)
     (i : ℕ) (new : Kid) → Replaces plan heap other (kid_nth i ks) new
     → ((n : ℕ) → uses (kid_nth i ks) n < uses_among ks n → other n ≡ heap n)
     → HoldsAll plan heap node slot form first depth ks → HoldsAll plan other node slot form first depth (put_nth i new ks)
@@ -136,7 +160,26 @@ replaced_nth plan heap other node slot form first depth (kid k ks) (suc i) new s
   replaced_nth plan heap other node slot form (suc first) depth ks i new step (λ n h. agree n (omega arith)) holds.1,
 )
 
-cells_put_nth : (i : ℕ) (new : Kid) (ks : Kids) → cell_of new ≡ cell_of (kid_nth i ks)
+-- another child in the stead of one, the others as they were
+pub holds_put_nth : (plan : Plan) (heap other : Heap) (node : NodeId) (slot : ℕ) (form : Form) (first depth : ℕ) (ks : Kids)
+    (i m : ℕ) (new : Kid) → m ≡ first + i → ((n : ℕ) → uses (kid_nth i ks) n < uses_among ks n → other n ≡ heap n)
+    → HoldsAll plan heap node slot form first depth ks
+    → Holds plan other (child_node plan node form m) (child_owner slot form m) depth new
+    → HoldsAll plan other node slot form first depth (put_nth i new ks)
+holds_put_nth plan heap other node slot form first depth no_kids i m new e agree holds is = tt
+holds_put_nth plan heap other node slot form first depth (kid k ks) zero m new e agree holds is =
+    let same : m ≡ first = omega arith in (
+      subst (λ (j : ℕ). Holds plan other (child_node plan node form j) (child_owner slot form j) depth new) same is,
+      holds_frame_among plan heap other node slot form (suc first) depth ks holds.1 (λ n h. agree n (omega arith)),
+    )
+holds_put_nth plan heap other node slot form first depth (kid k ks) (suc i) m new e agree holds is = (
+  holds_frame plan heap other (child_node plan node form first) (child_owner slot form first) depth k holds.0
+      (λ n h. agree n (omega (arith, uses_nth i ks n))),
+  holds_put_nth plan heap other node slot form (suc first) depth ks i m new (omega arith) (λ n h. agree n (omega arith))
+      holds.1 is,
+)
+
+pub cells_put_nth : (i : ℕ) (new : Kid) (ks : Kids) → cell_of new ≡ cell_of (kid_nth i ks)
     → cells_in (put_nth i new ks) ≡ cells_in ks
 cells_put_nth i new no_kids same = refl
 cells_put_nth zero new (kid k ks) same = ap (λ (c : Cell). c ∷ cells_in ks) same

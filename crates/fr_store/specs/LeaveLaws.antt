@@ -155,12 +155,12 @@ gone_is above i k found =
     put_append above (i ∷ []) gone k ∙ ap (λ (x : Kid). put_at above (put_at (i ∷ []) gone x) k) found.is
 
 pub left_top : (plan : Plan) (heap other : Heap) (stack next : List ℕ) (above : Place) (i : ℕ) (k : Kid) (n : ℕ)
-    → Stands plan heap stack (above ++ i ∷ []) k → NoneStored k → (top : Top plan heap stack (above ++ i ∷ []) k)
+    → Stands plan heap stack (above ++ i ∷ []) k → (top : Top plan heap stack (above ++ i ∷ []) k)
     → (found : Above above i k) → top.slot ≡ n
     → ((m : ℕ) → other m ≡ without heap n (owner_along FrameOwner.Root (above ++ i ∷ []) k) m)
     → next ≡ slots_above above k ++ found.slot ∷ []
     → Stands plan other next above (put_at (above ++ i ∷ []) gone k)
-left_top plan heap other stack next above i k n stands strict top found same shows along =
+left_top plan heap other stack next above i k n stands top found same shows along =
     subst (λ (x : Kid). Stands plan other next above x) (sym (gone_is above i k found))
     (subst (λ (p : Place). Stands plan other next p (put_at above new k)) (append-nil above)
     (stands_change plan heap other stack next above (i ∷ []) [] new k stands (ap cell_of (sym found.is)) agree replaces once

@@ -11,16 +11,18 @@ use Rattle.fr_plan.specs.TypePlan.{Plan}
 use Rattle.fr_frame.specs.declared.places.FrameOwner.{FrameOwner}
 use Rattle.fr_frame.specs.declared.places.Slot.{Slot}
 use Rattle.fr_frame.specs.Bodies.{Body, whole_body, body_occurs, IsClosed}
-use Rattle.fr_frame.specs.Changes.{IfInUse, IsInUse, Shows}
+use Rattle.fr_frame.specs.Changes.{IfInUse, IsInUse, SameTokens, Shows}
 use Rattle.fr_frame.specs.Heap.{Node, with_body, heap_of, slots_occur}
 use Rattle.fr_frame.specs.Kids.{Kid, at, Plot, whole_plot, tree_of, tree_in, body_in, kid_occurs, plot_occurs}
 use Rattle.fr_store.specs.Moves.{IsOpenAt, cursor_in, tree_in_slots, tree_here, tokens_here}
 use Rattle.fr_store.specs.Numbers.{IsLast}
+use Rattle.fr_store.specs.HoldLaws.{none_stored}
 use Rattle.fr_store.specs.StandLaws.{open_from, cursor_is, tree_is}
 use Rattle.fr_store.specs.Stands.{Stands, IsOpen, kid_shown}
-use Rattle.fr_store.specs.TopLaws.{body_here, body_other, closed_occur, closed_marked, Top, top_of, top_replaced}
+use Rattle.fr_store.specs.Stored.{NothingStored}
+use Rattle.fr_store.specs.TopLaws.{body_here, body_other, closed_occur, closed_top, keeps_closed, KeepsChildren, Top, top_of, top_replaced}
 use Rattle.fr_store.specs.Ways.{kid_at, put_at, slots_above, NoneStored, Leads, Reaches, node_along, owner_along}
-use Rattle.fr_store.specs.WayLaws.{leads_reach, marked_put_at, occurs_put_at, tree_put_at, tree_of_at, tree_tokens}
+use Rattle.fr_store.specs.WayLaws.{leads_reach, occurs_put_at, tree_put_at, tree_of_at, tree_tokens}
 
 -- Lists that end alike.
 
@@ -57,9 +59,21 @@ pub open_top : (plan : Plan) (slots : List Slot) (stack : List ℕ) (open_now : 
     → Top plan (heap_of slots) stack (cursor_in slots stack) (kid_shown (heap_of slots) stack)
 open_top plan slots stack open_now =
     top_of plan (heap_of slots) stack (cursor_in slots stack) (kid_shown (heap_of slots) stack) open_now.stands
-    open_now.strict
 
-module _ (plan : Plan) (slots : List Slot) (stack : List ℕ) (open_now : IsOpen plan slots stack) (n : ℕ) (last : IsLast stack n) where
+-- where nothing is stored no place of it is, and the top has no child in a slot
+pub open_strict : (plan : Plan) (slots : List Slot) (stack : List ℕ) → IsOpen plan slots stack → NothingStored slots
+    → NoneStored (kid_shown (heap_of slots) stack)
+open_strict plan slots stack open_now none =
+    none_stored plan (heap_of slots) plan.root FrameOwner.Root 0 (kid_shown (heap_of slots) stack) open_now.stands.holds none
+
+pub closed_open : (plan : Plan) (slots : List Slot) (stack : List ℕ) (open_now : IsOpen plan slots stack) → NothingStored slots
+    → IsClosed (body_in (open_top plan slots stack open_now).plot)
+closed_open plan slots stack open_now none =
+    closed_top plan (heap_of slots) stack (cursor_in slots stack) (kid_shown (heap_of slots) stack)
+    (open_top plan slots stack open_now) (open_strict plan slots stack open_now none)
+
+module _ (plan : Plan) (slots : List Slot) (stack : List ℕ) (open_now : IsOpen plan slots stack) (n : ℕ)
+    (last : IsLast stack n) where
   pub top_slot : (open_top plan slots stack open_now).slot ≡ n
   top_slot =
       same_last (slots_above (cursor_in slots stack) (kid_shown (heap_of slots) stack)) last.0
@@ -90,36 +104,49 @@ module _ (plan : Plan) (slots : List Slot) (stack : List ℕ) (open_now : IsOpen
   pub so_top : (So : Node → Type 0) → So top_node → IfInUse slots n So
   so_top So so = subst (λ (found : Option Node). IsSomeAnd found So) (sym top_found) so
 
-  -- its tokens are those that stand at the cursor
-  pub top_tokens : (t : ℕ) → body_occurs top_node.body t ≡ tree_occurs (tree_here slots stack) t
+  -- where none of its children is in a slot, its tokens are those that stand at the cursor
+  pub top_tokens : IsClosed (body_in (open_top plan slots stack open_now).plot) → (t : ℕ)
+      → body_occurs top_node.body t ≡ tree_occurs (tree_here slots stack) t
   unfolding top_node
-  top_tokens t =
+  top_tokens closed t =
       let top = open_top plan slots stack open_now in
-      sym (closed_occur top.plot t top.closed)
+      sym (closed_occur top.plot t closed)
       ∙ ap (λ (k : Kid). kid_occurs k t) (sym top.is)
       ∙ tree_tokens (kid_at (cursor_in slots stack) (kid_shown (heap_of slots) stack)) t
       ∙ ap (λ (tree : Tree). tree_occurs tree t) (tree_of_at (cursor_in slots stack) (kid_shown (heap_of slots) stack))
 
 -- An open builder, from what stands.
 pub open_at_from : (plan : Plan) (slots : List Slot) (stack : List ℕ) (place : Place) (k : Kid) (tree : Tree)
-    → Stands plan (heap_of slots) stack place k → NoneStored k → ((t : ℕ) → slots_occur slots t ≡ kid_occurs k t)
+    → Stands plan (heap_of slots) stack place k → ((t : ℕ) → slots_occur slots t ≡ kid_occurs k t)
     → tree_of k ≡ tree → IsOpenAt plan slots stack place tree
-open_at_from plan slots stack place k tree stands strict tokens is = record {
-  open_still = open_from plan slots stack place k stands strict tokens;
+open_at_from plan slots stack place k tree stands tokens is = record {
+  open_still = open_from plan slots stack place k stands tokens;
   cursor = cursor_is plan (heap_of slots) stack place k stands;
   built = tree_is plan (heap_of slots) stack place k stands ∙ is;
 }
 
--- Something else is put at the top.
+-- the slots hold the tokens of the tree
+pub slots_tokens : (plan : Plan) (slots : List Slot) (stack : List ℕ) → IsOpen plan slots stack
+    → (t : ℕ) → slots_occur slots t ≡ tree_occurs (tree_in_slots slots stack) t
+slots_tokens plan slots stack open_now t = open_now.tokens t ∙ tree_tokens (kid_shown (heap_of slots) stack) t
+
+-- where no token came or went they still do
+pub tokens_kept : (before after : List Slot) (k now : Kid) → SameTokens before after
+    → ((t : ℕ) → slots_occur before t ≡ kid_occurs k t) → ((t : ℕ) → kid_occurs now t ≡ kid_occurs k t)
+    → (t : ℕ) → slots_occur after t ≡ kid_occurs now t
+tokens_kept before after k now tokens was same t = tokens t ∙ was t ∙ sym (same t)
+
+-- Something else is put at the top: of its children those that are in slots were there before, and stay as they are.
 pub top_changed : (plan : Plan) (before after : List Slot) (stack : List ℕ) (open_now : IsOpen plan before stack) (n : ℕ)
     → IsLast stack n → (change : Body → Body) (new : Plot)
-    → body_in new ≡ change (body_in (open_top plan before stack open_now).plot) → IsClosed (body_in new)
+    → body_in new ≡ change (body_in (open_top plan before stack open_now).plot)
+    → KeepsChildren (open_top plan before stack open_now).plot new
     → Shows after (with_body (heap_of before) n change)
     → ((t : ℕ) → slots_occur after t + plot_occurs (open_top plan before stack open_now).plot t
     ≡ slots_occur before t + plot_occurs new t)
     → IsOpenAt plan after stack (cursor_in before stack)
     (change_at (cursor_in before stack) (λ old. tree_in new) (tree_in_slots before stack))
-top_changed plan before after stack open_now n last change new is closed shows tokens =
+top_changed plan before after stack open_now n last change new is keeps shows tokens =
     let k : Kid = kid_shown (heap_of before) stack in
     let place : Place = cursor_in before stack in
     let top = open_top plan before stack open_now in
@@ -149,32 +176,33 @@ top_changed plan before after stack open_now n last change new is closed shows t
     let beside : (m : ℕ) → m ≢ top.slot → heap_of after m ≡ heap_of before m
     = λ m ne. shows m ∙ ap (λ (x : ℕ). with_body (heap_of before) x change m) (sym same)
     ∙ body_other (heap_of before) top.slot change m ne in
-    let stands = top_replaced plan (heap_of before) (heap_of after) stack place k new open_now.stands top closed here beside in
+    let stands = top_replaced plan (heap_of before) (heap_of after) stack place k new open_now.stands top keeps here beside in
     let reach : Reaches place k
     = leads_reach place [] k (subst (λ (p : Place). Leads p k) (sym (append-nil place)) open_now.stands.leads) in
     open_at_from plan after stack place (put_at place (at top.slot false new) k)
     (change_at place (λ old. tree_in new) (tree_of k)) stands
-    (marked_put_at false place (at top.slot false new) k open_now.strict (refl, closed_marked false new closed))
     (λ t.
     let was : kid_occurs (kid_at place k) t ≡ plot_occurs top.plot t = ap (λ (x : Kid). kid_occurs x t) top.is in
     omega (arith, occurs_put_at place (at top.slot false new) k t reach, open_now.tokens t, tokens t))
     (tree_put_at place (at top.slot false new) k)
 
-module _ (plan : Plan) (before : List Slot) (stack : List ℕ) (open_now : IsOpen plan before stack) (n : ℕ) (last : IsLast stack n) where
+-- Where none of the top's children is in a slot.
+module _ (plan : Plan) (before : List Slot) (stack : List ℕ) (open_now : IsOpen plan before stack) (n : ℕ) (last : IsLast stack n)
+    (closed : IsClosed (body_in (open_top plan before stack open_now).plot)) where
   -- there is room to release what stands at the top
   pub top_room : (ledger : List ℕ) → Room (tokens_here before stack) ledger
       → IfInUse before n (λ (found : Node). Room (body_occurs found.body) ledger)
   top_room ledger room =
       so_top plan before stack open_now n last (λ (found : Node). Room (body_occurs found.body) ledger)
       (Room_same (tokens_here before stack) (body_occurs (top_node plan before stack open_now n last).body) ledger
-      (λ t. sym (top_tokens plan before stack open_now n last t)) room)
+      (λ t. sym (top_tokens plan before stack open_now n last closed t)) room)
 
   -- what was released is what stood there
   pub top_rose : (ledger after : List ℕ) → IfInUse before n (λ (found : Node). RoseBy (body_occurs found.body) ledger after)
       → RoseBy (tokens_here before stack) ledger after
   top_rose ledger after rose =
       RoseBy_same (body_occurs (top_node plan before stack open_now n last).body) (tokens_here before stack) ledger after
-      (top_tokens plan before stack open_now n last)
+      (top_tokens plan before stack open_now n last closed)
       (top_so plan before stack open_now n last (λ (found : Node). RoseBy (body_occurs found.body) ledger after) rose)
 
   -- a whole value at the top
@@ -190,5 +218,6 @@ module _ (plan : Plan) (before : List Slot) (stack : List ℕ) (open_now : IsOpe
       = top_so plan before stack open_now n last
       (λ (found : Node). (t : ℕ) → slots_occur before t + occurs v t
       ≡ slots_occur after t + body_occurs found.body t) tokens in
-      top_changed plan before after stack open_now n last (λ old. whole_body v) (whole_plot v) refl tt shows
-      (λ t. omega (arith, so t, closed_occur top.plot t top.closed))
+      top_changed plan before after stack open_now n last (λ old. whole_body v) (whole_plot v) refl
+      (keeps_closed top.plot (whole_plot v) tt) shows
+      (λ t. omega (arith, so t, closed_occur top.plot t closed))

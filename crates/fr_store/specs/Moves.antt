@@ -48,6 +48,11 @@ abbrev pub IsStepTo : PathStep → FrameOwner → Type 0
 IsStepTo step FrameOwner.Root = ⊥
 IsStepTo step (FrameOwner.Child parent to) = step ≡ to
 
+-- the place above one of this owner is in this slot
+abbrev pub IsAbove : ℕ → FrameOwner → Type 0
+IsAbove n FrameOwner.Root = ⊥
+IsAbove n (FrameOwner.Child parent step) = n ≡ parent.0
+
 abbrev pub IsNumberedStep : PathStep → Type 0
 IsNumberedStep (PathStep.Field i) = Unit {0}
 IsNumberedStep (PathStep.Index i) = Unit {0}

@@ -10,7 +10,7 @@ use Rattle.fr_frame.specs.Heap.{Heap, depth_limit, heap_of, slots_occur}
 use Rattle.fr_frame.specs.Kids.{Kid, gone, there, at, tree_of, cell_of, kid_in, kid_from, kid_occurs}
 use Rattle.fr_store.specs.HoldLaws.{AgreeBeside, Replaces, replaces_at, read_back, steps_read}
 use Rattle.fr_store.specs.Stands.{Stands, kid_shown, tree_shown, steps_to, cursor_shown, IsOpen}
-use Rattle.fr_store.specs.Ways.{kid_at, put_at, slots_along, slots_above, uses, NoneStored, Leads}
+use Rattle.fr_store.specs.Ways.{kid_at, put_at, slots_along, slots_above, uses, Leads}
 use Rattle.fr_store.specs.WayLaws.{leads_reach, leads_put_at, along_put_at, uses_put_at, numbers_in}
 
 -- One change. What lies at a place on the way is replaced: it stays in its slot, all beside it is as it was, the new is held where
@@ -68,12 +68,10 @@ stands_shown plan heap stack place k stands =
 
 -- a builder is open where its slots and its stack stand for something
 pub open_from : (plan : Plan) (slots : List Slot) (stack : List ℕ) (place : Place) (k : Kid)
-    → Stands plan (heap_of slots) stack place k → NoneStored k → ((t : ℕ) → slots_occur slots t ≡ kid_occurs k t)
-    → IsOpen plan slots stack
-open_from plan slots stack place k stands strict tokens =
+    → Stands plan (heap_of slots) stack place k → ((t : ℕ) → slots_occur slots t ≡ kid_occurs k t) → IsOpen plan slots stack
+open_from plan slots stack place k stands tokens =
     let is = kid_is plan (heap_of slots) stack place k stands in
     record {
       stands = stands_shown plan (heap_of slots) stack place k stands;
-      strict = subst NoneStored (sym is) strict;
       tokens = λ t. tokens t ∙ ap (λ (x : Kid). kid_occurs x t) (sym is);
     }

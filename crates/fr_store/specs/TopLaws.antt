@@ -1,22 +1,23 @@
 -- Laws of the place on top of the stack, for proofs: what it is, and what a change of it does.
-use Rattle.std.proofs.Common.{◌≡◌, ◌≢◌, ◌⊎◌, ℕ, suc, ◌+◌, ◌<◌, ◌≤◌, Bool, true, false, List, [], ◌∷◌, ◌++◌, append-nil, length, nat_eq, option_map, Option, Some, inl, inr, refl, sym, ◌∙◌, ap, subst, arith}
+use Rattle.std.proofs.Common.{◌≡◌, ◌≢◌, ◌⊎◌, ℕ, suc, ◌+◌, ◌<◌, ◌≤◌, Bool, true, false, List, [], ◌∷◌, ◌++◌, append-nil, length, nat_eq, option_map, Option, Some, None, inl, inr, refl, sym, ◌∙◌, ap, subst, arith}
 use Rattle.std.specs.Prelude.{if◌then◌else◌}
 use Rattle.std.proofs.lemmas.Grind.{common_steps}
 use Rattle.std.proofs.lemmas.Bool.Decides.{nat_tests}
+use Rattle.fr_shape.specs.declared.shape.Def.{Def}
 use Rattle.fr_model.specs.Places.{Place}
 use Rattle.fr_model.specs.Tree.{Form, Trees, begun, branch}
 use Rattle.fr_plan.specs.declared.nodes.NodeId.{NodeId}
 use Rattle.fr_plan.specs.TypePlan.{Plan}
 use Rattle.fr_frame.specs.declared.places.FrameOwner.{FrameOwner}
-use Rattle.fr_frame.specs.Bodies.{Body, body_occurs, IsClosed, AreUnplaced, own_tree, trees_of}
+use Rattle.fr_frame.specs.Bodies.{Body, body_occurs, linked, unlinked, IsClosed, AreUnplaced, own_tree, trees_of}
 use Rattle.fr_frame.specs.Cells.{cells_occur}
-use Rattle.fr_frame.specs.Heap.{Node, Heap, with_slot, with_body, depth_limit}
+use Rattle.fr_frame.specs.Heap.{Node, Heap, with_slot, with_body, without, with_entered, entered_node, links, marked, stored_in, depth_limit}
 use Rattle.fr_frame.specs.Kids.{Kid, gone, there, at, Plot, entered_plot, whole_plot, begun_plot, Kids, no_kids, kid, tree_of, tree_in, trees_in, cell_of, cells_in, body_in, plot_occurs, kids_occur, Holds, HoldsIn, HoldsAll}
-use Rattle.fr_store.specs.HoldLaws.{AgreeBeside, Replaces, holds_at}
+use Rattle.fr_store.specs.HoldLaws.{Replaces, holds_at, holds_frame_in}
 use Rattle.fr_store.specs.StandLaws.{stands_change}
 use Rattle.fr_store.specs.Stands.{Stands}
 use Rattle.fr_store.specs.Ways.{kid_at, put_at, slots_along, slots_above, counts_if, uses, uses_in, uses_among, AllMarked, AllMarkedIn, AllMarkedAmong, NoneStored, Leads, node_along, owner_along}
-use Rattle.fr_store.specs.WayLaws.{counts_same, same_or_other, leads_reach, leads_at, along_at, marked_at}
+use Rattle.fr_store.specs.WayLaws.{counts_same, same_or_other, leads_reach, leads_at, along_at, marked_at, uses_at}
 
 -- Heaps.
 
@@ -38,6 +39,57 @@ body_here heap n change found is =
 
 pub body_other : (heap : Heap) (n : ℕ) (change : Body → Body) (m : ℕ) → m ≢ n → with_body heap n change m ≡ heap m
 body_other heap n change m ne = slot_other heap n (option_map (λ (x : Node). record x { body = change x.body }) (heap n)) m ne
+
+-- Marks.
+
+pub marked_body : (heap : Heap) (n : ℕ) (change : Body → Body) (m : ℕ) → marked (with_body heap n change) m ≡ marked heap m
+marked_body heap n change m = go (same_or_other m n)
+  where
+    kept : (found : Option Node)
+        → stored_in (option_map (λ (x : Node). record x { body = change x.body }) found) ≡ stored_in found
+    kept (Some found) = refl
+    kept None = refl
+
+    go : (m ≡ n) ⊎ (m ≢ n) → marked (with_body heap n change) m ≡ marked heap m
+    go (inl e) =
+        ap (λ (x : ℕ). marked (with_body heap n change) x) e
+        ∙ ap stored_in (slot_here heap n (option_map (λ (x : Node). record x { body = change x.body }) (heap n)))
+        ∙ kept (heap n) ∙ ap (marked heap) (sym e)
+    go (inr ne) = ap stored_in (body_other heap n change m ne)
+
+-- a slot that is free again, or holds a place that isn't stored
+pub unmarked_slot : (heap : Heap) (n : ℕ) (found : Option Node) (m : ℕ) → stored_in found ≡ false → marked heap m ≡ false
+    → marked (with_slot heap n found) m ≡ false
+unmarked_slot heap n found m is unmarked = go (same_or_other m n)
+  where
+    go : (m ≡ n) ⊎ (m ≢ n) → marked (with_slot heap n found) m ≡ false
+    go (inl e) =
+        ap (λ (x : ℕ). marked (with_slot heap n found) x) e ∙ ap stored_in (slot_here heap n found) ∙ is
+    go (inr ne) = ap stored_in (slot_other heap n found m ne) ∙ unmarked
+
+pub unmarked_without : (heap : Heap) (n : ℕ) (owner : FrameOwner) (m : ℕ) → marked heap m ≡ false
+    → marked (without heap n owner) m ≡ false
+unmarked_without heap n FrameOwner.Root m unmarked = unmarked_slot heap n None m refl unmarked
+unmarked_without heap n (FrameOwner.Child parent step) m unmarked =
+    marked_body (with_slot heap n None) parent.0 (unlinked n step) m ∙ unmarked_slot heap n None m refl unmarked
+
+marked_links : (heap : Heap) (n : ℕ) (owner : FrameOwner) (m : ℕ) → marked (links owner n heap) m ≡ marked heap m
+marked_links heap n FrameOwner.Root m = refl
+marked_links heap n (FrameOwner.Child parent step) m = marked_body heap parent.0 (linked n step) m
+
+-- a place that enters a free slot isn't stored
+pub marked_entered : (def : Def) (heap : Heap) (node : NodeId) (owner : FrameOwner) (n m : ℕ) → heap n ≡ None
+    → marked (with_entered def heap node owner n) m ≡ marked heap m
+marked_entered def heap node owner n m free = go (same_or_other m n)
+  where
+    go : (m ≡ n) ⊎ (m ≢ n) → marked (with_entered def heap node owner n) m ≡ marked heap m
+    go (inl e) =
+        ap (λ (x : ℕ). marked (with_entered def heap node owner n) x) e
+        ∙ ap stored_in (slot_here (links owner n heap) n (Some (entered_node def heap node owner)))
+        ∙ ap stored_in (sym free) ∙ ap (marked heap) (sym e)
+    go (inr ne) =
+        ap stored_in (slot_other (links owner n heap) n (Some (entered_node def heap node owner)) m ne)
+        ∙ marked_links heap n owner m
 
 -- Places none of whose children is in a slot.
 
@@ -119,13 +171,13 @@ closed_by_marks (begun_plot form kids) marked unmarked = unplaced_by_marks kids 
 
 -- The top.
 
--- The place at which a builder works, where nothing is stored: it is in the last slot of the stack, and has no child in a slot.
+-- The place at which a builder works: it is in the last slot of the stack, and its children that are in slots are stored.
 pub record Top (plan : Plan) (heap : Heap) (stack : List ℕ) (place : Place) (k : Kid) : Type 0 where
   pub slot : ℕ
   pub plot : Plot
   pub is : kid_at place k ≡ at slot false plot
   pub last : stack ≡ slots_above place k ++ slot ∷ []
-  pub closed : IsClosed (body_in plot)
+  pub stored : AllMarkedIn true plot
   pub here :
       heap slot ≡ Some (record {
         node = node_along plan plan.root place k;
@@ -135,23 +187,24 @@ pub record Top (plan : Plan) (heap : Heap) (stack : List ℕ) (place : Place) (k
         body = body_in plot;
       })
   pub limit : length place < depth_limit
+  pub children : HoldsIn plan heap (node_along plan plan.root place k) slot (suc (length place)) plot
 
 pub top_of : (plan : Plan) (heap : Heap) (stack : List ℕ) (place : Place) (k : Kid) → Stands plan heap stack place k
-    → NoneStored k → Top plan heap stack place k
-top_of plan heap stack place k stands strict =
+    → Top plan heap stack place k
+top_of plan heap stack place k stands =
     let leads : Leads (place ++ []) k = subst (λ (p : Place). Leads p k) (sym (append-nil place)) stands.leads in
     let reach = leads_reach place [] k leads in
     let along : stack ≡ slots_above place k ++ slots_along [] (kid_at place k)
     = stands.along ∙ ap (λ (p : Place). slots_along p k) (sym (append-nil place)) ∙ along_at place [] k reach in
-    go along (kid_at place k) refl (leads_at place [] k leads) (marked_at false place k strict)
+    go along (kid_at place k) refl (leads_at place [] k leads)
     (holds_at plan heap plan.root FrameOwner.Root 0 place k stands.holds reach)
   where
-    go : stack ≡ slots_above place k ++ slots_along [] (kid_at place k) → (x : Kid) → kid_at place k ≡ x → Leads [] x → AllMarked false x
+    go : stack ≡ slots_above place k ++ slots_along [] (kid_at place k) → (x : Kid) → kid_at place k ≡ x → Leads [] x
         → Holds plan heap (node_along plan plan.root place k) (owner_along FrameOwner.Root place k) (0 + length place)
         (kid_at place k) → Top plan heap stack place k
-    go along gone e l unmarked holds = absurd l
-    go along (there v) e l unmarked holds = absurd l
-    go along (at slot stored plot) e l unmarked holds =
+    go along gone e l holds = absurd l
+    go along (there v) e l holds = absurd l
+    go along (at slot stored plot) e l holds =
         let same : 0 + length place ≡ length place = omega arith in
         let found : Holds plan heap (node_along plan plan.root place k) (owner_along FrameOwner.Root place k) (length place)
         (at slot false plot)
@@ -167,14 +220,86 @@ top_of plan heap stack place k stands strict =
           plot = plot;
           is = e ∙ ap (λ (b : Bool). at slot b plot) l.0;
           last = along ∙ ap (λ (x : Kid). slots_above place k ++ slots_along [] x) e;
-          closed = closed_by_marks plot l.1 unmarked.1;
+          stored = l.1;
           here = found.0;
           limit = found.1;
+          children = found.2;
         }
 
--- Something else is put at the top: all other slots are as they were, and none of its children is in a slot.
+-- where nothing is stored it has no child in a slot
+pub closed_top : (plan : Plan) (heap : Heap) (stack : List ℕ) (place : Place) (k : Kid) (top : Top plan heap stack place k)
+    → NoneStored k → IsClosed (body_in top.plot)
+closed_top plan heap stack place k top strict =
+    let here : AllMarked false (at top.slot false top.plot)
+    = subst (λ (x : Kid). AllMarked false x) top.is (marked_at false place k strict) in
+    closed_by_marks top.plot top.stored here.1
+
+-- Something else in a slot: of its children those that are in slots were there before, and stay as they are.
+pub record KeepsChildren (old new : Plot) : Type 0 where
+  pub marked : AllMarkedIn true old → AllMarkedIn true new
+  pub once : (n : ℕ) → uses_in new n ≤ uses_in old n
+  pub holds : (plan : Plan) (heap : Heap) (node : NodeId) (slot depth : ℕ) → HoldsIn plan heap node slot depth old
+      → HoldsIn plan heap node slot depth new
+
+-- none of its children is in a slot
+pub keeps_closed : (old new : Plot) → IsClosed (body_in new) → KeepsChildren old new
+keeps_closed old new closed = record {
+  marked = λ h. closed_marked true new closed;
+  once = λ n. omega (arith, closed_uses new n closed);
+  holds = λ plan heap node slot depth h. closed_holds plan heap node slot depth new closed;
+}
+
+pub keeps_same : (plot : Plot) → KeepsChildren plot plot
+keeps_same plot = record {
+  marked = λ h. h;
+  once = λ n. omega arith;
+  holds = λ plan heap node slot depth h. h;
+}
+
+module _ (plan : Plan) (heap : Heap) (stack : List ℕ) (place : Place) (k : Kid) (stands : Stands plan heap stack place k)
+    (top : Top plan heap stack place k) where
+  -- the slots of the top: its own, and those beneath it
+  pub top_uses : (n : ℕ) → uses (kid_at place k) n ≡ counts_if (nat_eq top.slot n) + uses_in top.plot n
+  top_uses n = ap (λ (x : Kid). uses x n) top.is
+
+  -- its own isn't beneath it, nor beside it
+  pub top_once : uses_in top.plot top.slot ≡ 0
+  top_once = omega (arith, top_uses top.slot, counts_same top.slot, uses_at place k top.slot, stands.once top.slot)
+
+  pub not_beside : (n : ℕ) → uses (kid_at place k) n < uses k n → n ≢ top.slot
+  not_beside n h e =
+      let one : counts_if (nat_eq top.slot n) ≡ 1
+      = ap (λ (m : ℕ). counts_if (nat_eq top.slot m)) e ∙ counts_same top.slot in
+      absurd (omega (arith, top_uses n, stands.once n))
+
+  pub not_beneath : (n : ℕ) → 0 < uses_in top.plot n → n ≢ top.slot
+  not_beneath n h e =
+      let none : uses_in top.plot n ≡ 0 = ap (uses_in top.plot) e ∙ top_once in
+      absurd (omega arith)
+
+  -- of whatever owner and depth it is held, these are they
+  pub top_held : (node : NodeId) (owner : FrameOwner) (depth : ℕ) → Holds plan heap node owner depth (kid_at place k)
+      → ◌≡◌ {A = Node} (record {
+        node = node;
+        owner = owner;
+        stored = false;
+        depth = depth;
+        body = body_in top.plot;
+      }) (record {
+        node = node_along plan plan.root place k;
+        owner = owner_along FrameOwner.Root place k;
+        stored = false;
+        depth = length place;
+        body = body_in top.plot;
+      })
+  top_held node owner depth holds =
+      let was = subst (λ (x : Kid). Holds plan heap node owner depth x) top.is holds in
+      let both = sym was.0 ∙ top.here in
+      cc
+
+-- Something else is put at the top: all other slots are as they were.
 pub top_replaced : (plan : Plan) (heap other : Heap) (stack : List ℕ) (place : Place) (k : Kid) (new : Plot)
-    (stands : Stands plan heap stack place k) (top : Top plan heap stack place k) → IsClosed (body_in new)
+    (stands : Stands plan heap stack place k) (top : Top plan heap stack place k) → KeepsChildren top.plot new
     → other top.slot ≡ Some (record {
       node = node_along plan plan.root place k;
       owner = owner_along FrameOwner.Root place k;
@@ -184,48 +309,24 @@ pub top_replaced : (plan : Plan) (heap other : Heap) (stack : List ℕ) (place :
     })
     → ((m : ℕ) → m ≢ top.slot → other m ≡ heap m)
     → Stands plan other stack place (put_at place (at top.slot false new) k)
-top_replaced plan heap other stack place k new stands top closed here beside =
+top_replaced plan heap other stack place k new stands top keeps here beside =
     let longer : Stands plan heap stack (place ++ []) k
     = subst (λ (p : Place). Stands plan heap stack p k) (sym (append-nil place)) stands in
     subst (λ (p : Place). Stands plan other stack p (put_at place (at top.slot false new) k)) (append-nil place)
     (stands_change plan heap other stack stack place [] [] (at top.slot false new) k longer
-    (ap cell_of (sym top.is)) agree replaces once (refl, closed_marked true new closed) top.last)
+    (ap cell_of (sym top.is)) (λ n h. beside n (not_beside plan heap stack place k stands top n h)) replaces once
+    (refl, keeps.marked top.stored) top.last)
   where
-    part : (n : ℕ) → uses (kid_at place k) n ≡ counts_if (nat_eq top.slot n)
-    part n = ap (λ (x : Kid). uses x n) top.is ∙ (omega (arith, closed_uses top.plot n top.closed))
-
-    agree : AgreeBeside heap other k (kid_at place k)
-    agree n h = go (same_or_other n top.slot)
-      where
-        go : (n ≡ top.slot) ⊎ (n ≢ top.slot) → other n ≡ heap n
-        go (inl e) =
-            let one : counts_if (nat_eq top.slot n) ≡ 1
-            = ap (λ (m : ℕ). counts_if (nat_eq top.slot m)) e ∙ counts_same top.slot in
-            absurd (omega (arith, part n, stands.once n))
-        go (inr ne) = beside n ne
-
     replaces : Replaces plan heap other (kid_at place k) (at top.slot false new)
     replaces node owner depth holds =
         let was = subst (λ (x : Kid). Holds plan heap node owner depth x) top.is holds in
-        let same : Some (record {
-          node = node;
-          owner = owner;
-          stored = false;
-          depth = depth;
-          body = body_in top.plot;
-        }) ≡ Some (record {
-          node = node_along plan plan.root place k;
-          owner = owner_along FrameOwner.Root place k;
-          stored = false;
-          depth = length place;
-          body = body_in top.plot;
-        }) = sym was.0 ∙ top.here in (
-          here
-              ∙ sym (ap
-              (λ (found : Option Node). option_map (λ (x : Node). record x { body = body_in new }) found) same),
+        let same = top_held plan heap stack place k stands top node owner depth holds in (
+          here ∙ sym (ap (λ (x : Node). Some (record x { body = body_in new })) same),
           was.1,
-          closed_holds plan other node top.slot (suc depth) new closed,
+          keeps.holds plan other node top.slot (suc depth)
+              (holds_frame_in plan heap other node top.slot (suc depth) top.plot was.2
+              (λ n h. beside n (not_beneath plan heap stack place k stands top n h))),
         )
 
     once : (n : ℕ) → uses k n + uses (at top.slot false new) n ≤ 1 + uses (kid_at place k) n
-    once n = omega (arith, stands.once n, part n, closed_uses new n closed)
+    once n = omega (arith, stands.once n, top_uses plan heap stack place k stands top n, keeps.once n)

@@ -226,7 +226,7 @@ marked_put_nth mark i new no_kids all is = tt
 marked_put_nth mark zero new (kid k ks) all is = (is, all.1)
 marked_put_nth mark (suc i) new (kid k ks) all is = (all.0, marked_put_nth mark i new ks all.1 is)
 
-marked_nth : (mark : Bool) (i : ℕ) (ks : Kids) → AllMarkedAmong mark ks → AllMarked mark (kid_nth i ks)
+pub marked_nth : (mark : Bool) (i : ℕ) (ks : Kids) → AllMarkedAmong mark ks → AllMarked mark (kid_nth i ks)
 marked_nth mark i no_kids all = tt
 marked_nth mark zero (kid k ks) all = all.0
 marked_nth mark (suc i) (kid k ks) all = marked_nth mark i ks all.1
@@ -254,6 +254,13 @@ marked_put_at mark (i ∷ place) new (at slot stored (begun_plot form kids)) all
   marked_put_nth mark i (put_at place new (kid_nth i kids)) kids all.1
       (marked_put_at mark place new (kid_nth i kids) (marked_nth mark i kids all.1) is),
 )
+
+-- a child in the stead of one of many that are stored
+pub stored_but : (i : ℕ) (Below : Kid → Type 0) (new : Kid) (ks : Kids) → i < count_kids ks → AllMarkedAmong true ks
+    → Below new → StoredBut i Below (put_nth i new ks)
+stored_but i Below new no_kids h marked so = absurd (omega arith)
+stored_but zero Below new (kid k ks) h marked so = (so, marked.1)
+stored_but (suc i) Below new (kid k ks) h marked so = (marked.0, stored_but i Below new ks (omega arith) marked.1 so)
 
 -- Trees.
 

@@ -16,7 +16,7 @@ use fr_plan::TypePlanCore;
 use fr_shape::{Ledger, OutOfMemory};
 
 /// The step to a field or an element.
-fn step_to(slots: &Slots, place: SlotId) -> PathStep
+pub(crate) fn step_to(slots: &Slots, place: SlotId) -> PathStep
     requires { IfInUse slots.now place.0 (λ at. IsNumbered at.owner) }
     ensures { IfInUse slots.now place.0 (λ at. IsStepTo result at.owner) }
 {

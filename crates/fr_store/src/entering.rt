@@ -91,7 +91,10 @@ impl Stack {
         };
         self.push(above)?;
         let step = step_of(form, i);
-        if let Some(child) = store.take(slots, above, &step) {
+        if store.contains(slots, above, &step) {
+            let Some(child) = store.take(slots, above, &step) else {
+                unreachable!()
+            };
             self.put_top(child);
             return Ok(());
         }

@@ -1,21 +1,219 @@
 //! The end of deferred mode: all that was left is completed, the deepest places first.
-ghost use Rattle.std.specs.Prelude.{◌≡◌, ◌⊎◌, [], IfErr, OnErr, OnOk};
+ghost use Rattle.std.specs.Prelude.{◌≡◌, ◌⊎◌, ℕ, [], false, true, IfErr, OnErr, OnOk};
+ghost use Rattle.std.specs.List.{Contains};
 ghost use Rattle.fr_shape.specs.Checked.{IsChecked};
 ghost use Rattle.fr_shape.specs.Released.{Room, RoseBy};
 ghost use Rattle.fr_shape.specs.declared.error.ReflectErrorKind.{ReflectErrorKind as Kind};
 ghost use Rattle.fr_model.specs.Well.{Suits};
+ghost use Rattle.fr_frame.specs.Changes.{IfInUse, IsInUse, SameTokens};
 ghost use Rattle.fr_frame.specs.Completing.{IsPlanFor};
-ghost use Rattle.fr_store.specs.Moves.{tokens_in, tree_in_slots};
+ghost use Rattle.fr_frame.specs.Heap.{heap_of, marked};
+ghost use Rattle.fr_store.specs.Moves.{tokens_in, tree_in_slots, IsAbove, IsNumbered};
+ghost use Rattle.fr_store.specs.Numbers.{numbers};
 ghost use Rattle.fr_store.specs.Stands.{IsOpen};
 ghost use Rattle.fr_store.specs.Stored.{IsKept, NothingStored};
+ghost use Rattle.fr_store.specs.Turning.{is_entered, kid_here, CameByTurns, FinishedHere, HasTurned, IsLackingAt, KeepsTheRest, LacksHere, MayTurn, Walked};
 ghost use Rattle.fr_store.specs.Turns.{root_shape, IsFinished, IsHeldUp};
+ghost use Rattle.fr_store.specs.Walks.{IsWalk};
 
+use crate::ending::step_to;
 use crate::{FrameStore, Stack};
-use fr_frame::Slots;
-use fr_plan::TypePlanCore;
+use fr_frame::{FrameOwner, Piece, SlotId, Slots};
+use fr_model::{law_closing, law_completes, law_failing};
+use fr_plan::{TypePlanCore, law_plan_lookups};
 use fr_shape::{Hooks, Ledger, ReflectErrorKind, ShapeTable};
 
+/// The slot of the place above.
+fn above(slots: &Slots, place: SlotId) -> SlotId
+    requires { IfInUse slots.now place.0 (λ at. IsNumbered at.owner) }
+    ensures { IfInUse slots.now place.0 (λ at. IsAbove result.0 at.owner) }
+{
+    let Some(found) = slots.place(place) else {
+        unreachable!()
+    };
+    match &found.owner {
+        FrameOwner::Child(parent, _) => *parent,
+        FrameOwner::Root => unreachable!(),
+    }
+}
+
+/// The turn of a stored place that has no child in a slot: it is completed, and its value goes into the place above. Where it fails
+/// nothing came or went.
+pub(crate) fn turn<H: Hooks>(
+    slots: &mut Slots,
+    stack: &Stack,
+    place: SlotId,
+    table: &ShapeTable,
+    plan: &TypePlanCore,
+    hooks: &H,
+    ledger: &mut Ledger,
+) -> Result<(), ReflectErrorKind>
+    requires checked { IsChecked table.now }
+    requires plan { IsPlanFor table.now plan.now }
+    requires is_open { IsOpen plan.now slots.old stack.now }
+    requires suits { Suits table.now (root_shape plan.now) (tree_in_slots slots.old stack.now) }
+    requires due { MayTurn slots.old stack.now place.0 }
+    ensures turned { OnOk result (HasTurned (H.means hooks.now) table.now plan.now
+        slots.old stack.now slots.new place.0) }
+    ensures rest { OnOk result (KeepsTheRest (H.means hooks.now) table.now plan.now
+        slots.old stack.now slots.new) }
+    ensures why { IfErr result (λ kind. (kind ≡ Kind.OutOfMemory)
+        ⊎ IsLackingAt (H.means hooks.now) table.now plan.now slots.old stack.now place.0 kind) }
+    ensures tokens { SameTokens slots.old slots.new }
+    ensures ledger { ledger.new ≡ ledger.old }
+{
+    law_closing();
+    law_completes();
+    law_plan_lookups();
+    let _stack = stack;
+    let step = step_to(slots, place);
+    let parent = above(slots, place);
+    place.complete_by_defaults(slots, table, plan, hooks)?;
+    let Ok(value) = place.into_value(slots, ledger) else {
+        unreachable!()
+    };
+    parent.put_child(slots, &step, value);
+    Ok(())
+}
+
+/// The turns of all places of a walk.
+fn take_turns<H: Hooks>(
+    slots: &mut Slots,
+    stack: &Stack,
+    walk: &[SlotId],
+    table: &ShapeTable,
+    plan: &TypePlanCore,
+    hooks: &H,
+    ledger: &mut Ledger,
+) -> Result<(), ReflectErrorKind>
+    requires checked { IsChecked table.now }
+    requires plan { IsPlanFor table.now plan.now }
+    requires is_open { IsOpen plan.now slots.old stack.now }
+    requires suits { Suits table.now (root_shape plan.now) (tree_in_slots slots.old stack.now) }
+    requires walk { IsWalk (kid_here slots.old stack.now) (numbers walk.now) }
+    ensures walked { OnOk result (Walked (H.means hooks.now) table.now plan.now
+        slots.old stack.now slots.new (numbers walk.now) []) }
+    ensures why { IfErr result (λ kind. (kind ≡ Kind.OutOfMemory)
+        ⊎ IsHeldUp (H.means hooks.now) table.now plan.now slots.old stack.now kind) }
+    ensures tokens { SameTokens slots.old slots.new }
+    ensures ledger { ledger.new ≡ ledger.old }
+{
+    law_completes();
+    law_failing();
+    for place in walk {
+        match turn(slots, stack, *place, table, plan, hooks, ledger) {
+            Ok(()) => {}
+            Err(kind) => return Err(kind),
+        }
+    }
+    Ok(())
+}
+
+/// Lets no place be stored. These are all that still are.
+fn unmark(slots: &mut Slots, places: &[SlotId])
+    requires kept { (n : ℕ) → marked (heap_of slots.old) n ≡ true
+        → Contains (numbers places.now) n }
+    ensures nothing { NothingStored slots.new }
+    ensures others { (n : ℕ) → marked (heap_of slots.old) n ≡ false
+        → heap_of slots.new n ≡ heap_of slots.old n }
+    ensures tokens { SameTokens slots.old slots.new }
+{
+    for place in places {
+        if place.is_stored(slots) {
+            place.mark(slots, false);
+        }
+    }
+}
+
+/// Whether the place was only entered.
+fn is_entered(slots: &Slots, place: SlotId) -> bool
+    requires { IsInUse slots.now place.0 }
+    ensures { IfInUse slots.now place.0 (λ at. result ≡ is_entered at.body) }
+{
+    let Some(found) = slots.place(place) else {
+        unreachable!()
+    };
+    match &found.piece {
+        Piece::Entered => true,
+        Piece::Whole(_) | Piece::Begun(_, _) => false,
+    }
+}
+
+/// Completes the place on top of the stack, nothing being stored. It stays begun where it is; one that was only entered becomes whole.
+fn complete_top<H: Hooks>(
+    slots: &mut Slots,
+    stack: &Stack,
+    table: &ShapeTable,
+    plan: &TypePlanCore,
+    hooks: &H,
+) -> Result<(), ReflectErrorKind>
+    requires checked { IsChecked table.now }
+    requires plan { IsPlanFor table.now plan.now }
+    requires is_open { IsOpen plan.now slots.old stack.now }
+    requires suits { Suits table.now (root_shape plan.now) (tree_in_slots slots.old stack.now) }
+    requires strict { NothingStored slots.old }
+    ensures finished { OnOk result (FinishedHere (H.means hooks.now) table.now plan.now
+        slots.old stack.now slots.new) }
+    ensures strict { OnOk result (NothingStored slots.new) }
+    ensures why { IfErr result (λ kind. (kind ≡ Kind.OutOfMemory)
+        ⊎ LacksHere (H.means hooks.now) table.now plan.now slots.old stack.now kind) }
+    ensures tokens { SameTokens slots.old slots.new }
+{
+    law_completes();
+    law_plan_lookups();
+    let Some(top) = stack.top() else {
+        unreachable!()
+    };
+    let entered = is_entered(slots, top);
+    top.complete_by_defaults(slots, table, plan, hooks)?;
+    if entered {
+        top.make_whole(slots);
+    }
+    Ok(())
+}
+
 impl FrameStore {
+    /// Completes every stored place, and then the place on top of the stack. Where it can't be, the tokens are still there.
+    fn complete_all<H: Hooks>(
+        &self,
+        slots: &mut Slots,
+        stack: &Stack,
+        table: &ShapeTable,
+        plan: &TypePlanCore,
+        hooks: &H,
+        ledger: &mut Ledger,
+    ) -> Result<(), ReflectErrorKind>
+        requires checked { IsChecked table.now }
+        requires plan { IsPlanFor table.now plan.now }
+        requires is_open { IsOpen plan.now slots.old stack.now }
+        requires kept { IsKept self.now slots.old }
+        requires suits { Suits table.now (root_shape plan.now)
+            (tree_in_slots slots.old stack.now) }
+        ensures finished { OnOk result (IsFinished (H.means hooks.now) table.now plan.now
+            slots.old stack.now slots.new stack.now) }
+        ensures turns { OnOk result (CameByTurns (H.means hooks.now) table.now plan.now
+            slots.old stack.now slots.new stack.now) }
+        ensures strict { OnOk result (NothingStored slots.new) }
+        ensures why { IfErr result (λ kind. (kind ≡ Kind.OutOfMemory)
+            ⊎ IsHeldUp (H.means hooks.now) table.now plan.now slots.old stack.now kind) }
+        ensures tokens { SameTokens slots.old slots.new }
+        ensures ledger { ledger.new ≡ ledger.old }
+    {
+        law_failing();
+        let Ok(walk) = self.walk(slots, stack, plan) else {
+            return Err(ReflectErrorKind::OutOfMemory);
+        };
+        match take_turns(slots, stack, &walk, table, plan, hooks, ledger) {
+            Ok(()) => {}
+            Err(kind) => return Err(kind),
+        }
+        unmark(slots, self.places());
+        match complete_top(slots, stack, table, plan, hooks) {
+            Ok(()) => Ok(()),
+            Err(kind) => Err(kind),
+        }
+    }
+
     /// Completes every stored place, the longest path first, then step by step, and then the place on top of the stack, which stays
     /// begun where it is. The first place that fails gives the refusal; all is released then.
     pub fn finish<H: Hooks>(
@@ -35,6 +233,8 @@ impl FrameStore {
         requires room { Room (tokens_in slots.old stack.old) ledger.old }
         ensures finished { OnOk result (IsFinished (H.means hooks.now) table.now plan.now
             slots.old stack.old slots.new stack.new) }
+        ensures turns { OnOk result (CameByTurns (H.means hooks.now) table.now plan.now
+            slots.old stack.old slots.new stack.new) }
         ensures strict { OnOk result (NothingStored slots.new) }
         ensures empty { self.new ≡ [] }
         ensures kept { OnOk result (ledger.new ≡ ledger.old) }
@@ -43,12 +243,15 @@ impl FrameStore {
         ensures released { OnErr result
             (RoseBy (tokens_in slots.old stack.old) ledger.old ledger.new) }
     {
-        let _slots = slots;
-        let _stack = stack;
-        let _table = table;
-        let _plan = plan;
-        let _hooks = hooks;
-        let _ledger = ledger;
-        Err(ReflectErrorKind::OutOfMemory)
+        let result = self.complete_all(slots, stack, table, plan, hooks, ledger);
+        self.clear();
+        match result {
+            Ok(()) => Ok(()),
+            Err(kind) => {
+                let rest = std::mem::replace(slots, Slots::new(self.alloc()));
+                rest.release(ledger);
+                Err(kind)
+            }
+        }
     }
 }

@@ -6,8 +6,10 @@ mod entering;
 mod finishing;
 mod pruning;
 mod setting;
+mod spreading;
 mod stack;
 mod store;
+mod turning;
 mod walking;
 
 pub use stack::Stack;

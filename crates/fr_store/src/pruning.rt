@@ -1,20 +1,73 @@
 //! Releasing what is stored beneath a place.
+ghost use Rattle.std.specs.Prelude.{◌≡◌, ℕ, ◌+◌, length};
+ghost use Rattle.std.specs.Option.{option_map};
 ghost use Rattle.fr_shape.specs.Released.{Room, RoseBy};
+ghost use Rattle.fr_frame.specs.Cells.{slot_at};
+ghost use Rattle.fr_frame.specs.Heap.{heap_of, slots_occur};
+ghost use Rattle.fr_frame.specs.declared.places.SlotId.{SlotId as Number};
+ghost use Rattle.fr_store.specs.Prunes.{beneath, cells_found, pruned, slotted_occur, IsPruned, IsRooted};
 ghost use Rattle.fr_store.specs.Stored.{IsKept, StoresNoMore};
 
 use crate::FrameStore;
-use fr_frame::{SlotId, Slots};
+use fr_frame::{Piece, SlotId, Slots};
 use fr_shape::Ledger;
 
+/// How many children a place has.
+fn count_children(slots: &Slots, place: SlotId) -> usize
+    ensures { result ≡ length (cells_found (heap_of slots.now place.0)) }
+{
+    let Some(found) = slots.place(place) else {
+        return 0;
+    };
+    match &found.piece {
+        Piece::Begun(_, children) => children.len(),
+        Piece::Entered | Piece::Whole(_) => 0,
+    }
+}
+
+/// The slot of a child, where it is in one.
+fn slot_of_child(slots: &Slots, place: SlotId, i: usize) -> Option<SlotId>
+    ensures { option_map (λ (slot : Number). slot.0) result
+        ≡ slot_at (cells_found (heap_of slots.now place.0)) i }
+{
+    let found = slots.place(place)?;
+    match &found.piece {
+        Piece::Begun(_, children) => {
+            if i < children.len() {
+                children.slot(i)
+            } else {
+                None
+            }
+        }
+        Piece::Entered | Piece::Whole(_) => None,
+    }
+}
+
 impl FrameStore {
-    /// Releases all places that are stored strictly beneath this one, and frees their slots. Takes no memory.
+    /// Releases all places that are stored strictly beneath this one, and frees their slots. Takes no memory, and looks at no
+    /// child where nothing is stored.
     pub fn prune(&mut self, slots: &mut Slots, place: SlotId, ledger: &mut Ledger)
+        requires rooted { IsRooted (heap_of slots.old) place.0 }
         requires kept { IsKept self.old slots.old }
+        requires room { Room (slotted_occur (beneath (heap_of slots.old) place.0)) ledger.old }
+        ensures pruned { IsPruned (heap_of slots.old) (heap_of slots.new) place.0 pruned
+            (beneath (heap_of slots.old) place.0) }
+        ensures released { RoseBy (slotted_occur (beneath (heap_of slots.old) place.0))
+            ledger.old ledger.new }
+        ensures tokens { (t : ℕ) → slots_occur slots.old t ≡ slots_occur slots.new t
+            + slotted_occur (beneath (heap_of slots.old) place.0) t }
         ensures kept { IsKept self.new slots.new }
         ensures marks { StoresNoMore slots.old slots.new }
     {
-        let _slots = slots;
-        let _place = place;
-        let _ledger = ledger;
+        if self.is_empty() {
+            return;
+        }
+        for i in 0..count_children(slots, place) {
+            if let Some(child) = slot_of_child(slots, place, i) {
+                self.prune(slots, child, ledger);
+                self.remove(child);
+                child.release_frame(slots, ledger);
+            }
+        }
     }
 }

@@ -1,6 +1,6 @@
 //! The stack of slots from the root's to that of the place at which a builder works.
 ghost use Rattle.std.specs.Prelude.{◌≡◌, ℕ, ◌<◌, List, [], ◌∷◌, ◌++◌, ◌↔◌, length, IsTrue, IfSome, IfNone, IsNone, OnOk, OnErr};
-ghost use Rattle.fr_store.specs.Numbers.{IsLast};
+ghost use Rattle.fr_store.specs.Numbers.{numbers, IsLast};
 
 use fr_frame::SlotId;
 use fr_shape::OutOfMemory;
@@ -33,6 +33,13 @@ impl Stack {
         Stack {
             places: Vec::new(alloc),
         }
+    }
+
+    /// All places, the root's first.
+    pub(crate) fn places(&self) -> &[SlotId]
+        ensures places { numbers result.now ≡ self.now }
+    {
+        self.places.as_slice()
     }
 
     /// How many places there are.

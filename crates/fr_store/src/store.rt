@@ -1,8 +1,10 @@
 //! The places that were left half done, to be entered again or completed at the end of deferred mode.
-ghost use Rattle.std.specs.Prelude.{◌≡◌, ◌↔◌, ℕ, [], ◌∷◌, length, true, false, IfSome, IsNone, IsTrue, OnErr, OnOk, Some};
+ghost use Rattle.std.specs.Prelude.{◌≡◌, ◌≢◌, ◌↔◌, ℕ, ◌<◌, [], ◌∷◌, ◌++◌, length, slice_get, true, false, IfSome, IsNone, IsTrue, OnErr, OnOk, Some};
 ghost use Rattle.std.specs.List.{Contains};
 ghost use Rattle.fr_frame.specs.Changes.{IsInUse, SameTokens, Shows};
 ghost use Rattle.fr_frame.specs.Heap.{heap_of, marked, with_mark};
+ghost use Rattle.fr_store.specs.Numbers.{numbers};
+ghost use Rattle.fr_store.specs.Places.{AreOnce};
 ghost use Rattle.fr_store.specs.Stored.{child_slot, IsKept, IsStoredChild};
 
 use fr_frame::{SlotId, Slots};
@@ -34,6 +36,19 @@ impl Model for FrameStore {
     ghost invariant = { λ store. IsIndexed (numbers store.places.items) store.positions.items };
 }
 
+/// Grows the positions until there is one under this number.
+fn reach(positions: &mut Vec<u32>, number: u32) -> Result<(), OutOfMemory>
+    ensures reached { OnOk result (number < length positions.new.items) }
+    ensures kept { (n i : ℕ) → slice_get positions.old.items n ≡ Some i
+        → slice_get positions.new.items n ≡ Some i }
+{
+    let count = number as usize + 1;
+    if positions.len() < count {
+        positions.resize(count, 0)?;
+    }
+    Ok(())
+}
+
 impl FrameStore {
     /// No places. Takes no memory.
     pub fn new(alloc: Global) -> FrameStore
@@ -44,6 +59,19 @@ impl FrameStore {
             places: Vec::new(alloc),
             positions: Vec::new(alloc),
         }
+    }
+
+    /// What the store takes its memory from.
+    pub(crate) fn alloc(&self) -> Global {
+        self.alloc
+    }
+
+    /// All places, in any order.
+    pub(crate) fn places(&self) -> &[SlotId]
+        ensures places { numbers result.now ≡ self.now }
+        ensures once { AreOnce self.now }
+    {
+        self.places.as_slice()
     }
 
     /// How many places there are.
@@ -60,6 +88,44 @@ impl FrameStore {
         self.places.is_empty()
     }
 
+    /// Puts a place behind the others. Where there is no memory the list is as it was.
+    fn append(&mut self, place: SlotId) -> Result<(), OutOfMemory>
+        requires { ¬ Contains self.old place.0 }
+        ensures appended { OnOk result (self.new ≡ self.old ++ place.0 ∷ []) }
+        ensures refused { OnErr result (self.new ≡ self.old) }
+    {
+        let at = self.places.len();
+        if at >= u32::MAX as usize {
+            return Err(OutOfMemory);
+        }
+        reach(&mut self.positions, place.0)?;
+        self.places.push(place)?;
+        self.positions[place.0 as usize] = at as u32;
+        Ok(())
+    }
+
+    /// Takes a place out of the list: the last one comes into its stead. Takes no memory.
+    pub(crate) fn remove(&mut self, place: SlotId)
+        requires { Contains self.old place.0 }
+        ensures rest { (n : ℕ) → Contains self.new n ↔ (Contains self.old n × (n ≢ place.0)) }
+    {
+        let at = self.positions[place.0 as usize] as usize;
+        let Some(last) = self.places.pop() else {
+            unreachable!()
+        };
+        if at < self.places.len() {
+            self.places[at] = last;
+            self.positions[last.0 as usize] = at as u32;
+        }
+    }
+
+    /// Takes all places out of the list. Takes no memory.
+    pub(crate) fn clear(&mut self)
+        ensures empty { self.new ≡ [] }
+    {
+        self.places.clear();
+    }
+
     /// Stores a place. Where there is no memory all is as it was.
     pub fn insert(&mut self, slots: &mut Slots, place: SlotId) -> Result<(), OutOfMemory>
         requires in_use { IsInUse slots.old place.0 }
@@ -72,9 +138,9 @@ impl FrameStore {
         ensures slots_kept { OnErr result (slots.new ≡ slots.old) }
         ensures refused { OnErr result (self.new ≡ self.old) }
     {
-        let _slots = slots;
-        let _place = place;
-        Err(OutOfMemory)
+        self.append(place)?;
+        place.mark(slots, true);
+        Ok(())
     }
 
     /// Takes the child to which a step leads out of the store, where it is stored. Takes no memory.
@@ -91,10 +157,13 @@ impl FrameStore {
         ensures kept { IsKept self.new slots.new }
         ensures tokens { SameTokens slots.old slots.new }
     {
-        let _slots = slots;
-        let _parent = parent;
-        let _step = step;
-        None
+        let child = parent.child(slots, step)?;
+        if !child.is_stored(slots) {
+            return None;
+        }
+        self.remove(child);
+        child.mark(slots, false);
+        Some(child)
     }
 
     /// Whether the child to which a step leads is stored.

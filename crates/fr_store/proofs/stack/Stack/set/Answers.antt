@@ -1,22 +1,45 @@
-use Rattle.fr_store.proofs.stack.Stack.set.Goals as goal
 use Rattle.fr_shape.specs.View.{view}
-use Rattle.fr_store.specs.MoveLaws.{top_in_use, top_room, top_rose, top_set}
+use Rattle.fr_store.proofs.SetLaws.{top_rooted, prune_room, pruned_in_use, put_room, set_rose, set_kept, set_marks, set_open}
+use Rattle.fr_store.proofs.stack.Stack.set.Goals as goal
+
+pub prune-requires-clause-rooted : goal.prune-requires-clause-rooted
+prune-requires-clause-rooted c =
+    top_rooted c.args.plan.now c.args.slots.now c.args.self.now c.requires.is_open c.in-Some.place.0 c.in-Some.ensures.last
+
+pub prune-requires-clause-room : goal.prune-requires-clause-room
+prune-requires-clause-room c =
+    prune_room c.args.plan.now c.args.slots.now c.args.self.now c.requires.is_open c.in-Some.place.0 c.in-Some.ensures.last
+    c.args.ledger.now c.requires.room
 
 pub put-requires-clause-in_use : goal.put-requires-clause-in_use
 put-requires-clause-in_use c =
-    top_in_use c.args.plan.now c.args.slots.now c.args.self.now c.requires.is_open c.in-Some.place.0 c.in-Some.ensures.last
+    pruned_in_use c.args.plan.now c.args.slots.now c.args.self.now c.requires.is_open c.in-Some.place.0
+    c.in-Some.ensures.last c.prune.new.slots c.prune.ensures.pruned
 
 pub put-requires-clause-room : goal.put-requires-clause-room
 put-requires-clause-room c =
-    top_room c.args.plan.now c.args.slots.now c.args.self.now c.requires.is_open c.in-Some.place.0 c.in-Some.ensures.last
-    c.args.ledger.now c.requires.room
+    put_room c.args.plan.now c.args.slots.now c.args.self.now c.requires.is_open c.in-Some.place.0 c.in-Some.ensures.last
+    c.prune.new.slots c.prune.ensures.pruned c.args.ledger.now c.prune.new.ledger c.requires.room c.prune.ensures.released
 
 pub returns-clause-set : goal.returns-clause-set
 returns-clause-set c =
-    top_set c.args.plan.now c.args.slots.now c.args.self.now c.requires.is_open c.in-Some.place.0 c.in-Some.ensures.last
-    c.put.new.slots (view c.args.value) c.put.ensures.put c.put.ensures.tokens
+    set_open c.args.plan.now c.args.slots.now c.args.self.now c.requires.is_open c.in-Some.place.0 c.in-Some.ensures.last
+    c.prune.new.slots c.prune.ensures.pruned c.put.new.slots (view c.args.value) c.put.ensures.put c.prune.ensures.tokens
+    c.put.ensures.tokens
 
 pub returns-clause-released : goal.returns-clause-released
 returns-clause-released c =
-    top_rose c.args.plan.now c.args.slots.now c.args.self.now c.requires.is_open c.in-Some.place.0 c.in-Some.ensures.last
-    c.args.ledger.now c.put.new.ledger c.put.ensures.released
+    set_rose c.args.plan.now c.args.slots.now c.args.self.now c.requires.is_open c.in-Some.place.0 c.in-Some.ensures.last
+    c.prune.new.slots c.prune.ensures.pruned c.args.ledger.now c.prune.new.ledger c.put.new.ledger c.prune.ensures.released
+    c.put.ensures.released
+
+pub returns-clause-kept : goal.returns-clause-kept
+returns-clause-kept c =
+    set_kept c.args.plan.now c.args.slots.now c.args.self.now c.requires.is_open c.in-Some.place.0 c.in-Some.ensures.last
+    c.prune.new.slots c.prune.ensures.pruned c.put.new.slots (view c.args.value) c.put.ensures.put c.prune.new.self
+    c.prune.ensures.kept
+
+pub returns-clause-marks : goal.returns-clause-marks
+returns-clause-marks c =
+    set_marks c.args.plan.now c.args.slots.now c.args.self.now c.requires.is_open c.in-Some.place.0 c.in-Some.ensures.last
+    c.prune.new.slots c.prune.ensures.pruned c.put.new.slots (view c.args.value) c.put.ensures.put c.prune.ensures.marks

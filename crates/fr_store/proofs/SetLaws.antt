@@ -1,0 +1,214 @@
+-- A whole value at the top, after all that is stored beneath it was released.
+use Rattle.std.proofs.Common.{◌≡◌, ◌≢◌, ◌⊎◌, ℕ, suc, ◌+◌, ◌≤◌, false, List, [], ◌∷◌, ◌++◌, append-nil, length, nat_eq, Option, Some, inl, inr, refl, sym, ◌∙◌, ap, subst, arith}
+use Rattle.std.specs.Prelude.{is_some, IsSomeAnd}
+use Rattle.fr_shape.specs.Released.{Room, RoseBy}
+use Rattle.fr_shape.specs.TokenLaws.{both, Room_same, Room_fewer, Room_risen, RoseBy_same, RoseBy_both}
+use Rattle.fr_shape.specs.Tokens.{occurs}
+use Rattle.fr_shape.specs.Val.{Val}
+use Rattle.fr_model.specs.Places.{Place}
+use Rattle.fr_model.specs.Tree.{Tree, whole, change_at, tree_occurs}
+use Rattle.fr_plan.specs.TypePlan.{Plan}
+use Rattle.fr_frame.specs.declared.places.Slot.{Slot}
+use Rattle.fr_frame.specs.Bodies.{whole_body, body_occurs}
+use Rattle.fr_frame.specs.Changes.{IfInUse, IsInUse, Shows}
+use Rattle.fr_frame.specs.Heap.{Node, with_body, heap_of, slots_occur, marked, stored_in}
+use Rattle.fr_frame.specs.Kids.{Kid, at, Kids, whole_plot, cell_of, tree_of, body_in, kid_occurs, Holds, HoldsIn}
+use Rattle.fr_store.specs.HoldLaws.{AgreeBeside, Replaces}
+use Rattle.fr_store.specs.MoveLaws.{open_top, top_slot, top_node, top_found, open_at_from}
+use Rattle.fr_store.specs.Moves.{IsOpenAt, cursor_in, tree_in_slots, tokens_here}
+use Rattle.fr_store.specs.Numbers.{IsLast}
+use Rattle.fr_store.specs.PruneLaws.{beneath_is, plot_tokens, pruned_tokens}
+use Rattle.fr_store.specs.Prunes.{beneath, IsRooted, slotted_occur, pruned, IsPruned}
+use Rattle.fr_store.specs.StandLaws.{stands_change}
+use Rattle.fr_store.specs.Stands.{Stands, IsOpen, kid_shown}
+use Rattle.fr_store.specs.Stored.{IsKept, StoresNoMore}
+use Rattle.fr_store.specs.TopLaws.{body_here, body_other, top_uses, not_beside, top_held}
+use Rattle.fr_store.specs.Ways.{kid_at, put_at, slots_above, counts_if, uses, uses_in, Leads, Reaches, node_along}
+use Rattle.fr_store.specs.WayLaws.{same_or_other, leads_reach, uses_at, occurs_put_at, tree_put_at, tree_of_at, tree_tokens}
+use Rattle.fr_store.proofs.PruneSteps.{beneath_uses}
+
+module _ (plan : Plan) (slots : List Slot) (stack : List ℕ) (open_now : IsOpen plan slots stack) (n : ℕ)
+    (last : IsLast stack n) where
+  -- what is at the top can be pruned
+  pub top_rooted : IsRooted (heap_of slots) n
+  unfolding top_node
+  top_rooted =
+      let top = open_top plan slots stack open_now in
+      let same = top_slot plan slots stack open_now n last in
+      record {
+        plan = plan;
+        found = top_node plan slots stack open_now n last;
+        plot = top.plot;
+        here = top_found plan slots stack open_now n last;
+        body = refl;
+        limit = top.limit;
+        holds = subst
+            (λ (m : ℕ). HoldsIn plan (heap_of slots)
+            (node_along plan plan.root (cursor_in slots stack) (kid_shown (heap_of slots) stack)) m
+            (suc (length (cursor_in slots stack))) top.plot) same top.children;
+        once = λ m.
+            let here : counts_if (nat_eq top.slot m) ≡ counts_if (nat_eq n m)
+            = ap (λ (x : ℕ). counts_if (nat_eq x m)) same in
+            let all = top_uses plan (heap_of slots) stack (cursor_in slots stack) (kid_shown (heap_of slots) stack)
+            open_now.stands top m in
+            omega
+            (arith, here, all, uses_at (cursor_in slots stack) (kid_shown (heap_of slots) stack) m, open_now.stands.once m);
+        stored = top.stored;
+      }
+
+  -- the tokens that stand there are those in slots beneath it and its own
+  pub tokens_both : (t : ℕ) → tokens_here slots stack t
+      ≡ slotted_occur (beneath (heap_of slots) n) t + body_occurs (top_node plan slots stack open_now n last).body t
+  unfolding top_node top_rooted
+  tokens_both t =
+      let top = open_top plan slots stack open_now in
+      sym (ap (λ (tree : Tree). tree_occurs tree t) (tree_of_at (cursor_in slots stack) (kid_shown (heap_of slots) stack)))
+      ∙ sym (tree_tokens (kid_at (cursor_in slots stack) (kid_shown (heap_of slots) stack)) t)
+      ∙ ap (λ (x : Kid). kid_occurs x t) top.is
+      ∙ plot_tokens top.plot t
+      ∙ ap (λ (ks : Kids). slotted_occur ks t + body_occurs (body_in top.plot) t)
+      (sym (beneath_is (heap_of slots) n top_rooted))
+
+  module _ (ledger : List ℕ) (room : Room (tokens_here slots stack) ledger) where
+    both_room : Room
+        (both (slotted_occur (beneath (heap_of slots) n)) (body_occurs (top_node plan slots stack open_now n last).body)) ledger
+    both_room =
+        Room_same (tokens_here slots stack)
+        (both (slotted_occur (beneath (heap_of slots) n)) (body_occurs (top_node plan slots stack open_now n last).body))
+        ledger tokens_both room
+
+    pub prune_room : Room (slotted_occur (beneath (heap_of slots) n)) ledger
+    prune_room =
+        Room_fewer (slotted_occur (beneath (heap_of slots) n))
+        (both (slotted_occur (beneath (heap_of slots) n)) (body_occurs (top_node plan slots stack open_now n last).body))
+        ledger (λ t. omega arith) both_room
+
+  -- Pruned.
+  module _ (mid : List Slot) (is : IsPruned (heap_of slots) (heap_of mid) n pruned (beneath (heap_of slots) n)) where
+    pruned_here : heap_of mid n
+        ≡ Some (record (top_node plan slots stack open_now n last) {
+          body = pruned (top_node plan slots stack open_now n last).body;
+        })
+    pruned_here =
+        is.here
+        ∙ body_here (heap_of slots) n pruned (top_node plan slots stack open_now n last)
+        (top_found plan slots stack open_now n last)
+
+    pub pruned_in_use : IsInUse mid n
+    pruned_in_use = ap is_some pruned_here
+
+    pub put_room : (ledger now : List ℕ) → Room (tokens_here slots stack) ledger
+        → RoseBy (slotted_occur (beneath (heap_of slots) n)) ledger now
+        → IfInUse mid n (λ (found : Node). Room (body_occurs found.body) now)
+    put_room ledger now room rose =
+        subst (λ (o : Option Node). IsSomeAnd o (λ (found : Node). Room (body_occurs found.body) now)) (sym pruned_here)
+        (Room_same (body_occurs (top_node plan slots stack open_now n last).body)
+        (body_occurs (pruned (top_node plan slots stack open_now n last).body)) now
+        (λ t. sym (pruned_tokens (top_node plan slots stack open_now n last).body t))
+        (Room_risen (slotted_occur (beneath (heap_of slots) n))
+        (body_occurs (top_node plan slots stack open_now n last).body) ledger now (both_room ledger room) rose))
+
+    pub set_rose : (ledger now after : List ℕ) → RoseBy (slotted_occur (beneath (heap_of slots) n)) ledger now
+        → IfInUse mid n (λ (found : Node). RoseBy (body_occurs found.body) now after)
+        → RoseBy (tokens_here slots stack) ledger after
+    set_rose ledger now after rose last_rose =
+        let so : RoseBy (body_occurs (pruned (top_node plan slots stack open_now n last).body)) now after
+        = subst (λ (o : Option Node). IsSomeAnd o (λ (found : Node). RoseBy (body_occurs found.body) now after))
+        pruned_here last_rose in
+        RoseBy_same
+        (both (slotted_occur (beneath (heap_of slots) n))
+        (body_occurs (pruned (top_node plan slots stack open_now n last).body)))
+        (tokens_here slots stack) ledger after
+        (λ t. omega (arith, tokens_both t, pruned_tokens (top_node plan slots stack open_now n last).body t))
+        (RoseBy_both (slotted_occur (beneath (heap_of slots) n))
+        (body_occurs (pruned (top_node plan slots stack open_now n last).body)) ledger now after rose so)
+
+    -- A value is put.
+    module _ (after : List Slot) (v : Val) (puts : Shows after (with_body (heap_of mid) n (λ old. whole_body v))) where
+      set_here : heap_of after n ≡ Some (record (top_node plan slots stack open_now n last) { body = whole_body v })
+      set_here =
+          puts n
+          ∙ body_here (heap_of mid) n (λ old. whole_body v)
+          (record (top_node plan slots stack open_now n last) {
+            body = pruned (top_node plan slots stack open_now n last).body;
+          })
+          pruned_here
+
+      set_other : (m : ℕ) → m ≢ n → heap_of after m ≡ heap_of mid m
+      set_other m ne = puts m ∙ body_other (heap_of mid) n (λ old. whole_body v) m ne
+
+      -- marks
+      set_marked : (m : ℕ) → marked (heap_of after) m ≡ marked (heap_of mid) m
+      set_marked m = go (same_or_other m n)
+        where
+          go : (m ≡ n) ⊎ (m ≢ n) → marked (heap_of after) m ≡ marked (heap_of mid) m
+          go (inl e) =
+              ap (marked (heap_of after)) e ∙ ap stored_in set_here ∙ sym (ap stored_in pruned_here)
+              ∙ ap (marked (heap_of mid)) (sym e)
+          go (inr ne) = ap stored_in (set_other m ne)
+
+      pub set_kept : (store : List ℕ) → IsKept store mid → IsKept store after
+      set_kept store kept m = (λ h. (kept m).0 (sym (set_marked m) ∙ h), λ h. set_marked m ∙ (kept m).1 h)
+
+      pub set_marks : StoresNoMore slots mid → StoresNoMore slots after
+      set_marks marks m h = set_marked m ∙ marks m h
+
+      -- what stands
+      set_stands : Stands plan (heap_of after) stack (cursor_in slots stack)
+          (put_at (cursor_in slots stack) (at n false (whole_plot v)) (kid_shown (heap_of slots) stack))
+      unfolding top_node top_rooted
+      set_stands =
+          let top = open_top plan slots stack open_now in
+          let place : Place = cursor_in slots stack in
+          let k : Kid = kid_shown (heap_of slots) stack in
+          let same = top_slot plan slots stack open_now n last in
+          let all : (m : ℕ) → uses (kid_at place k) m ≡ counts_if (nat_eq top.slot m) + uses_in top.plot m
+          = top_uses plan (heap_of slots) stack place k open_now.stands top in
+          let longer : Stands plan (heap_of slots) stack (place ++ []) k
+          = subst (λ (p : Place). Stands plan (heap_of slots) stack p k) (sym (append-nil place)) open_now.stands in
+          let agree : AgreeBeside (heap_of slots) (heap_of after) k (kid_at place k)
+          = λ m h.
+          let ne : m ≢ n
+          = λ e. not_beside plan (heap_of slots) stack place k open_now.stands top m h (e ∙ sym same) in
+          set_other m ne
+          ∙ is.rest m ne
+          (omega (arith, beneath_uses (heap_of slots) n top_rooted m, all m, open_now.stands.once m)) in
+          let replaces : Replaces plan (heap_of slots) (heap_of after) (kid_at place k) (at n false (whole_plot v))
+          = λ node owner depth holds.
+          let was = subst (λ (x : Kid). Holds plan (heap_of slots) node owner depth x) top.is holds in
+          let found = top_held plan (heap_of slots) stack place k open_now.stands top node owner depth holds in
+          (set_here ∙ sym (ap (λ (x : Node). Some (record x { body = whole_body v })) found), was.1, tt) in
+          let once : (m : ℕ) → uses k m + uses (at n false (whole_plot v)) m ≤ 1 + uses (kid_at place k) m
+          = λ m.
+          let here : counts_if (nat_eq top.slot m) ≡ counts_if (nat_eq n m) = ap (λ (x : ℕ). counts_if (nat_eq x m)) same in
+          omega (arith, open_now.stands.once m, all m, here) in
+          subst
+          (λ (p : Place). Stands plan (heap_of after) stack p (put_at place (at n false (whole_plot v)) k))
+          (append-nil place)
+          (stands_change plan (heap_of slots) (heap_of after) stack stack place [] [] (at n false (whole_plot v)) k longer
+          (sym (ap cell_of top.is ∙ ap (λ (x : ℕ). cell_of (at x false top.plot)) same)) agree replaces once (refl, tt)
+          (top.last ∙ ap (λ (x : ℕ). slots_above place k ++ x ∷ []) same))
+
+      pub set_open : ((t : ℕ) → slots_occur slots t ≡ slots_occur mid t + slotted_occur (beneath (heap_of slots) n) t)
+          → IfInUse mid n (λ (found : Node). (t : ℕ) → slots_occur mid t + occurs v t
+          ≡ slots_occur after t + body_occurs found.body t)
+          → IsOpenAt plan after stack (cursor_in slots stack)
+          (change_at (cursor_in slots stack) (λ old. whole v) (tree_in_slots slots stack))
+      set_open fell put =
+          let place : Place = cursor_in slots stack in
+          let k : Kid = kid_shown (heap_of slots) stack in
+          let so : (t : ℕ) → slots_occur mid t + occurs v t
+          ≡ slots_occur after t + body_occurs (pruned (top_node plan slots stack open_now n last).body) t
+          = subst
+          (λ (o : Option Node). IsSomeAnd o (λ (found : Node). (t : ℕ) → slots_occur mid t + occurs v t
+          ≡ slots_occur after t + body_occurs found.body t)) pruned_here put in
+          let reach : Reaches place k
+          = leads_reach place [] k (subst (λ (p : Place). Leads p k) (sym (append-nil place)) open_now.stands.leads) in
+          let here : (t : ℕ) → tokens_here slots stack t ≡ kid_occurs (kid_at place k) t
+          = λ t. sym (ap (λ (tree : Tree). tree_occurs tree t) (tree_of_at place k)) ∙ sym (tree_tokens (kid_at place k) t) in
+          open_at_from plan after stack place (put_at place (at n false (whole_plot v)) k)
+          (change_at place (λ old. whole v) (tree_of k)) set_stands
+          (λ t.
+          omega
+          (arith, occurs_put_at place (at n false (whole_plot v)) k t reach, open_now.tokens t, fell t, so t, here t, tokens_both t, pruned_tokens (top_node plan slots stack open_now n last).body t))
+          (tree_put_at place (at n false (whole_plot v)) k)

@@ -1,0 +1,19 @@
+use Rattle.fr_store.specs.MoveLaws.{top_in_use}
+use Rattle.fr_store.specs.StoreLaws.{open_left, taken_off, top_unmarked}
+use Rattle.fr_store.proofs.stack.Stack.leave.Goals as goal
+
+pub insert-requires-clause-in_use : goal.insert-requires-clause-in_use
+insert-requires-clause-in_use c =
+    top_in_use c.args.plan.now c.args.slots.now c.args.self.now c.requires.is_open c.in-Some.place.0 c.in-Some.ensures.last
+
+pub insert-requires-clause-unmarked : goal.insert-requires-clause-unmarked
+insert-requires-clause-unmarked c =
+    top_unmarked c.args.plan.now c.args.slots.now c.args.self.now c.requires.is_open c.in-Some.place.0 c.in-Some.ensures.last
+
+pub returns-clause-left : goal.returns-clause-left
+returns-clause-left c =
+    open_left c.args.plan.now c.args.slots.now c.insert.new.slots c.args.self.now c.pop.new.self c.requires.is_open
+    c.requires.below c.in-Some.place.0
+    (taken_off c.args.self.now c.pop.new.self c.in-Some.place.0 c.pop.result c.in-Some.ensures.last c.pop.ensures.last
+    c.pop.ensures.none)
+    c.in_ok-insert.ensures.marked c.insert.ensures.tokens

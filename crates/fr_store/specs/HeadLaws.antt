@@ -1,0 +1,302 @@
+-- Laws of the first place of a walk, for proofs: nothing beneath it is in a slot, and once it had its turn the others are a walk.
+use Rattle.std.proofs.Common.{◌≡◌, ◌≢◌, ◌⊎◌, ℕ, zero, suc, ◌+◌, ◌<◌, ◌≤◌, Bool, true, false, List, [], ◌∷◌, ◌++◌, append_assoc, length, length-append, nat_eq, inl, inr, refl, sym, ◌∙◌, ap, subst, arith}
+use Rattle.std.proofs.lemmas.Grind.{common_steps}
+use Rattle.std.proofs.lemmas.List.Elements.{All-contains}
+use Rattle.std.specs.Prelude.{slice_index_or}
+use Rattle.std.specs.List.{All, Contains}
+use Rattle.std.specs.declared.cmp.Ordering.{Ordering}
+use Rattle.std.specs.Ordering.{nat_cmp, ordering_then}
+use Rattle.fr_path.specs.declared.path_steps.PathStep.{PathStep}
+use Rattle.fr_path.specs.Order.{walk_order}
+use Rattle.fr_path.specs.OrderLaws.{walk_itself}
+use Rattle.fr_shape.specs.Val.{Val}
+use Rattle.fr_model.specs.FinishLaws.{closed_at}
+use Rattle.fr_model.specs.Paths.{steps_in}
+use Rattle.fr_model.specs.Places.{Place}
+use Rattle.fr_model.specs.Relation.{HasPlace}
+use Rattle.fr_model.specs.Tree.{Form, Tree, child_tree}
+use Rattle.fr_frame.specs.Bodies.{IsClosed, AreUnplaced}
+use Rattle.fr_frame.specs.Kids.{Kid, gone, there, at, Plot, entered_plot, whole_plot, begun_plot, Kids, no_kids, kid, tree_of, cells_in, body_in}
+use Rattle.fr_store.specs.ClosingLaws.{steps_kept}
+use Rattle.fr_store.specs.LeaveLaws.{kid_at_append}
+use Rattle.fr_store.specs.OffLaws.{marked_off, off_stored, reach_place, stored_before, stored_beside, stored_no_more, stored_still}
+use Rattle.fr_store.specs.Walks.{IsStoredAt, AreStoredAt, ComesBefore, AreInWalkOrder, IsWalk}
+use Rattle.fr_store.specs.Ways.{count_kids, kid_nth, kid_at, counts_if, uses, uses_in, uses_among, put_at, AllMarked, AllMarkedIn, AllMarkedAmong, Leads, Reaches}
+use Rattle.fr_store.specs.WayLaws.{counts_same, same_or_other, tree_put_at, uses_at, uses_nth}
+
+-- Lists.
+
+pub contains_cases : {X : Type 0} (x : X) (xs : List X) (y : X) → Contains (x ∷ xs) y → (x ≡ y) ⊎ Contains xs y
+contains_cases x xs y found = go found.0 found.1 found.2
+  where
+    go : (k : ℕ) → k < length (x ∷ xs) → slice_index_or (x ∷ xs) k y ≡ y → (x ≡ y) ⊎ Contains xs y
+    go zero h e = inl e
+    go (suc k) h e = inr (k, omega arith, e)
+
+pub contains_later : {X : Type 0} (x : X) (xs : List X) (y : X) → Contains xs y → Contains (x ∷ xs) y
+contains_later x xs y found = (suc found.0, omega (arith, found.1), found.2)
+
+all_first : {X : Type 0} (P : X → Type 0) (x : X) (xs : List X) → All P (x ∷ xs) → P x
+all_first P x xs all = all 0 x (omega arith)
+
+all_rest : {X : Type 0} (P : X → Type 0) (x : X) (xs : List X) → All P (x ∷ xs) → All P xs
+all_rest P x xs all k d h = all (suc k) d (omega arith)
+
+all_none : {X : Type 0} (P : X → Type 0) → All P []
+all_none P k d h = absurd (omega arith)
+
+all_more : {X : Type 0} (P : X → Type 0) (x : X) (xs : List X) → P x → All P xs → All P (x ∷ xs)
+all_more P x xs here all zero d h = here
+all_more P x xs here all (suc k) d h = all k d (omega arith)
+
+-- The order of the walk.
+
+not_less : (first second : ℕ) (rest : Ordering) → first < second → ordering_then (nat_cmp second first) rest ≡ Ordering.Less → ⊥
+not_less first second rest h e =
+    let more : nat_cmp second first ≡ Ordering.Greater = grind (arith, common_steps) in
+    go (nat_cmp second first) more e
+  where
+    go : (x : Ordering) → x ≡ Ordering.Greater → ordering_then x rest ≡ Ordering.Less → ⊥
+    go Ordering.Less is e = cc
+    go Ordering.Equal is e = cc
+    go Ordering.Greater is e = cc
+
+steps_count : (place : Place) (t : Tree) → length (steps_in place t) ≡ length place
+steps_count [] t = refl
+steps_count (i ∷ place) t = ap suc (steps_count place (child_tree i t))
+
+-- nothing comes before what lies deeper, or itself
+before_deeper : (tree : Tree) (first second : Place) → length first < length second → ComesBefore tree first second → ⊥
+before_deeper tree first second h before =
+    not_less (length (steps_in first tree)) (length (steps_in second tree)) _
+    (omega (arith, steps_count first tree, steps_count second tree)) before
+
+pub before_itself : (tree : Tree) (place : Place) → ComesBefore tree place place → ⊥
+before_itself tree place before =
+    let tied = walk_itself (steps_in place tree) (steps_in place tree) refl in
+    cc
+
+-- A slot serves once, so that a place in it lies at one way only.
+
+two_nth : (i j : ℕ) (ks : Kids) (n : ℕ) → i ≢ j → uses (kid_nth i ks) n + uses (kid_nth j ks) n ≤ uses_among ks n
+two_nth i j no_kids n ne = omega arith
+two_nth zero zero (kid k ks) n ne = absurd (ne refl)
+two_nth zero (suc j) (kid k ks) n ne = omega (arith, uses_nth j ks n)
+two_nth (suc i) zero (kid k ks) n ne = omega (arith, uses_nth i ks n)
+two_nth (suc i) (suc j) (kid k ks) n ne =
+    let rest : uses (kid_nth i ks) n + uses (kid_nth j ks) n ≤ uses_among ks n
+    = two_nth i j ks n (λ e. ne (ap suc e)) in
+    omega arith
+
+used : (place : Place) (k : Kid) (n : ℕ) (mark : Bool) (plot : Plot) → kid_at place k ≡ at n mark plot → 1 ≤ uses k n
+used place k n mark plot is =
+    let here : uses (kid_at place k) n ≡ counts_if (nat_eq n n) + uses_in plot n = ap (λ (x : Kid). uses x n) is in
+    omega (arith, here, counts_same n, uses_at place k n)
+
+pub one_place : (first second : Place) (k : Kid) (n : ℕ) (mark other : Bool) (plot below : Plot) → uses k n ≤ 1
+    → Reaches first k → Reaches second k → kid_at first k ≡ at n mark plot → kid_at second k ≡ at n other below
+    → first ≡ second
+one_place [] [] k n mark other plot below once a b e f = refl
+one_place (i ∷ first) second gone n mark other plot below once a b e f = absurd a
+one_place (i ∷ first) second (there v) n mark other plot below once a b e f = absurd a
+one_place (i ∷ first) second (at slot s entered_plot) n mark other plot below once a b e f = absurd a
+one_place (i ∷ first) second (at slot s (whole_plot v)) n mark other plot below once a b e f = absurd a
+one_place [] (j ∷ second) gone n mark other plot below once a b e f = absurd b
+one_place [] (j ∷ second) (there v) n mark other plot below once a b e f = absurd b
+one_place [] (j ∷ second) (at slot s entered_plot) n mark other plot below once a b e f = absurd b
+one_place [] (j ∷ second) (at slot s (whole_plot v)) n mark other plot below once a b e f = absurd b
+one_place [] (j ∷ second) (at slot s (begun_plot form kids)) n mark other plot below once a b e f =
+    let same : slot ≡ n = cc in
+    let one : counts_if (nat_eq slot n) ≡ 1 = ap (λ (m : ℕ). counts_if (nat_eq m n)) same ∙ counts_same n in
+    absurd (omega (arith, one, once, used second (kid_nth j kids) n other below f, uses_nth j kids n))
+one_place (i ∷ first) [] (at slot s (begun_plot form kids)) n mark other plot below once a b e f =
+    let same : slot ≡ n = cc in
+    let one : counts_if (nat_eq slot n) ≡ 1 = ap (λ (m : ℕ). counts_if (nat_eq m n)) same ∙ counts_same n in
+    absurd (omega (arith, one, once, used first (kid_nth i kids) n mark plot e, uses_nth i kids n))
+one_place (i ∷ first) (j ∷ second) (at slot s (begun_plot form kids)) n mark other plot below once a b e f =
+    go (same_or_other i j)
+    (λ same.
+    one_place first second (kid_nth i kids) n mark other plot below (omega (arith, once, uses_nth i kids n)) a.1
+    (subst (λ (m : ℕ). Reaches second (kid_nth m kids)) (sym same) b.1) e
+    (ap (λ (m : ℕ). kid_at second (kid_nth m kids)) same ∙ f))
+  where
+    go : (i ≡ j) ⊎ (i ≢ j) → (i ≡ j → first ≡ second) → i ∷ first ≡ j ∷ second
+    go (inl same) rest = ap (λ (m : ℕ). m ∷ first) same ∙ ap (λ (p : Place). j ∷ p) (rest same)
+    go (inr ne) rest =
+        absurd
+        (omega
+        (arith, once, two_nth i j kids n ne, used first (kid_nth i kids) n mark plot e, used second (kid_nth j kids) n other below f))
+
+-- The first place.
+
+pub record Head (k : Kid) (n : ℕ) (rest : List ℕ) (all_places : List Place) : Type 0 where
+  pub place : Place
+  pub places : List Place
+  pub is : all_places ≡ place ∷ places
+  pub stored : IsStoredAt k n place
+  pub others : AreStoredAt k rest places
+  pub before : All (λ (other : Place). ComesBefore (tree_of k) place other) places
+  pub order : AreInWalkOrder (tree_of k) places
+
+pub head_of : (k : Kid) (n : ℕ) (rest : List ℕ) (walk : IsWalk k (n ∷ rest)) → Head k n rest walk.places
+head_of k n rest walk = go walk.places refl walk.stored walk.order
+  where
+    go : (places : List Place) → walk.places ≡ places → AreStoredAt k (n ∷ rest) places → AreInWalkOrder (tree_of k) places
+        → Head k n rest walk.places
+    go [] e stored order = absurd stored
+    go (place ∷ places) e stored order = record {
+      place = place;
+      places = places;
+      is = e;
+      stored = stored.0;
+      others = stored.1;
+      before = order.0;
+      order = order.1;
+    }
+
+closed_children : (ks : Kids) → AllMarkedAmong true ks
+    → ((j : ℕ) (m : ℕ) (plot : Plot) → j < count_kids ks → kid_nth j ks ≡ at m true plot → ⊥) → AreUnplaced (cells_in ks)
+closed_children no_kids marked none = tt
+closed_children (kid gone ks) marked none =
+    (tt, closed_children ks marked.1 (λ j m plot h e. none (suc j) m plot (omega arith) e))
+closed_children (kid (there v) ks) marked none =
+    (tt, closed_children ks marked.1 (λ j m plot h e. none (suc j) m plot (omega arith) e))
+closed_children (kid (at slot mark plot) ks) marked none =
+    absurd (none 0 slot plot (omega arith) (ap (λ (b : Bool). at slot b plot) marked.0.0))
+
+pub reaches_child : (place : Place) (k : Kid) (n : ℕ) (mark : Bool) (form : Form) (kids : Kids) (j : ℕ) → Reaches place k
+    → kid_at place k ≡ at n mark (begun_plot form kids) → j < count_kids kids → Reaches (place ++ j ∷ []) k
+reaches_child [] k n mark form kids j reach is h = subst (λ (x : Kid). Reaches (j ∷ []) x) (sym is) (h, tt)
+reaches_child (i ∷ place) (at slot s (begun_plot made ks)) n mark form kids j reach is h =
+    (reach.0, reaches_child place (kid_nth i ks) n mark form kids j reach.1 is h)
+reaches_child (i ∷ place) (at slot s entered_plot) n mark form kids j reach is h = absurd reach
+reaches_child (i ∷ place) (at slot s (whole_plot v)) n mark form kids j reach is h = absurd reach
+reaches_child (i ∷ place) gone n mark form kids j reach is h = absurd reach
+reaches_child (i ∷ place) (there v) n mark form kids j reach is h = absurd reach
+
+module _ (k : Kid) (n : ℕ) (rest : List ℕ) (walk : IsWalk k (n ∷ rest)) (head : Head k n rest walk.places) where
+  pub later : (slot : ℕ) (place : Place) → IsStoredAt k slot place → (head.place ≡ place) ⊎ Contains head.places place
+  later slot place stored =
+      contains_cases head.place head.places place
+      (subst (λ (ps : List Place). Contains ps place) head.is (walk.all slot place stored))
+
+  -- no child of it is in a slot: it would come before
+  pub head_closed : (cursor : Place) → Leads cursor k → IsClosed (body_in head.stored.plot)
+  head_closed cursor leads =
+      let marked : AllMarked true (at n true head.stored.plot)
+      = subst (AllMarked true) head.stored.is
+      (marked_off cursor head.place k leads (off_stored cursor head.place k n head.stored.plot leads head.stored.is)
+      head.stored.reaches) in
+      go head.stored.plot refl marked.1
+    where
+      below : (form : Form) (kids : Kids) → head.stored.plot ≡ begun_plot form kids → (j m : ℕ) (plot : Plot)
+          → j < count_kids kids → kid_nth j kids ≡ at m true plot → ⊥
+      below form kids e j m plot h is =
+          let top : kid_at head.place k ≡ at n true (begun_plot form kids)
+          = head.stored.is ∙ ap (λ (p : Plot). at n true p) e in
+          let child : IsStoredAt k m (head.place ++ j ∷ []) = record {
+            plot = plot;
+            reaches = reaches_child head.place k n true form kids j head.stored.reaches top h;
+            is = kid_at_append head.place (j ∷ []) k ∙ ap (λ (x : Kid). kid_at (j ∷ []) x) top ∙ is;
+          } in
+          let deeper : length head.place < length (head.place ++ j ∷ [])
+          = omega (arith, length-append head.place (j ∷ [])) in
+          not (later m (head.place ++ j ∷ []) child) deeper
+        where
+          not : (head.place ≡ head.place ++ j ∷ []) ⊎ Contains head.places (head.place ++ j ∷ [])
+              → length head.place < length (head.place ++ j ∷ []) → ⊥
+          not (inl same) deeper =
+              let alike : length head.place ≡ length (head.place ++ j ∷ []) = ap (λ (p : Place). length p) same in
+              absurd (omega arith)
+          not (inr found) deeper =
+              before_deeper (tree_of k) head.place (head.place ++ j ∷ []) deeper
+              (All-contains (λ (other : Place). ComesBefore (tree_of k) head.place other) head.places
+              (head.place ++ j ∷ []) head.before found)
+
+      go : (plot : Plot) → head.stored.plot ≡ plot → AllMarkedIn true plot → IsClosed (body_in plot)
+      go entered_plot e marked = tt
+      go (whole_plot v) e marked = tt
+      go (begun_plot form kids) e marked = closed_children kids marked (below form kids e)
+
+  -- once a value is in its stead, the others are a walk
+  pub walk_on : (cursor : Place) → Leads cursor k → ((m : ℕ) → uses k m ≤ 1) → (v : Val)
+      → (next : IsWalk (put_at head.place (there v) k) rest) × (next.places ≡ head.places)
+  walk_on cursor leads once v = (record { places = head.places; stored = stored_on; order = order_on; all = all_on }, refl)
+    where
+      not_itself : (place : Place) → ComesBefore (tree_of k) head.place place → place ≢ head.place
+      not_itself place before e =
+          before_itself (tree_of k) head.place (subst (λ (p : Place). ComesBefore (tree_of k) head.place p) e before)
+
+      still : (m : ℕ) (place : Place) → ComesBefore (tree_of k) head.place place → IsStoredAt k m place
+          → IsStoredAt (put_at head.place (there v) k) m place
+      still m place before stored =
+          stored_still head.place place k v m head.stored.reaches
+          (stored_beside head.place place k n m head.stored.plot head.stored.is (head_closed cursor leads) stored
+          (not_itself place before))
+          stored
+
+      each : (slots : List ℕ) (places : List Place) → All (λ (other : Place). ComesBefore (tree_of k) head.place other) places
+          → AreStoredAt k slots places → AreStoredAt (put_at head.place (there v) k) slots places
+      each [] [] before stored = tt
+      each [] (place ∷ places) before stored = absurd stored
+      each (slot ∷ slots) [] before stored = absurd stored
+      each (slot ∷ slots) (place ∷ places) before stored =
+          (
+            still slot place (all_first (λ (other : Place). ComesBefore (tree_of k) head.place other) place places before)
+                stored.0,
+            each slots places (all_rest (λ (other : Place). ComesBefore (tree_of k) head.place other) place places before)
+                stored.1,
+          )
+
+      stored_on : AreStoredAt (put_at head.place (there v) k) rest head.places
+      stored_on = each rest head.places head.before head.others
+
+      -- the same steps lead to each of them
+      steps_on : (m : ℕ) (place : Place) → IsStoredAt (put_at head.place (there v) k) m place
+          → steps_in place (tree_of (put_at head.place (there v) k)) ≡ steps_in place (tree_of k)
+      steps_on m place stored =
+          ap (steps_in place) (tree_put_at head.place (there v) k)
+          ∙ steps_kept head.place place v (tree_of k) (reach_place head.place k head.stored.reaches)
+          (subst (λ (t : Tree). HasPlace place t) (tree_put_at head.place (there v) k)
+          (reach_place place (put_at head.place (there v) k) stored.reaches))
+
+      later_on : (place : Place)
+          → steps_in place (tree_of (put_at head.place (there v) k)) ≡ steps_in place (tree_of k) → (slots : List ℕ)
+          (places : List Place) → AreStoredAt (put_at head.place (there v) k) slots places
+          → All (λ (other : Place). ComesBefore (tree_of k) place other) places
+          → All (λ (other : Place). ComesBefore (tree_of (put_at head.place (there v) k)) place other) places
+      later_on place same [] [] stored before =
+          all_none (λ (other : Place). ComesBefore (tree_of (put_at head.place (there v) k)) place other)
+      later_on place same [] (q ∷ places) stored before = absurd stored
+      later_on place same (slot ∷ slots) [] stored before = absurd stored
+      later_on place same (slot ∷ slots) (q ∷ places) stored before =
+          all_more (λ (other : Place). ComesBefore (tree_of (put_at head.place (there v) k)) place other) q places
+          (ap (λ (steps : List PathStep). walk_order steps (steps_in q (tree_of (put_at head.place (there v) k)))) same
+          ∙ ap (walk_order (steps_in place (tree_of k))) (steps_on slot q stored.0)
+          ∙ all_first (λ (other : Place). ComesBefore (tree_of k) place other) q places before)
+          (later_on place same slots places stored.1
+          (all_rest (λ (other : Place). ComesBefore (tree_of k) place other) q places before))
+
+      ordered : (slots : List ℕ) (places : List Place) → AreStoredAt (put_at head.place (there v) k) slots places
+          → AreInWalkOrder (tree_of k) places → AreInWalkOrder (tree_of (put_at head.place (there v) k)) places
+      ordered [] [] stored order = tt
+      ordered [] (q ∷ places) stored order = absurd stored
+      ordered (slot ∷ slots) [] stored order = absurd stored
+      ordered (slot ∷ slots) (q ∷ places) stored order = (
+        later_on q (steps_on slot q stored.0) slots places stored.1 order.0,
+        ordered slots places stored.1 order.1,
+      )
+
+      order_on : AreInWalkOrder (tree_of (put_at head.place (there v) k)) head.places
+      order_on = ordered rest head.places stored_on head.order
+
+      all_on : (slot : ℕ) (place : Place) → IsStoredAt (put_at head.place (there v) k) slot place → Contains head.places place
+      all_on slot place stored =
+          go (later slot place (stored_before head.place place k v slot head.stored.reaches stored))
+        where
+          go : (head.place ≡ place) ⊎ Contains head.places place → Contains head.places place
+          go (inl e) =
+              absurd
+              (stored_no_more head.place k v slot head.stored.reaches
+              (subst (λ (p : Place). IsStoredAt (put_at head.place (there v) k) slot p) (sym e) stored))
+          go (inr found) = found

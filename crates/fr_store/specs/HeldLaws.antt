@@ -1,0 +1,290 @@
+-- Laws of a walk that is refused, for proofs: the first place of it that makes no value is the first place that fails.
+use Rattle.std.proofs.Common.{◌≡◌, ◌≢◌, ◌⊎◌, ℕ, zero, suc, ◌+◌, ◌<◌, Bool, true, false, List, [], ◌∷◌, ◌++◌, map, Option, Some, None, inl, inr, refl, sym, ◌∙◌, ap, subst, arith}
+use Rattle.std.proofs.lemmas.List.Elements.{All-contains}
+use Rattle.std.specs.List.{Contains}
+use Rattle.std.specs.Option.{option_or}
+use Rattle.std.specs.Prelude.{is_none, is_some}
+use Rattle.std.specs.declared.cmp.Ordering.{Ordering}
+use Rattle.fr_path.specs.declared.path_steps.PathStep.{PathStep}
+use Rattle.fr_path.specs.Order.{number, walk_order}
+use Rattle.fr_shape.specs.declared.error.ReflectErrorKind.{ReflectErrorKind}
+use Rattle.fr_shape.specs.Hooks.{Meanings}
+use Rattle.fr_shape.specs.Look.{Table}
+use Rattle.fr_model.specs.Complete.{missing_value}
+use Rattle.fr_model.specs.Failing.{Failure, first_by_walk, own_lack}
+use Rattle.fr_model.specs.FailingLaws.{FailuresLieThere, FinishesOrRefuses, FirstByWalkIs, IsHalfDone, IsOrAfter, LackingFails, LiesThere}
+use Rattle.fr_model.specs.Finish.{failures_off, finish_cause, finished, kind_of, refusal_or}
+use Rattle.fr_model.specs.Finishing.{IsOffTheWay}
+use Rattle.fr_model.specs.Paths.{steps_in}
+use Rattle.fr_model.specs.Places.{Place}
+use Rattle.fr_model.specs.Relation.{HasPlace}
+use Rattle.fr_model.specs.Tree.{Mode, strict, deferred, Tree, hole, entered, whole, begun, Trees, no_trees, branch, tree_at, tree_nth, count_trees, shape_in}
+use Rattle.fr_model.specs.Well.{AllOff, AtCursor, OffBut, Leads as LeadsIn}
+use Rattle.fr_frame.specs.Bodies.{IsClosed, AreUnplaced}
+use Rattle.fr_frame.specs.Kids.{Kid, gone, there, at, Plot, entered_plot, whole_plot, begun_plot, Kids, no_kids, kid, tree_of, tree_in, trees_in, cells_in, body_in}
+use Rattle.fr_store.specs.FailLaws.{TellsLack, tells_off}
+use Rattle.fr_store.specs.HeadLaws.{Head, later, head_closed}
+use Rattle.fr_store.specs.OffLaws.{marked_off, off_stored, reach_place}
+use Rattle.fr_store.specs.Walks.{IsStoredAt, ComesBefore, IsWalk}
+use Rattle.fr_store.specs.Ways.{count_kids, kid_nth, kid_at, AllMarked, AllMarkedIn, AllMarkedAmong, StoredBut, NoneStored, Leads, Reaches}
+use Rattle.fr_store.specs.WayLaws.{numbers_in, tree_of_at, tree_of_nth}
+
+-- Half done places.
+
+count_in : (ks : Kids) → count_trees (trees_in ks) ≡ count_kids ks
+count_in no_kids = refl
+count_in (kid k ks) = ap suc (count_in ks)
+
+-- a place of the tree is reached
+pub place_reach : (place : Place) (k : Kid) → HasPlace place (tree_of k) → Reaches place k
+place_reach [] k has = tt
+place_reach (i ∷ place) gone has = absurd has
+place_reach (i ∷ place) (there v) has = absurd has
+place_reach (i ∷ place) (at slot stored entered_plot) has = absurd has
+place_reach (i ∷ place) (at slot stored (whole_plot v)) has = absurd has
+place_reach (i ∷ place) (at slot stored (begun_plot form kids)) has = (
+  omega (arith, count_in kids, has.0),
+  place_reach place (kid_nth i kids) (subst (λ (t : Tree). HasPlace place t) (sym (tree_of_nth i kids)) has.1),
+)
+
+-- off the way it is stored
+half_stored : (cursor place : Place) (k : Kid) → Leads cursor k → IsOffTheWay cursor place → HasPlace place (tree_of k)
+    → IsHalfDone (tree_at place (tree_of k)) → (slot : ℕ) × IsStoredAt k slot place
+half_stored cursor place k leads off has half =
+    go (kid_at place k) refl (marked_off cursor place k leads off (place_reach place k has))
+    (subst IsHalfDone (sym (tree_of_at place k)) half)
+  where
+    go : (x : Kid) → kid_at place k ≡ x → AllMarked true (kid_at place k) → IsHalfDone (tree_of (kid_at place k))
+        → (slot : ℕ) × IsStoredAt k slot place
+    go gone e marked half = absurd (subst (λ (x : Kid). IsHalfDone (tree_of x)) e half)
+    go (there v) e marked half = absurd (subst (λ (x : Kid). IsHalfDone (tree_of x)) e half)
+    go (at slot mark plot) e marked half =
+        let stored : AllMarked true (at slot mark plot) = subst (AllMarked true) e marked in
+        (slot,
+          record {
+            plot = plot;
+            reaches = place_reach place k has;
+            is = e ∙ ap (λ (b : Bool). at slot b plot) stored.0;
+          })
+
+-- a place that lacks something by itself, and is in a slot, is half done
+lacks_half : (hooks : Meanings) (table : Table) (s : ℕ) (plot : Plot) (kind : ReflectErrorKind)
+    → own_lack hooks table s (tree_in plot) ≡ Some kind → IsHalfDone (tree_in plot)
+lacks_half hooks table s entered_plot kind lacks = tt
+lacks_half hooks table s (whole_plot v) kind lacks = absurd (cc)
+lacks_half hooks table s (begun_plot form kids) kind lacks = tt
+
+-- Ways of the tree.
+
+unplaced_off : (ks : Kids) → AreUnplaced (cells_in ks) → AllOff strict (trees_in ks)
+unplaced_off no_kids closed = tt
+unplaced_off (kid gone ks) closed = (tt, unplaced_off ks closed.1)
+unplaced_off (kid (there v) ks) closed = (tt, unplaced_off ks closed.1)
+unplaced_off (kid (at slot stored plot) ks) closed = absurd closed.0
+
+pub closed_cursor : (plot : Plot) → IsClosed (body_in plot) → AtCursor strict (tree_in plot)
+closed_cursor entered_plot closed = tt
+closed_cursor (whole_plot v) closed = tt
+closed_cursor (begun_plot form kids) closed = unplaced_off kids closed
+
+any_off : (start : ℕ) (ts : Trees) → AllOff (deferred start) ts
+any_off start no_trees = tt
+any_off start (branch t ts) = (tt, any_off start ts)
+
+but_off : (start i : ℕ) (Below : Kid → Type 0) (After : Tree → Type 0) (ks : Kids) → StoredBut i Below ks
+    → (Below (kid_nth i ks) → After (tree_of (kid_nth i ks))) → OffBut (deferred start) i After (trees_in ks)
+but_off start i Below After no_kids but so = absurd but
+but_off start zero Below After (kid k ks) but so = (so but.0, any_off start (trees_in ks))
+but_off start (suc i) Below After (kid k ks) but so = (tt, but_off start i Below After ks but.1 so)
+
+-- in deferred mode the way leads through the tree
+pub leads_deferred : (start : ℕ) (place : Place) (k : Kid) → Leads place k → LeadsIn (deferred start) place (tree_of k)
+leads_deferred start [] gone leads = absurd leads
+leads_deferred start [] (there v) leads = absurd leads
+leads_deferred start [] (at slot stored entered_plot) leads = tt
+leads_deferred start [] (at slot stored (whole_plot v)) leads = tt
+leads_deferred start [] (at slot stored (begun_plot form kids)) leads = any_off start (trees_in kids)
+leads_deferred start (i ∷ place) gone leads = absurd leads
+leads_deferred start (i ∷ place) (there v) leads = absurd leads
+leads_deferred start (i ∷ place) (at slot stored entered_plot) leads = absurd leads.1
+leads_deferred start (i ∷ place) (at slot stored (whole_plot v)) leads = absurd leads.1
+leads_deferred start (i ∷ place) (at slot stored (begun_plot form kids)) leads =
+    but_off start i (λ below. Leads place below) (λ child. LeadsIn (deferred start) place child) kids leads.1
+    (λ child. leads_deferred start place (kid_nth i kids) child)
+
+-- Nothing is both stored and not stored.
+
+kids_off : (ks : Kids) → AllMarkedAmong true ks → AllMarkedAmong false ks → AllOff strict (trees_in ks)
+kids_off no_kids marked unmarked = tt
+kids_off (kid gone ks) marked unmarked = (tt, kids_off ks marked.1 unmarked.1)
+kids_off (kid (there v) ks) marked unmarked = (tt, kids_off ks marked.1 unmarked.1)
+kids_off (kid (at slot stored plot) ks) marked unmarked =
+    let apart : true ≡ false = sym marked.0.0 ∙ unmarked.0.0 in
+    cc
+
+but_strict : (i : ℕ) (Below : Kid → Type 0) (After : Tree → Type 0) (ks : Kids) → StoredBut i Below ks
+    → AllMarkedAmong false ks
+    → (Below (kid_nth i ks) → AllMarked false (kid_nth i ks) → After (tree_of (kid_nth i ks)))
+    → OffBut strict i After (trees_in ks)
+but_strict i Below After no_kids but unmarked so = absurd but
+but_strict zero Below After (kid k ks) but unmarked so = (so but.0 unmarked.0, kids_off ks but.1 unmarked.1)
+but_strict (suc i) Below After (kid gone ks) but unmarked so =
+    (tt, but_strict i Below After ks but.1 unmarked.1 so)
+but_strict (suc i) Below After (kid (there v) ks) but unmarked so =
+    (tt, but_strict i Below After ks but.1 unmarked.1 so)
+but_strict (suc i) Below After (kid (at slot stored plot) ks) but unmarked so =
+    let apart : true ≡ false = sym but.0.0 ∙ unmarked.0.0 in
+    cc
+
+-- where nothing is stored it leads as in strict mode
+pub leads_strict : (place : Place) (k : Kid) → Leads place k → NoneStored k → LeadsIn strict place (tree_of k)
+leads_strict [] gone leads none = absurd leads
+leads_strict [] (there v) leads none = absurd leads
+leads_strict [] (at slot stored entered_plot) leads none = tt
+leads_strict [] (at slot stored (whole_plot v)) leads none = tt
+leads_strict [] (at slot stored (begun_plot form kids)) leads none = kids_off kids leads.1 none.1
+leads_strict (i ∷ place) gone leads none = absurd leads
+leads_strict (i ∷ place) (there v) leads none = absurd leads
+leads_strict (i ∷ place) (at slot stored entered_plot) leads none = absurd leads.1
+leads_strict (i ∷ place) (at slot stored (whole_plot v)) leads none = absurd leads.1
+leads_strict (i ∷ place) (at slot stored (begun_plot form kids)) leads none =
+    but_strict i (λ below. Leads place below) (λ child. LeadsIn strict place child) kids leads.1 none.1
+    (λ child unmarked. leads_strict place (kid_nth i kids) child unmarked)
+
+-- where no place is stored none is marked
+mutual
+  pub no_marks : (k : Kid) → ((slot : ℕ) (place : Place) → IsStoredAt k slot place → ⊥) → NoneStored k
+  no_marks gone none = tt
+  no_marks (there v) none = tt
+  no_marks (at slot true plot) none =
+      absurd (none slot [] (record { plot = plot; reaches = tt; is = refl }))
+  no_marks (at slot false plot) none = (refl, no_marks_in slot plot none)
+
+  no_marks_in : (own : ℕ) (plot : Plot) → ((slot : ℕ) (place : Place) → IsStoredAt (at own false plot) slot place → ⊥)
+      → AllMarkedIn false plot
+  no_marks_in own entered_plot none = tt
+  no_marks_in own (whole_plot v) none = tt
+  no_marks_in own (begun_plot form kids) none =
+      no_marks_among kids
+      (λ i slot place h stored. none slot (i ∷ place)
+      (record { plot = stored.plot; reaches = (h, stored.reaches); is = stored.is }))
+
+  no_marks_among : (ks : Kids)
+      → ((i slot : ℕ) (place : Place) → i < count_kids ks → IsStoredAt (kid_nth i ks) slot place → ⊥)
+      → AllMarkedAmong false ks
+  no_marks_among no_kids none = tt
+  no_marks_among (kid k ks) none = (
+    no_marks k (λ slot place stored. none 0 slot place (omega arith) stored),
+    no_marks_among ks (λ i slot place h stored. none (suc i) slot place (omega arith) stored),
+  )
+
+-- The first place of a walk, where it lacks something by itself.
+module _ (hooks : Meanings) (table : Table) (s : ℕ) (k : Kid) (cursor : Place) (leads : Leads cursor k) (n : ℕ) (rest : List ℕ)
+    (walk : IsWalk k (n ∷ rest)) (head : Head k n rest walk.places) (kind : ReflectErrorKind)
+    (lacks : own_lack hooks table (shape_in table s head.place (tree_of k)) (tree_at head.place (tree_of k)) ≡ Some kind) where
+  first_failure : Failure
+  first_failure = record { path = [] ++ steps_in head.place (tree_of k); kind = kind }
+
+  tree_there : tree_at head.place (tree_of k) ≡ tree_in head.stored.plot
+  tree_there = sym (tree_of_at head.place k) ∙ ap tree_of head.stored.is
+
+  -- it fails
+  fails : LackingFails → Contains (failures_off hooks table s [] cursor (tree_of k)) first_failure
+  unfolding first_failure
+  fails lacking =
+      lacking hooks table s [] (deferred 0) cursor head.place (tree_of k) kind (leads_deferred 0 cursor k leads)
+      (reach_place head.place k head.stored.reaches)
+      (off_stored cursor head.place k n head.stored.plot leads head.stored.is)
+      (subst IsHalfDone (sym tree_there)
+      (lacks_half hooks table (shape_in table s head.place (tree_of k)) head.stored.plot kind
+      (ap (own_lack hooks table (shape_in table s head.place (tree_of k))) (sym tree_there) ∙ lacks)))
+      (subst (AtCursor strict) (sym tree_there)
+      (closed_cursor head.stored.plot (head_closed k n rest walk head cursor leads)))
+      lacks
+
+  -- every other failure comes after it
+  others : FailuresLieThere → (other : Failure) → Contains (failures_off hooks table s [] cursor (tree_of k)) other
+      → IsOrAfter first_failure other
+  unfolding first_failure
+  others lie other found =
+      go (later k n rest walk head stored.0 lies.here stored.1)
+    where
+      lies : LiesThere [] cursor (tree_of k) other
+      lies = lie hooks table s [] cursor (tree_of k) other found
+
+      stored : (slot : ℕ) × IsStoredAt k slot lies.here
+      stored = half_stored cursor lies.here k leads lies.off lies.place lies.half
+
+      told : TellsLack hooks table s [] (tree_of k) other
+      told = tells_off hooks table s [] cursor (tree_of k) other found
+
+      same_place : told.here ≡ lies.here
+      same_place =
+          sym (numbers_in told.here (tree_of k)) ∙ ap (map number) (sym told.path_is ∙ lies.at)
+          ∙ numbers_in lies.here (tree_of k)
+
+      go : (head.place ≡ lies.here) ⊎ Contains head.places lies.here → IsOrAfter first_failure other
+      go (inl e) =
+          let there : told.here ≡ head.place = same_place ∙ sym e in
+          let own : own_lack hooks table (shape_in table s head.place (tree_of k)) (tree_at head.place (tree_of k))
+          ≡ Some other.kind
+          = subst
+          (λ (p : Place). own_lack hooks table (shape_in table s p (tree_of k)) (tree_at p (tree_of k)) ≡ Some other.kind)
+          there told.lacks in
+          let both : Some other.kind ≡ Some kind = sym own ∙ lacks in
+          let same : other.kind ≡ kind = cc in
+          inl
+          (ap (λ (path : List PathStep). record { path = path; kind = other.kind })
+          (told.path_is ∙ ap (λ (p : Place). [] ++ steps_in p (tree_of k)) there)
+          ∙ ap (λ (x : ReflectErrorKind). record { path = [] ++ steps_in head.place (tree_of k); kind = x }) same)
+      go (inr found) =
+          inr
+          (ap (walk_order (steps_in head.place (tree_of k))) lies.at
+          ∙ All-contains (λ (other : Place). ComesBefore (tree_of k) head.place other) head.places lies.here head.before
+          found)
+
+  pub first_fails : FailuresLieThere → LackingFails → FirstByWalkIs
+      → kind_of (first_by_walk (failures_off hooks table s [] cursor (tree_of k))) ≡ Some kind
+  unfolding first_failure
+  first_fails lie lacking first =
+      ap kind_of
+      (first (failures_off hooks table s [] cursor (tree_of k)) first_failure (fails lacking) (others lie))
+
+none_of : {X : Type 0} (x : Option X) → is_none x ≡ true → x ≡ None
+none_of (Some x) e = absurd (cc)
+none_of None e = refl
+
+-- what fails first is the cause, and the end doesn't come about
+pub held_by_first : FinishesOrRefuses → (hooks : Meanings) (table : Table) (s : ℕ) (cursor : Place) (tree : Tree)
+    (kind : ReflectErrorKind) → LeadsIn (deferred 0) cursor tree
+    → kind_of (first_by_walk (failures_off hooks table s [] cursor tree)) ≡ Some kind
+    → (finished hooks table s cursor tree ≡ None) × (kind ≡ finish_cause hooks table s cursor tree)
+held_by_first refuses hooks table s cursor tree kind leads first = (
+  none_of (finished hooks table s cursor tree)
+      (refuses hooks table s [] (deferred 0) cursor tree leads
+      ∙ ap
+      (λ (x : Option ReflectErrorKind). is_some
+      (option_or x (own_lack hooks table (shape_in table s cursor tree) (tree_at cursor tree)))) first),
+  sym (ap
+  (λ (x : Option ReflectErrorKind). refusal_or
+  (option_or x (own_lack hooks table (shape_in table s cursor tree) (tree_at cursor tree)))
+  (missing_value (shape_in table s cursor tree))) first),
+)
+
+-- and where none fails it is what the place at which the builder works lacks
+pub held_by_last : FinishesOrRefuses → (hooks : Meanings) (table : Table) (s : ℕ) (cursor : Place) (tree : Tree)
+    (kind : ReflectErrorKind) → LeadsIn (deferred 0) cursor tree → failures_off hooks table s [] cursor tree ≡ []
+    → own_lack hooks table (shape_in table s cursor tree) (tree_at cursor tree) ≡ Some kind
+    → (finished hooks table s cursor tree ≡ None) × (kind ≡ finish_cause hooks table s cursor tree)
+held_by_last refuses hooks table s cursor tree kind leads none lacks =
+    let nothing : kind_of (first_by_walk (failures_off hooks table s [] cursor tree)) ≡ None
+    = ap (λ (fs : List Failure). kind_of (first_by_walk fs)) none in
+    let cause : option_or (kind_of (first_by_walk (failures_off hooks table s [] cursor tree)))
+    (own_lack hooks table (shape_in table s cursor tree) (tree_at cursor tree)) ≡ Some kind
+    = ap
+    (λ (x : Option ReflectErrorKind). option_or x
+    (own_lack hooks table (shape_in table s cursor tree) (tree_at cursor tree))) nothing ∙ lacks in (
+      none_of (finished hooks table s cursor tree)
+          (refuses hooks table s [] (deferred 0) cursor tree leads ∙ ap is_some cause),
+      sym (ap (λ (x : Option ReflectErrorKind). refusal_or x (missing_value (shape_in table s cursor tree))) cause),
+    )

@@ -1,0 +1,386 @@
+-- Laws of the place at which a builder works, for proofs: at the end of deferred mode, nothing being stored, it is finished.
+use Rattle.std.proofs.Common.{◌≡◌, ◌≢◌, ◌⊎◌, ℕ, ◌+◌, Bool, true, false, List, [], ◌∷◌, append-nil, length, Option, option_map, Some, None, inl, inr, refl, sym, ◌∙◌, ap, subst, arith}
+use Rattle.std.specs.Prelude.{IsSome, IsSomeAnd, is_some}
+use Rattle.fr_shape.specs.declared.error.ReflectErrorKind.{ReflectErrorKind}
+use Rattle.fr_shape.specs.Checked.{IsChecked}
+use Rattle.fr_shape.specs.Hooks.{Meanings}
+use Rattle.fr_shape.specs.Look.{Table}
+use Rattle.fr_shape.specs.Tokens.{occurs}
+use Rattle.fr_shape.specs.Val.{Val, Vals, no_vals, first, product}
+use Rattle.fr_model.specs.Complete.{complete, complete_all, made}
+use Rattle.fr_model.specs.Failing.{own_lack}
+use Rattle.fr_model.specs.Finish.{begun_with, finished_here}
+use Rattle.fr_model.specs.Laws.{CompletingKeepsTokens}
+use Rattle.fr_model.specs.Places.{Place, deferred_column, one_more}
+use Rattle.fr_model.specs.Tree.{Form, as_struct, as_array, Tree, hole, entered, whole, begun, Trees, branch, change_at, shape_in, tree_at, tree_occurs, wholes}
+use Rattle.fr_model.specs.Well.{Suits}
+use Rattle.fr_plan.specs.LookupLaws.{LookupsAgree, LookupPathsAgree}
+use Rattle.fr_plan.specs.TypePlan.{Plan}
+use Rattle.fr_frame.specs.declared.places.Slot.{Slot}
+use Rattle.fr_frame.specs.Bodies.{Body, entered_body, whole_body, begun_body, body_occurs, own_tree, trees_of, value_of, IsClosed, AreUnplaced}
+use Rattle.fr_frame.specs.Cells.{Cell, absent, given, placed, values_of}
+use Rattle.fr_frame.specs.Changes.{Becomes, IfInUse, SameTokens, Shows}
+use Rattle.fr_frame.specs.Completing.{shape_of, FillsAt, IsPlanFor, MayComplete}
+use Rattle.fr_frame.specs.Defaults.{KeepsForm, WhyNotDefault}
+use Rattle.fr_frame.specs.Heap.{Node, heap_of, marked, slots_occur, stored_in, with_body, with_slot}
+use Rattle.fr_frame.specs.Kids.{Kid, gone, Kids, Plot, tree_of, tree_in, trees_in, cells_in, body_in, kids_in, plot_in, kid_occurs, plot_occurs}
+use Rattle.fr_store.specs.EndLaws.{value_tokens}
+use Rattle.fr_store.specs.MoveLaws.{closed_open, open_top, so_top, top_changed, top_found, top_node, top_so}
+use Rattle.fr_store.specs.Moves.{IsOpenAt, cursor_in, tree_in_slots}
+use Rattle.fr_store.specs.Numbers.{IsLast}
+use Rattle.fr_store.specs.ShapeLaws.{Along}
+use Rattle.fr_store.specs.Stands.{IsOpen}
+use Rattle.fr_store.specs.Stored.{NothingStored}
+use Rattle.fr_store.specs.TopLaws.{closed_occur, closed_tree, keeps_closed, slot_here, slot_other}
+use Rattle.fr_store.specs.TurnedLaws.{along_open, may_complete, shape_along}
+use Rattle.fr_store.specs.Turning.{FinishedHere, LacksHere, is_entered, kid_here}
+use Rattle.fr_store.specs.Turns.{root_shape}
+use Rattle.fr_store.specs.Ways.{kid_at, Leads, Reaches}
+use Rattle.fr_store.specs.WayLaws.{leads_reach, same_or_other, tree_of_at, tree_tokens}
+
+-- Places none of whose children is in a slot.
+
+abbrev closed_plot : Body → Plot
+closed_plot body = plot_in (λ slot. gone) body
+
+cells_back : (cells : List Cell) → AreUnplaced cells → cells_in (kids_in (λ slot. gone) cells) ≡ cells
+cells_back [] closed = refl
+cells_back (absent ∷ cells) closed = ap (λ (cs : List Cell). absent ∷ cs) (cells_back cells closed.1)
+cells_back (given v ∷ cells) closed = ap (λ (cs : List Cell). given v ∷ cs) (cells_back cells closed.1)
+cells_back (placed n ∷ cells) closed = absurd closed.0
+
+body_back : (body : Body) → IsClosed body → body_in (closed_plot body) ≡ body
+body_back entered_body closed = refl
+body_back (whole_body v) closed = refl
+body_back (begun_body form cells) closed = ap (begun_body form) (cells_back cells closed)
+
+trees_back : (cells : List Cell) → trees_in (kids_in (λ slot. gone) cells) ≡ trees_of cells
+trees_back [] = refl
+trees_back (absent ∷ cells) = ap (λ (ts : Trees). branch hole ts) (trees_back cells)
+trees_back (given v ∷ cells) = ap (λ (ts : Trees). branch (whole v) ts) (trees_back cells)
+trees_back (placed n ∷ cells) = ap (λ (ts : Trees). branch hole ts) (trees_back cells)
+
+tree_back : (body : Body) → tree_in (closed_plot body) ≡ own_tree body
+tree_back entered_body = refl
+tree_back (whole_body v) = refl
+tree_back (begun_body form cells) = ap (λ (ts : Trees). begun form ts) (trees_back cells)
+
+-- Places that have a value.
+
+more_is : (v : Val) (rest : Option Vals) (vs : Vals) → one_more (Some v) rest ≡ Some vs → (us : Vals) × (rest ≡ Some us)
+more_is v (Some us) vs e = (us, refl)
+more_is v None vs e = absurd (cc)
+
+values_unplaced : (cells : List Cell) (vs : Vals) → values_of cells ≡ Some vs → AreUnplaced cells
+values_unplaced [] vs e = tt
+values_unplaced (absent ∷ cells) vs e = absurd (cc)
+values_unplaced (placed n ∷ cells) vs e = absurd (cc)
+values_unplaced (given v ∷ cells) vs e =
+    let rest = more_is v (values_of cells) vs e in
+    (tt, values_unplaced cells rest.0 rest.1)
+
+values_whole : (cells : List Cell) (vs : Vals) → values_of cells ≡ Some vs → trees_of cells ≡ wholes vs
+values_whole [] vs e = let same : no_vals ≡ vs = cc in ap wholes same
+values_whole (absent ∷ cells) vs e = absurd (cc)
+values_whole (placed n ∷ cells) vs e = absurd (cc)
+values_whole (given v ∷ cells) vs e =
+    let rest = more_is v (values_of cells) vs e in
+    let both : Some (first v rest.0) ≡ Some vs = sym (ap (one_more (Some v)) rest.1) ∙ e in
+    let same : first v rest.0 ≡ vs = cc in
+    ap (λ (ts : Trees). branch (whole v) ts) (values_whole cells rest.0 rest.1) ∙ ap wholes same
+
+made_of : (form : Form) (values : Option Vals) (v : Val) → made form values ≡ Some v
+    → (vs : Vals) × (values ≡ Some vs) × (product vs ≡ v)
+made_of as_struct (Some vs) v e = (vs, refl, cc)
+made_of as_struct None v e = absurd (cc)
+made_of as_array (Some vs) v e = (vs, refl, cc)
+made_of as_array None v e = absurd (cc)
+
+same_product : (some others : Vals) (v : Val) → product some ≡ v → product others ≡ v → some ≡ others
+same_product some others v e f =
+    let same : product some ≡ product others = e ∙ sym f in
+    cc
+
+value_closed : (body : Body) (v : Val) → value_of body ≡ Some v → IsClosed body
+value_closed entered_body v e = tt
+value_closed (whole_body w) v e = tt
+value_closed (begun_body form cells) v e =
+    let values = made_of form (values_of cells) v e in
+    values_unplaced cells values.0 values.1
+
+-- what a place that isn't just entered becomes, by the place that it was
+finished_as : (means : Meanings) (table : Table) (s : ℕ) (was now : Body) (v : Val) → is_entered was ≡ false
+    → KeepsForm was now → complete deferred_column means table s (own_tree was) ≡ Some v → value_of now ≡ Some v
+    → finished_here means table s (own_tree was) ≡ Some (own_tree now)
+finished_as means table s entered_body now v e form makes held = absurd (cc)
+finished_as means table s (whole_body w) now v e form makes held =
+    ap (λ (body : Body). Some (own_tree body)) (sym form)
+finished_as means table s (begun_body form cells) entered_body v e keeps makes held = absurd keeps
+finished_as means table s (begun_body form cells) (whole_body w) v e keeps makes held = absurd keeps
+finished_as means table s (begun_body form cells) (begun_body other others) v e keeps makes held =
+    let was = made_of form (complete_all deferred_column means table s form 0 (trees_of cells)) v makes in
+    let now = made_of other (values_of others) v held in
+    let same : was.0 ≡ now.0 = same_product was.0 now.0 v was.2 now.2 in
+    ap (option_map (begun_with form)) was.1
+    ∙ ap (λ (vs : Vals). Some (begun form (wholes vs))) same
+    ∙ ap (λ (ts : Trees). Some (begun form ts)) (sym (values_whole others now.0 now.1))
+    ∙ ap (λ (f : Form). Some (begun f (trees_of others))) (sym keeps)
+
+entered_is : (body : Body) → is_entered body ≡ true → body ≡ entered_body
+entered_is entered_body e = refl
+entered_is (whole_body v) e = absurd (cc)
+entered_is (begun_body form cells) e = absurd (cc)
+
+-- The top, before it is completed.
+module _ (plan : Plan) (before : List Slot) (stack : List ℕ) (open_now : IsOpen plan before stack) (n : ℕ)
+    (last : IsLast stack n) (strict : NothingStored before) where
+  closed : IsClosed (body_in (open_top plan before stack open_now).plot)
+  closed = closed_open plan before stack open_now strict
+
+  own : own_tree (top_node plan before stack open_now n last).body
+      ≡ tree_at (cursor_in before stack) (tree_in_slots before stack)
+  unfolding top_node
+  own =
+      let top = open_top plan before stack open_now in
+      sym (closed_tree top.plot closed) ∙ ap tree_of (sym top.is)
+      ∙ tree_of_at (cursor_in before stack) (kid_here before stack)
+
+  shut : IsClosed (top_node plan before stack open_now n last).body
+  unfolding top_node
+  shut = closed
+
+  reach : Reaches (cursor_in before stack) (kid_here before stack)
+  reach =
+      leads_reach (cursor_in before stack) [] (kid_here before stack)
+      (subst (λ (p : Place). Leads p (kid_here before stack)) (sym (append-nil (cursor_in before stack)))
+      open_now.stands.leads)
+
+  module _ (agree : LookupsAgree) (paths : LookupPathsAgree) (table : Table) (checked : IsChecked table) (by : IsPlanFor table plan)
+      (suits : Suits table (root_shape plan) (tree_in_slots before stack)) where
+    here : Along table plan (top_node plan before stack open_now n last).node
+        (shape_in table (root_shape plan) (cursor_in before stack) (tree_in_slots before stack))
+        (tree_at (cursor_in before stack) (tree_in_slots before stack))
+    unfolding top_node
+    here = along_open agree paths table plan checked by (kid_here before stack) suits (cursor_in before stack) reach
+
+    pub top_may_complete : IfInUse before n (MayComplete table plan)
+    top_may_complete =
+        so_top plan before stack open_now n last (λ (x : Node). MayComplete table plan x)
+        (may_complete table plan
+        (shape_in table (root_shape plan) (cursor_in before stack) (tree_in_slots before stack))
+        (top_node plan before stack open_now n last) (tree_at (cursor_in before stack) (tree_in_slots before stack)) here
+        own shut)
+
+    shape : shape_of plan (top_node plan before stack open_now n last).node
+        ≡ shape_in table (root_shape plan) (cursor_in before stack) (tree_in_slots before stack)
+    shape =
+        shape_along table plan (top_node plan before stack open_now n last).node
+        (shape_in table (root_shape plan) (cursor_in before stack) (tree_in_slots before stack))
+        (tree_at (cursor_in before stack) (tree_in_slots before stack)) here
+
+    -- why it is refused
+    pub top_refused : (means : Meanings) (kind : ReflectErrorKind)
+        → IfInUse before n (λ (x : Node). WhyNotDefault means table (shape_of plan x.node) x.body kind)
+        → (kind ≡ ReflectErrorKind.OutOfMemory) ⊎ LacksHere means table plan before stack kind
+    top_refused means kind why =
+        go
+        (top_so plan before stack open_now n last
+        (λ (x : Node). WhyNotDefault means table (shape_of plan x.node) x.body kind) why)
+      where
+        go : WhyNotDefault means table (shape_of plan (top_node plan before stack open_now n last).node)
+            (top_node plan before stack open_now n last).body kind
+            → (kind ≡ ReflectErrorKind.OutOfMemory) ⊎ LacksHere means table plan before stack kind
+        go (inl lacking) =
+            inr
+            (ap (λ (s : ℕ). own_lack means table s (tree_at (cursor_in before stack) (tree_in_slots before stack))) (sym shape)
+            ∙ ap (own_lack means table (shape_of plan (top_node plan before stack open_now n last).node)) (sym own)
+            ∙ lacking.lacks)
+        go (inr wants) = inl wants.memory
+
+    -- It is completed.
+    module _ (means : Meanings) (first : List Slot)
+        (filled : IfInUse before n (FillsAt deferred_column means table plan before first n)) where
+      fills : FillsAt deferred_column means table plan before first n (top_node plan before stack open_now n last)
+      fills =
+          top_so plan before stack open_now n last (λ (x : Node). FillsAt deferred_column means table plan before first n x) filled
+
+      first_found : heap_of first n ≡ Some (record (top_node plan before stack open_now n last) { body = fills.body })
+      first_found =
+          fills.becomes n
+          ∙ slot_here (heap_of before) n (Some (record (top_node plan before stack open_now n last) { body = fills.body }))
+
+      -- its value is there
+      pub first_valued : IfInUse first n (λ (x : Node). IsSome (value_of x.body))
+      first_valued =
+          subst (λ (o : Option Node). IsSomeAnd o (λ (x : Node). IsSome (value_of x.body))) (sym first_found)
+          (ap is_some fills.filled.held)
+
+      makes : complete deferred_column means table
+          (shape_in table (root_shape plan) (cursor_in before stack) (tree_in_slots before stack))
+          (tree_at (cursor_in before stack) (tree_in_slots before stack))
+          ≡ Some fills.filled.value
+      makes =
+          ap
+          (λ (s : ℕ). complete deferred_column means table s (tree_at (cursor_in before stack) (tree_in_slots before stack)))
+          (sym shape)
+          ∙ ap
+          (complete deferred_column means table (shape_of plan (top_node plan before stack open_now n last).node)) (sym own)
+          ∙ fills.filled.meant
+
+      -- in the end it has this body, and all else is as it was
+      module _ (keeps_tokens : CompletingKeepsTokens) (after : List Slot) (body : Body)
+          (valued : value_of body ≡ Some fills.filled.value)
+          (meant : finished_here means table (shape_of plan (top_node plan before stack open_now n last).node)
+          (own_tree (top_node plan before stack open_now n last).body)
+          ≡ Some (own_tree body))
+          (shows : (m : ℕ)
+          → heap_of after m
+          ≡ with_slot (heap_of before) n (Some (record (top_node plan before stack open_now n last) { body = body })) m)
+          (tokens : SameTokens before after) where
+        changed : Shows after (with_body (heap_of before) n (λ old. body))
+        changed m =
+            shows m
+            ∙ ap (λ (found : Option Node). with_slot (heap_of before) n (option_map (λ (x : Node). record x { body = body }) found) m)
+            (sym (top_found plan before stack open_now n last))
+
+        tokens_there : (t : ℕ)
+            → slots_occur after t + plot_occurs (open_top plan before stack open_now).plot t
+            ≡ slots_occur before t + plot_occurs (closed_plot body) t
+        tokens_there t =
+            let top = open_top plan before stack open_now in
+            let part : plot_occurs top.plot t ≡ tree_occurs (tree_at (cursor_in before stack) (tree_in_slots before stack)) t
+            = ap (λ (x : Kid). kid_occurs x t) (sym top.is) ∙ tree_tokens (kid_at (cursor_in before stack) (kid_here before stack)) t
+            ∙ ap (λ (x : Tree). tree_occurs x t) (tree_of_at (cursor_in before stack) (kid_here before stack)) in
+            let value : occurs fills.filled.value t
+            ≡ tree_occurs (tree_at (cursor_in before stack) (tree_in_slots before stack)) t
+            = keeps_tokens deferred_column means table
+            (shape_in table (root_shape plan) (cursor_in before stack) (tree_in_slots before stack))
+            (tree_at (cursor_in before stack) (tree_in_slots before stack)) fills.filled.value t checked here.suits makes in
+            let back = body_back body (value_closed body fills.filled.value valued) in
+            let new : plot_occurs (closed_plot body) t ≡ body_occurs body t
+            = closed_occur (closed_plot body) t
+            (subst IsClosed (sym back) (value_closed body fills.filled.value valued))
+            ∙ ap (λ (b : Body). body_occurs b t) back in
+            omega
+            (arith, tokens t, part, value, new, value_tokens body fills.filled.value t valued)
+
+        finished_now : FinishedHere means table plan before stack after
+        unfolding top_node
+        finished_now = record {
+          tree = own_tree body;
+          meant =
+              ap (λ (s : ℕ). finished_here means table s (tree_at (cursor_in before stack) (tree_in_slots before stack))) (sym shape)
+              ∙ ap (finished_here means table (shape_of plan (top_node plan before stack open_now n last).node)) (sym own)
+              ∙ meant;
+          stands =
+              subst
+              (λ (t : Tree). IsOpenAt plan after stack (cursor_in before stack)
+              (change_at (cursor_in before stack) (λ old. t) (tree_in_slots before stack)))
+              (tree_back body)
+              (top_changed plan before after stack open_now n last (λ old. body) (closed_plot body)
+              (body_back body (value_closed body fills.filled.value valued))
+              (keeps_closed (open_top plan before stack open_now).plot (closed_plot body)
+              (subst IsClosed (sym (body_back body (value_closed body fills.filled.value valued)))
+              (value_closed body fills.filled.value valued)))
+              changed tokens_there);
+        }
+
+        nothing_now : NothingStored after
+        unfolding top_node
+        nothing_now m = go (same_or_other m n)
+          where
+            go : (m ≡ n) ⊎ (m ≢ n) → marked (heap_of after) m ≡ false
+            go (inl e) =
+                ap (marked (heap_of after)) e
+                ∙ ap stored_in
+                (shows n
+                ∙ slot_here (heap_of before) n (Some (record (top_node plan before stack open_now n last) { body = body })))
+            go (inr ne) =
+                ap stored_in
+                (shows m
+                ∙ slot_other (heap_of before) n (Some (record (top_node plan before stack open_now n last) { body = body })) m
+                ne)
+                ∙ strict m
+
+      -- one that wasn't just entered
+      module _ (keeps_tokens : CompletingKeepsTokens) (tokens : SameTokens before first)
+          (form : IfInUse before n (λ (x : Node). IfInUse first n (λ (y : Node). KeepsForm x.body y.body)))
+          (plain : IfInUse before n (λ (x : Node). false ≡ is_entered x.body)) where
+        as_it_was : finished_here means table (shape_of plan (top_node plan before stack open_now n last).node)
+            (own_tree (top_node plan before stack open_now n last).body)
+            ≡ Some (own_tree fills.body)
+        as_it_was =
+            finished_as means table (shape_of plan (top_node plan before stack open_now n last).node)
+            (top_node plan before stack open_now n last).body fills.body fills.filled.value
+            (sym (top_so plan before stack open_now n last (λ (x : Node). false ≡ is_entered x.body) plain))
+            (subst
+            (λ (o : Option Node). IsSomeAnd o (λ (y : Node). KeepsForm (top_node plan before stack open_now n last).body y.body))
+            first_found
+            (top_so plan before stack open_now n last
+            (λ (x : Node). IfInUse first n (λ (y : Node). KeepsForm x.body y.body)) form))
+            fills.filled.meant fills.filled.held
+
+        pub finished_begun : FinishedHere means table plan before stack first
+        finished_begun =
+            finished_now keeps_tokens first fills.body fills.filled.held as_it_was fills.becomes tokens
+
+        pub nothing_begun : NothingStored first
+        nothing_begun = nothing_now keeps_tokens first fills.body fills.filled.held as_it_was fills.becomes tokens
+
+      -- one that was just entered becomes whole
+      module _ (keeps_tokens : CompletingKeepsTokens) (after : List Slot) (tokens : SameTokens before after)
+          (whole_then : IfInUse first n (λ (x : Node). (v : Val) → value_of x.body ≡ Some v → Becomes first after n x (whole_body v)))
+          (plain : IfInUse before n (λ (x : Node). true ≡ is_entered x.body)) where
+        becomes : Becomes first after n (record (top_node plan before stack open_now n last) { body = fills.body })
+            (whole_body fills.filled.value)
+        becomes =
+            subst
+            (λ (o : Option Node). IsSomeAnd o
+            (λ (x : Node). (v : Val) → value_of x.body ≡ Some v → Becomes first after n x (whole_body v)))
+            first_found whole_then fills.filled.value fills.filled.held
+
+        shows_whole : (m : ℕ)
+            → heap_of after m
+            ≡ with_slot (heap_of before) n
+            (Some (record (top_node plan before stack open_now n last) { body = whole_body fills.filled.value })) m
+        shows_whole m = go (same_or_other m n)
+          where
+            new : Node
+            new = record (top_node plan before stack open_now n last) { body = whole_body fills.filled.value }
+
+            mid : Node
+            mid = record (top_node plan before stack open_now n last) { body = fills.body }
+
+            go : (m ≡ n) ⊎ (m ≢ n)
+                → heap_of after m
+                ≡ with_slot (heap_of before) n
+                (Some (record (top_node plan before stack open_now n last) { body = whole_body fills.filled.value })) m
+            go (inl e) =
+                ap (heap_of after) e ∙ becomes n ∙ slot_here (heap_of first) n (Some new)
+                ∙ sym (slot_here (heap_of before) n (Some new))
+                ∙ ap (with_slot (heap_of before) n (Some new)) (sym e)
+            go (inr ne) =
+                becomes m ∙ slot_other (heap_of first) n (Some new) m ne ∙ fills.becomes m
+                ∙ slot_other (heap_of before) n (Some mid) m ne ∙ sym (slot_other (heap_of before) n (Some new) m ne)
+
+        as_entered : finished_here means table (shape_of plan (top_node plan before stack open_now n last).node)
+            (own_tree (top_node plan before stack open_now n last).body)
+            ≡ Some (own_tree (whole_body fills.filled.value))
+        as_entered =
+            let is : (top_node plan before stack open_now n last).body ≡ entered_body
+            = entered_is (top_node plan before stack open_now n last).body
+            (sym (top_so plan before stack open_now n last (λ (x : Node). true ≡ is_entered x.body) plain)) in
+            ap
+            (λ (b : Body). finished_here means table (shape_of plan (top_node plan before stack open_now n last).node) (own_tree b))
+            is
+            ∙ ap (option_map whole)
+            (ap
+            (λ (b : Body). complete deferred_column means table
+            (shape_of plan (top_node plan before stack open_now n last).node) (own_tree b)) (sym is)
+            ∙ fills.filled.meant)
+
+        pub finished_whole : FinishedHere means table plan before stack after
+        finished_whole = finished_now keeps_tokens after (whole_body fills.filled.value) refl as_entered shows_whole tokens
+
+        pub nothing_whole : NothingStored after
+        nothing_whole = nothing_now keeps_tokens after (whole_body fills.filled.value) refl as_entered shows_whole tokens

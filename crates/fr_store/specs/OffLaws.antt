@@ -1,0 +1,313 @@
+-- Laws of places off the way, for proofs: what something else there changes, and what it leaves as it is.
+use Rattle.std.proofs.Common.{◌≡◌, ◌≢◌, ◌⊎◌, ℕ, zero, suc, ◌+◌, ◌<◌, Bool, true, false, List, [], ◌∷◌, ◌++◌, append-nil, inl, inr, refl, sym, ◌∙◌, ap, subst, arith}
+use Rattle.fr_shape.specs.Val.{Val}
+use Rattle.fr_model.specs.Finishing.{IsOffTheWay}
+use Rattle.fr_model.specs.Places.{Place}
+use Rattle.fr_model.specs.Relation.{HasPlace}
+use Rattle.fr_model.specs.Tree.{Tree, Trees, count_trees, tree_nth}
+use Rattle.fr_frame.specs.Bodies.{IsClosed, AreUnplaced}
+use Rattle.fr_frame.specs.Kids.{Kid, gone, there, at, Plot, entered_plot, whole_plot, begun_plot, Kids, no_kids, kid, tree_of, trees_in, cells_in, body_in}
+use Rattle.fr_store.specs.LeaveLaws.{kid_at_append}
+use Rattle.fr_store.specs.Walks.{IsStoredAt}
+use Rattle.fr_store.specs.Ways.{count_kids, kid_nth, kid_below, kid_at, put_nth, put_at, slots_along, AllMarked, AllMarkedIn, AllMarkedAmong, StoredBut, Leads, Reaches}
+use Rattle.fr_store.specs.WayLaws.{same_or_other, nth_put, count_put, kid_put_at, marked_at, marked_put_nth, marked_put_at, tree_of_nth, leads_at}
+
+-- Children of one place.
+
+pub nth_other : (i j : ℕ) (new : Kid) (ks : Kids) → i ≢ j → kid_nth j (put_nth i new ks) ≡ kid_nth j ks
+nth_other i j new no_kids ne = refl
+nth_other zero zero new (kid k ks) ne = absurd (ne refl)
+nth_other zero (suc j) new (kid k ks) ne = refl
+nth_other (suc i) zero new (kid k ks) ne = refl
+nth_other (suc i) (suc j) new (kid k ks) ne = nth_other i j new ks (λ e. ne (ap suc e))
+
+among_nth : (i : ℕ) (ks : Kids) → AllMarkedAmong true ks → AllMarked true (kid_nth i ks)
+among_nth i no_kids all = tt
+among_nth zero (kid k ks) all = all.0
+among_nth (suc i) (kid k ks) all = among_nth i ks all.1
+
+but_nth : (i j : ℕ) (Below : Kid → Type 0) (ks : Kids) → StoredBut j Below ks → i ≢ j → AllMarked true (kid_nth i ks)
+but_nth i j Below no_kids but ne = absurd but
+but_nth zero zero Below (kid k ks) but ne = absurd (ne refl)
+but_nth zero (suc j) Below (kid k ks) but ne = but.0
+but_nth (suc i) zero Below (kid k ks) but ne = among_nth i ks but.1
+but_nth (suc i) (suc j) Below (kid k ks) but ne = but_nth i j Below ks but.1 (λ e. ne (ap suc e))
+
+below_nth : (j : ℕ) (Below : Kid → Type 0) (ks : Kids) → StoredBut j Below ks → Below (kid_nth j ks)
+below_nth j Below no_kids but = absurd but
+below_nth zero Below (kid k ks) but = but.0
+below_nth (suc j) Below (kid k ks) but = below_nth j Below ks but.1
+
+-- another child than the one on the way
+but_other : (i j : ℕ) (Below : Kid → Type 0) (new : Kid) (ks : Kids) → StoredBut j Below ks → i ≢ j → AllMarked true new
+    → StoredBut j Below (put_nth i new ks)
+but_other i j Below new no_kids but ne is = absurd but
+but_other zero zero Below new (kid k ks) but ne is = absurd (ne refl)
+but_other zero (suc j) Below new (kid k ks) but ne is = (is, but.1)
+but_other (suc i) zero Below new (kid k ks) but ne is = (but.0, marked_put_nth true i new ks but.1 is)
+but_other (suc i) (suc j) Below new (kid k ks) but ne is =
+    (but.0, but_other i j Below new ks but.1 (λ e. ne (ap suc e)) is)
+
+-- the child on the way
+but_same : (j : ℕ) (Below : Kid → Type 0) (new : Kid) (ks : Kids) → StoredBut j Below ks → Below new
+    → StoredBut j Below (put_nth j new ks)
+but_same j Below new no_kids but is = absurd but
+but_same zero Below new (kid k ks) but is = (is, but.1)
+but_same (suc j) Below new (kid k ks) but is = (but.0, but_same j Below new ks but.1 is)
+
+-- Places off the way.
+
+off_below : (i : ℕ) (place here : Place) → IsOffTheWay (i ∷ place) (i ∷ here) → IsOffTheWay place here
+off_below i place here off way e = off way (ap (λ (p : Place). i ∷ p) e)
+
+off_same : (i j : ℕ) (place here : Place) → i ≡ j → IsOffTheWay (j ∷ place) (i ∷ here) → IsOffTheWay place here
+off_same i j place here e off =
+    off_below j place here (subst (λ (n : ℕ). IsOffTheWay (j ∷ place) (n ∷ here)) e off)
+
+leads_same : (i j : ℕ) (place : Place) (ks : Kids) → i ≡ j → StoredBut j (λ below. Leads place below) ks
+    → Leads place (kid_nth i ks)
+leads_same i j place ks e but =
+    subst (λ (n : ℕ). Leads place (kid_nth n ks)) (sym e) (below_nth j (λ below. Leads place below) ks but)
+
+-- a stored place is off the way
+pub off_stored : (place here : Place) (k : Kid) (slot : ℕ) (plot : Plot) → Leads place k → kid_at here k ≡ at slot true plot
+    → IsOffTheWay place here
+off_stored place here k slot plot leads is way e =
+    go way
+    (subst (λ (x : Kid). Leads way x) is (leads_at here way k (subst (λ (p : Place). Leads p k) e leads)))
+  where
+    go : (way : Place) → Leads way (at slot true plot) → ⊥
+    go [] l = let apart = l.0 in cc
+    go (i ∷ way) l = let apart = l.0 in cc
+
+-- what lies in slots off the way is stored
+pub marked_off : (place here : Place) (k : Kid) → Leads place k → IsOffTheWay place here → Reaches here k
+    → AllMarked true (kid_at here k)
+marked_off place [] k leads off reach = absurd (off place refl)
+marked_off place (i ∷ here) gone leads off reach = absurd reach
+marked_off place (i ∷ here) (there v) leads off reach = absurd reach
+marked_off place (i ∷ here) (at slot stored entered_plot) leads off reach = absurd reach
+marked_off place (i ∷ here) (at slot stored (whole_plot v)) leads off reach = absurd reach
+marked_off [] (i ∷ here) (at slot stored (begun_plot form kids)) leads off reach =
+    marked_at true here (kid_nth i kids) (among_nth i kids leads.1)
+marked_off (j ∷ place) (i ∷ here) (at slot stored (begun_plot form kids)) leads off reach =
+    go (same_or_other i j)
+    (λ e.
+    marked_off place here (kid_nth i kids) (leads_same i j place kids e leads.1) (off_same i j place here e off) reach.1)
+  where
+    go : (i ≡ j) ⊎ (i ≢ j) → (i ≡ j → AllMarked true (kid_at here (kid_nth i kids)))
+        → AllMarked true (kid_at here (kid_nth i kids))
+    go (inl e) below = below e
+    go (inr ne) below = marked_at true here (kid_nth i kids) (but_nth i j (λ below. Leads place below) kids leads.1 ne)
+
+-- the way goes on where something else is put off it
+pub leads_off : (place here : Place) (new k : Kid) → Leads place k → IsOffTheWay place here → Reaches here k
+    → AllMarked true new → Leads place (put_at here new k)
+leads_off place [] new k leads off reach is = absurd (off place refl)
+leads_off place (i ∷ here) new gone leads off reach is = absurd reach
+leads_off place (i ∷ here) new (there v) leads off reach is = absurd reach
+leads_off place (i ∷ here) new (at slot stored entered_plot) leads off reach is = absurd reach
+leads_off place (i ∷ here) new (at slot stored (whole_plot v)) leads off reach is = absurd reach
+leads_off [] (i ∷ here) new (at slot stored (begun_plot form kids)) leads off reach is = (
+  leads.0,
+  marked_put_nth true i (put_at here new (kid_nth i kids)) kids leads.1
+      (marked_put_at true here new (kid_nth i kids) (among_nth i kids leads.1) is),
+)
+leads_off (j ∷ place) (i ∷ here) new (at slot stored (begun_plot form kids)) leads off reach is =
+    (
+      leads.0,
+      go (same_or_other i j)
+          (λ e.
+          leads_off place here new (kid_nth i kids) (leads_same i j place kids e leads.1)
+          (off_same i j place here e off) reach.1 is),
+    )
+  where
+    go : (i ≡ j) ⊎ (i ≢ j) → (i ≡ j → Leads place (put_at here new (kid_nth i kids)))
+        → StoredBut j (λ below. Leads place below) (put_nth i (put_at here new (kid_nth i kids)) kids)
+    go (inl e) on =
+        subst
+        (λ (n : ℕ). StoredBut j (λ below. Leads place below) (put_nth n (put_at here new (kid_nth i kids)) kids))
+        (sym e)
+        (but_same j (λ below. Leads place below) (put_at here new (kid_nth i kids)) kids leads.1 (on e))
+    go (inr ne) on =
+        but_other i j (λ below. Leads place below) (put_at here new (kid_nth i kids)) kids leads.1 ne
+        (marked_put_at true here new (kid_nth i kids) (but_nth i j (λ below. Leads place below) kids leads.1 ne) is)
+
+-- and through the same slots
+pub along_off : (place here : Place) (new k : Kid) → Leads place k → IsOffTheWay place here → Reaches here k
+    → slots_along place (put_at here new k) ≡ slots_along place k
+along_off place [] new k leads off reach = absurd (off place refl)
+along_off place (i ∷ here) new gone leads off reach = absurd reach
+along_off place (i ∷ here) new (there v) leads off reach = absurd reach
+along_off place (i ∷ here) new (at slot stored entered_plot) leads off reach = absurd reach
+along_off place (i ∷ here) new (at slot stored (whole_plot v)) leads off reach = absurd reach
+along_off [] (i ∷ here) new (at slot stored (begun_plot form kids)) leads off reach = refl
+along_off (j ∷ place) (i ∷ here) new (at slot stored (begun_plot form kids)) leads off reach =
+    ap (λ (slots : List ℕ). slot ∷ slots)
+    (go (same_or_other i j)
+    (λ e.
+    along_off place here new (kid_nth i kids) (leads_same i j place kids e leads.1) (off_same i j place here e off)
+    reach.1))
+  where
+    go : (i ≡ j) ⊎ (i ≢ j)
+        → (i ≡ j → slots_along place (put_at here new (kid_nth i kids)) ≡ slots_along place (kid_nth i kids))
+        → slots_along place (kid_nth j (put_nth i (put_at here new (kid_nth i kids)) kids))
+        ≡ slots_along place (kid_nth j kids)
+    go (inl e) below =
+        ap (λ (n : ℕ). slots_along place (kid_nth n (put_nth i (put_at here new (kid_nth i kids)) kids))) (sym e)
+        ∙ ap (slots_along place) (nth_put i (put_at here new (kid_nth i kids)) kids reach.0)
+        ∙ below e ∙ ap (λ (n : ℕ). slots_along place (kid_nth n kids)) e
+    go (inr ne) below = ap (slots_along place) (nth_other i j (put_at here new (kid_nth i kids)) kids ne)
+
+-- Places of the tree.
+
+count_in : (ks : Kids) → count_trees (trees_in ks) ≡ count_kids ks
+count_in no_kids = refl
+count_in (kid k ks) = ap suc (count_in ks)
+
+-- a place that is reached is one of the tree
+pub reach_place : (place : Place) (k : Kid) → Reaches place k → HasPlace place (tree_of k)
+reach_place [] k reach = tt
+reach_place (i ∷ place) (at slot stored (begun_plot form kids)) reach = (
+  omega (arith, count_in kids, reach.0),
+  subst (λ (t : Tree). HasPlace place t) (tree_of_nth i kids) (reach_place place (kid_nth i kids) reach.1),
+)
+reach_place (i ∷ place) (at slot stored entered_plot) reach = absurd reach
+reach_place (i ∷ place) (at slot stored (whole_plot v)) reach = absurd reach
+reach_place (i ∷ place) gone reach = absurd reach
+reach_place (i ∷ place) (there v) reach = absurd reach
+
+-- Stored places.
+
+is_none_at : (place : Place) → ((slot : ℕ) (stored : Bool) (plot : Plot) → kid_at place gone ≡ at slot stored plot → ⊥)
+is_none_at [] slot stored plot e = cc
+is_none_at (i ∷ place) slot stored plot e = is_none_at place slot stored plot e
+
+is_none_in : (place : Place) (v : Val) (slot : ℕ) (stored : Bool) (plot : Plot)
+    → kid_at place (there v) ≡ at slot stored plot → ⊥
+is_none_in [] v slot stored plot e = cc
+is_none_in (i ∷ place) v slot stored plot e = is_none_at place slot stored plot e
+
+unplaced_nth : (j : ℕ) (way : Place) (ks : Kids) (slot : ℕ) (stored : Bool) (plot : Plot) → AreUnplaced (cells_in ks)
+    → kid_at way (kid_nth j ks) ≡ at slot stored plot → ⊥
+unplaced_nth j way no_kids slot stored plot closed e = is_none_at way slot stored plot e
+unplaced_nth zero way (kid gone ks) slot stored plot closed e = is_none_at way slot stored plot e
+unplaced_nth zero way (kid (there v) ks) slot stored plot closed e = is_none_in way v slot stored plot e
+unplaced_nth zero way (kid (at m mark below) ks) slot stored plot closed e = absurd closed.0
+unplaced_nth (suc j) way (kid k ks) slot stored plot closed e = unplaced_nth j way ks slot stored plot closed.1 e
+
+-- beneath a place none of whose children is in a slot, none is
+pub closed_below : (j : ℕ) (way : Place) (own : ℕ) (mark : Bool) (top : Plot) (slot : ℕ) (stored : Bool) (plot : Plot)
+    → IsClosed (body_in top) → kid_at (j ∷ way) (at own mark top) ≡ at slot stored plot → ⊥
+closed_below j way own mark entered_plot slot stored plot closed e = is_none_at way slot stored plot e
+closed_below j way own mark (whole_plot v) slot stored plot closed e = is_none_at way slot stored plot e
+closed_below j way own mark (begun_plot form kids) slot stored plot closed e =
+    unplaced_nth j way kids slot stored plot closed e
+
+-- a place is neither this one nor beneath it
+abbrev pub IsNotBeneath : (here other : Place) → Type 0
+IsNotBeneath here other = (way : Place) → other ≡ here ++ way → ⊥
+
+-- a stored place other than a closed one isn't beneath it
+pub stored_beside : (here other : Place) (k : Kid) (n m : ℕ) (plot : Plot) → kid_at here k ≡ at n true plot
+    → IsClosed (body_in plot) → IsStoredAt k m other → other ≢ here → IsNotBeneath here other
+stored_beside here other k n m plot is closed stored ne [] e = ne (e ∙ append-nil here)
+stored_beside here other k n m plot is closed stored ne (j ∷ way) e =
+    closed_below j way n true plot m true stored.plot closed
+    (ap (kid_at (j ∷ way)) (sym is) ∙ sym (kid_at_append here (j ∷ way) k) ∙ ap (λ (p : Place). kid_at p k) (sym e)
+    ∙ stored.is)
+
+-- it is stored still where a value is put there
+pub stored_still : (here other : Place) (k : Kid) (v : Val) (m : ℕ) → Reaches here k → IsNotBeneath here other
+    → IsStoredAt k m other → IsStoredAt (put_at here (there v) k) m other
+stored_still [] other k v m reach beside stored = absurd (beside other refl)
+stored_still (i ∷ here) other gone v m reach beside stored = absurd reach
+stored_still (i ∷ here) other (there w) v m reach beside stored = absurd reach
+stored_still (i ∷ here) other (at slot mark entered_plot) v m reach beside stored = absurd reach
+stored_still (i ∷ here) other (at slot mark (whole_plot w)) v m reach beside stored = absurd reach
+stored_still (i ∷ here) [] (at slot mark (begun_plot form kids)) v m reach beside stored =
+    let same : slot ≡ m = let is = stored.is in cc in
+    let marked : mark ≡ true = let is = stored.is in cc in
+    let rest : Plot = begun_plot form (put_nth i (put_at here (there v) (kid_nth i kids)) kids) in
+    record {
+      plot = rest;
+      reaches = tt;
+      is = ap (λ (n : ℕ). at n mark rest) same ∙ ap (λ (b : Bool). at m b rest) marked;
+    }
+stored_still (i ∷ here) (j ∷ other) (at slot mark (begun_plot form kids)) v m reach beside stored =
+    go (same_or_other i j)
+    (λ e.
+    stored_still here other (kid_nth i kids) v m reach.1
+    (λ way same. beside way (ap (λ (n : ℕ). n ∷ other) (sym e) ∙ ap (λ (p : Place). i ∷ p) same))
+    (subst (λ (n : ℕ). IsStoredAt (kid_nth n kids) m other) (sym e)
+    (record { plot = stored.plot; reaches = stored.reaches.1; is = stored.is })))
+  where
+    new : Kid
+    new = put_at here (there v) (kid_nth i kids)
+
+    within : j < count_kids (put_nth i new kids)
+    within = subst (λ (n : ℕ). j < n) (sym (count_put i new kids)) stored.reaches.0
+
+    from : IsStoredAt (kid_nth j (put_nth i new kids)) m other
+        → IsStoredAt (at slot mark (begun_plot form (put_nth i new kids))) m (j ∷ other)
+    from child = record { plot = child.plot; reaches = (within, child.reaches); is = child.is }
+
+    go : (i ≡ j) ⊎ (i ≢ j) → (i ≡ j → IsStoredAt new m other)
+        → IsStoredAt (at slot mark (begun_plot form (put_nth i new kids))) m (j ∷ other)
+    go (inl e) below =
+        from
+        (subst (λ (n : ℕ). IsStoredAt (kid_nth n (put_nth i new kids)) m other) e
+        (subst (λ (x : Kid). IsStoredAt x m other) (sym (nth_put i new kids reach.0)) (below e)))
+    go (inr ne) below =
+        from
+        (subst (λ (x : Kid). IsStoredAt x m other) (sym (nth_other i j new kids ne))
+        (record { plot = stored.plot; reaches = stored.reaches.1; is = stored.is }))
+
+-- and what is stored then was stored before
+pub stored_before : (here other : Place) (k : Kid) (v : Val) (m : ℕ) → Reaches here k
+    → IsStoredAt (put_at here (there v) k) m other → IsStoredAt k m other
+stored_before [] other k v m reach stored = absurd (is_none_in other v m true stored.plot stored.is)
+stored_before (i ∷ here) other gone v m reach stored = absurd reach
+stored_before (i ∷ here) other (there w) v m reach stored = absurd reach
+stored_before (i ∷ here) other (at slot mark entered_plot) v m reach stored = absurd reach
+stored_before (i ∷ here) other (at slot mark (whole_plot w)) v m reach stored = absurd reach
+stored_before (i ∷ here) [] (at slot mark (begun_plot form kids)) v m reach stored =
+    let same : slot ≡ m = let is = stored.is in cc in
+    let marked : mark ≡ true = let is = stored.is in cc in
+    let rest : Plot = begun_plot form kids in
+    record {
+      plot = rest;
+      reaches = tt;
+      is = ap (λ (n : ℕ). at n mark rest) same ∙ ap (λ (b : Bool). at m b rest) marked;
+    }
+stored_before (i ∷ here) (j ∷ other) (at slot mark (begun_plot form kids)) v m reach stored =
+    go (same_or_other i j) (λ below. stored_before here other (kid_nth i kids) v m reach.1 below)
+  where
+    new : Kid
+    new = put_at here (there v) (kid_nth i kids)
+
+    within : j < count_kids kids
+    within = subst (λ (n : ℕ). j < n) (count_put i new kids) stored.reaches.0
+
+    child : IsStoredAt (kid_nth j (put_nth i new kids)) m other
+    child = record { plot = stored.plot; reaches = stored.reaches.1; is = stored.is }
+
+    from : IsStoredAt (kid_nth j kids) m other → IsStoredAt (at slot mark (begun_plot form kids)) m (j ∷ other)
+    from below = record { plot = below.plot; reaches = (within, below.reaches); is = below.is }
+
+    go : (i ≡ j) ⊎ (i ≢ j) → (IsStoredAt new m other → IsStoredAt (kid_nth i kids) m other)
+        → IsStoredAt (at slot mark (begun_plot form kids)) m (j ∷ other)
+    go (inl e) was =
+        from
+        (subst (λ (n : ℕ). IsStoredAt (kid_nth n kids) m other) e
+        (was
+        (subst (λ (x : Kid). IsStoredAt x m other) (nth_put i new kids reach.0)
+        (subst (λ (n : ℕ). IsStoredAt (kid_nth n (put_nth i new kids)) m other) (sym e) child))))
+    go (inr ne) was = from (subst (λ (x : Kid). IsStoredAt x m other) (nth_other i j new kids ne) child)
+
+-- what was put there is stored no more
+pub stored_no_more : (here : Place) (k : Kid) (v : Val) (m : ℕ) → Reaches here k
+    → IsStoredAt (put_at here (there v) k) m here → ⊥
+stored_no_more here k v m reach stored =
+    let both : there v ≡ at m true stored.plot = sym (kid_put_at here (there v) k reach) ∙ stored.is in
+    cc

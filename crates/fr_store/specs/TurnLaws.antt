@@ -1,0 +1,334 @@
+-- Laws of a turn, for proofs: a stored place that has no child in a slot leaves its slot, and its value goes into the place above.
+use Rattle.std.proofs.Common.{◌≡◌, ◌≢◌, ◌⊎◌, ℕ, zero, suc, ◌+◌, ◌<◌, ◌≤◌, Bool, true, false, List, [], ◌∷◌, ◌++◌, length, nat_eq, Option, Some, None, inl, inr, refl, sym, ◌∙◌, ap, subst, arith}
+use Rattle.std.specs.Prelude.{is_some}
+use Rattle.fr_shape.specs.Val.{Val}
+use Rattle.fr_path.specs.declared.path_steps.PathStep.{PathStep}
+use Rattle.fr_model.specs.Finishing.{IsOffTheWay}
+use Rattle.fr_model.specs.Paths.{step_as}
+use Rattle.fr_model.specs.Places.{Place, is_root}
+use Rattle.fr_model.specs.Tree.{Form}
+use Rattle.fr_plan.specs.declared.nodes.NodeId.{NodeId}
+use Rattle.fr_plan.specs.TypePlan.{Plan}
+use Rattle.fr_frame.specs.declared.places.FrameOwner.{FrameOwner}
+use Rattle.fr_frame.specs.Bodies.{Body, begun_body, cell_at, with_cell, unlinked, IsClosed}
+use Rattle.fr_frame.specs.Cells.{absent, given, placed}
+use Rattle.fr_frame.specs.Heap.{Node, Heap, stored_in, marked, with_slot, with_body, without}
+use Rattle.fr_frame.specs.Kids.{Kid, gone, there, at, Plot, entered_plot, whole_plot, begun_plot, Kids, no_kids, kid, cell_of, cells_in, body_in, child_node, child_owner, Holds, HoldsAll}
+use Rattle.fr_store.specs.HoldLaws.{AgreeBeside, Replaces, holds_at, holds_frame, replaces_at}
+use Rattle.fr_store.specs.LeaveLaws.{below_root, cell_of_child, kid_at_append, owner_append, put_append, unlinked_child, with_child}
+use Rattle.fr_store.specs.OffLaws.{along_off, leads_off, off_stored}
+use Rattle.fr_store.specs.Stands.{Stands}
+use Rattle.fr_store.specs.TopLaws.{body_here, body_other, closed_uses, slot_here, slot_other}
+use Rattle.fr_store.specs.Ways.{count_kids, kid_nth, kid_below, kid_at, put_nth, put_at, counts_if, uses, uses_in, uses_among, Leads, Reaches, node_along, owner_along, owner_below}
+use Rattle.fr_store.specs.WayLaws.{counts_same, count_put, nth_put, same_or_other, uses_at, uses_nth, uses_put_at, uses_put_nth}
+
+-- One slot after another.
+
+-- a place's slot n is taken out of slot q, of which it is child i, once something else was put at it, and then a value is put there
+module _ (heap first mid last : Heap) (n q i : ℕ) (below above : Node) (body : Body) (form : Form) (kids : Kids) (v : Val)
+    (apart : n ≢ q) (here : heap n ≡ Some below) (over : heap q ≡ Some above)
+    (begun : above.body ≡ begun_body form (cells_in kids)) (within : i < count_kids kids)
+    (child : cell_of (kid_nth i kids) ≡ placed n) (owner : below.owner ≡ child_owner q form i)
+    (puts : (m : ℕ) → first m ≡ with_slot heap n (Some (record below { body = body })) m)
+    (leaves : (m : ℕ) → mid m ≡ without first n below.owner m) where
+  first_here : first n ≡ Some (record below { body = body })
+  first_here = puts n ∙ slot_here heap n (Some (record below { body = body }))
+
+  first_over : first q ≡ Some above
+  first_over = puts q ∙ slot_other heap n (Some (record below { body = body })) q (λ e. apart (sym e)) ∙ over
+
+  left : (m : ℕ) → mid m ≡ with_body (with_slot first n None) q (unlinked n (step_as form i)) m
+  left m = leaves m ∙ ap (λ (o : FrameOwner). without first n o m) owner
+
+  pub mid_over : mid q ≡ Some (record above { body = begun_body form (cells_in (put_nth i gone kids)) })
+  mid_over =
+      left q
+      ∙ body_here (with_slot first n None) q (unlinked n (step_as form i)) above
+      (slot_other first n None q (λ e. apart (sym e)) ∙ first_over)
+      ∙ ap (λ (b : Body). Some (record above { body = b }))
+      (ap (unlinked n (step_as form i)) begun ∙ unlinked_child form i n kids within child)
+
+  mid_here : mid n ≡ None
+  mid_here =
+      left n ∙ body_other (with_slot first n None) q (unlinked n (step_as form i)) n apart ∙ slot_here first n None
+
+  mid_other : (m : ℕ) → m ≢ q → m ≢ n → mid m ≡ heap m
+  mid_other m a b =
+      left m ∙ body_other (with_slot first n None) q (unlinked n (step_as form i)) m a ∙ slot_other first n None m b
+      ∙ puts m ∙ slot_other heap n (Some (record below { body = body })) m b
+
+  -- it isn't there
+  pub mid_absent : cell_at (begun_body form (cells_in (put_nth i gone kids))) (step_as form i) ≡ Some absent
+  mid_absent =
+      cell_of_child form i (put_nth i gone kids) (subst (λ (count : ℕ). i < count) (sym (count_put i gone kids)) within)
+      ∙ ap (λ (x : Kid). Some (cell_of x)) (nth_put i gone kids within)
+
+  module _ (ends : (m : ℕ) → last m ≡ with_body mid q (λ old. with_cell old (step_as form i) (given v)) m) where
+    pub last_over : last q ≡ Some (record above { body = begun_body form (cells_in (put_nth i (there v) kids)) })
+    last_over =
+        ends q
+        ∙ body_here mid q (λ old. with_cell old (step_as form i) (given v))
+        (record above { body = begun_body form (cells_in (put_nth i gone kids)) }) mid_over
+        ∙ ap (λ (b : Body). Some (record above { body = b }))
+        (with_child form i (there v) (put_nth i gone kids)
+        ∙ ap (λ (ks : Kids). begun_body form (cells_in ks)) (twice i kids))
+      where
+        twice : (j : ℕ) (ks : Kids) → put_nth j (there v) (put_nth j gone ks) ≡ put_nth j (there v) ks
+        twice j no_kids = refl
+        twice zero (kid k ks) = refl
+        twice (suc j) (kid k ks) = ap (λ (xs : Kids). kid k xs) (twice j ks)
+
+    pub last_here : last n ≡ None
+    last_here = ends n ∙ body_other mid q (λ old. with_cell old (step_as form i) (given v)) n apart ∙ mid_here
+
+    pub last_other : (m : ℕ) → m ≢ q → m ≢ n → last m ≡ heap m
+    last_other m a b =
+        ends m ∙ body_other mid q (λ old. with_cell old (step_as form i) (given v)) m a ∙ mid_other m a b
+
+    -- all others are in use as before
+    pub in_use_last : (m : ℕ) → m ≢ n → is_some (last m) ≡ is_some (heap m)
+    in_use_last m ne = go (same_or_other m q)
+      where
+        go : (m ≡ q) ⊎ (m ≢ q) → is_some (last m) ≡ is_some (heap m)
+        go (inl e) = ap (λ (x : ℕ). is_some (last x)) e ∙ ap is_some last_over ∙ ap is_some (sym over) ∙ ap (λ (x : ℕ). is_some (heap x)) (sym e)
+        go (inr other) = ap is_some (last_other m other ne)
+
+    -- none is stored that wasn't
+    pub marked_last : (m : ℕ) → marked last m ≡ true → marked heap m ≡ true
+    marked_last m is = go (same_or_other m n) (same_or_other m q)
+      where
+        go : (m ≡ n) ⊎ (m ≢ n) → (m ≡ q) ⊎ (m ≢ q) → marked heap m ≡ true
+        go (inl e) b =
+            let none : false ≡ true = ap stored_in (sym last_here) ∙ ap (marked last) (sym e) ∙ is in
+            cc
+        go (inr a) (inl e) =
+            ap (marked heap) e ∙ ap stored_in over ∙ ap stored_in (sym last_over) ∙ ap (marked last) (sym e) ∙ is
+        go (inr a) (inr b) = ap stored_in (sym (last_other m b a)) ∙ is
+
+-- The place above a stored one.
+
+reaches_append : (place below : Place) (k : Kid) → Reaches (place ++ below) k → Reaches place k × Reaches below (kid_at place k)
+reaches_append [] below k reach = (tt, reach)
+reaches_append (i ∷ place) below (at slot stored (begun_plot form kids)) reach =
+    let rest = reaches_append place below (kid_nth i kids) reach.1 in
+    ((reach.0, rest.0), rest.1)
+reaches_append (i ∷ place) below (at slot stored entered_plot) reach = absurd reach
+reaches_append (i ∷ place) below (at slot stored (whole_plot v)) reach = absurd reach
+reaches_append (i ∷ place) below gone reach = absurd reach
+reaches_append (i ∷ place) below (there v) reach = absurd reach
+
+-- the place is child i of one that is begun, in slot q
+pub record Over (here : Place) (k : Kid) (n : ℕ) (plot : Plot) : Type 0 where
+  pub above : Place
+  pub i : ℕ
+  pub slot : ℕ
+  pub mark : Bool
+  pub form : Form
+  pub kids : Kids
+  pub is_below : here ≡ above ++ i ∷ []
+  pub reach : Reaches above k
+  pub is : kid_at above k ≡ at slot mark (begun_plot form kids)
+  pub within : i < count_kids kids
+  pub child : kid_nth i kids ≡ at n true plot
+  pub owner : owner_along FrameOwner.Root here k ≡ child_owner slot form i
+
+pub over_of : (here : Place) (k : Kid) (n : ℕ) (plot : Plot) → here ≢ [] → Reaches here k → kid_at here k ≡ at n true plot
+    → Over here k n plot
+over_of here k n plot low reach is = split here refl
+  where
+    find : (above : Place) (i : ℕ) → here ≡ above ++ i ∷ [] → (x : Kid) → kid_at above k ≡ x → Reaches above k
+        → Reaches (i ∷ []) x → kid_at (i ∷ []) x ≡ at n true plot → Over here k n plot
+    find above i e gone of top reach child = absurd reach
+    find above i e (there v) of top reach child = absurd reach
+    find above i e (at slot mark entered_plot) of top reach child = absurd reach
+    find above i e (at slot mark (whole_plot v)) of top reach child = absurd reach
+    find above i e (at slot mark (begun_plot form kids)) of top reach child = record {
+      above = above;
+      i = i;
+      slot = slot;
+      mark = mark;
+      form = form;
+      kids = kids;
+      is_below = e;
+      reach = top;
+      is = of;
+      within = reach.0;
+      child = child;
+      owner =
+          ap (λ (p : Place). owner_along FrameOwner.Root p k) e ∙ owner_append FrameOwner.Root above i k
+          ∙ ap (λ (x : Kid). owner_below (owner_along FrameOwner.Root above k) i x) of;
+    }
+
+    split : (p : Place) → here ≡ p → Over here k n plot
+    split [] e = absurd (low e)
+    split (j ∷ p) e =
+        let two = below_root (j ∷ p) refl in
+        let way : here ≡ two.0 ++ two.1 ∷ [] = e ∙ two.2 in
+        let parts = reaches_append two.0 (two.1 ∷ []) k (subst (λ (x : Place). Reaches x k) way reach) in
+        find two.0 two.1 way (kid_at two.0 k) refl parts.0 parts.1
+        (sym (kid_at_append two.0 (two.1 ∷ []) k) ∙ ap (λ (x : Place). kid_at x k) (sym way) ∙ is)
+
+-- What is held.
+
+frame_all : (plan : Plan) (heap other : Heap) (node : NodeId) (slot : ℕ) (form : Form) (i depth : ℕ) (ks : Kids)
+    → HoldsAll plan heap node slot form i depth ks → ((m : ℕ) → 0 < uses_among ks m → other m ≡ heap m)
+    → HoldsAll plan other node slot form i depth ks
+frame_all plan heap other node slot form i depth no_kids holds agree = tt
+frame_all plan heap other node slot form i depth (kid k ks) holds agree = (
+  holds_frame plan heap other (child_node plan node form i) (child_owner slot form i) depth k holds.0
+      (λ m h. agree m (omega arith)),
+  frame_all plan heap other node slot form (suc i) depth ks holds.1 (λ m h. agree m (omega arith)),
+)
+
+-- a value is put in the stead of a child
+holds_value : (plan : Plan) (heap other : Heap) (node : NodeId) (slot : ℕ) (form : Form) (first depth i : ℕ) (ks : Kids)
+    (v : Val) → HoldsAll plan heap node slot form first depth ks
+    → ((m : ℕ) → uses (kid_nth i ks) m < uses_among ks m → other m ≡ heap m)
+    → HoldsAll plan other node slot form first depth (put_nth i (there v) ks)
+holds_value plan heap other node slot form first depth i no_kids v holds agree = tt
+holds_value plan heap other node slot form first depth zero (kid k ks) v holds agree =
+    (tt, frame_all plan heap other node slot form (suc first) depth ks holds.1 (λ m h. agree m (omega arith)))
+holds_value plan heap other node slot form first depth (suc i) (kid k ks) v holds agree = (
+  holds_frame plan heap other (child_node plan node form first) (child_owner slot form first) depth k holds.0
+      (λ m h. agree m (omega (arith, uses_nth i ks m))),
+  holds_value plan heap other node slot form (suc first) depth i ks v holds.1 (λ m h. agree m (omega arith)),
+)
+
+-- what is in the slot of a stored place
+abbrev pub due_node : Plan → Place → Kid → Plot → Node
+due_node plan here k plot = record {
+  node = node_along plan plan.root here k;
+  owner = owner_along FrameOwner.Root here k;
+  stored = true;
+  depth = 0 + length here;
+  body = body_in plot;
+}
+
+-- what is in the slot above
+abbrev pub over_node : (plan : Plan) (here : Place) (k : Kid) (n : ℕ) (plot : Plot) → Over here k n plot → Node
+over_node plan here k n plot over = record {
+  node = node_along plan plan.root over.above k;
+  owner = owner_along FrameOwner.Root over.above k;
+  stored = over.mark;
+  depth = 0 + length over.above;
+  body = begun_body over.form (cells_in over.kids);
+}
+
+module _ (plan : Plan) (heap : Heap) (stack : List ℕ) (cursor here : Place) (k : Kid) (n : ℕ) (plot : Plot)
+    (stands : Stands plan heap stack cursor k) (reach : Reaches here k) (is : kid_at here k ≡ at n true plot) where
+  pub due_off : IsOffTheWay cursor here
+  due_off = off_stored cursor here k n plot stands.leads is
+
+  pub due_low : here ≢ []
+  due_low e = due_off cursor (ap (λ (p : Place). p ++ cursor) (sym e))
+
+  pub due_over : Over here k n plot
+  due_over = over_of here k n plot due_low reach is
+
+  due_holds : Holds plan heap (node_along plan plan.root here k) (owner_along FrameOwner.Root here k) (0 + length here)
+      (at n true plot)
+  due_holds =
+      subst
+      (λ (x : Kid). Holds plan heap (node_along plan plan.root here k) (owner_along FrameOwner.Root here k) (0 + length here) x)
+      is (holds_at plan heap plan.root FrameOwner.Root 0 here k stands.holds reach)
+
+  pub due_found : heap n ≡ Some (due_node plan here k plot)
+  due_found = due_holds.0
+
+  module _ (over : Over here k n plot) where
+    over_holds : Holds plan heap (node_along plan plan.root over.above k) (owner_along FrameOwner.Root over.above k)
+        (0 + length over.above) (at over.slot over.mark (begun_plot over.form over.kids))
+    over_holds =
+        subst
+        (λ (x : Kid). Holds plan heap (node_along plan plan.root over.above k) (owner_along FrameOwner.Root over.above k)
+        (0 + length over.above) x)
+        over.is (holds_at plan heap plan.root FrameOwner.Root 0 over.above k stands.holds over.reach)
+
+    pub over_found : heap over.slot ≡ Some (over_node plan here k n plot over)
+    over_found = over_holds.0
+
+    over_uses : (m : ℕ) → uses (kid_at over.above k) m ≡ counts_if (nat_eq over.slot m) + uses_among over.kids m
+    over_uses m = ap (λ (x : Kid). uses x m) over.is
+
+    child_uses : (m : ℕ) → uses (kid_nth over.i over.kids) m ≡ counts_if (nat_eq n m) + uses_in plot m
+    child_uses m = ap (λ (x : Kid). uses x m) over.child
+
+    once_above : (m : ℕ) → counts_if (nat_eq over.slot m) + uses_among over.kids m ≤ 1
+    once_above m = omega (arith, over_uses m, uses_at over.above k m, stands.once m)
+
+    pub due_apart : n ≢ over.slot
+    due_apart e =
+        let one : counts_if (nat_eq over.slot n) ≡ 1
+        = ap (λ (x : ℕ). counts_if (nat_eq x n)) (sym e) ∙ counts_same n in
+        absurd
+        (omega (arith, one, counts_same n, child_uses n, uses_nth over.i over.kids n, once_above n))
+
+    -- a value in the stead of the place
+    pub stands_turned : (other : Heap) (v : Val) → IsClosed (body_in plot)
+        → other over.slot
+        ≡ Some (record (over_node plan here k n plot over) {
+          body = begun_body over.form (cells_in (put_nth over.i (there v) over.kids));
+        })
+        → ((m : ℕ) → m ≢ over.slot → m ≢ n → other m ≡ heap m)
+        → Stands plan other stack cursor (put_at here (there v) k)
+    stands_turned other v closed found beside = record {
+      holds =
+          subst (λ (x : Kid). Holds plan other plan.root FrameOwner.Root 0 x) (sym put)
+          (replaces_at plan heap other over.above new k (ap cell_of (sym over.is)) agree replaces plan.root
+          FrameOwner.Root 0 stands.holds);
+      once = λ m. omega (arith, uses_put_at here (there v) k m reach, stands.once m);
+      leads = leads_off cursor here (there v) k stands.leads due_off reach tt;
+      along = stands.along ∙ sym (along_off cursor here (there v) k stands.leads due_off reach);
+    }
+      where
+        new : Kid
+        new = at over.slot over.mark (begun_plot over.form (put_nth over.i (there v) over.kids))
+
+        put : put_at here (there v) k ≡ put_at over.above new k
+        put =
+            ap (λ (p : Place). put_at p (there v) k) over.is_below ∙ put_append over.above (over.i ∷ []) (there v) k
+            ∙ ap (λ (x : Kid). put_at over.above (put_at (over.i ∷ []) (there v) x) k) over.is
+
+        elsewhere : (m : ℕ) → counts_if (nat_eq over.slot m) ≡ 0 → counts_if (nat_eq n m) ≡ 0 → other m ≡ heap m
+        elsewhere m a b = go (same_or_other m over.slot) (same_or_other m n)
+          where
+            go : (m ≡ over.slot) ⊎ (m ≢ over.slot) → (m ≡ n) ⊎ (m ≢ n) → other m ≡ heap m
+            go (inl e) x =
+                let one : counts_if (nat_eq over.slot m) ≡ 1
+                = ap (λ (y : ℕ). counts_if (nat_eq over.slot y)) e ∙ counts_same over.slot in
+                absurd (omega (arith, one, a))
+            go (inr x) (inl e) =
+                let one : counts_if (nat_eq n m) ≡ 1 = ap (λ (y : ℕ). counts_if (nat_eq n y)) e ∙ counts_same n in
+                absurd (omega (arith, one, b))
+            go (inr x) (inr y) = beside m x y
+
+        agree : AgreeBeside heap other k (kid_at over.above k)
+        agree m h =
+            let part = over_uses m in
+            let child = child_uses m in
+            elsewhere m (omega (arith, part, stands.once m))
+            (omega (arith, part, child, uses_nth over.i over.kids m, stands.once m))
+
+        replaces : Replaces plan heap other (kid_at over.above k) new
+        replaces node by depth holds =
+            let was = subst (λ (x : Kid). Holds plan heap node by depth x) over.is holds in
+            let same : Some (record {
+              node = node;
+              owner = by;
+              stored = over.mark;
+              depth = depth;
+              body = begun_body over.form (cells_in over.kids);
+            }) ≡ Some (over_node plan here k n plot over) = sym was.0 ∙ over_found in (
+              found
+                  ∙ sym (ap
+                  (λ (x : Option Node). with_kids x) same),
+              was.1,
+              holds_value plan heap other node over.slot over.form 0 (suc depth) over.i over.kids v was.2
+                  (λ m h.
+                  elsewhere m (omega (arith, once_above m, child_uses m))
+                  (omega (arith, once_above m, child_uses m))),
+            )
+          where
+            with_kids : Option Node → Option Node
+            with_kids (Some x) = Some (record x { body = begun_body over.form (cells_in (put_nth over.i (there v) over.kids)) })
+            with_kids None = None

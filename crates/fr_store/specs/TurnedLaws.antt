@@ -1,0 +1,413 @@
+-- Laws of a turn in slots, for proofs: from what its calls say to what it owes.
+use Rattle.std.proofs.Common.{◌≡◌, ◌≢◌, ◌⊎◌, ℕ, zero, suc, ◌+◌, ◌<◌, true, List, [], ◌∷◌, append-nil, length, slice_get, Option, Some, None, option_map, unwrap_or, inl, inr, refl, sym, ◌∙◌, ap, subst, arith}
+use Rattle.std.specs.Prelude.{is_some, IsSomeAnd}
+use Rattle.fr_shape.specs.declared.error.ReflectErrorKind.{ReflectErrorKind}
+use Rattle.fr_shape.specs.Checked.{IsChecked}
+use Rattle.fr_shape.specs.Hooks.{Meanings}
+use Rattle.fr_shape.specs.Look.{Table, def_of}
+use Rattle.fr_shape.specs.Tokens.{occurs}
+use Rattle.fr_shape.specs.Val.{Val}
+use Rattle.fr_path.specs.declared.path_steps.PathStep.{PathStep}
+use Rattle.fr_model.specs.Complete.{complete}
+use Rattle.fr_model.specs.Failing.{own_lack}
+use Rattle.fr_model.specs.Finish.{finished, failures_off}
+use Rattle.fr_model.specs.FinishLaws.{Closes, closed_at, ClosingKeepsCompletion, ClosingKeepsFailures, ClosingKeepsFailuresOff, ClosingKeepsFinish}
+use Rattle.fr_model.specs.Finishing.{IsOffTheWay}
+use Rattle.fr_model.specs.Laws.{CompletingKeepsTokens}
+use Rattle.fr_model.specs.Paths.{step_as}
+use Rattle.fr_model.specs.Places.{Place, deferred_column}
+use Rattle.fr_model.specs.Relation.{HasPlace}
+use Rattle.fr_model.specs.Tree.{Form, as_struct, as_array, Tree, hole, whole, change_at, count_trees, shape_in, tree_at, tree_occurs}
+use Rattle.fr_model.specs.Well.{IsFullAs, Suits}
+use Rattle.fr_plan.specs.declared.nodes.NodeId.{NodeId}
+use Rattle.fr_plan.specs.declared.nodes.TypePlanNode.{TypePlanNode}
+use Rattle.fr_plan.specs.LookupLaws.{LookupsAgree, LookupPathsAgree}
+use Rattle.fr_plan.specs.Lookups.{node_at}
+use Rattle.fr_plan.specs.TypePlan.{Plan}
+use Rattle.fr_frame.specs.declared.places.FrameOwner.{FrameOwner}
+use Rattle.fr_frame.specs.declared.places.Slot.{Slot}
+use Rattle.fr_frame.specs.Bodies.{Body, entered_body, whole_body, begun_body, cell_at, own_tree, trees_of, value_of, with_cell, IsClosed}
+use Rattle.fr_frame.specs.Cells.{Cell, absent, given, placed}
+use Rattle.fr_frame.specs.Changes.{IfInUse, IsInUse, SameTokens, Shows}
+use Rattle.fr_frame.specs.Completing.{shape_of, FillsAt, IsFull, IsPlanFor, MayComplete}
+use Rattle.fr_frame.specs.Defaults.{WhyNotDefault}
+use Rattle.fr_frame.specs.Heap.{Node, heap_of, slots_occur, with_body, without}
+use Rattle.fr_frame.specs.Kids.{Kid, gone, at, there, tree_of, body_in, cell_of, cells_in, kid_occurs, child_owner}
+use Rattle.fr_store.specs.ClosingLaws.{completes_still}
+use Rattle.fr_store.specs.Moves.{IsAbove, IsNumbered, IsOpenAt, IsStepTo, cursor_in, tree_in_slots}
+use Rattle.fr_store.specs.OffLaws.{reach_place}
+use Rattle.fr_store.specs.ShapeLaws.{IsOfShape, Along, along, root_shaped}
+use Rattle.fr_store.specs.StandLaws.{cursor_is, kid_is, stands_shown, tree_is}
+use Rattle.fr_store.specs.Stands.{IsOpen, Stands}
+use Rattle.fr_store.specs.TopLaws.{closed_tree, slot_here}
+use Rattle.fr_store.specs.TurnLaws.{Over, due_apart, due_found, due_node, due_off, due_over, in_use_last, last_here, last_other, last_over, marked_last, mid_absent, mid_over, over_found, over_node, stands_turned}
+use Rattle.fr_store.specs.Turning.{HasTurned, IsLackingAt, KeepsTheRest, MayTurn, kid_here}
+use Rattle.fr_store.specs.Turns.{CompletesAsBefore, root_shape}
+use Rattle.fr_store.specs.Walks.{IsStoredAt}
+use Rattle.fr_store.specs.Ways.{kid_at, kid_nth, put_at, put_nth, Leads, Reaches, node_along, owner_along}
+use Rattle.fr_store.specs.WayLaws.{leads_reach, occurs_put_at, tree_of_at, tree_put_at, tree_tokens}
+
+-- A place of a plan.
+
+shape_found : (plan : Plan) (node : NodeId) (s : ℕ) → IsOfShape plan node s → shape_of plan node ≡ s
+shape_found plan node s is =
+    ap
+    (λ (found : Option TypePlanNode). (unwrap_or (option_map (λ (x : TypePlanNode). x.shape) found) (record { 0 = 0 })).0)
+    is.there ∙ is.shape
+
+is_there : {A : Type 0} (xs : List A) (i : ℕ) (x : A) → slice_get xs i ≡ Some x → i < length xs
+is_there [] i x e = cc
+is_there (y ∷ ys) zero x e = omega arith
+is_there (y ∷ ys) (suc i) x e = let rest = is_there ys i x e in omega arith
+
+count_of : (cells : List Cell) → count_trees (trees_of cells) ≡ length cells
+count_of [] = refl
+count_of (c ∷ cells) = ap suc (count_of cells)
+
+-- one that suits its shape has all its children
+full_by : (table : Table) (s : ℕ) (body : Body) → Suits table s (own_tree body) → IsFull table s body
+full_by table s entered_body suits = tt
+full_by table s (whole_body v) suits = tt
+full_by table s (begun_body form cells) suits =
+    subst (λ (count : ℕ). IsFullAs (def_of table s) form count) (count_of cells) suits.0.0
+
+-- the plan's node of a place that is reached has the shape that the table has there, which the tree there suits
+pub along_open : LookupsAgree → LookupPathsAgree → (table : Table) (plan : Plan) → IsChecked table → IsPlanFor table plan
+    → (k : Kid) → Suits table (root_shape plan) (tree_of k) → (place : Place) → Reaches place k
+    → Along table plan (node_along plan plan.root place k) (shape_in table (root_shape plan) place (tree_of k))
+    (tree_at place (tree_of k))
+along_open agree paths table plan checked by k suits place reach =
+    let first = root_shaped agree table by.root plan checked by.inside by.planned paths in
+    let root : IsOfShape plan plan.root (root_shape plan)
+    = subst (λ (s : ℕ). IsOfShape plan plan.root s) (sym (shape_found plan plan.root by.root.0 first)) first in
+    along agree table by.root plan checked by.inside by.planned place k plan.root (root_shape plan) root suits reach
+
+-- so a place may be completed where none of its children is in a slot
+pub may_complete : (table : Table) (plan : Plan) (s : ℕ) (found : Node) (tree : Tree) → Along table plan found.node s tree
+    → own_tree found.body ≡ tree → IsClosed found.body → MayComplete table plan found
+may_complete table plan s found tree shaped own closed = record {
+  planned = is_there plan.nodes found.node.0 shaped.node_is.found shaped.node_is.there;
+  full =
+      subst (λ (n : ℕ). IsFull table n found.body) (sym (shape_found plan found.node s shaped.node_is))
+      (full_by table s found.body (subst (λ (t : Tree). Suits table s t) (sym own) shaped.suits));
+  closed = closed;
+}
+
+pub shape_along : (table : Table) (plan : Plan) (node : NodeId) (s : ℕ) (tree : Tree) → Along table plan node s tree
+    → shape_of plan node ≡ s
+shape_along table plan node s tree shaped = shape_found plan node s shaped.node_is
+
+-- A builder that is open, from what stands.
+pub open_shown : (plan : Plan) (slots : List Slot) (stack : List ℕ) (place : Place) (k : Kid) (tree : Tree)
+    → Stands plan (heap_of slots) stack place k → ((t : ℕ) → slots_occur slots t ≡ kid_occurs k t) → tree_of k ≡ tree
+    → IsOpenAt plan slots stack place tree
+open_shown plan slots stack place k tree stands tokens is = record {
+  open_still = record {
+    stands = stands_shown plan (heap_of slots) stack place k stands;
+    tokens = λ t.
+        tokens t ∙ ap (λ (x : Kid). kid_occurs x t) (sym (kid_is plan (heap_of slots) stack place k stands));
+  };
+  cursor = cursor_is plan (heap_of slots) stack place k stands;
+  built = tree_is plan (heap_of slots) stack place k stands ∙ is;
+}
+
+-- The slot of a place whose turn it is.
+module _ (plan : Plan) (before : List Slot) (stack : List ℕ) (n : ℕ) (open_now : IsOpen plan before stack) (due : MayTurn before stack n) where
+  pub below : Node
+  below = due_node plan due.place (kid_here before stack) due.plot
+
+  pub found : heap_of before n ≡ Some below
+  unfolding below
+  found =
+      due_found plan (heap_of before) stack (cursor_in before stack) due.place (kid_here before stack) n due.plot
+      open_now.stands due.reaches due.is
+
+  pub over : Over due.place (kid_here before stack) n due.plot
+  over =
+      due_over plan (heap_of before) stack (cursor_in before stack) due.place (kid_here before stack) n due.plot
+      open_now.stands due.reaches due.is
+
+  -- what is said of the place in it
+  said : (So : Node → Type 0) → IfInUse before n So → So below
+  said So so = subst (λ (x : Option Node). IsSomeAnd x So) found so
+
+  so_said : (So : Node → Type 0) → So below → IfInUse before n So
+  so_said So so = subst (λ (x : Option Node). IsSomeAnd x So) (sym found) so
+
+  owner : below.owner ≡ child_owner over.slot over.form over.i
+  unfolding below
+  owner = over.owner
+
+  pub numbered : IfInUse before n (λ (x : Node). IsNumbered x.owner)
+  numbered =
+      so_said (λ (x : Node). IsNumbered x.owner)
+      (subst (λ (o : FrameOwner). IsNumbered o) (sym owner) (go over.form))
+    where
+      go : (form : Form) → IsNumbered (child_owner over.slot form over.i)
+      go as_struct = tt
+      go as_array = tt
+
+  -- the step and the slot that the owner tells
+  pub step_is : (step : PathStep) → IfInUse before n (λ (x : Node). IsStepTo step x.owner) → step ≡ step_as over.form over.i
+  step_is step told =
+      subst (λ (o : FrameOwner). IsStepTo step o) owner (said (λ (x : Node). IsStepTo step x.owner) told)
+
+  pub slot_is : (m : ℕ) → IfInUse before n (λ (x : Node). IsAbove m x.owner) → m ≡ over.slot
+  slot_is m told = subst (λ (o : FrameOwner). IsAbove m o) owner (said (λ (x : Node). IsAbove m x.owner) told)
+
+  own : own_tree below.body ≡ tree_at due.place (tree_in_slots before stack)
+  unfolding below
+  own =
+      sym (closed_tree due.plot due.closed) ∙ ap tree_of (sym due.is) ∙ tree_of_at due.place (kid_here before stack)
+
+  shut : IsClosed below.body
+  unfolding below
+  shut = due.closed
+
+  module _ (agree : LookupsAgree) (paths : LookupPathsAgree) (table : Table) (checked : IsChecked table) (by : IsPlanFor table plan)
+      (suits : Suits table (root_shape plan) (tree_in_slots before stack)) where
+    pub here : Along table plan below.node (shape_in table (root_shape plan) due.place (tree_in_slots before stack))
+        (tree_at due.place (tree_in_slots before stack))
+    unfolding below
+    here = along_open agree paths table plan checked by (kid_here before stack) suits due.place due.reaches
+
+    pub may_be_completed : IfInUse before n (MayComplete table plan)
+    may_be_completed =
+        so_said (λ (x : Node). MayComplete table plan x)
+        (may_complete table plan (shape_in table (root_shape plan) due.place (tree_in_slots before stack)) below
+        (tree_at due.place (tree_in_slots before stack)) here own shut)
+
+    shape : shape_of plan below.node ≡ shape_in table (root_shape plan) due.place (tree_in_slots before stack)
+    shape =
+        shape_along table plan below.node (shape_in table (root_shape plan) due.place (tree_in_slots before stack))
+        (tree_at due.place (tree_in_slots before stack)) here
+
+    stored : IsStoredAt (kid_here before stack) n due.place
+    stored = record { plot = due.plot; reaches = due.reaches; is = due.is }
+
+    -- why it is refused
+    pub refused : (means : Meanings) (kind : ReflectErrorKind)
+        → IfInUse before n (λ (x : Node). WhyNotDefault means table (shape_of plan x.node) x.body kind)
+        → (kind ≡ ReflectErrorKind.OutOfMemory) ⊎ IsLackingAt means table plan before stack n kind
+    refused means kind why =
+        go (said (λ (x : Node). WhyNotDefault means table (shape_of plan x.node) x.body kind) why)
+      where
+        go : WhyNotDefault means table (shape_of plan below.node) below.body kind
+            → (kind ≡ ReflectErrorKind.OutOfMemory) ⊎ IsLackingAt means table plan before stack n kind
+        go (inl lacking) = inr (record {
+          place = due.place;
+          stored = stored;
+          incomplete =
+              ap (λ (s : ℕ). complete deferred_column means table s (tree_at due.place (tree_in_slots before stack)))
+              (sym shape)
+              ∙ ap (complete deferred_column means table (shape_of plan below.node)) (sym own) ∙ lacking.incomplete;
+          lacks =
+              ap (λ (s : ℕ). own_lack means table s (tree_at due.place (tree_in_slots before stack))) (sym shape)
+              ∙ ap (own_lack means table (shape_of plan below.node)) (sym own) ∙ lacking.lacks;
+        })
+        go (inr wants) = inl wants.memory
+
+    -- It is completed, and its value goes into the place above.
+    module _ (means : Meanings) (keeps_tokens : CompletingKeepsTokens) (first mid last : List Slot) (parent : ℕ)
+        (step : PathStep) (v : Val)
+        (to : IfInUse before n (λ (x : Node). IsStepTo step x.owner))
+        (from : IfInUse before n (λ (x : Node). IsAbove parent x.owner))
+        (filled : IfInUse before n (FillsAt deferred_column means table plan before first n))
+        (worth : IfInUse first n (λ (x : Node). value_of x.body ≡ Some v))
+        (left : IfInUse first n (λ (x : Node). Shows mid (without (heap_of first) n x.owner))) where
+      fills : FillsAt deferred_column means table plan before first n below
+      fills = said (λ (x : Node). FillsAt deferred_column means table plan before first n x) filled
+
+      apart : n ≢ over.slot
+      apart =
+          due_apart plan (heap_of before) stack (cursor_in before stack) due.place (kid_here before stack) n due.plot
+          open_now.stands due.reaches due.is over
+
+      above : Node
+      above = over_node plan due.place (kid_here before stack) n due.plot over
+
+      above_found : heap_of before over.slot ≡ Some above
+      unfolding above
+      above_found =
+          over_found plan (heap_of before) stack (cursor_in before stack) due.place (kid_here before stack) n due.plot
+          open_now.stands due.reaches due.is over
+
+      above_begun : above.body ≡ begun_body over.form (cells_in over.kids)
+      unfolding above
+      above_begun = refl
+
+      child : cell_of (kid_nth over.i over.kids) ≡ placed n
+      child = ap cell_of over.child
+
+      first_found : heap_of first n ≡ Some (record below { body = fills.body })
+      first_found = fills.becomes n ∙ slot_here (heap_of before) n (Some (record below { body = fills.body }))
+
+      leaves : (m : ℕ) → heap_of mid m ≡ without (heap_of first) n below.owner m
+      leaves =
+          subst (λ (o : Option Node). IsSomeAnd o (λ (x : Node). Shows mid (without (heap_of first) n x.owner))) first_found
+          left
+
+      -- the value is what the place makes
+      same_value : fills.filled.value ≡ v
+      same_value =
+          let held : value_of fills.body ≡ Some v
+          = subst (λ (o : Option Node). IsSomeAnd o (λ (x : Node). value_of x.body ≡ Some v)) first_found worth in
+          let both : Some fills.filled.value ≡ Some v = sym fills.filled.held ∙ held in
+          cc
+
+      pub makes :
+          complete deferred_column means table
+          (shape_in table (root_shape plan) due.place (tree_in_slots before stack))
+          (tree_at due.place (tree_in_slots before stack))
+          ≡ Some v
+      makes =
+          ap (λ (s : ℕ). complete deferred_column means table s (tree_at due.place (tree_in_slots before stack))) (sym shape)
+          ∙ ap (complete deferred_column means table (shape_of plan below.node)) (sym own) ∙ fills.filled.meant
+          ∙ ap (λ (x : Val). Some x) same_value
+
+      pub above_in_use : IsInUse mid parent
+      above_in_use =
+          ap (λ (m : ℕ). is_some (heap_of mid m)) (slot_is parent from)
+          ∙ ap is_some
+          (mid_over (heap_of before) (heap_of first) (heap_of mid) (heap_of last) n over.slot over.i below above fills.body
+          over.form over.kids v apart found above_found above_begun over.within child owner fills.becomes leaves)
+
+      pub child_absent : IfInUse mid parent (λ (x : Node). cell_at x.body step ≡ Some absent)
+      child_absent =
+          subst (λ (o : Option Node). IsSomeAnd o (λ (x : Node). cell_at x.body step ≡ Some absent))
+          (sym (ap (heap_of mid) (slot_is parent from)
+          ∙ mid_over (heap_of before) (heap_of first) (heap_of mid) (heap_of last) n over.slot over.i below above fills.body
+          over.form over.kids v apart found above_found above_begun over.within child owner fills.becomes leaves))
+          (ap (cell_at (begun_body over.form (cells_in (put_nth over.i gone over.kids)))) (step_is step to)
+          ∙ mid_absent (heap_of before) (heap_of first) (heap_of mid) (heap_of last) n over.slot over.i below above fills.body
+          over.form over.kids v apart found above_found above_begun over.within child owner fills.becomes leaves)
+
+      module _ (filling : SameTokens before first) (taken : (t : ℕ) → slots_occur first t ≡ slots_occur mid t + occurs v t)
+          (put : Shows last (with_body (heap_of mid) parent (λ old. with_cell old step (given v))))
+          (given_back : (t : ℕ) → slots_occur last t ≡ slots_occur mid t + occurs v t) where
+        pub same_tokens : SameTokens before last
+        same_tokens t = omega (arith, filling t, taken t, given_back t)
+
+        ends : (m : ℕ)
+            → heap_of last m
+            ≡ with_body (heap_of mid) over.slot (λ old. with_cell old (step_as over.form over.i) (given v)) m
+        ends m =
+            put m
+            ∙ ap (λ (q : ℕ). with_body (heap_of mid) q (λ old. with_cell old step (given v)) m) (slot_is parent from)
+            ∙ ap (λ (s : PathStep). with_body (heap_of mid) over.slot (λ old. with_cell old s (given v)) m) (step_is step to)
+
+        kid_after : Kid
+        kid_after = put_at due.place (there v) (kid_here before stack)
+
+        stands_after : Stands plan (heap_of last) stack (cursor_in before stack) kid_after
+        unfolding kid_after above
+        stands_after =
+            stands_turned plan (heap_of before) stack (cursor_in before stack) due.place (kid_here before stack) n due.plot
+            open_now.stands due.reaches due.is over (heap_of last) v due.closed
+            (last_over (heap_of before) (heap_of first) (heap_of mid) (heap_of last) n over.slot over.i below above fills.body
+            over.form over.kids v apart found above_found above_begun over.within child owner fills.becomes leaves ends)
+            (last_other (heap_of before) (heap_of first) (heap_of mid) (heap_of last) n over.slot over.i below above
+            fills.body over.form over.kids v apart found above_found above_begun over.within child owner fills.becomes leaves
+            ends)
+
+        tokens_after : (t : ℕ) → slots_occur last t ≡ kid_occurs kid_after t
+        unfolding kid_after
+        tokens_after t =
+            let value : occurs v t ≡ tree_occurs (tree_at due.place (tree_in_slots before stack)) t
+            = keeps_tokens deferred_column means table (shape_in table (root_shape plan) due.place (tree_in_slots before stack))
+            (tree_at due.place (tree_in_slots before stack)) v t checked here.suits makes in
+            let part : kid_occurs (kid_at due.place (kid_here before stack)) t
+            ≡ tree_occurs (tree_at due.place (tree_in_slots before stack)) t
+            = tree_tokens (kid_at due.place (kid_here before stack)) t
+            ∙ ap (λ (x : Tree). tree_occurs x t) (tree_of_at due.place (kid_here before stack)) in
+            omega
+            (arith, same_tokens t, open_now.tokens t, value, part, occurs_put_at due.place (there v) (kid_here before stack) t due.reaches)
+
+        tree_after : tree_of kid_after ≡ closed_at due.place v (tree_in_slots before stack)
+        unfolding kid_after
+        tree_after = tree_put_at due.place (there v) (kid_here before stack)
+
+        kid_is_after : kid_here last stack ≡ put_at due.place (there v) (kid_here before stack)
+        unfolding kid_after
+        kid_is_after = kid_is plan (heap_of last) stack (cursor_in before stack) kid_after stands_after
+
+        open_after : IsOpenAt plan last stack (cursor_in before stack) (closed_at due.place v (tree_in_slots before stack))
+        open_after =
+            open_shown plan last stack (cursor_in before stack) kid_after
+            (closed_at due.place v (tree_in_slots before stack)) stands_after tokens_after tree_after
+
+        -- first
+        pub has_turned : HasTurned means table plan before stack last n
+        has_turned = record {
+          place = due.place;
+          stored = stored;
+          value = v;
+          meant = makes;
+          stands = open_after;
+          here = kid_is_after;
+          free =
+              last_here (heap_of before) (heap_of first) (heap_of mid) (heap_of last) n over.slot over.i below above fills.body
+              over.form over.kids v apart found above_found above_begun over.within child owner fills.becomes leaves ends;
+          others =
+              in_use_last (heap_of before) (heap_of first) (heap_of mid) (heap_of last) n over.slot over.i below above
+              fills.body over.form over.kids v apart found above_found above_begun over.within child owner fills.becomes
+              leaves ends;
+          marks =
+              marked_last (heap_of before) (heap_of first) (heap_of mid) (heap_of last) n over.slot over.i below above
+              fills.body over.form over.kids v apart found above_found above_begun over.within child owner fills.becomes
+              leaves ends;
+        }
+
+        closing : Closes means table (root_shape plan) due.place v (tree_in_slots before stack)
+        closing = record {
+          place = reach_place due.place (kid_here before stack) due.reaches;
+          there = λ e.
+              let none : None ≡ Some v
+              = sym (ap
+              (complete deferred_column means table
+              (shape_in table (root_shape plan) due.place (tree_in_slots before stack))) e) ∙ makes in
+              cc;
+          makes = makes;
+        }
+
+        -- second
+        pub keeps_the_rest : ClosingKeepsCompletion → ClosingKeepsFailures → ClosingKeepsFinish → ClosingKeepsFailuresOff
+            → KeepsTheRest means table plan before stack last
+        keeps_the_rest completion failing finish failing_off = record {
+          still = λ slot place lies. as_before place lies.reaches;
+          cursor =
+              as_before (cursor_in before stack)
+              (leads_reach (cursor_in before stack) [] (kid_here last stack)
+              (subst (λ (p : Place). Leads p (kid_here last stack)) (sym (append-nil (cursor_in before stack))) on_the_way));
+          finish =
+              ap (finished means table (root_shape plan) (cursor_in before stack)) open_after.built
+              ∙ finish means table (root_shape plan) (cursor_in before stack) due.place v (tree_in_slots before stack) closing
+              off;
+          failing = λ path.
+              ap (failures_off means table (root_shape plan) path (cursor_in before stack)) open_after.built
+              ∙ failing_off means table (root_shape plan) path (cursor_in before stack) due.place v
+              (tree_in_slots before stack) closing off;
+        }
+          where
+            on_the_way : Leads (cursor_in before stack) (kid_here last stack)
+            on_the_way =
+                subst (λ (p : Place). Leads p (kid_here last stack)) open_after.cursor open_after.open_still.stands.leads
+
+            as_before : (place : Place) → Reaches place (kid_here last stack)
+                → CompletesAsBefore means table (root_shape plan) (tree_in_slots before stack) (tree_in_slots last stack) place
+            as_before place lies =
+                let reaches : Reaches place (put_at due.place (there v) (kid_here before stack))
+                = subst (λ (x : Kid). Reaches place x) kid_is_after lies in
+                let has : HasPlace place (closed_at due.place v (tree_in_slots before stack))
+                = subst (λ (t : Tree). HasPlace place t) (tree_put_at due.place (there v) (kid_here before stack))
+                (reach_place place (put_at due.place (there v) (kid_here before stack)) reaches) in
+                subst
+                (λ (t : Tree). CompletesAsBefore means table (root_shape plan) (tree_in_slots before stack) t place)
+                (sym open_after.built)
+                (completes_still completion failing means table (root_shape plan) due.place place v
+                (tree_in_slots before stack) closing has)
+
+            off : IsOffTheWay (cursor_in before stack) due.place
+            off =
+                due_off plan (heap_of before) stack (cursor_in before stack) due.place (kid_here before stack) n due.plot
+                open_now.stands due.reaches due.is

@@ -1,0 +1,147 @@
+-- One turn of the walk over stored places: what it asks for, and the three things that it owes.
+use Rattle.std.specs.Prelude.{◌≡◌, ◌≢◌, ℕ, Bool, true, false, List, ◌++◌, is_some, Some, None}
+use Rattle.std.specs.List.{Contains}
+use Rattle.fr_shape.specs.declared.error.ReflectErrorKind.{ReflectErrorKind}
+use Rattle.fr_shape.specs.Hooks.{Meanings}
+use Rattle.fr_shape.specs.Look.{Table}
+use Rattle.fr_shape.specs.Val.{Val}
+use Rattle.fr_path.specs.declared.path_steps.PathStep.{PathStep}
+use Rattle.fr_model.specs.Complete.{complete}
+use Rattle.fr_model.specs.Failing.{own_lack}
+use Rattle.fr_model.specs.Finish.{finished, finished_here, failures_off}
+use Rattle.fr_model.specs.Places.{Place, deferred_column}
+use Rattle.fr_model.specs.Tree.{Tree, whole, tree_at, change_at, shape_in}
+use Rattle.fr_model.specs.Well.{Suits}
+use Rattle.fr_plan.specs.TypePlan.{Plan}
+use Rattle.fr_frame.specs.declared.places.Slot.{Slot}
+use Rattle.fr_frame.specs.Bodies.{Body, entered_body, whole_body, begun_body, IsClosed}
+use Rattle.fr_frame.specs.Changes.{SameTokens}
+use Rattle.fr_frame.specs.Heap.{heap_of, marked}
+use Rattle.fr_frame.specs.Kids.{Kid, at, Plot, there, body_in}
+use Rattle.fr_store.specs.Moves.{IsOpenAt, cursor_in, tree_in_slots}
+use Rattle.fr_store.specs.Stands.{kid_shown, IsOpen}
+use Rattle.fr_store.specs.Turns.{root_shape, CompletesAsBefore, Turned}
+use Rattle.fr_store.specs.Walks.{IsStoredAt, AreInWalkOrder, IsWalk}
+use Rattle.fr_store.specs.Ways.{kid_at, put_at, Reaches}
+
+-- nothing was put at the place but that it was entered
+abbrev pub is_entered : Body → Bool
+is_entered entered_body = true
+is_entered (whole_body v) = false
+is_entered (begun_body form cells) = false
+
+-- what lies in the slots of an open builder
+abbrev pub kid_here : List Slot → List ℕ → Kid
+kid_here slots stack = kid_shown (heap_of slots) stack
+
+-- it is a place's turn: the place in this slot is stored, and nothing beneath it is in a slot
+pub record MayTurn (slots : List Slot) (stack : List ℕ) (slot : ℕ) : Type 0 where
+  pub place : Place
+  pub plot : Plot
+  pub reaches : Reaches place (kid_here slots stack)
+  pub is : kid_at place (kid_here slots stack) ≡ at slot true plot
+  pub closed : IsClosed (body_in plot)
+
+-- First: at its own turn the place in this slot made a value by the rules of the end of deferred mode, and became whole with it in
+-- the place above. The tree changed at that place alone, the builder works where it did, and one slot fewer is in use.
+pub record HasTurned (means : Meanings) (table : Table) (plan : Plan) (before : List Slot) (stack : List ℕ) (after : List Slot) (slot : ℕ) : Type 0 where
+  pub place : Place
+  pub stored : IsStoredAt (kid_here before stack) slot place
+  pub value : Val
+  pub meant :
+      complete deferred_column means table (shape_in table (root_shape plan) place (tree_in_slots before stack))
+      (tree_at place (tree_in_slots before stack))
+      ≡ Some value
+  pub stands :
+      IsOpenAt plan after stack (cursor_in before stack)
+      (change_at place (λ old. whole value) (tree_in_slots before stack))
+  pub here : kid_here after stack ≡ put_at place (there value) (kid_here before stack)
+  pub free : heap_of after slot ≡ None
+  pub others : (n : ℕ) → n ≢ slot → is_some (heap_of after n) ≡ is_some (heap_of before n)
+  pub marks : (n : ℕ) → marked (heap_of after) n ≡ true → marked (heap_of before) n ≡ true
+
+-- Second: each place that is stored still completes as before, so does the one at which the builder works, and so does the whole
+-- along the way there.
+pub record KeepsTheRest (means : Meanings) (table : Table) (plan : Plan) (before : List Slot) (stack : List ℕ) (after : List Slot) : Type 0 where
+  pub still : (slot : ℕ) (place : Place) → IsStoredAt (kid_here after stack) slot place
+      → CompletesAsBefore means table (root_shape plan) (tree_in_slots before stack) (tree_in_slots after stack) place
+  pub cursor :
+      CompletesAsBefore means table (root_shape plan) (tree_in_slots before stack) (tree_in_slots after stack)
+      (cursor_in before stack)
+  pub finish :
+      finished means table (root_shape plan) (cursor_in before stack) (tree_in_slots after stack)
+      ≡ finished means table (root_shape plan) (cursor_in before stack) (tree_in_slots before stack)
+  pub failing : (path : List PathStep)
+      → failures_off means table (root_shape plan) path (cursor_in before stack) (tree_in_slots after stack)
+      ≡ failures_off means table (root_shape plan) path (cursor_in before stack) (tree_in_slots before stack)
+
+-- Third: the place in this slot makes no value, and the refusal is of what it lacks by itself.
+pub record IsLackingAt (means : Meanings) (table : Table) (plan : Plan) (slots : List Slot) (stack : List ℕ) (slot : ℕ) (kind : ReflectErrorKind) : Type 0 where
+  pub place : Place
+  pub stored : IsStoredAt (kid_here slots stack) slot place
+  pub incomplete :
+      complete deferred_column means table (shape_in table (root_shape plan) place (tree_in_slots slots stack))
+      (tree_at place (tree_in_slots slots stack))
+      ≡ None
+  pub lacks :
+      own_lack means table (shape_in table (root_shape plan) place (tree_in_slots slots stack))
+      (tree_at place (tree_in_slots slots stack))
+      ≡ Some kind
+
+-- Some places of a walk had their turn, each at its own turn, and these are left: the builder works where it did, and what becomes
+-- of the tree, or fails, is as at the start.
+pub record Walked (means : Meanings) (table : Table) (plan : Plan) (before : List Slot) (stack : List ℕ) (now : List Slot) (walk rest : List ℕ) : Type 0 where
+  pub first : IsWalk (kid_here before stack) walk
+  pub still : IsOpen plan now stack
+  pub cursor : cursor_in now stack ≡ cursor_in before stack
+  pub suits : Suits table (root_shape plan) (tree_in_slots now stack)
+  pub left : IsWalk (kid_here now stack) rest
+  pub done : List Place
+  pub split : first.places ≡ done ++ left.places
+  pub turned : Turned means table (root_shape plan) (tree_in_slots before stack) done (tree_in_slots now stack)
+  pub here :
+      CompletesAsBefore means table (root_shape plan) (tree_in_slots before stack) (tree_in_slots now stack)
+      (cursor_in before stack)
+  pub finish :
+      finished means table (root_shape plan) (cursor_in before stack) (tree_in_slots now stack)
+      ≡ finished means table (root_shape plan) (cursor_in before stack) (tree_in_slots before stack)
+  pub failing : (path : List PathStep)
+      → failures_off means table (root_shape plan) path (cursor_in before stack) (tree_in_slots now stack)
+      ≡ failures_off means table (root_shape plan) path (cursor_in before stack) (tree_in_slots before stack)
+  pub tokens : SameTokens before now
+  pub marks : (n : ℕ) → marked (heap_of now) n ≡ true → marked (heap_of before) n ≡ true
+
+-- The place at which the builder works was finished, and all else is as it was.
+pub record FinishedHere (means : Meanings) (table : Table) (plan : Plan) (before : List Slot) (stack : List ℕ) (after : List Slot) : Type 0 where
+  pub tree : Tree
+  pub meant :
+      finished_here means table
+      (shape_in table (root_shape plan) (cursor_in before stack) (tree_in_slots before stack))
+      (tree_at (cursor_in before stack) (tree_in_slots before stack))
+      ≡ Some tree
+  pub stands :
+      IsOpenAt plan after stack (cursor_in before stack)
+      (change_at (cursor_in before stack) (λ old. tree) (tree_in_slots before stack))
+
+-- It lacks something by itself.
+abbrev pub LacksHere : Meanings → Table → Plan → List Slot → List ℕ → ReflectErrorKind → Type 0
+LacksHere means table plan slots stack kind =
+    own_lack means table (shape_in table (root_shape plan) (cursor_in slots stack) (tree_in_slots slots stack))
+    (tree_at (cursor_in slots stack) (tree_in_slots slots stack))
+    ≡ Some kind
+
+-- The end of deferred mode came about turn by turn: just the places that were stored had their turn, in the order of the walk, and
+-- then the place at which the builder works was finished.
+pub record CameByTurns (means : Meanings) (table : Table) (plan : Plan) (before : List Slot) (stack : List ℕ) (after : List Slot) (stack_after : List ℕ) : Type 0 where
+  pub done : List Place
+  pub order : AreInWalkOrder (tree_in_slots before stack) done
+  pub all : (slot : ℕ) (place : Place) → IsStoredAt (kid_here before stack) slot place → Contains done place
+  pub each : (place : Place) → Contains done place → (slot : ℕ) × IsStoredAt (kid_here before stack) slot place
+  pub tree : Tree
+  pub turned : Turned means table (root_shape plan) (tree_in_slots before stack) done tree
+  pub here : Tree
+  pub finishes :
+      finished_here means table (shape_in table (root_shape plan) (cursor_in before stack) tree)
+      (tree_at (cursor_in before stack) tree)
+      ≡ Some here
+  pub last : tree_in_slots after stack_after ≡ change_at (cursor_in before stack) (λ old. here) tree

@@ -1,0 +1,201 @@
+-- Laws of a walk, for proofs: it begins, goes on by a turn, is refused, or comes to its end.
+use Rattle.std.proofs.Common.{◌≡◌, ◌≢◌, ◌⊎◌, ℕ, true, List, [], ◌∷◌, ◌++◌, append-nil, append_assoc, Some, None, inl, inr, refl, sym, ◌∙◌, ap, subst}
+use Rattle.fr_path.specs.declared.path_steps.PathStep.{PathStep}
+use Rattle.fr_shape.specs.declared.error.ReflectErrorKind.{ReflectErrorKind}
+use Rattle.fr_shape.specs.Checked.{IsChecked}
+use Rattle.fr_shape.specs.Hooks.{Meanings}
+use Rattle.fr_shape.specs.Look.{Table}
+use Rattle.fr_shape.specs.Val.{Val}
+use Rattle.fr_model.specs.Complete.{complete}
+use Rattle.fr_model.specs.Failing.{Failure, failures, first_by_walk, own_lack}
+use Rattle.fr_model.specs.FailingLaws.{FailuresLieThere, FinishesOrRefuses, FirstByWalkIs, LackingFails}
+use Rattle.fr_model.specs.Finish.{failures_off, finish_cause, finished, kind_of}
+use Rattle.fr_model.specs.FinishLaws.{closed_at}
+use Rattle.fr_model.specs.Laws.{CompletingFits}
+use Rattle.fr_model.specs.Places.{Place, deferred_column}
+use Rattle.fr_model.specs.Relation.{HasPlace}
+use Rattle.fr_model.specs.Tree.{Tree, deferred, whole, change_at, shape_in, tree_at}
+use Rattle.fr_model.specs.Well.{Suits, Leads as LeadsIn}
+use Rattle.fr_plan.specs.TypePlan.{Plan}
+use Rattle.fr_frame.specs.declared.places.Slot.{Slot}
+use Rattle.fr_frame.specs.Changes.{SameTokens}
+use Rattle.fr_frame.specs.Heap.{heap_of}
+use Rattle.fr_frame.specs.Kids.{Kid, there, tree_of}
+use Rattle.fr_store.specs.ClosingLaws.{suits_at, suits_change}
+use Rattle.fr_store.specs.HeadLaws.{Head, head_closed, head_of, one_place, walk_on}
+use Rattle.fr_store.specs.HeldLaws.{first_fails, held_by_first, leads_deferred, no_marks}
+use Rattle.fr_store.specs.Moves.{IsOpenAt, cursor_in, tree_in_slots}
+use Rattle.fr_store.specs.OffLaws.{reach_place}
+use Rattle.fr_store.specs.Stands.{IsOpen}
+use Rattle.fr_store.specs.Turning.{HasTurned, IsLackingAt, KeepsTheRest, MayTurn, Walked, kid_here}
+use Rattle.fr_store.specs.Turns.{CompletesAsBefore, IsHeldUp, Turned, root_shape}
+use Rattle.fr_store.specs.Walks.{IsStoredAt, IsWalk}
+use Rattle.fr_store.specs.Ways.{kid_at, put_at, Leads, NoneStored, Reaches}
+
+-- Turns, one after another.
+
+-- one place more had its turn
+turned_more : (means : Meanings) (table : Table) (s : ℕ) (before : Tree) (done : List Place) (now : Tree) (place : Place)
+    (v : Val) (next : Tree) → Turned means table s before done now
+    → complete deferred_column means table (shape_in table s place now) (tree_at place now) ≡ Some v
+    → next ≡ change_at place (λ old. whole v) now → Turned means table s before (done ++ place ∷ []) next
+turned_more means table s before [] now place v next turned makes is = (
+  v,
+  subst (λ (t : Tree). complete deferred_column means table (shape_in table s place t) (tree_at place t) ≡ Some v) turned
+      makes,
+  is ∙ ap (λ (t : Tree). change_at place (λ old. whole v) t) turned,
+)
+turned_more means table s before (first ∷ done) now place v next turned makes is = (
+  turned.0,
+  turned.1,
+  turned_more means table s (change_at first (λ old. whole turned.0) before) done now place v next turned.2 makes is,
+)
+
+as_before_again : (means : Meanings) (table : Table) (s : ℕ) (before now next : Tree) (place : Place)
+    → CompletesAsBefore means table s before now place → CompletesAsBefore means table s now next place
+    → CompletesAsBefore means table s before next place
+as_before_again means table s before now next place first second = record {
+  value = second.value ∙ first.value;
+  failing = λ path. second.failing path ∙ first.failing path;
+}
+
+module _ (means : Meanings) (table : Table) (plan : Plan) (before : List Slot) (stack : List ℕ) where
+  -- the walk begins
+  pub walk_begins : (walk : List ℕ) → IsOpen plan before stack → Suits table (root_shape plan) (tree_in_slots before stack)
+      → IsWalk (kid_here before stack) walk → Walked means table plan before stack before walk walk
+  walk_begins walk open_now suits first = record {
+    first = first;
+    still = open_now;
+    cursor = refl;
+    suits = suits;
+    left = first;
+    done = [];
+    split = refl;
+    turned = refl;
+    here = record { value = refl; failing = λ path. refl };
+    finish = refl;
+    failing = λ path. refl;
+    tokens = λ t. refl;
+    marks = λ n is. is;
+  }
+
+  module _ (now : List Slot) (walk rest : List ℕ) (n : ℕ) (walked : Walked means table plan before stack now walk (n ∷ rest)) where
+    head : Head (kid_here now stack) n rest walked.left.places
+    head = head_of (kid_here now stack) n rest walked.left
+
+    -- the next place may have its turn
+    pub head_due : MayTurn now stack n
+    head_due = record {
+      place = head.place;
+      plot = head.stored.plot;
+      reaches = head.stored.reaches;
+      is = head.stored.is;
+      closed = head_closed (kid_here now stack) n rest walked.left head (cursor_in now stack) walked.still.stands.leads;
+    }
+
+    -- there is no other place in its slot
+    same_place : (place : Place) → IsStoredAt (kid_here now stack) n place → place ≡ head.place
+    same_place place stored =
+        one_place place head.place (kid_here now stack) n true true stored.plot head.stored.plot (walked.still.stands.once n)
+        stored.reaches head.stored.reaches stored.is head.stored.is
+
+    -- it had its turn
+    pub walk_goes_on : CompletingFits → IsChecked table → (next : List Slot) → HasTurned means table plan now stack next n
+        → KeepsTheRest means table plan now stack next → SameTokens now next
+        → Walked means table plan before stack next walk rest
+    walk_goes_on fitting checked next turned keeps tokens = record {
+      first = walked.first;
+      still = turned.stands.open_still;
+      cursor = turned.stands.cursor ∙ walked.cursor;
+      suits = subst (Suits table (root_shape plan)) (sym turned.stands.built) suits_on;
+      left = on.0;
+      done = walked.done ++ head.place ∷ [];
+      split =
+          walked.split ∙ ap (λ (ps : List Place). walked.done ++ ps) head.is
+          ∙ sym (append_assoc walked.done (head.place ∷ []) head.places)
+          ∙ ap (λ (ps : List Place). (walked.done ++ head.place ∷ []) ++ ps) (sym on.1);
+      turned =
+          turned_more means table (root_shape plan) (tree_in_slots before stack) walked.done (tree_in_slots now stack)
+          head.place turned.value (tree_in_slots next stack) walked.turned
+          (subst
+          (λ (p : Place). complete deferred_column means table (shape_in table (root_shape plan) p (tree_in_slots now stack))
+          (tree_at p (tree_in_slots now stack)) ≡ Some turned.value)
+          same turned.meant)
+          (turned.stands.built
+          ∙ ap (λ (p : Place). change_at p (λ old. whole turned.value) (tree_in_slots now stack)) same);
+      here =
+          as_before_again means table (root_shape plan) (tree_in_slots before stack) (tree_in_slots now stack)
+          (tree_in_slots next stack) (cursor_in before stack) walked.here
+          (subst
+          (λ (p : Place). CompletesAsBefore means table (root_shape plan) (tree_in_slots now stack)
+          (tree_in_slots next stack) p)
+          walked.cursor keeps.cursor);
+      finish =
+          subst
+          (λ (p : Place). finished means table (root_shape plan) p (tree_in_slots next stack)
+          ≡ finished means table (root_shape plan) p (tree_in_slots now stack))
+          walked.cursor keeps.finish
+          ∙ walked.finish;
+      failing = λ path.
+          subst
+          (λ (p : Place). failures_off means table (root_shape plan) path p (tree_in_slots next stack)
+          ≡ failures_off means table (root_shape plan) path p (tree_in_slots now stack))
+          walked.cursor (keeps.failing path)
+          ∙ walked.failing path;
+      tokens = λ t. tokens t ∙ walked.tokens t;
+      marks = λ m is. walked.marks m (turned.marks m is);
+    }
+      where
+        same : turned.place ≡ head.place
+        same = same_place turned.place turned.stored
+
+        on : (left : IsWalk (kid_here next stack) rest) × (left.places ≡ head.places)
+        on =
+            subst (λ (x : Kid). (left : IsWalk x rest) × (left.places ≡ head.places))
+            (sym (turned.here ∙ ap (λ (p : Place). put_at p (there turned.value) (kid_here now stack)) same))
+            (walk_on (kid_here now stack) n rest walked.left head (cursor_in now stack) walked.still.stands.leads
+            walked.still.stands.once turned.value)
+
+        has : HasPlace turned.place (tree_in_slots now stack)
+        has = reach_place turned.place (kid_here now stack) turned.stored.reaches
+
+        suits_on : Suits table (root_shape plan) (closed_at turned.place turned.value (tree_in_slots now stack))
+        suits_on =
+            suits_change table (root_shape plan) turned.place (whole turned.value) (tree_in_slots now stack) has walked.suits
+            (fitting deferred_column means table (shape_in table (root_shape plan) turned.place (tree_in_slots now stack))
+            (tree_at turned.place (tree_in_slots now stack)) turned.value checked
+            (suits_at table (root_shape plan) turned.place (tree_in_slots now stack) has walked.suits) turned.meant)
+
+    -- it makes no value: it is the first place that fails
+    pub walk_held_up : FailuresLieThere → LackingFails → FirstByWalkIs → FinishesOrRefuses → IsOpen plan before stack
+        → (kind : ReflectErrorKind) → IsLackingAt means table plan now stack n kind
+        → IsHeldUp means table plan before stack kind
+    walk_held_up lie lacking first refuses open_first kind lacks =
+        record { unfinished = held.0; cause = held.1 }
+      where
+        same : lacks.place ≡ head.place
+        same = same_place lacks.place lacks.stored
+
+        fails : kind_of (first_by_walk (failures_off means table (root_shape plan) [] (cursor_in now stack)
+            (tree_in_slots now stack))) ≡ Some kind
+        fails =
+            first_fails means table (root_shape plan) (kid_here now stack) (cursor_in now stack) walked.still.stands.leads n rest
+            walked.left head kind
+            (subst
+            (λ (p : Place). own_lack means table (shape_in table (root_shape plan) p (tree_in_slots now stack))
+            (tree_at p (tree_in_slots now stack)) ≡ Some kind)
+            same lacks.lacks)
+            lie lacking first
+
+        as_at_first : failures_off means table (root_shape plan) [] (cursor_in now stack) (tree_in_slots now stack)
+            ≡ failures_off means table (root_shape plan) [] (cursor_in before stack) (tree_in_slots before stack)
+        as_at_first =
+            ap (λ (p : Place). failures_off means table (root_shape plan) [] p (tree_in_slots now stack)) walked.cursor
+            ∙ walked.failing []
+
+        held : (finished means table (root_shape plan) (cursor_in before stack) (tree_in_slots before stack) ≡ None)
+            × (kind ≡ finish_cause means table (root_shape plan) (cursor_in before stack) (tree_in_slots before stack))
+        held =
+            held_by_first refuses means table (root_shape plan) (cursor_in before stack) (tree_in_slots before stack) kind
+            (leads_deferred 0 (cursor_in before stack) (kid_here before stack) open_first.stands.leads)
+            (ap (λ (fs : List Failure). kind_of (first_by_walk fs)) (sym as_at_first) ∙ fails)
