@@ -8,15 +8,11 @@ use Rattle.fr_store.specs.Turning.{FinishedHere, LacksHere}
 use Rattle.fr_store.proofs.finishing.complete_top.Goals as goal
 use Rattle.fr_store.proofs.finishing.complete_top.Goals.{then-entered, else-entered}
 
-pub law_completes-requires : goal.law_completes-requires
-law_completes-requires g c = ?
 
 pub is_entered-entered-requires : goal.is_entered-entered-requires
 is_entered-entered-requires g c =
     top_in_use c.args.plan.now c.args.slots.now c.args.stack.now c.requires.is_open c.in-Some.top.0 c.in-Some.ensures.last
 
-pub complete_by_defaults-requires-clause-scaffold : goal.complete_by_defaults-requires-clause-scaffold
-complete_by_defaults-requires-clause-scaffold g c = ?
 
 pub complete_by_defaults-requires-clause-place : goal.complete_by_defaults-requires-clause-place
 complete_by_defaults-requires-clause-place g c =
@@ -37,8 +33,6 @@ returns-in_err-complete_by_defaults-clause-why g c =
     c.requires.plan c.requires.suits (g.H.Hooks.means c.args.hooks.now) c.in_err-complete_by_defaults.field-0.0
     c.in_err-complete_by_defaults.ensures.why))
 
-pub make_whole-requires-clause-scaffold : goal.make_whole-requires-clause-scaffold
-make_whole-requires-clause-scaffold g c = ?
 
 pub returns-clause-finished : goal.returns-clause-finished
 returns-clause-finished g c =

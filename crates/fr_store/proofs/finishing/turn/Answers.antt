@@ -9,11 +9,7 @@ use Rattle.fr_store.specs.TurnedLaws.{above_in_use, child_absent, has_turned, ke
 use Rattle.fr_store.specs.Turning.{IsLackingAt}
 use Rattle.fr_store.proofs.finishing.turn.Goals as goal
 
-pub law_closing-requires : goal.law_closing-requires
-law_closing-requires g c = ?
 
-pub law_completes-requires : goal.law_completes-requires
-law_completes-requires g c = ?
 
 pub step_to-step-requires : goal.step_to-step-requires
 step_to-step-requires g c =
@@ -23,8 +19,6 @@ pub above-parent-requires : goal.above-parent-requires
 above-parent-requires g c =
     numbered c.args.plan.now c.args.slots.now c.args.stack.now c.args.place.0 c.requires.is_open c.requires.due
 
-pub complete_by_defaults-requires-clause-scaffold : goal.complete_by_defaults-requires-clause-scaffold
-complete_by_defaults-requires-clause-scaffold g c = ?
 
 pub complete_by_defaults-requires-clause-place : goal.complete_by_defaults-requires-clause-place
 complete_by_defaults-requires-clause-place g c =

@@ -3,8 +3,6 @@ use Rattle.fr_store.specs.Stored.{IsKept}
 use Rattle.fr_store.proofs.KeptLaws.{kept_more}
 use Rattle.fr_store.proofs.store.FrameStore.insert.Goals as goal
 
-pub mark-requires-clause-scaffold : goal.mark-requires-clause-scaffold
-mark-requires-clause-scaffold c = ?
 
 pub returns-clause-kept : goal.returns-clause-kept
 returns-clause-kept c =

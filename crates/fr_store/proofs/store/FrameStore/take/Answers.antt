@@ -2,11 +2,7 @@ use Rattle.std.proofs.Common.{sym}
 use Rattle.fr_store.proofs.KeptLaws.{kept_less, marked_in_use}
 use Rattle.fr_store.proofs.store.FrameStore.take.Goals as goal
 
-pub child-requires : goal.child-requires
-child-requires c = ?
 
-pub mark-requires-clause-scaffold : goal.mark-requires-clause-scaffold
-mark-requires-clause-scaffold c = ?
 
 pub returns-clause-kept : goal.returns-clause-kept
 returns-clause-kept c =
