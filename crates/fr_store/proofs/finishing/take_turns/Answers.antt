@@ -8,12 +8,6 @@ use Rattle.fr_store.specs.Turns.{IsHeldUp}
 use Rattle.fr_store.specs.WalkedLaws.{head_due, walk_begins, walk_goes_on, walk_held_up}
 use Rattle.fr_store.proofs.finishing.take_turns.Goals as goal
 
-pub law_completes-requires : goal.law_completes-requires
-law_completes-requires g c = ?
-
-pub law_failing-requires : goal.law_failing-requires
-law_failing-requires g c = ?
-
 pub loop-place-init : goal.loop-place-init
 loop-place-init g c = record {
   walked =
