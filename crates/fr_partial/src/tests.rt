@@ -19,6 +19,7 @@ use fr_shape::{
 use std::alloc::Global;
 use std::process::Abort;
 
+mod deferring;
 mod paths;
 
 fn shape(alloc: Global, name: &str, def: Def, preset: Option<Template>) -> Option<Shape>
