@@ -125,7 +125,7 @@ impl Children {
     }
 
     /// The slot that a child is in, where it is in one.
-    pub fn slot(&self, i: usize) -> Option<SlotId>
+    pub(crate) fn slot(&self, i: usize) -> Option<SlotId>
         requires { i < length self.now }
         ensures { option_map (λ (slot : Number). slot.0) result ≡ slot_at self.now i }
     {

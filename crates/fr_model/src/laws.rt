@@ -11,104 +11,77 @@ ghost use Rattle.fr_model.specs.PathLaws.{EnteringAddsAStep, FinishingKeepsThePa
 /// commands gives a value exactly where the journal completes, and the same one. At the start, and after each command
 /// that is admitted, what stands at each place of the tree is what the journal holds of it.
 pub fn law_agree()
-    requires scaffold { ⊥ }
     ensures agree { MachineAgrees }
     ensures start { StartIsRelated }
     ensures step { StepKeepsRelated }
-{
-    unreachable!()
-}
+{}
 
 /// What a journal holds of a place is what the rules on covering notes say.
 pub fn law_covering()
-    requires scaffold { ⊥ }
     ensures scan { ScanAgrees }
     ensures ways { WaysAgree }
-{
-    unreachable!()
-}
+{}
 
 /// Where a place off the way makes a value and becomes whole with it, the tree still makes what it made, what fails in it still
 /// fails, and the end of deferred mode is what it was.
 pub fn law_closing()
-    requires scaffold { ⊥ }
     ensures completion { ClosingKeepsCompletion }
     ensures failures { ClosingKeepsFailures }
     ensures finish { ClosingKeepsFinish }
     ensures failures_off { ClosingKeepsFailuresOff }
-{
-    unreachable!()
-}
+{}
 
 /// In strict mode a place completes unless it lacks something, and at the end of deferred mode unless it or a place beneath it
 /// fails. Over a checked table, what completes of a tree that suits its shape fits that shape and keeps its tokens.
 pub fn law_completes()
-    requires scaffold { ⊥ }
     ensures or_lacks { CompletesOrLacks }
     ensures or_fails { CompletesOrFails }
     ensures fits { CompletingFits }
     ensures tokens { CompletingKeepsTokens }
-{
-    unreachable!()
-}
+{}
 
 /// What fails at the end of deferred mode is half done and lies off the way, and a place that lacks something by itself fails, its
 /// children being whole or holes. That end is refused exactly where something fails, or the place at which the builder works lacks
 /// something. Once every place off the way is whole or a hole, only that place is left to be finished.
 pub fn law_failing()
-    requires scaffold { ⊥ }
     ensures lie { FailuresLieThere }
     ensures lacking { LackingFails }
     ensures first { FirstByWalkIs }
     ensures refuses { FinishesOrRefuses }
     ensures nothing { NothingFailsOfDone }
     ensures done { FinishOfDone }
-{
-    unreachable!()
-}
+{}
 
 /// What the end of deferred mode notes, and when it can't end, is what the three rules on places say.
 pub fn law_finishing()
-    requires scaffold { ⊥ }
     ensures stuck { StuckOrNoted }
     ensures noted { NotesWhatIsDue }
-{
-    unreachable!()
-}
+{}
 
 /// The path of the place at which a builder works, from state to state. Entering a child, from a state that is in order,
 /// adds the step to that child. Putting a value keeps the path, or takes its last step away where the cursor goes up. Leaving a
 /// place as it is takes it away too, and the end of deferred mode keeps the path.
 /// There are as many steps as the place lies deep, so that only the root has none.
 pub fn law_paths()
-    requires scaffold { ⊥ }
     ensures enter { EnteringAddsAStep }
     ensures put { PuttingKeepsThePath }
     ensures leave { LeavingDropsAStep }
     ensures leave_as_it_is { LeavingAsItIs }
     ensures finish { FinishingKeepsThePath }
     ensures deep { PathIsAsDeep }
-{
-    unreachable!()
-}
+{}
 
 /// Over a checked table, in a state that is in order: the tokens that the builder held and a command brought are those
 /// that it then holds (none after a refusal) and those that the command dropped; and so it is of `build`.
 pub fn law_removed()
-    requires scaffold { ⊥ }
     ensures step { StepKeepsTokens }
     ensures build { BuildKeepsTokens }
-{
-    unreachable!()
-}
+{}
 
 /// A builder begins in a well state, whatever its table and its root. Over a checked table an admitted command keeps its
 /// state in order, if the command is fitting, and well, if it is fresh besides.
 pub fn law_well()
-    requires scaffold { ⊥ }
     ensures start { StartIsWell }
     ensures in_order { StepKeepsOrder }
     ensures distinct { StepKeepsDistinct }
-{
-    unreachable!()
-}
+{}

@@ -6,6 +6,7 @@ pub mod PairLaws
 pub mod PlaceLaws
 pub mod PruneSteps
 pub mod PruneTurns
+pub mod RunLaws
 pub mod SetLaws
 pub mod SpreadLaws
 pub mod TurnLaws

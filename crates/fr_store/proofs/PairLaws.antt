@@ -3,7 +3,7 @@ use Rattle.std.proofs.Common.{◌≡◌, ◌≢◌, ◌⊎◌, ℕ, zero, suc, �
 use Rattle.std.specs.List.{All, Contains, cons_option, filter, filter_map, sum_by}
 use Rattle.std.specs.List.Sorted.{IsNonDecreasingBy}
 use Rattle.std.proofs.lemmas.List.{reverse-append, map-append, get_or_default}
-use Rattle.std.proofs.lemmas.List.Elements.{All-nil, All-cons, All-head, All-tail, All-append, All-filter, All-map, All-weaker, Contains-append_cases, Contains-append_left, Contains-append_right}
+use Rattle.std.proofs.lemmas.List.Elements.{All-nil, All-cons, All-head, All-tail, All-append, All-filter, All-map, All-weaker, Contains-append_left, Contains-append_right}
 use Rattle.std.proofs.lemmas.List.Sums.{sum_by-cons}
 use Rattle.fr_store.specs.Places.{Pairs, counts_in, AreOnce}
 use Rattle.fr_store.specs.Ways.{counts_if}
@@ -112,13 +112,6 @@ module _ {X Y : Type 0} where
           → (z : X) × Contains (x ∷ xs) z × (f z ≡ Some y)
       go (Some w) e at rest = first w e (in_cases w y (filter_map f xs) at) rest
       go None e at rest = let found = rest at in (found.0, later_in x found.0 xs found.1, found.2)
-
-module _ {X Y : Type 0} (f g : X → Y) where
-  pub map_same : (xs : List X) → All (λ x. f x ≡ g x) xs → map f xs ≡ map g xs
-  map_same [] same = refl
-  map_same (x ∷ xs) same =
-      ap (λ (y : Y). y ∷ map f xs) (All-head (λ y. f y ≡ g y) x xs same)
-      ∙ ap (λ (ys : List Y). g x ∷ ys) (map_same xs (All-tail (λ y. f y ≡ g y) x xs same))
 
 module _ {X Y : Type 0} (f : X → Y) where
   pub map_reverse : (xs : List X) → map f (reverse xs) ≡ reverse (map f xs)
@@ -281,6 +274,8 @@ module _ {X : Type 0} (n : X → ℕ) where
     where
       go : (i : ℕ) (d : X) → i < length xs → (n x ≡ n (get_or xs i d)) ⊎ (n x ≢ n (get_or xs i d)) → n x < n (get_or xs i d)
       go i d h (inl e) =
-          absurd
-          (omega (arith, once (n x), sum_by-cons (λ y. counts_if (nat_eq (n y) (n x))) x xs, counts_same (n x), keyed_at_least (n x) xs i d h (sym e)))
+          let sum = sum_by-cons (λ y. counts_if (nat_eq (n y) (n x))) x xs in
+          let same = counts_same (n x) in
+          let more = keyed_at_least (n x) xs i d h (sym e) in
+          absurd (omega (arith, once (n x)))
       go i d h (inr ne) = let le : n x ≤ n (get_or xs i d) = up 0 (suc i) d (omega arith) (omega arith) in omega arith

@@ -1,5 +1,5 @@
 -- Places in slots, and the ways to them.
-use Rattle.std.proofs.Common.{◌≡◌, ◌≢◌, ◌⊎◌, ℕ, zero, suc, ◌+◌, ◌<◌, ◌≤◌, Bool, true, false, List, [], ◌∷◌, ◌++◌, length, nat_eq, Contains, All, inl, inr, refl, sym, ◌∙◌, ap, subst, arith}
+use Rattle.std.proofs.Common.{◌≡◌, ◌≢◌, ◌⊎◌, ℕ, zero, suc, ◌+◌, ◌≤◌, Bool, true, false, List, [], ◌∷◌, ◌++◌, length, Contains, All, inl, inr, refl, sym, ◌∙◌, ap, subst, arith}
 use Rattle.std.proofs.lemmas.List.{append-nil}
 use Rattle.std.proofs.lemmas.List.Elements.{All-nil, All-cons}
 use Rattle.fr_model.specs.Places.{Place}
@@ -7,10 +7,10 @@ use Rattle.fr_plan.specs.declared.nodes.NodeId.{NodeId}
 use Rattle.fr_plan.specs.TypePlan.{Plan}
 use Rattle.fr_frame.specs.declared.places.FrameOwner.{FrameOwner}
 use Rattle.fr_frame.specs.Heap.{Heap, marked, stored_in}
-use Rattle.fr_frame.specs.Kids.{Kid, gone, there, at, Plot, entered_plot, whole_plot, begun_plot, Kids, no_kids, kid, Holds, child_node, child_owner}
+use Rattle.fr_frame.specs.Kids.{Kid, gone, there, at, entered_plot, whole_plot, begun_plot, Kids, no_kids, kid, Holds, child_node, child_owner}
 use Rattle.fr_store.specs.HoldLaws.{holds_at}
 use Rattle.fr_store.specs.Places.{counts_in, IsHere, slot_here, stored_here, IsPlaced, slot_at}
-use Rattle.fr_store.specs.Ways.{count_kids, kid_nth, kid_in_plot, kid_below, kid_at, slots_along, counts_if, uses, uses_in, uses_among, AllMarked, AllMarkedAmong, StoredBut, Leads, Reaches, node_along, owner_along}
+use Rattle.fr_store.specs.Ways.{kid_nth, kid_in_plot, kid_below, kid_at, slots_along, uses, uses_among, AllMarked, AllMarkedAmong, StoredBut, Leads, Reaches, node_along, owner_along}
 use Rattle.fr_store.specs.WayLaws.{counts_same, same_or_other, leads_reach, leads_at, uses_nth, uses_at, marked_at}
 use Rattle.fr_store.proofs.PairLaws.{later_in}
 
@@ -61,7 +61,8 @@ placed_above place (i ∷ below) k placed = record {
 }
 
 -- a child in a slot
-pub placed_below : (place below : Place) (k : Kid) → IsPlaced k place → IsPlaced (kid_at place k) below → IsPlaced k (place ++ below)
+pub placed_below : (place below : Place) (k : Kid) → IsPlaced k place → IsPlaced (kid_at place k) below
+    → IsPlaced k (place ++ below)
 placed_below place below k placed child = record {
   reaches = reaches_on place below k placed.reaches child.reaches;
   here = subst IsHere (sym (way_on place below k)) child.here;

@@ -1,10 +1,10 @@
 -- How the list of all places grows: each place is followed by its children.
-use Rattle.std.proofs.Common.{◌≡◌, ◌≢◌, ◌⊎◌, ℕ, zero, suc, ◌+◌, ◌-◌, ◌<◌, ◌≤◌, Bool, true, false, cond, List, [], ◌∷◌, ◌++◌, map, length, length-append, get_or, nat_eq, append_assoc, inl, inr, refl, sym, ◌∙◌, ap, subst, arith}
+use Rattle.std.proofs.Common.{◌≡◌, ◌≢◌, ◌⊎◌, ℕ, zero, suc, ◌+◌, ◌<◌, ◌≤◌, Bool, true, false, cond, List, [], ◌∷◌, ◌++◌, map, length, length-append, get_or, nat_eq, append_assoc, inl, inr, refl, sym, ◌∙◌, ap, subst, arith}
 use Rattle.std.specs.List.{All, Contains, filter}
 use Rattle.std.proofs.lemmas.Grind.{common_steps}
 use Rattle.std.proofs.lemmas.Bool.Decides.{nat_tests}
 use Rattle.std.proofs.lemmas.List.{map-append, length-map, append-nil}
-use Rattle.std.proofs.lemmas.List.Elements.{All-nil, All-cons, All-head, All-tail, All-append, All-filter, All-map, All-contains, All-contains_itself, filter_passes, Contains-append_left, Contains-append_right, Contains-append_cases, Contains-push, Contains-push_cases}
+use Rattle.std.proofs.lemmas.List.Elements.{All-nil, All-cons, All-head, All-tail, All-append, All-filter, All-map, All-contains, All-contains_itself, filter_passes, Contains-append_left, Contains-append_right, Contains-push, Contains-push_cases}
 use Rattle.fr_model.specs.Places.{Place}
 use Rattle.fr_frame.specs.Kids.{Kid}
 use Rattle.fr_store.specs.declared.turning.Turn.{Turn}
@@ -12,7 +12,7 @@ use Rattle.fr_store.specs.Places.{Pairs, counts_in, AreOnce, IsHere, slot_here, 
 use Rattle.fr_store.specs.Ways.{counts_if}
 use Rattle.fr_store.specs.WayLaws.{counts_same, counts_other, same_or_other}
 use Rattle.fr_store.proofs.EarlierLaws.{earlier_differs, siblings, children_earlier, root_earlier}
-use Rattle.fr_store.proofs.PairLaws.{all_right, first_in, in_filter, in_map, map_same, pairs_append, pairs_cross, pairs_filter, pairs_map, none_counted}
+use Rattle.fr_store.proofs.PairLaws.{all_right, first_in, in_filter, in_map, pairs_append, pairs_cross, pairs_filter, pairs_map, none_counted}
 use Rattle.fr_store.proofs.PlaceLaws.{placed_above}
 
 -- the turns of the children of the place in this slot
@@ -49,7 +49,8 @@ taken_more : (ns : List ℕ) (n : ℕ) (turns : List Turn) → taken (ns ++ n �
 taken_more [] n turns = omega arith
 taken_more (m ∷ ns) n turns = omega (arith, taken_more ns n turns)
 
-run_cons : (n : ℕ) (t : Turn) (turns : List Turn) → length (run n (t ∷ turns)) ≡ counts_if (nat_eq t.parent n) + length (run n turns)
+run_cons : (n : ℕ) (t : Turn) (turns : List Turn)
+    → length (run n (t ∷ turns)) ≡ counts_if (nat_eq t.parent n) + length (run n turns)
 run_cons n t turns = go (nat_eq t.parent n)
   where
     go : (b : Bool) → length (cond b (t ∷ run n turns) (run n turns)) ≡ counts_if b + length (run n turns)
@@ -114,8 +115,10 @@ pairs_left (x ∷ xs) ys h = (all_left (ComesEarlier x) xs ys h.0, pairs_left xs
 pub few_places : (k : Kid) (stack : List ℕ) (turns : List Turn) (slots : List ℕ) (n : ℕ) → MaySpread k stack turns
     → IsSpreading k turns slots n → length slots ≤ 1 + length turns
 few_places k stack turns slots n may s =
-    omega
-    (arith, s.many, taken_few (map (slot_at k) s.done) turns (slots_once k stack turns s.done may (all_left (IsPlaced k) s.done s.waiting (subst (All (IsPlaced k)) s.parts s.placed)) (pairs_left s.done s.waiting (subst (Pairs ComesEarlier) s.parts s.order))))
+    let placed : All (IsPlaced k) s.done = all_left (IsPlaced k) s.done s.waiting (subst (All (IsPlaced k)) s.parts s.placed) in
+    let order : Pairs ComesEarlier s.done = pairs_left s.done s.waiting (subst (Pairs ComesEarlier) s.parts s.order) in
+    let once = slots_once k stack turns s.done may placed order in
+    omega (arith, s.many, taken_few (map (slot_at k) s.done) turns once)
 
 -- The root alone.
 
@@ -160,8 +163,8 @@ map_twice {X} {Y} {Z} f g h (x ∷ xs) same =
     ∙ ap (λ (zs : List Z). h x ∷ zs) (map_twice f g h xs (All-tail (λ y. f (g y) ≡ h y) x xs same))
 
 module _ (k : Kid) (stack : List ℕ) (turns : List Turn) (may : MaySpread k stack turns) (slots : List ℕ) (n : ℕ)
-  (s : IsSpreading k turns slots n) (p : Place) (rest : List Place) (next : s.waiting ≡ p ∷ rest) (slot : ℕ)
-  (here : slot ≡ slot_at k p) where
+    (s : IsSpreading k turns slots n) (p : Place) (rest : List Place) (next : s.waiting ≡ p ∷ rest) (slot : ℕ)
+    (here : slot ≡ slot_at k p) where
   abbrev added : List Place
   added = map (child_of p) (run slot turns)
 
@@ -280,17 +283,21 @@ head_of [] y ys (suc i) d e = absurd (omega arith)
 head_of (x ∷ xs) y ys zero d e = absurd (omega arith)
 head_of (x ∷ xs) y ys (suc i) d e = head_of xs y ys i d (omega arith)
 
+length_is : (k : Kid) (turns : List Turn) (slots : List ℕ) (n : ℕ) (s : IsSpreading k turns slots n)
+    → length slots ≡ length s.done + length s.waiting
+length_is k turns slots n s =
+    let listed = ap (λ (l : List ℕ). length l) s.slots_are in
+    let split = ap (λ (l : List Place). length l) s.parts in
+    let mapped = length-map s.places (slot_at k) in
+    let added = length-append s.done s.waiting in
+    omega arith
+
 -- the place whose turn it is
 pub spreads_next : (k : Kid) (stack : List ℕ) (turns : List Turn) (slots : List ℕ) (n slot : ℕ) (d : ℕ)
     → MaySpread k stack turns → IsSpreading k turns slots n → n < length slots → slot ≡ get_or slots n d
     → IsSpreading k turns (slots ++ map number_in (run slot turns)) (n + 1)
 spreads_next k stack turns slots n slot d may s less read = go s.waiting refl
   where
-    long : length slots ≡ length s.done + length s.waiting
-    long =
-        omega
-        (arith, ap (λ (l : List ℕ). length l) s.slots_are, length-map s.places (slot_at k), ap (λ (l : List Place). length l) s.parts, length-append s.done s.waiting)
-
     at : (p : Place) (rest : List Place) → s.waiting ≡ p ∷ rest → slot ≡ slot_at k p
     at p rest next =
         let listed : slots ≡ map (slot_at k) s.done ++ slot_at k p ∷ map (slot_at k) rest
@@ -300,8 +307,9 @@ spreads_next k stack turns slots n slot d may s less read = go s.waiting refl
         let place : n ≡ length (map (slot_at k) s.done) = omega (arith, s.count, length-map s.done (slot_at k)) in
         read ∙ ap (λ (l : List ℕ). get_or l n d) listed
         ∙ head_of (map (slot_at k) s.done) (slot_at k p) (map (slot_at k) rest) n d place
+
     go : (waiting : List Place) → s.waiting ≡ waiting → IsSpreading k turns (slots ++ map number_in (run slot turns)) (n + 1)
-    go [] e = absurd (omega (arith, long, s.count, ap (λ (l : List Place). length l) e))
+    go [] e = absurd (omega (arith, length_is k turns slots n s, s.count, ap (λ (l : List Place). length l) e))
     go (p ∷ rest) e = spreads_on k stack turns may slots n s p rest e slot (at p rest e)
 
 -- All places are listed.
@@ -330,6 +338,4 @@ spread_all k turns slots n s over = record {
     all_done : (waiting : List Place) → s.waiting ≡ waiting → s.places ≡ s.done
     all_done [] e = s.parts ∙ ap (λ (l : List Place). s.done ++ l) e ∙ append-nil s.done
     all_done (p ∷ rest) e =
-        absurd
-        (omega
-        (arith, over, s.count, ap (λ (l : List ℕ). length l) s.slots_are, length-map s.places (slot_at k), ap (λ (l : List Place). length l) s.parts, length-append s.done s.waiting, ap (λ (l : List Place). length l) e))
+        absurd (omega (arith, over, length_is k turns slots n s, s.count, ap (λ (l : List Place). length l) e))

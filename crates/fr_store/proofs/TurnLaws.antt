@@ -1,5 +1,5 @@
 -- What turns tell of the places that are children of others.
-use Rattle.std.proofs.Common.{◌≡◌, ◌≢◌, ◌⊎◌, ℕ, zero, suc, ◌+◌, ◌<◌, ◌≤◌, Bool, true, false, List, [], ◌∷◌, ◌++◌, map, nat_eq, get_or, slice_get, Option, Some, None, if◌then◌else◌, inl, inr, refl, sym, ◌∙◌, ap, subst, arith}
+use Rattle.std.proofs.Common.{◌≡◌, ◌≢◌, ◌⊎◌, ℕ, zero, suc, ◌+◌, ◌<◌, ◌≤◌, Bool, true, false, List, [], ◌∷◌, nat_eq, get_or, Option, Some, None, if◌then◌else◌, inl, inr, refl, sym, ◌∙◌, ap, subst, arith}
 use Rattle.std.specs.List.{All, Contains, cons_option, filter_map}
 use Rattle.std.specs.Option.{option_and_then}
 use Rattle.std.proofs.lemmas.Grind.{common_steps}
@@ -17,13 +17,13 @@ use Rattle.fr_frame.specs.declared.places.SlotId.{SlotId}
 use Rattle.fr_frame.specs.Bodies.{Body, entered_body, whole_body, begun_body, cell_at}
 use Rattle.fr_frame.specs.Cells.{Cell, slot_of_cell, slot_at as nth_in_cells}
 use Rattle.fr_frame.specs.Heap.{Node, Heap}
-use Rattle.fr_frame.specs.Kids.{Kid, gone, there, at, Plot, entered_plot, whole_plot, begun_plot, Kids, no_kids, kid, cell_of, cells_in, body_in, child_node, child_owner, Holds}
+use Rattle.fr_frame.specs.Kids.{Kid, gone, there, at, Plot, entered_plot, whole_plot, begun_plot, Kids, no_kids, kid, cells_in, body_in, child_node, child_owner, Holds}
 use Rattle.fr_store.specs.declared.turning.Turn.{Turn}
 use Rattle.fr_store.specs.HoldLaws.{holds_at}
 use Rattle.fr_store.specs.Numbers.{numbers, number_of}
-use Rattle.fr_store.specs.Places.{counts_in, AreOnce, IsHere, slot_here, IsPlaced, is_slot, turn_under, turn_at, IsNarrow, key_of, number_in}
+use Rattle.fr_store.specs.Places.{AreOnce, IsHere, slot_here, IsPlaced, is_slot, turn_under, turn_at, IsNarrow, key_of}
 use Rattle.fr_store.specs.Stored.{child_slot}
-use Rattle.fr_store.specs.Ways.{count_kids, kid_nth, kid_below, kid_at, counts_if, Reaches}
+use Rattle.fr_store.specs.Ways.{count_kids, kid_nth, kid_below, counts_if}
 use Rattle.fr_store.specs.WayLaws.{counts_same, counts_other, same_or_other}
 use Rattle.fr_store.proofs.PairLaws.{in_map, in_counted, of_filter_map, keyed}
 
@@ -166,9 +166,12 @@ child_turn plan heap node owner depth (at slot stored (whole_plot v)) i holds pl
 child_turn plan heap node owner depth (at slot stored (begun_plot form kids)) i holds placed =
     go (kid_nth i kids) placed.here
     (holds_at plan heap node owner depth (i ∷ []) (at slot stored (begun_plot form kids)) holds placed.reaches)
-    (ap (λ (found : Option Node). option_and_then slot_of_cell (option_and_then (λ (at : Node). cell_at at.body (step_as form i)) found)) holds.0
+    (ap (λ (found : Option Node). option_and_then slot_of_cell (option_and_then cell_there found)) holds.0
     ∙ form_child form (cells_in kids) i ∙ nth_cell kids i placed.here)
   where
+    cell_there : Node → Option Cell
+    cell_there found = cell_at found.body (step_as form i)
+
     go : (k : Kid) → IsHere k → Holds plan heap (child_node plan node form i) (child_owner slot form i) (depth + 1) k
         → child_slot heap slot (step_as form i) ≡ Some (slot_here k)
         → turn_at heap (record { 0 = slot_here k })
@@ -187,8 +190,10 @@ same_key t u a b e = (omega arith, omega arith)
 none_keyed : (m : ℕ) (turns : List Turn) → All (λ t. key_of t ≢ m) turns → keyed key_of m turns ≡ 0
 none_keyed m [] none = refl
 none_keyed m (t ∷ turns) none =
-    omega
-    (arith, sum_by-cons (λ (u : Turn). counts_if (nat_eq (key_of u) m)) t turns, counts_other (key_of t) m (All-head (λ u. key_of u ≢ m) t turns none), none_keyed m turns (All-tail (λ u. key_of u ≢ m) t turns none))
+    let sum = sum_by-cons (λ (u : Turn). counts_if (nat_eq (key_of u) m)) t turns in
+    let head = counts_other (key_of t) m (All-head (λ u. key_of u ≢ m) t turns none) in
+    let tail = none_keyed m turns (All-tail (λ u. key_of u ≢ m) t turns none) in
+    omega arith
 
 -- the turns of different places have different keys
 pub keys_once : (heap : Heap) (slots : List SlotId) → AreOnce (numbers slots) → All IsNarrow (filter_map (turn_at heap) slots)

@@ -1,5 +1,5 @@
 -- From the turns of stored and open places to the order of the walk.
-use Rattle.std.proofs.Common.{◌≡◌, ◌⊎◌, ◌↔◌, ℕ, zero, suc, ◌+◌, ◌<◌, ◌≤◌, Bool, true, false, List, [], ◌∷◌, ◌++◌, map, reverse, length, get_or, nat_eq, Some, inl, inr, refl, sym, ◌∙◌, ap, subst, arith}
+use Rattle.std.proofs.Common.{◌≡◌, ◌⊎◌, ◌↔◌, ℕ, ◌+◌, ◌<◌, ◌≤◌, Bool, true, false, List, [], ◌∷◌, ◌++◌, map, reverse, length, get_or, nat_eq, Some, inl, inr, refl, sym, ◌∙◌, ap, subst, arith}
 use Rattle.std.specs.List.{All, Contains, filter, filter_map}
 use Rattle.std.specs.List.Sorted.{IsPermutation, IsNonDecreasingBy}
 use Rattle.std.proofs.lemmas.List.{map-append}
@@ -24,8 +24,8 @@ use Rattle.fr_store.proofs.PlaceLaws.{way_on, placed_below, placed_child, same_p
 use Rattle.fr_store.proofs.TurnLaws.{nth_slot, turn_told, child_placed, child_turn, keys_once}
 
 module _ (plan : Plan) (heap : Heap) (stack : List ℕ) (cursor : Place) (k : Kid) (stands : Stands plan heap stack cursor k)
-  (stored open_slots : List SlotId) (open_is : numbers open_slots ≡ stack) (once : AreOnce (numbers stored))
-  (kept : (n : ℕ) → (marked heap n ≡ true) ↔ Contains (numbers stored) n) where
+    (stored open_slots : List SlotId) (open_is : numbers open_slots ≡ stack) (once : AreOnce (numbers stored))
+    (kept : (n : ℕ) → (marked heap n ≡ true) ↔ Contains (numbers stored) n) where
   abbrev slots : List SlotId
   slots = stored ++ open_slots
 
@@ -56,7 +56,8 @@ module _ (plan : Plan) (heap : Heap) (stack : List ℕ) (cursor : Place) (k : Ki
   all_once = subst AreOnce (sym numbers_are) (once_append (numbers stored) stack once stack_once apart)
 
   held : (place : Place) → IsPlaced k place
-      → Holds plan heap (node_along plan plan.root place k) (owner_along FrameOwner.Root place k) (0 + length place) (kid_at place k)
+      → Holds plan heap (node_along plan plan.root place k) (owner_along FrameOwner.Root place k) (0 + length place)
+      (kid_at place k)
   held place placed = holds_at plan heap plan.root FrameOwner.Root 0 place k stands.holds placed.reaches
 
   listed : (place : Place) → IsPlaced k place → Contains (numbers slots) (slot_at k place)
@@ -74,13 +75,14 @@ module _ (plan : Plan) (heap : Heap) (stack : List ℕ) (cursor : Place) (k : Ki
           (subst (λ (l : List ℕ). Contains l (slot_at k place)) (sym stands.along) on)
 
   module _ (turns : List Turn) (moved : IsPermutation gathered turns) (narrow : All IsNarrow gathered)
-    (sorted : IsNonDecreasingBy key_of turns) where
+      (sorted : IsNonDecreasingBy key_of turns) where
     turn_below : (turn : Turn) (place : Place) → Contains turns turn → IsPlaced k place → turn.parent ≡ slot_at k place
         → IsPlaced k (child_of place turn) × (slot_at k (child_of place turn) ≡ number_in turn)
     turn_below turn place among placed parent_is =
         let before : Contains gathered turn
         = Contains-permutation turns gathered turn (IsPermutation-sym gathered turns moved) among in
-        let from = of_filter_map (turn_at heap) slots turn (subst (λ (l : List Turn). Contains l turn) (sym gathered_is) before) in
+        let among_all = subst (λ (l : List Turn). Contains l turn) (sym gathered_is) before in
+        let from = of_filter_map (turn_at heap) slots turn among_all in
         let told = turn_told heap from.0 turn from.2 in
         let child = child_placed plan heap (node_along plan plan.root place k) (owner_along FrameOwner.Root place k)
         (0 + length place) (kid_at place k) turn.step from.0.0 (held place placed) placed.here
@@ -103,13 +105,16 @@ module _ (plan : Plan) (heap : Heap) (stack : List ℕ) (cursor : Place) (k : Ki
         let slot_in : Contains slots (record { 0 = m })
         = subst (Contains slots) (ap (λ (n : ℕ). record { 0 = n }) from.2) from.1 in
         let before : Contains gathered turn
-        = subst (λ (l : List Turn). Contains l turn) gathered_is (in_filter_map (turn_at heap) slots (record { 0 = m }) turn slot_in is) in
+        = subst (λ (l : List Turn). Contains l turn) gathered_is
+        (in_filter_map (turn_at heap) slots (record { 0 = m }) turn slot_in is) in
         (turn, Contains-permutation gathered turns turn moved before, refl, refl)
 
     keys : (m : ℕ) → keyed key_of m turns ≤ 1
     keys m =
-        omega
-        (arith, sum_by-IsPermutation (λ (t : Turn). counts_if (nat_eq (key_of t) m)) gathered turns moved, ap (keyed key_of m) gathered_is, keys_once heap slots all_once (subst (All IsNarrow) (sym gathered_is) narrow) m)
+        let sums = sum_by-IsPermutation (λ (t : Turn). counts_if (nat_eq (key_of t) m)) gathered turns moved in
+        let same = ap (keyed key_of m) gathered_is in
+        let before = keys_once heap slots all_once (subst (All IsNarrow) (sym gathered_is) narrow) m in
+        omega arith
 
     turn_order : Pairs (λ (t u : Turn). t.parent ≡ u.parent → u.step < t.step) turns
     turn_order =
@@ -153,10 +158,12 @@ pub walk_of : (plan : Plan) (heap : Heap) (stack : List ℕ) (cursor : Place) (k
 walk_of plan heap stack cursor k slots stands s = record {
   places = places;
   stored = subst (λ (l : List ℕ). AreStoredAt k l places) (sym slots_are)
-      (stored_list k places (All-filter is_stored (IsPlaced k) (reverse s.places) placed) (filter_passes is_stored (reverse s.places)));
+      (stored_list k places (All-filter is_stored (IsPlaced k) (reverse s.places) placed)
+      (filter_passes is_stored (reverse s.places)));
   order =
       in_walk_order (tree_of k) places
-      (pairs_filter (λ (p q : Place). ComesEarlier q p) is_stored (reverse s.places) (pairs_reverse ComesEarlier s.places s.order));
+      (pairs_filter (λ (p q : Place). ComesEarlier q p) is_stored (reverse s.places)
+      (pairs_reverse ComesEarlier s.places s.order));
   all = all;
 }
   where

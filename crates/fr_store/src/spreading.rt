@@ -1,5 +1,5 @@
 //! All places in slots, the shortest path first.
-ghost use Rattle.std.specs.Prelude.{◌≡◌, ◌++◌, All, IfOk, OnOk, filter, length, map};
+ghost use Rattle.std.specs.Prelude.{◌≡◌, ◌++◌, IfOk, OnOk, filter, map};
 ghost use Rattle.std.specs.List.Sorted.{IsNonDecreasingBy};
 ghost use Rattle.fr_frame.specs.Heap.{heap_of};
 ghost use Rattle.fr_store.specs.Numbers.{numbers};
@@ -13,11 +13,7 @@ use fr_shape::OutOfMemory;
 use std::alloc::Global;
 
 /// Adds the children of the place in a slot, the last one first.
-fn add_children(
-    turns: &[Turn],
-    parent: SlotId,
-    order: &mut Vec<SlotId>,
-) -> Result<(), OutOfMemory>
+fn add_children(turns: &[Turn], parent: SlotId, order: &mut Vec<SlotId>) -> Result<(), OutOfMemory>
     requires sorted { IsNonDecreasingBy key_of turns.now }
     ensures added { OnOk result (numbers order.new.items
         ≡ numbers order.old.items ++ map number_in (filter (is_below parent.0) turns.now)) }

@@ -12,27 +12,14 @@ use crate::{FrameStore, Stack};
 use fr_frame::{SlotId, Slots};
 use fr_plan::TypePlanCore;
 use fr_shape::OutOfMemory;
-use std::alloc::Global;
 
-/// Those of these places that are stored, from the last to the first.
-fn stored_from_last(
-    alloc: Global,
-    slots: &Slots,
-    places: &[SlotId],
-) -> Result<Vec<SlotId>, OutOfMemory>
-    ensures stored { IfOk result (λ stored. numbers stored.items
-        ≡ filter (marked (heap_of slots.now)) (reverse (numbers places.now))) }
+/// Leaves those of these places that are stored, the last one first. Takes no memory.
+fn keep_stored(slots: &Slots, places: &mut Vec<SlotId>)
+    ensures stored { numbers places.new.items
+        ≡ filter (marked (heap_of slots.now)) (reverse (numbers places.old.items)) }
 {
-    let mut stored = Vec::new(alloc);
-    let mut left = places.len();
-    while left > 0 {
-        left -= 1;
-        let place = places[left];
-        if place.is_stored(slots) {
-            stored.push(place)?;
-        }
-    }
-    Ok(stored)
+    places.reverse();
+    places.retain(|place| place.is_stored(slots));
 }
 
 impl FrameStore {
@@ -56,7 +43,8 @@ impl FrameStore {
         gather(slots, self.places(), &mut turns)?;
         gather(slots, stack.places(), &mut turns)?;
         sort(&mut turns);
-        let order = spread(alloc, slots, stack, &turns)?;
-        stored_from_last(alloc, slots, &order)
+        let mut walk = spread(alloc, slots, stack, &turns)?;
+        keep_stored(slots, &mut walk);
+        Ok(walk)
     }
 }

@@ -1,0 +1,141 @@
+-- Which children may be entered, by the machine and by the journal.
+use Rattle.std.proofs.Common.{◌≡◌, ℕ, suc, ◌+◌, ◌<◌, ◌≤◌, le-ltb, lt-ltb, ltb-true, leb-true, Bool, true, false, ◌&&◌, if◌then◌else◌, List, [], ◌∷◌, length, nat_lt, nat_le, Option, Some, None, refl, ap, arith}
+use Rattle.std.specs.Str.{bytes_eq}
+use Rattle.fr_shape.specs.declared.shape.Def.{Def}
+use Rattle.fr_shape.specs.declared.shape.ShapeId.{ShapeId}
+use Rattle.fr_shape.specs.declared.shape.StructDef.{StructDef}
+use Rattle.fr_shape.specs.declared.shape.Field.{Field}
+use Rattle.fr_shape.specs.declared.error.Operation.{Operation}
+use Rattle.fr_shape.specs.Look.{Table, def_of}
+use Rattle.fr_shape.specs.Val.{Val}
+use Rattle.fr_shape.specs.Named.{first_declared, field_named}
+use Rattle.fr_model.specs.Places.{array_limit, count_children}
+use Rattle.fr_model.specs.Journal.{Journal, Held, held, is_written, may_enter_children}
+use Rattle.fr_model.specs.Tree.{Tree, hole, entered, whole, begun, Mode}
+use Rattle.fr_model.specs.Step.{field_refusal, named_refusal}
+use Rattle.fr_model.specs.Well.{AtCursor}
+use Rattle.fr_model.proofs.Agreement.{IsWhole, by_value, by_entry, Agrees}
+use Rattle.fr_model.proofs.Opening.{IsOpen, Enterable, a_field, an_element}
+
+-- of an array, the journal holds a value exactly where the tree has one
+
+abbrev pub is_whole : Tree → Bool
+is_whole (whole v) = true
+is_whole _ = false
+
+abbrev pub SeesWhole : Def → Tree → Held → Type 0
+SeesWhole (Def.Array item n) t h = is_written h ≡ is_whole t
+SeesWhole _ t h = Unit {0}
+
+pub sees_whole : (mode : Mode) (table : Table) (s : ℕ) (t : Tree) (notes : Journal) → AtCursor mode t → Agrees table s notes t
+    → SeesWhole (def_of table s) t (held notes [])
+sees_whole mode table s t notes at agrees = go (def_of table s) refl
+  where
+    array_whole : (item : ShapeId) (n : ℕ) (v : Val) → def_of table s ≡ Def.Array item n
+        → IsWhole table s v (held notes []) → is_written (held notes []) ≡ true
+    array_whole item n v is (by_value e) = ap is_written e
+    array_whole item n v is (by_entry e empty same) = let none = rw is at empty in cc
+
+    array : (item : ShapeId) (n : ℕ) (t : Tree) → def_of table s ≡ Def.Array item n → AtCursor mode t
+        → Agrees table s notes t → is_written (held notes []) ≡ is_whole t
+    array item n hole is at agrees = absurd at
+    array item n entered is at agrees = ap is_written agrees
+    array item n (whole v) is at agrees = array_whole item n v is agrees
+    array item n (begun form ts) is at agrees = ap is_written agrees.0
+
+    go : (def : Def) → def_of table s ≡ def → SeesWhole def t (held notes [])
+    go (Def.Array item n) is = array item n t is at agrees
+    go _ is = tt
+
+-- begin_nth_field
+
+abbrev pub may_enter_by : Def → ℕ → Held → Bool
+may_enter_by def i h = nat_lt i (count_children def) && may_enter_children def h
+
+-- an enterable child of a place of this definition
+pub data ChildOf (def : Def) (i : ℕ) (t : Tree) : Type 0 where
+  field_of : (struct : StructDef) → def ≡ Def.Struct struct → i < length struct.fields → ChildOf def i t
+  element_of : (item : ShapeId) (n : ℕ) → def ≡ Def.Array item n → i < n → n ≤ array_limit → IsOpen t → ChildOf def i t
+
+pub enterable : (table : Table) (s i : ℕ) (t : Tree) → ChildOf (def_of table s) i t → Enterable table s i t
+enterable table s i t (field_of struct is below) = a_field struct is below
+enterable table s i t (element_of item n is below few not_whole) = an_element item n is below few not_whole
+
+pub data ChildCase (def : Def) (i : ℕ) (t : Tree) : Type 0 where
+  a_child : ChildOf def i t → field_refusal def t i ≡ None
+      → ((h : Held) → SeesWhole def t h → may_enter_by def i h ≡ true) → ChildCase def i t
+  no_child : (operation : Operation) → field_refusal def t i ≡ Some operation
+      → ((h : Held) → SeesWhole def t h → may_enter_by def i h ≡ false) → ChildCase def i t
+
+pub nothing_below : (i : ℕ) → nat_lt i 0 ≡ false
+nothing_below i = le-ltb i 0 (omega arith)
+
+struct_case : (struct : StructDef) (i : ℕ) (t : Tree) (b : Bool) → nat_lt i (length struct.fields) ≡ b
+    → ChildCase (Def.Struct struct) i t
+struct_case struct i t true e =
+    a_child (field_of struct refl (ltb-true i (length struct.fields) e)) (rw e refl) (λ h sees. rw e refl)
+struct_case struct i t false e = no_child Operation.FieldIndexOutOfBounds (rw e refl) (λ h sees. rw e refl)
+
+array_case : (item : ShapeId) (n i : ℕ) (t : Tree) (below small : Bool) → nat_lt i n ≡ below → nat_le n array_limit ≡ small
+    → ChildCase (Def.Array item n) i t
+array_case item n i t false small e f = no_child Operation.ArrayIndexOutOfBounds (rw e refl) (λ h sees. rw e refl)
+array_case item n i t true false e f = no_child Operation.ArrayTooLarge (rw (e, f) refl) (λ h sees. rw (e, f) refl)
+array_case item n i (whole v) true true e f =
+    no_child Operation.ElementOfWholeArray (rw (e, f) refl) (λ h sees. rw (e, f, sees) refl)
+array_case item n i hole true true e f =
+    a_child (element_of item n refl (ltb-true i n e) (leb-true n array_limit f) tt) (rw (e, f) refl) (λ h sees. rw (e, f, sees) refl)
+array_case item n i entered true true e f =
+    a_child (element_of item n refl (ltb-true i n e) (leb-true n array_limit f) tt) (rw (e, f) refl) (λ h sees. rw (e, f, sees) refl)
+array_case item n i (begun form ts) true true e f =
+    a_child (element_of item n refl (ltb-true i n e) (leb-true n array_limit f) tt) (rw (e, f) refl) (λ h sees. rw (e, f, sees) refl)
+
+pub child_case : (def : Def) (i : ℕ) (t : Tree) → ChildCase def i t
+child_case (Def.Struct struct) i t = struct_case struct i t (nat_lt i (length struct.fields)) refl
+child_case (Def.Array item n) i t = array_case item n i t (nat_lt i n) (nat_le n array_limit) refl refl
+child_case (Def.Enum enumeration) i t =
+    no_child Operation.FieldOfUnselectedVariant refl (λ h sees. rw (nothing_below i) refl)
+child_case (Def.Slice item) i t = no_child Operation.FieldOfSlice refl (λ h sees. rw (nothing_below i) refl)
+child_case Def.Opaque i t = no_child Operation.FieldOfOpaque refl (λ h sees. rw (nothing_below i) refl)
+child_case _ i t = no_child Operation.FieldOfOther refl (λ h sees. rw (nothing_below i) refl)
+
+-- begin_field
+
+found_below : (name : List ℕ) (i k : ℕ) (fields : List Field) → first_declared name i fields ≡ Some k
+    → (i ≤ k) × (k < i + length fields)
+found_below name i k [] e = cc
+found_below name i k (field ∷ fields) e =
+    go (bytes_eq field.name name) e (λ later. found_below name (suc i) k fields later)
+  where
+    go : (b : Bool) → (if b then Some i else first_declared name (suc i) fields) ≡ Some k
+        → (first_declared name (suc i) fields ≡ Some k → (suc i ≤ k) × (k < suc i + length fields))
+        → (i ≤ k) × (k < i + suc (length fields))
+    go true e rest = let same : i ≡ k = cc in (omega arith, omega arith)
+    go false e rest =
+        let later : (suc i ≤ k) × (k < suc i + length fields) = rest e in
+        (omega (arith, later.0), omega (arith, later.1))
+
+pub data NamedCase (name : List ℕ) (def : Def) (t : Tree) : Type 0 where
+  a_named : (i : ℕ) → ChildOf def i t → named_refusal def ≡ None → field_named name def ≡ Some i
+      → ((h : Held) → may_enter_by def i h ≡ true) → NamedCase name def t
+  no_such_name : named_refusal def ≡ None → field_named name def ≡ None → NamedCase name def t
+  no_names : (operation : Operation) → named_refusal def ≡ Some operation → field_named name def ≡ None
+      → NamedCase name def t
+
+pub named_case : (name : List ℕ) (def : Def) (t : Tree) → NamedCase name def t
+named_case name (Def.Struct struct) t = go (first_declared name 0 struct.fields) refl
+  where
+    go : (found : Option ℕ) → first_declared name 0 struct.fields ≡ found → NamedCase name (Def.Struct struct) t
+    go (Some i) e =
+        let there : (0 ≤ i) × (i < 0 + length struct.fields) = found_below name 0 i struct.fields e in
+        a_named i (field_of struct refl (omega (arith, there.1))) refl e
+        (λ h. rw (lt-ltb i (length struct.fields) (omega (arith, there.1))) refl)
+    go None e = no_such_name refl e
+named_case name (Def.Enum enumeration) t = no_names Operation.NamedFieldOfUnselectedVariant refl refl
+named_case name Def.Undefined t = no_names Operation.NamedFieldOfUndefined refl refl
+named_case name (Def.Scalar kind) t = no_names Operation.NamedFieldOfPrimitive refl refl
+named_case name Def.Str t = no_names Operation.NamedFieldOfPrimitive refl refl
+named_case name (Def.Array item n) t = no_names Operation.NamedFieldOfSequence refl refl
+named_case name (Def.Slice item) t = no_names Operation.NamedFieldOfSequence refl refl
+named_case name Def.Opaque t = no_names Operation.NamedFieldOfOpaque refl refl
+named_case name (Def.Pointer pointer) t = no_names Operation.NamedFieldOfPointer refl refl
+named_case name _ t = no_names Operation.FieldOfOther refl refl

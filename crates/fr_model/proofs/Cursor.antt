@@ -1,0 +1,253 @@
+-- The place to which a cursor leads, and a tree that is changed there.
+use Rattle.std.proofs.Common.{◌≡◌, ℕ, zero, suc, ◌<◌, ◌≤◌, true, [], ◌∷◌, ◌++◌, append-nil, length, length-append, Some, refl, sym, subst, arith}
+use Rattle.fr_shape.specs.Checked.{IsChecked}
+use Rattle.fr_shape.specs.Hooks.{Meanings}
+use Rattle.fr_shape.specs.Look.{Table, def_of}
+use Rattle.fr_shape.specs.Val.{Val}
+use Rattle.fr_shape.specs.Fits.{fits}
+use Rattle.fr_model.specs.Places.{Place, Column, up, child_count, child_shape, shape_at}
+use Rattle.fr_model.specs.Tree.{as_struct, as_array, Tree, hole, entered, whole, begun, Trees, no_trees, branch, tree_nth, change_nth, tree_at, change_at, shape_in, child_as, count_trees, tree_occurs, Mode, strict, deferred, State, cursor_shape, cursor_tree, one_more_call, initial}
+use Rattle.fr_model.specs.Complete.{complete}
+use Rattle.fr_model.specs.Step.{enter_child, enters, puts, puts_and_leaves, leaves}
+use Rattle.fr_model.specs.Well.{IsBegunAs, Suits, AllOff, AtCursor, OffBut, Leads, BeganAbove, IsInOrder}
+use Rattle.fr_model.proofs.Agreement.{begun_count, leads_within, leads_child}
+use Rattle.fr_model.proofs.Completing.{Made, completing_makes}
+use Rattle.fr_model.proofs.Plain.{AllPlain, plain_child}
+use Rattle.fr_model.proofs.Structs.{count_change, suit_change, suit_nth}
+use Rattle.fr_model.proofs.Opening.{Enterable, Entry, entry, fresh_suits, fresh_at_cursor, whole_off, all_deferred}
+
+-- what stands at the cursor
+
+pub at_cursor : (mode : Mode) (here : Place) (t : Tree) → Leads mode here t → AtCursor mode (tree_at here t)
+at_cursor mode [] t leads = leads
+at_cursor mode (i ∷ here) (begun form ts) leads =
+    at_cursor mode here (tree_nth i ts)
+    (leads_child mode i (λ child. Leads mode here child) ts leads)
+at_cursor mode (i ∷ here) _ leads = absurd leads
+
+pub suits_at : (mode : Mode) (table : Table) (s : ℕ) (here : Place) (t : Tree) → Leads mode here t → Suits table s t
+    → Suits table (shape_in table s here t) (tree_at here t)
+suits_at mode table s [] t leads suits = suits
+suits_at mode table s (i ∷ here) (begun form ts) leads suits =
+    suits_at mode table (child_as table s form i) here (tree_nth i ts)
+    (leads_child mode i (λ child. Leads mode here child) ts leads)
+    (suit_nth table s form i 0 ts i (omega arith) suits.1)
+suits_at mode table s (i ∷ here) _ leads suits = absurd leads
+
+pub same_shape : (mode : Mode) (table : Table) (s : ℕ) (here : Place) (t : Tree) → Leads mode here t
+    → shape_at table s here ≡ shape_in table s here t
+same_shape mode table s [] t leads = refl
+same_shape mode table s (i ∷ here) (begun as_struct ts) leads =
+    same_shape mode table (child_shape table s i) here (tree_nth i ts)
+    (leads_child mode i (λ child. Leads mode here child) ts leads)
+same_shape mode table s (i ∷ here) (begun as_array ts) leads =
+    same_shape mode table (child_shape table s i) here (tree_nth i ts)
+    (leads_child mode i (λ child. Leads mode here child) ts leads)
+same_shape mode table s (i ∷ here) _ leads = absurd leads
+
+-- and each shape that the place's shape reaches is plain
+pub plain_at : (mode : Mode) (table : Table) (s : ℕ) (here : Place) (t : Tree) → Leads mode here t → Suits table s t
+    → AllPlain table s → AllPlain table (shape_in table s here t)
+plain_at mode table s [] t leads suits plain = plain
+plain_at mode table s (i ∷ here) (begun form ts) leads suits plain =
+    let count : count_trees ts ≡ child_count table s = begun_count (def_of table s) form (count_trees ts) suits.0 in
+    let within : i < count_trees ts = leads_within mode i (λ child. Leads mode here child) ts leads in
+    plain_at mode table (child_as table s form i) here (tree_nth i ts)
+    (leads_child mode i (λ child. Leads mode here child) ts leads)
+    (suit_nth table s form i 0 ts i (omega arith) suits.1) (plain_child table s form i (omega arith) plain)
+plain_at mode table s (i ∷ here) _ leads suits plain = absurd leads
+
+-- a change there
+
+pub suits_changed : (mode : Mode) (table : Table) (s : ℕ) (here : Place) (t : Tree) (change : Tree → Tree) → Leads mode here t
+    → Suits table s t → Suits table (shape_in table s here t) (change (tree_at here t))
+    → Suits table s (change_at here change t)
+suits_changed mode table s [] t change leads suits changed = changed
+suits_changed mode table s (i ∷ here) (begun form ts) change leads suits changed = (
+  subst (λ (n : ℕ). IsBegunAs (def_of table s) form n)
+      (sym (count_change i (λ child. change_at here change child) ts)) suits.0,
+  suit_change table s form i 0 ts i (λ child. change_at here change child) (omega arith) suits.1
+      (λ child. suits_changed mode table (child_as table s form i) here (tree_nth i ts) change
+      (leads_child mode i (λ c. Leads mode here c) ts leads) child changed),
+)
+suits_changed mode table s (i ∷ here) _ change leads suits changed = absurd leads
+
+off_change : (mode : Mode) (i : ℕ) (Below After : Tree → Type 0) (change : Tree → Tree) (ts : Trees)
+    → (Below (tree_nth i ts) → After (change (tree_nth i ts))) → OffBut mode i Below ts
+    → OffBut mode i After (change_nth i change ts)
+off_change mode i Below After change no_trees step off = absurd off
+off_change mode zero Below After change (branch t ts) step off = (step off.0, off.1)
+off_change mode (suc i) Below After change (branch t ts) step off =
+    (off.0, off_change mode i Below After change ts step off.1)
+
+-- the cursor goes on from there
+pub leads_on : (mode : Mode) (here way : Place) (t : Tree) (change : Tree → Tree) → Leads mode here t
+    → Leads mode way (change (tree_at here t)) → Leads mode (here ++ way) (change_at here change t)
+leads_on mode [] way t change leads on = on
+leads_on mode (i ∷ here) way (begun form ts) change leads on =
+    off_change mode i (λ child. Leads mode here child) (λ child. Leads mode (here ++ way) child)
+    (λ child. change_at here change child) ts (λ child. leads_on mode here way (tree_nth i ts) change child on) leads
+leads_on mode (i ∷ here) way _ change leads on = absurd leads
+
+whole_among : (mode : Mode) (i : ℕ) (Below : Tree → Type 0) (v : Val) (ts : Trees) → OffBut mode i Below ts
+    → AllOff mode (change_nth i (λ old. whole v) ts)
+whole_among mode i Below v no_trees off = absurd off
+whole_among mode zero Below v (branch t ts) off = (whole_off mode v, off.1)
+whole_among mode (suc i) Below v (branch t ts) off = (off.0, whole_among mode i Below v ts off.1)
+
+-- the cursor goes up from a place that is now whole
+pub leads_up : (mode : Mode) (here : Place) (t : Tree) (v : Val) → Leads mode here t
+    → Leads mode (up here) (change_at here (λ old. whole v) t)
+leads_up mode [] t v leads = tt
+leads_up mode (i ∷ []) (begun form ts) v leads = whole_among mode i (λ child. Leads mode [] child) v ts leads
+leads_up mode (i ∷ []) _ v leads = absurd leads
+leads_up mode (i ∷ j ∷ here) (begun form ts) v leads =
+    off_change mode i (λ child. Leads mode (j ∷ here) child) (λ child. Leads mode (up (j ∷ here)) child)
+    (λ child. change_at (j ∷ here) (λ old. whole v) child) ts
+    (λ child. leads_up mode (j ∷ here) (tree_nth i ts) v child) leads
+leads_up mode (i ∷ j ∷ here) _ v leads = absurd leads
+
+off_same : (mode : Mode) (i : ℕ) (Below After : Tree → Type 0) (ts : Trees)
+    → (Below (tree_nth i ts) → After (tree_nth i ts)) → OffBut mode i Below ts → OffBut mode i After ts
+off_same mode i Below After no_trees step off = absurd off
+off_same mode zero Below After (branch t ts) step off = (step off.0, off.1)
+off_same mode (suc i) Below After (branch t ts) step off = (off.0, off_same mode i Below After ts step off.1)
+
+-- in deferred mode the cursor goes up from a place that is left as it is
+pub leads_left : (start : ℕ) (here : Place) (t : Tree) → Leads (deferred start) here t
+    → Leads (deferred start) (up here) t
+leads_left start [] t leads = leads
+leads_left start (i ∷ []) (begun form ts) leads = all_deferred start ts
+leads_left start (i ∷ []) _ leads = absurd leads
+leads_left start (i ∷ j ∷ here) (begun form ts) leads =
+    off_same (deferred start) i (λ child. Leads (deferred start) (j ∷ here) child)
+    (λ child. Leads (deferred start) (up (j ∷ here)) child) ts
+    (λ child. leads_left start (j ∷ here) (tree_nth i ts) child) leads
+leads_left start (i ∷ j ∷ here) _ leads = absurd leads
+
+-- deferred mode begins
+
+strict_all : (start : ℕ) (t : Tree) → AtCursor strict t → AtCursor (deferred start) t
+strict_all start hole at = absurd at
+strict_all start entered at = tt
+strict_all start (whole v) at = tt
+strict_all start (begun form ts) at = all_deferred start ts
+
+off_deferred : (start i : ℕ) (Below After : Tree → Type 0) (ts : Trees)
+    → (Below (tree_nth i ts) → After (tree_nth i ts)) → OffBut strict i Below ts → OffBut (deferred start) i After ts
+off_deferred start i Below After no_trees step off = absurd off
+off_deferred start zero Below After (branch t ts) step off = (step off.0, all_deferred start ts)
+off_deferred start (suc i) Below After (branch t ts) step off = (tt, off_deferred start i Below After ts step off.1)
+
+pub leads_deferred : (start : ℕ) (here : Place) (t : Tree) → Leads strict here t → Leads (deferred start) here t
+leads_deferred start [] t leads = strict_all start t leads
+leads_deferred start (i ∷ here) (begun form ts) leads =
+    off_deferred start i (λ child. Leads strict here child) (λ child. Leads (deferred start) here child) ts
+    (λ child. leads_deferred start here (tree_nth i ts) child) leads
+leads_deferred start (i ∷ here) _ leads = absurd leads
+
+-- where deferred mode began
+
+began_below : (mode : Mode) (here : Place) (i : ℕ) → BeganAbove mode here → BeganAbove mode (here ++ i ∷ [])
+began_below strict here i began = tt
+began_below (deferred start) here i began = rw (length-append here (i ∷ [])) (omega (arith, began))
+
+up_long : (here : Place) → length here ≤ suc (length (up here))
+up_long [] = omega arith
+up_long (i ∷ []) = omega arith
+up_long (i ∷ j ∷ here) = let below = up_long (j ∷ here) in omega arith
+
+began_strict : (mode : Mode) (here : Place) → mode ≡ strict → BeganAbove mode here
+began_strict strict here is = tt
+began_strict (deferred start) here is = cc
+
+-- states in order
+
+pub start_in_order : (table : Table) (root : ℕ) → IsInOrder table root (initial table root)
+start_in_order table root = record {
+  suits = fresh_suits table root;
+  leads = fresh_at_cursor strict (def_of table root);
+  began = tt;
+}
+
+pub entry_at : (table : Table) (root : ℕ) (state : State) (i : ℕ)
+    → Enterable table (cursor_shape table root state) i (cursor_tree state) → IsInOrder table root state
+    → Entry state.mode table (cursor_shape table root state) i (cursor_tree state)
+    (enter_child table (cursor_shape table root state) i (cursor_tree state))
+entry_at table root state i enterable order =
+    entry state.mode table (cursor_shape table root state) i (cursor_tree state) enterable
+    (at_cursor state.mode state.cursor state.tree order.leads)
+    (suits_at state.mode table root state.cursor state.tree order.leads order.suits)
+
+pub begun_in_order : (table : Table) (root : ℕ) (state : State) (i : ℕ)
+    → Enterable table (cursor_shape table root state) i (cursor_tree state) → IsInOrder table root state
+    → IsInOrder table root (enters table (cursor_shape table root state) state i)
+begun_in_order table root state i enterable order =
+    let child = entry_at table root state i enterable order in
+    let change : Tree → Tree = enter_child table (cursor_shape table root state) i in
+    record {
+      suits = suits_changed state.mode table root state.cursor state.tree change order.leads order.suits child.suits;
+      leads = leads_on state.mode state.cursor (i ∷ []) state.tree change order.leads child.leads;
+      began = began_below state.mode state.cursor i order.began;
+    }
+
+pub put_in_order : (table : Table) (root : ℕ) (state : State) (v : Val)
+    → fits table (cursor_shape table root state) v ≡ true → IsInOrder table root state
+    → IsInOrder table root (puts state v)
+put_in_order table root state v fit order = record {
+  suits = suits_changed state.mode table root state.cursor state.tree (λ old. whole v) order.leads order.suits fit;
+  leads = subst (λ (place : Place). Leads state.mode place (change_at state.cursor (λ old. whole v) state.tree))
+      (append-nil state.cursor) (leads_on state.mode state.cursor [] state.tree (λ old. whole v) order.leads tt);
+  began = order.began;
+}
+
+-- what the place at the cursor makes
+pub made_at : (column : Column) (hooks : Meanings) (table : Table) (root : ℕ) (state : State) (v : Val) → IsChecked table
+    → complete column hooks table (cursor_shape table root state) (cursor_tree state) ≡ Some v → IsInOrder table root state
+    → Made table (cursor_shape table root state) (λ k. tree_occurs (cursor_tree state) k) v
+made_at column hooks table root state v checked e order =
+    completing_makes column hooks table (cursor_tree state) (cursor_shape table root state) v checked
+    (suits_at state.mode table root state.cursor state.tree order.leads order.suits) e
+
+pub ended_in_order : (column : Column) (hooks : Meanings) (table : Table) (root : ℕ) (state : State) (v : Val)
+    → IsChecked table → state.mode ≡ strict
+    → complete column hooks table (cursor_shape table root state) (cursor_tree state) ≡ Some v
+    → IsInOrder table root state → IsInOrder table root (puts_and_leaves state v)
+ended_in_order column hooks table root state v checked is_strict e order =
+    let made = made_at column hooks table root state v checked e order in
+    record {
+      suits = suits_changed state.mode table root state.cursor state.tree (λ old. whole v) order.leads order.suits made.fit;
+      leads = leads_up state.mode state.cursor state.tree v order.leads;
+      began = began_strict state.mode (up state.cursor) is_strict;
+    }
+
+-- a place is left as it is
+pub left_in_order : (table : Table) (root start : ℕ) (state : State) → state.mode ≡ deferred start
+    → start < length state.cursor → IsInOrder table root state → IsInOrder table root (leaves state)
+left_in_order table root start state is deeper order = record {
+  suits = order.suits;
+  leads = of_mode state.mode is order.leads;
+  began = began_up state.mode is;
+}
+  where
+    of_mode : (mode : Mode) → mode ≡ deferred start → Leads mode state.cursor state.tree
+        → Leads mode (up state.cursor) state.tree
+    of_mode strict is leads = cc
+    of_mode (deferred from) is leads = leads_left from state.cursor state.tree leads
+
+    began_up : (mode : Mode) → mode ≡ deferred start → BeganAbove mode (up state.cursor)
+    began_up strict is = tt
+    began_up (deferred from) is = let same : from ≡ start = cc in omega (arith, deeper, up_long state.cursor)
+
+-- deferred mode begins at the cursor
+abbrev pub defers : State → State
+defers state = record state { mode = deferred (length state.cursor); calls = one_more_call state.calls }
+
+pub deferred_in_order : (table : Table) (root : ℕ) (state : State) → state.mode ≡ strict → IsInOrder table root state
+    → IsInOrder table root (defers state)
+deferred_in_order table root state is order = record {
+  suits = order.suits;
+  leads = leads_deferred (length state.cursor) state.cursor state.tree
+      (subst (λ (mode : Mode). Leads mode state.cursor state.tree) is order.leads);
+  began = omega arith;
+}

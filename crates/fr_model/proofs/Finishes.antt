@@ -1,0 +1,414 @@
+-- The end of deferred mode on the tree: what it makes suits its shape, keeps its tokens and is a tree of strict mode, the path
+-- stays, and it makes none exactly where there is something to refuse.
+use Rattle.std.proofs.Common.{◌≡◌, ℕ, zero, suc, ◌+◌, Bool, true, false, not, ◌||◌, is_none, is_some, List, [], ◌∷◌, ◌++◌, Option, Some, None, refl, sym, ◌∙◌, ap, ap₂, subst, arith}
+use Rattle.std.specs.Option.{option_map, option_or}
+use Rattle.fr_shape.specs.Checked.{IsChecked}
+use Rattle.fr_shape.specs.Fits.{count_vals}
+use Rattle.fr_shape.specs.Hooks.{Meanings}
+use Rattle.fr_shape.specs.Lists.{is_nil}
+use Rattle.fr_shape.specs.Look.{Table, def_of}
+use Rattle.fr_shape.specs.Tokens.{vals_occur}
+use Rattle.fr_shape.specs.Val.{Vals, no_vals, first}
+use Rattle.fr_path.specs.declared.path_steps.PathStep.{PathStep}
+use Rattle.fr_model.specs.Places.{Place, deferred_column}
+use Rattle.fr_model.specs.Paths.{step_as, steps_in}
+use Rattle.fr_model.specs.Tree.{Form, Tree, hole, entered, whole, begun, Trees, no_trees, branch, tree_nth, tree_at, child_as, shape_in, wholes, count_trees, tree_occurs, trees_occur, Mode, strict}
+use Rattle.fr_model.specs.Complete.{complete, complete_all}
+use Rattle.fr_model.specs.Failing.{own_lack, Failure, failures, failures_among, first_by_walk}
+use Rattle.fr_model.specs.Finish.{closed, one_more_tree, closed_all, closed_but, begun_with, finished_here, finished, failures_but, failures_off, kind_of}
+use Rattle.fr_model.specs.Well.{IsBegunAs, Suits, IsOff, AllOff, AtCursor, OffBut, Leads}
+use Rattle.fr_model.proofs.Completing.{Made, completing_makes, Children, all_completing_make}
+use Rattle.fr_model.proofs.Failing.{none_mapped, joined_there, some_or, completes_or_fails, all_complete_or_fail, entered_lacks}
+use Rattle.fr_model.proofs.Structs.{ChildrenFit, SuitFrom}
+
+-- what is made is made of something
+
+pub record Mapped {T U : Type 0} (f : T → U) (o : Option T) (y : U) : Type 0 where
+  pub from : T
+  pub is : o ≡ Some from
+  pub same : y ≡ f from
+
+pub mapped_is : {T U : Type 0} (f : T → U) (o : Option T) (y : U) → option_map f o ≡ Some y → Mapped f o y
+mapped_is f (Some x) y e = record { from = x; is = refl; same = cc }
+mapped_is f None y e = cc
+
+pub record OneMoreTree (o : Option Tree) (os : Option Trees) (us : Trees) : Type 0 where
+  pub head : Tree
+  pub tail : Trees
+  pub head_is : o ≡ Some head
+  pub tail_is : os ≡ Some tail
+  pub same : us ≡ branch head tail
+
+pub one_more_tree_is : (o : Option Tree) (os : Option Trees) (us : Trees) → one_more_tree o os ≡ Some us
+    → OneMoreTree o os us
+one_more_tree_is (Some u) (Some rest) us e =
+    record { head = u; tail = rest; head_is = refl; tail_is = refl; same = cc }
+one_more_tree_is (Some u) None us e = cc
+one_more_tree_is None os us e = cc
+
+-- Shapes and tokens
+
+-- what becomes of a place suits its shape and holds each token as often
+pub record Kept (table : Table) (s : ℕ) (tree next : Tree) : Type 0 where
+  pub suits : Suits table s next
+  pub hold : (t : ℕ) → tree_occurs next t ≡ tree_occurs tree t
+
+pub record AllKept (table : Table) (s : ℕ) (form : Form) (i : ℕ) (ts us : Trees) : Type 0 where
+  pub suit : SuitFrom table s form i us
+  pub counted : count_trees us ≡ count_trees ts
+  pub hold : (t : ℕ) → trees_occur us t ≡ trees_occur ts t
+
+none_kept : (table : Table) (s : ℕ) (form : Form) (i : ℕ) (us : Trees)
+    → ◌≡◌ {A = Option Trees} (Some no_trees) (Some us) → AllKept table s form i no_trees us
+none_kept table s form i no_trees e = record { suit = tt; counted = refl; hold = λ t. refl }
+none_kept table s form i (branch u us) e = cc
+
+-- a child and the ones after it
+more_kept : (table : Table) (s : ℕ) (form : Form) (i : ℕ) (tree : Tree) (ts : Trees) (o : Option Tree) (os : Option Trees)
+    (us : Trees) → ((u : Tree) → o ≡ Some u → Kept table (child_as table s form i) tree u)
+    → ((rest : Trees) → os ≡ Some rest → AllKept table s form (suc i) ts rest) → one_more_tree o os ≡ Some us
+    → AllKept table s form i (branch tree ts) us
+more_kept table s form i tree ts o os us child others e =
+    rw parts.same (record {
+      suit = (here.suits, more.suit);
+      counted = ap suc more.counted;
+      hold = λ t. omega (arith, here.hold t, more.hold t);
+    })
+  where
+    parts : OneMoreTree o os us
+    parts = one_more_tree_is o os us e
+
+    here : Kept table (child_as table s form i) tree parts.head
+    here = child parts.head parts.head_is
+
+    more : AllKept table s form (suc i) ts parts.tail
+    more = others parts.tail parts.tail_is
+
+closed_keeps : (hooks : Meanings) (table : Table) (s : ℕ) (tree u : Tree) → IsChecked table → Suits table s tree
+    → closed hooks table s tree ≡ Some u → Kept table s tree u
+closed_keeps hooks table s hole u checked suits e =
+    let same : hole ≡ u = cc in rw (← same) (record { suits = tt; hold = λ t. refl })
+closed_keeps hooks table s tree u checked suits e =
+    let to : Mapped whole (complete deferred_column hooks table s tree) u
+    = mapped_is whole (complete deferred_column hooks table s tree) u e in
+    let made : Made table s (λ t. tree_occurs tree t) to.from
+    = completing_makes deferred_column hooks table tree s to.from checked suits to.is in
+    rw to.same (record { suits = made.fit; hold = made.hold })
+
+closed_all_keep : (hooks : Meanings) (table : Table) (s : ℕ) (form : Form) (i : ℕ) (ts us : Trees) → IsChecked table
+    → SuitFrom table s form i ts → closed_all hooks table s form i ts ≡ Some us → AllKept table s form i ts us
+closed_all_keep hooks table s form i no_trees us checked suit e = none_kept table s form i us e
+closed_all_keep hooks table s form i (branch t ts) us checked suit e =
+    more_kept table s form i t ts (closed hooks table (child_as table s form i) t)
+    (closed_all hooks table s form (suc i) ts) us
+    (λ u. closed_keeps hooks table (child_as table s form i) t u checked suit.0)
+    (λ rest. closed_all_keep hooks table s form (suc i) ts rest checked suit.1) e
+
+closed_but_keep : (hooks : Meanings) (table : Table) (s : ℕ) (form : Form) (on_way : ℕ)
+    (becomes : ℕ → Tree → Option Tree) (i : ℕ) (ts us : Trees) → IsChecked table
+    → ((shape : ℕ) (t u : Tree) → Suits table shape t → becomes shape t ≡ Some u → Kept table shape t u)
+    → SuitFrom table s form i ts → closed_but hooks table s form on_way becomes i ts ≡ Some us
+    → AllKept table s form i ts us
+closed_but_keep hooks table s form on_way becomes i no_trees us checked keeps suit e = none_kept table s form i us e
+closed_but_keep hooks table s form zero becomes i (branch t ts) us checked keeps suit e =
+    more_kept table s form i t ts (becomes (child_as table s form i) t) (closed_all hooks table s form (suc i) ts) us
+    (λ u. keeps (child_as table s form i) t u suit.0)
+    (λ rest. closed_all_keep hooks table s form (suc i) ts rest checked suit.1) e
+closed_but_keep hooks table s form (suc on_way) becomes i (branch t ts) us checked keeps suit e =
+    more_kept table s form i t ts (closed hooks table (child_as table s form i) t)
+    (closed_but hooks table s form on_way becomes (suc i) ts) us
+    (λ u. closed_keeps hooks table (child_as table s form i) t u checked suit.0)
+    (λ rest. closed_but_keep hooks table s form on_way becomes (suc i) ts rest checked keeps suit.1) e
+
+-- the begun place at the cursor, whose children are now whole
+
+count_wholes : (vs : Vals) → count_trees (wholes vs) ≡ count_vals vs
+count_wholes no_vals = refl
+count_wholes (first v vs) = ap suc (count_wholes vs)
+
+wholes_keep : (vs : Vals) (t : ℕ) → trees_occur (wholes vs) t ≡ vals_occur vs t
+wholes_keep no_vals t = refl
+wholes_keep (first v vs) t = let rest = wholes_keep vs t in omega arith
+
+fitting_suit : (table : Table) (s : ℕ) (form : Form) (i : ℕ) (vs : Vals) → ChildrenFit table s form i vs
+    → SuitFrom table s form i (wholes vs)
+fitting_suit table s form i no_vals fit = tt
+fitting_suit table s form i (first v vs) fit = (fit.0, fitting_suit table s form (suc i) vs fit.1)
+
+begun_keeps : (hooks : Meanings) (table : Table) (s : ℕ) (form : Form) (ts : Trees) (u : Tree) → IsChecked table
+    → Suits table s (begun form ts) → finished_here hooks table s (begun form ts) ≡ Some u
+    → Kept table s (begun form ts) u
+begun_keeps hooks table s form ts u checked suits e =
+    rw to.same (record {
+      suits = (subst (IsBegunAs (def_of table s) form) (sym (count_wholes to.from ∙ those.counted)) suits.0,
+          fitting_suit table s form 0 to.from those.fit);
+      hold = λ t. wholes_keep to.from t ∙ those.hold t;
+    })
+  where
+    to : Mapped (begun_with form) (complete_all deferred_column hooks table s form 0 ts) u
+    to = mapped_is (begun_with form) (complete_all deferred_column hooks table s form 0 ts) u e
+
+    those : Children table s form 0 (count_trees ts) (λ t. trees_occur ts t) to.from
+    those = all_completing_make deferred_column hooks table ts s form 0 to.from checked suits.1 to.is
+
+here_keeps : (hooks : Meanings) (table : Table) (s : ℕ) (tree u : Tree) → IsChecked table → Suits table s tree
+    → finished_here hooks table s tree ≡ Some u → Kept table s tree u
+here_keeps hooks table s hole u checked suits e =
+    let same : hole ≡ u = cc in rw (← same) (record { suits = tt; hold = λ t. refl })
+here_keeps hooks table s entered u checked suits e = closed_keeps hooks table s entered u checked suits e
+here_keeps hooks table s (whole v) u checked suits e =
+    let same : whole v ≡ u = cc in rw (← same) (record { suits = suits; hold = λ t. refl })
+here_keeps hooks table s (begun form ts) u checked suits e = begun_keeps hooks table s form ts u checked suits e
+
+-- a begun place above the cursor
+above_keeps : (hooks : Meanings) (table : Table) (s : ℕ) (form : Form) (on_way : ℕ) (becomes : ℕ → Tree → Option Tree)
+    (ts : Trees) (next : Tree) → IsChecked table
+    → ((shape : ℕ) (t u : Tree) → Suits table shape t → becomes shape t ≡ Some u → Kept table shape t u)
+    → Suits table s (begun form ts)
+    → option_map (begun form) (closed_but hooks table s form on_way becomes 0 ts) ≡ Some next
+    → Kept table s (begun form ts) next
+above_keeps hooks table s form on_way becomes ts next checked keeps suits e =
+    rw to.same (record {
+      suits = (subst (IsBegunAs (def_of table s) form) (sym those.counted) suits.0, those.suit);
+      hold = those.hold;
+    })
+  where
+    to : Mapped (begun form) (closed_but hooks table s form on_way becomes 0 ts) next
+    to = mapped_is (begun form) (closed_but hooks table s form on_way becomes 0 ts) next e
+
+    those : AllKept table s form 0 ts to.from
+    those = closed_but_keep hooks table s form on_way becomes 0 ts to.from checked keeps suits.1 to.is
+
+-- over a checked table the tree at the end suits the shape, and holds each token as often as before
+pub finish_keeps : (hooks : Meanings) (table : Table) (s : ℕ) (cursor : Place) (tree next : Tree) → IsChecked table
+    → Suits table s tree → finished hooks table s cursor tree ≡ Some next → Kept table s tree next
+finish_keeps hooks table s [] tree next checked suits e = here_keeps hooks table s tree next checked suits e
+finish_keeps hooks table s (i ∷ place) hole next checked suits e =
+    let same : hole ≡ next = cc in rw (← same) (record { suits = tt; hold = λ t. refl })
+finish_keeps hooks table s (i ∷ place) entered next checked suits e =
+    let same : entered ≡ next = cc in rw (← same) (record { suits = suits; hold = λ t. refl })
+finish_keeps hooks table s (i ∷ place) (whole v) next checked suits e =
+    let same : whole v ≡ next = cc in rw (← same) (record { suits = suits; hold = λ t. refl })
+finish_keeps hooks table s (i ∷ place) (begun form ts) next checked suits e =
+    above_keeps hooks table s form i (λ (shape : ℕ) (t : Tree). finished hooks table shape place t) ts next checked
+    (λ shape t u fits is. finish_keeps hooks table shape place t u checked fits is) suits e
+
+-- The tree at the end is one of strict mode
+
+closed_off : (hooks : Meanings) (table : Table) (s : ℕ) (tree u : Tree) → closed hooks table s tree ≡ Some u
+    → IsOff strict u
+closed_off hooks table s hole u e = let same : hole ≡ u = cc in rw (← same) tt
+closed_off hooks table s tree u e =
+    let to : Mapped whole (complete deferred_column hooks table s tree) u
+    = mapped_is whole (complete deferred_column hooks table s tree) u e in
+    rw to.same tt
+
+closed_all_off : (hooks : Meanings) (table : Table) (s : ℕ) (form : Form) (i : ℕ) (ts us : Trees)
+    → closed_all hooks table s form i ts ≡ Some us → AllOff strict us
+closed_all_off hooks table s form i no_trees us e = let same : no_trees ≡ us = cc in rw (← same) tt
+closed_all_off hooks table s form i (branch t ts) us e =
+    let parts : OneMoreTree (closed hooks table (child_as table s form i) t) (closed_all hooks table s form (suc i) ts) us
+    = one_more_tree_is (closed hooks table (child_as table s form i) t) (closed_all hooks table s form (suc i) ts) us e in
+    rw parts.same (closed_off hooks table (child_as table s form i) t parts.head parts.head_is,
+        closed_all_off hooks table s form (suc i) ts parts.tail parts.tail_is)
+
+closed_but_off : (hooks : Meanings) (table : Table) (s : ℕ) (form : Form) (on_way : ℕ)
+    (becomes : ℕ → Tree → Option Tree) (mode : Mode) (Below After : Tree → Type 0) (i : ℕ) (ts us : Trees)
+    → ((shape : ℕ) (t u : Tree) → Below t → becomes shape t ≡ Some u → After u) → OffBut mode on_way Below ts
+    → closed_but hooks table s form on_way becomes i ts ≡ Some us → OffBut strict on_way After us
+closed_but_off hooks table s form on_way becomes mode Below After i no_trees us leads off e = absurd off
+closed_but_off hooks table s form zero becomes mode Below After i (branch t ts) us leads off e =
+    let parts : OneMoreTree (becomes (child_as table s form i) t) (closed_all hooks table s form (suc i) ts) us
+    = one_more_tree_is (becomes (child_as table s form i) t) (closed_all hooks table s form (suc i) ts) us e in
+    rw parts.same (leads (child_as table s form i) t parts.head off.0 parts.head_is,
+        closed_all_off hooks table s form (suc i) ts parts.tail parts.tail_is)
+closed_but_off hooks table s form (suc on_way) becomes mode Below After i (branch t ts) us leads off e =
+    let parts : OneMoreTree (closed hooks table (child_as table s form i) t)
+        (closed_but hooks table s form on_way becomes (suc i) ts) us
+    = one_more_tree_is (closed hooks table (child_as table s form i) t)
+        (closed_but hooks table s form on_way becomes (suc i) ts) us e in
+    rw parts.same (closed_off hooks table (child_as table s form i) t parts.head parts.head_is,
+        closed_but_off hooks table s form on_way becomes mode Below After (suc i) ts parts.tail leads off.1 parts.tail_is)
+
+wholes_off : (vs : Vals) → AllOff strict (wholes vs)
+wholes_off no_vals = tt
+wholes_off (first v vs) = (tt, wholes_off vs)
+
+here_leads : (hooks : Meanings) (table : Table) (s : ℕ) (mode : Mode) (tree u : Tree) → AtCursor mode tree
+    → finished_here hooks table s tree ≡ Some u → AtCursor strict u
+here_leads hooks table s mode hole u at e = absurd at
+here_leads hooks table s mode entered u at e =
+    let to : Mapped whole (complete deferred_column hooks table s entered) u
+    = mapped_is whole (complete deferred_column hooks table s entered) u e in
+    rw to.same tt
+here_leads hooks table s mode (whole v) u at e = let same : whole v ≡ u = cc in rw (← same) tt
+here_leads hooks table s mode (begun form ts) u at e =
+    let to : Mapped (begun_with form) (complete_all deferred_column hooks table s form 0 ts) u
+    = mapped_is (begun_with form) (complete_all deferred_column hooks table s form 0 ts) u e in
+    rw to.same (wholes_off to.from)
+
+-- where the cursor leads to a place, in whichever mode, it leads to it in strict mode
+pub finish_leads : (hooks : Meanings) (table : Table) (s : ℕ) (mode : Mode) (cursor : Place) (tree next : Tree)
+    → Leads mode cursor tree → finished hooks table s cursor tree ≡ Some next → Leads strict cursor next
+finish_leads hooks table s mode [] tree next leads e = here_leads hooks table s mode tree next leads e
+finish_leads hooks table s mode (i ∷ place) (begun form ts) next leads e =
+    let to : Mapped (begun form)
+        (closed_but hooks table s form i (λ (shape : ℕ) (t : Tree). finished hooks table shape place t) 0 ts) next
+    = mapped_is (begun form)
+        (closed_but hooks table s form i (λ (shape : ℕ) (t : Tree). finished hooks table shape place t) 0 ts) next e in
+    rw to.same (closed_but_off hooks table s form i (λ (shape : ℕ) (t : Tree). finished hooks table shape place t) mode
+        (λ child. Leads mode place child) (λ child. Leads strict place child) 0 ts to.from
+        (λ shape t u below is. finish_leads hooks table shape mode place t u below is) leads to.is)
+finish_leads hooks table s mode (i ∷ place) _ next leads e = absurd leads
+
+-- The path stays
+
+-- what holds of a child on the way and what becomes of it, or of two holes, holds of the trees of this number
+on_way_is : (hooks : Meanings) (table : Table) (s : ℕ) (form : Form) (on_way : ℕ) (becomes : ℕ → Tree → Option Tree)
+    (Both : Tree → Tree → Type 0) (i : ℕ) (ts us : Trees) → Both hole hole
+    → ((shape : ℕ) (t u : Tree) → becomes shape t ≡ Some u → Both t u)
+    → closed_but hooks table s form on_way becomes i ts ≡ Some us → Both (tree_nth on_way ts) (tree_nth on_way us)
+on_way_is hooks table s form on_way becomes Both i no_trees us holes step e =
+    let same : no_trees ≡ us = cc in rw (← same) holes
+on_way_is hooks table s form zero becomes Both i (branch t ts) us holes step e =
+    let parts : OneMoreTree (becomes (child_as table s form i) t) (closed_all hooks table s form (suc i) ts) us
+    = one_more_tree_is (becomes (child_as table s form i) t) (closed_all hooks table s form (suc i) ts) us e in
+    rw parts.same (step (child_as table s form i) t parts.head parts.head_is)
+on_way_is hooks table s form (suc on_way) becomes Both i (branch t ts) us holes step e =
+    let parts : OneMoreTree (closed hooks table (child_as table s form i) t)
+        (closed_but hooks table s form on_way becomes (suc i) ts) us
+    = one_more_tree_is (closed hooks table (child_as table s form i) t)
+        (closed_but hooks table s form on_way becomes (suc i) ts) us e in
+    rw parts.same (on_way_is hooks table s form on_way becomes Both (suc i) ts parts.tail holes step parts.tail_is)
+
+pub finish_keeps_path : (hooks : Meanings) (table : Table) (s : ℕ) (cursor : Place) (tree next : Tree)
+    → finished hooks table s cursor tree ≡ Some next → steps_in cursor next ≡ steps_in cursor tree
+finish_keeps_path hooks table s [] tree next e = refl
+finish_keeps_path hooks table s (i ∷ place) hole next e = let same : hole ≡ next = cc in rw (← same) refl
+finish_keeps_path hooks table s (i ∷ place) entered next e = let same : entered ≡ next = cc in rw (← same) refl
+finish_keeps_path hooks table s (i ∷ place) (whole v) next e = let same : whole v ≡ next = cc in rw (← same) refl
+finish_keeps_path hooks table s (i ∷ place) (begun form ts) next e =
+    let to : Mapped (begun form)
+        (closed_but hooks table s form i (λ (shape : ℕ) (t : Tree). finished hooks table shape place t) 0 ts) next
+    = mapped_is (begun form)
+        (closed_but hooks table s form i (λ (shape : ℕ) (t : Tree). finished hooks table shape place t) 0 ts) next e in
+    rw to.same (ap (λ (steps : List PathStep). step_as form i ∷ steps)
+        (on_way_is hooks table s form i (λ (shape : ℕ) (t : Tree). finished hooks table shape place t)
+        (λ t u. steps_in place u ≡ steps_in place t) 0 ts to.from refl
+        (λ shape t u is. finish_keeps_path hooks table shape place t u is) to.is))
+
+-- Something to refuse
+
+kind_there : (found : Option Failure) → is_some (kind_of found) ≡ is_some found
+kind_there (Some failure) = refl
+kind_there None = refl
+
+-- there is a first exactly of a list that isn't empty
+pub first_there : (failures : List Failure) → is_some (first_by_walk failures) ≡ not (is_nil failures)
+first_there [] = refl
+first_there (failure ∷ failures) = refl
+
+none_more_tree : (o : Option Tree) (os : Option Trees) → is_none (one_more_tree o os) ≡ (is_none o || is_none os)
+none_more_tree None os = refl
+none_more_tree (Some t) None = refl
+none_more_tree (Some t) (Some ts) = refl
+
+or_aside : (a b c : Bool) → ((a || b) || c) ≡ ((a || c) || b)
+or_aside true b c = refl
+or_aside false true true = refl
+or_aside false true false = refl
+or_aside false false true = refl
+or_aside false false false = refl
+
+or_within : (a b c : Bool) → (a || (b || c)) ≡ ((a || b) || c)
+or_within true b c = refl
+or_within false b c = refl
+
+closed_all_or_fail : (hooks : Meanings) (table : Table) (s : ℕ) (form : Form) (i : ℕ) (path : List PathStep) (ts : Trees)
+    → is_none (closed_all hooks table s form i ts) ≡ not (is_nil (failures_among hooks table s form i path ts))
+closed_all_or_fail hooks table s form i path no_trees = refl
+closed_all_or_fail hooks table s form i path (branch t ts) =
+    none_more_tree (closed hooks table (child_as table s form i) t) (closed_all hooks table s form (suc i) ts)
+    ∙ ap₂ (λ (a b : Bool). a || b)
+    (completes_or_fails hooks table (child_as table s form i) (path ++ step_as form i ∷ []) t)
+    (closed_all_or_fail hooks table s form (suc i) path ts)
+    ∙ sym (joined_there (failures hooks table (child_as table s form i) (path ++ step_as form i ∷ []) t)
+    (failures_among hooks table s form (suc i) path ts))
+
+-- The children of a place above the cursor: child i, as many further on as `on_way`, lies on the way.
+closed_but_or_refused : (hooks : Meanings) (table : Table) (s : ℕ) (form : Form) (on_way : ℕ)
+    (becomes : ℕ → Tree → Option Tree) (below : ℕ → List PathStep → Tree → List Failure) (lacking : ℕ → Tree → Bool)
+    (mode : Mode) (Below : Tree → Type 0) (k : ℕ) (path : List PathStep) (ts : Trees) (i : ℕ) → i ≡ k + on_way
+    → ((shape : ℕ) (to : List PathStep) (t : Tree) → Below t
+    → is_none (becomes shape t) ≡ (not (is_nil (below shape to t)) || lacking shape t))
+    → OffBut mode on_way Below ts
+    → is_none (closed_but hooks table s form on_way becomes k ts)
+    ≡ (not (is_nil (failures_but hooks table s form on_way below k path ts))
+    || lacking (child_as table s form i) (tree_nth on_way ts))
+closed_but_or_refused hooks table s form on_way becomes below lacking mode Below k path no_trees i is step off = absurd off
+closed_but_or_refused hooks table s form zero becomes below lacking mode Below k path (branch t ts) i is step off =
+    subst (λ (m : ℕ). is_none (closed_but hooks table s form zero becomes k (branch t ts))
+    ≡ (not (is_nil (failures_but hooks table s form zero below k path (branch t ts)))
+    || lacking (child_as table s form m) t)) here
+    (none_more_tree (becomes (child_as table s form k) t) (closed_all hooks table s form (suc k) ts)
+    ∙ ap₂ (λ (a b : Bool). a || b) (step (child_as table s form k) (path ++ step_as form k ∷ []) t off.0)
+    (closed_all_or_fail hooks table s form (suc k) path ts)
+    ∙ or_aside (not (is_nil (below (child_as table s form k) (path ++ step_as form k ∷ []) t)))
+    (lacking (child_as table s form k) t) (not (is_nil (failures_among hooks table s form (suc k) path ts)))
+    ∙ ap (λ (b : Bool). b || lacking (child_as table s form k) t)
+    (sym (joined_there (below (child_as table s form k) (path ++ step_as form k ∷ []) t)
+    (failures_among hooks table s form (suc k) path ts))))
+  where
+    here : k ≡ i
+    here = omega arith
+closed_but_or_refused hooks table s form (suc on_way) becomes below lacking mode Below k path (branch t ts) i is step off =
+    none_more_tree (closed hooks table (child_as table s form k) t)
+    (closed_but hooks table s form on_way becomes (suc k) ts)
+    ∙ ap₂ (λ (a b : Bool). a || b)
+    (completes_or_fails hooks table (child_as table s form k) (path ++ step_as form k ∷ []) t)
+    (closed_but_or_refused hooks table s form on_way becomes below lacking mode Below (suc k) path ts i (omega arith) step
+    off.1)
+    ∙ or_within (not (is_nil (failures hooks table (child_as table s form k) (path ++ step_as form k ∷ []) t)))
+    (not (is_nil (failures_but hooks table s form on_way below (suc k) path ts)))
+    (lacking (child_as table s form i) (tree_nth on_way ts))
+    ∙ ap (λ (b : Bool). b || lacking (child_as table s form i) (tree_nth on_way ts))
+    (sym (joined_there (failures hooks table (child_as table s form k) (path ++ step_as form k ∷ []) t)
+    (failures_but hooks table s form on_way below (suc k) path ts)))
+
+-- what the place at the cursor lacks
+abbrev lacks_at : Meanings → Table → Place → ℕ → Tree → Bool
+lacks_at hooks table cursor s tree = is_some (own_lack hooks table (shape_in table s cursor tree) (tree_at cursor tree))
+
+finished_or_refused : (hooks : Meanings) (table : Table) (s : ℕ) (path : List PathStep) (mode : Mode) (cursor : Place)
+    (tree : Tree) → Leads mode cursor tree
+    → is_none (finished hooks table s cursor tree)
+    ≡ (not (is_nil (failures_off hooks table s path cursor tree)) || lacks_at hooks table cursor s tree)
+finished_or_refused hooks table s path mode [] hole leads = absurd leads
+finished_or_refused hooks table s path mode [] entered leads =
+    none_mapped whole (complete deferred_column hooks table s entered) ∙ entered_lacks hooks table s
+finished_or_refused hooks table s path mode [] (whole v) leads = refl
+finished_or_refused hooks table s path mode [] (begun form ts) leads =
+    none_mapped (begun_with form) (complete_all deferred_column hooks table s form 0 ts)
+    ∙ all_complete_or_fail hooks table s form 0 path ts
+finished_or_refused hooks table s path mode (i ∷ place) (begun form ts) leads =
+    none_mapped (begun form)
+    (closed_but hooks table s form i (λ (shape : ℕ) (t : Tree). finished hooks table shape place t) 0 ts)
+    ∙ closed_but_or_refused hooks table s form i (λ (shape : ℕ) (t : Tree). finished hooks table shape place t)
+    (λ (shape : ℕ) (to : List PathStep) (t : Tree). failures_off hooks table shape to place t)
+    (λ (shape : ℕ) (t : Tree). lacks_at hooks table place shape t) mode (λ child. Leads mode place child) 0 path ts i
+    (omega arith) (λ shape to t below. finished_or_refused hooks table shape to mode place t below) leads
+finished_or_refused hooks table s path mode (i ∷ place) _ leads = absurd leads
+
+-- Deferred mode can't end exactly where a place off the way fails, or else the one at the cursor lacks something.
+pub finishes_or_refuses : (hooks : Meanings) (table : Table) (s : ℕ) (path : List PathStep) (mode : Mode) (cursor : Place)
+    (tree : Tree) → Leads mode cursor tree
+    → is_none (finished hooks table s cursor tree)
+    ≡ is_some (option_or (kind_of (first_by_walk (failures_off hooks table s path cursor tree)))
+    (own_lack hooks table (shape_in table s cursor tree) (tree_at cursor tree)))
+finishes_or_refuses hooks table s path mode cursor tree leads =
+    finished_or_refused hooks table s path mode cursor tree leads
+    ∙ ap (λ (b : Bool). b || lacks_at hooks table cursor s tree)
+    (sym (kind_there (first_by_walk (failures_off hooks table s path cursor tree))
+    ∙ first_there (failures_off hooks table s path cursor tree)))
+    ∙ sym (some_or (kind_of (first_by_walk (failures_off hooks table s path cursor tree)))
+    (own_lack hooks table (shape_in table s cursor tree) (tree_at cursor tree)))

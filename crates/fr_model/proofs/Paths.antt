@@ -1,0 +1,135 @@
+-- The path of the place at which a builder works, after it enters a child, puts a value or goes up.
+use Rattle.std.proofs.Common.{◌≡◌, ℕ, zero, suc, ◌<◌, true, List, [], ◌∷◌, ◌++◌, append-nil, length, Option, Some, None, refl, sym, ◌∙◌, ap, arith}
+use Rattle.fr_shape.specs.declared.shape.Def.{Def}
+use Rattle.fr_shape.specs.declared.shape.ShapeId.{ShapeId}
+use Rattle.fr_shape.specs.Look.{Table, def_of}
+use Rattle.fr_shape.specs.Val.{Val, Vals, unit, product}
+use Rattle.fr_shape.specs.Fits.{fits}
+use Rattle.fr_path.specs.declared.path_steps.PathStep.{PathStep}
+use Rattle.fr_model.specs.Paths.{step_as, step_below, steps_in, path_of}
+use Rattle.fr_model.specs.Places.{Place, up, child_shape, parts_of}
+use Rattle.fr_model.specs.Step.{opened_value, opened, enter, enter_child, enters, puts, puts_and_leaves, leaves}
+use Rattle.fr_model.specs.Tree.{Form, form_of, Tree, hole, entered, whole, begun, Trees, no_trees, branch, tree_nth, child_tree, change_nth, change_child, tree_at, change_at, count_trees, Mode, State, cursor_shape, cursor_tree}
+use Rattle.fr_model.specs.Well.{Suits, AtCursor, Leads, IsInOrder}
+use Rattle.fr_model.proofs.Agreement.{leads_within, leads_child}
+use Rattle.fr_model.proofs.Cursor.{at_cursor, suits_at}
+use Rattle.fr_model.proofs.Opening.{begun_form}
+use Rattle.fr_model.proofs.Structs.{settled_array}
+
+pub as_deep : (here : Place) (t : Tree) → length (steps_in here t) ≡ length here
+as_deep [] t = refl
+as_deep (i ∷ here) (begun form ts) = ap suc (as_deep here (tree_nth i ts))
+as_deep (i ∷ here) _ = ap suc (as_deep here hole)
+
+-- below a place that is changed
+
+changed_nth : (i : ℕ) (change : Tree → Tree) (ts : Trees) → i < count_trees ts
+    → tree_nth i (change_nth i change ts) ≡ change (tree_nth i ts)
+changed_nth i change no_trees below = absurd (omega arith)
+changed_nth zero change (branch t ts) below = refl
+changed_nth (suc i) change (branch t ts) below = changed_nth i change ts (omega arith)
+
+steps_on : (mode : Mode) (here way : Place) (t : Tree) (change : Tree → Tree) → Leads mode here t
+    → steps_in (here ++ way) (change_at here change t) ≡ steps_in here t ++ steps_in way (change (tree_at here t))
+steps_on mode [] way t change leads = refl
+steps_on mode (i ∷ here) way (begun form ts) change leads =
+    ap (λ (steps : List PathStep). step_as form i ∷ steps)
+    (ap (steps_in (here ++ way))
+    (changed_nth i (λ child. change_at here change child) ts (leads_within mode i (λ child. Leads mode here child) ts leads))
+    ∙ steps_on mode here way (tree_nth i ts) change (leads_child mode i (λ child. Leads mode here child) ts leads))
+steps_on mode (i ∷ here) way _ change leads = absurd leads
+
+-- a value is put
+
+pub put_keeps : (state : State) (v : Val) → Leads state.mode state.cursor state.tree → path_of (puts state v) ≡ path_of state
+put_keeps state v leads =
+    ap (λ (place : Place). steps_in place (change_at state.cursor (λ old. whole v) state.tree))
+    (sym (append-nil state.cursor))
+    ∙ steps_on state.mode state.cursor [] state.tree (λ old. whole v) leads
+    ∙ append-nil (path_of state)
+
+-- a child is entered
+
+changed_below : (i : ℕ) (change : Tree → Tree) (t : Tree) → step_below i (change_child i change t) ≡ step_below i t
+changed_below i change hole = refl
+changed_below i change entered = refl
+changed_below i change (whole v) = refl
+changed_below i change (begun form ts) = refl
+
+-- a whole array is a product
+array_parts : (table : Table) (s : ℕ) (item : ShapeId) (n : ℕ) (v : Val) → def_of table s ≡ Def.Array item n
+    → fits table s v ≡ true → parts_of v ≡ None → ⊥
+array_parts table s item n (product vs) is fit none = cc
+array_parts table s item n unit is fit none = cc
+array_parts table s item n _ is fit none = let absent = rw (settled_array table s item n is) at fit in cc
+
+opened_below : (mode : Mode) (table : Table) (s i : ℕ) (t : Tree) → AtCursor mode t → Suits table s t
+    → step_below i (opened (def_of table s) t) ≡ step_as (form_of (def_of table s)) i
+opened_below mode table s i hole at suits = absurd at
+opened_below mode table s i entered at suits = refl
+opened_below mode table s i (begun form ts) at suits =
+    ap (λ (known : Form). step_as known i) (begun_form (def_of table s) form (count_trees ts) suits.0)
+opened_below mode table s i (whole v) at suits = of_parts (parts_of v) refl
+  where
+    without : (def : Def) → def_of table s ≡ def → parts_of v ≡ None → PathStep.Field i ≡ step_as (form_of def) i
+    without (Def.Array item n) is none = absurd (array_parts table s item n v is suits none)
+    without _ is none = refl
+
+    of_parts : (parts : Option Vals) → parts_of v ≡ parts
+        → step_below i (opened_value (form_of (def_of table s)) v parts) ≡ step_as (form_of (def_of table s)) i
+    of_parts (Some vs) is = refl
+    of_parts None none = without (def_of table s) refl none
+
+pub enter_adds : (table : Table) (root : ℕ) (state : State) (i : ℕ) → IsInOrder table root state
+    → path_of (enters table (cursor_shape table root state) state i)
+    ≡ path_of state ++ step_as (form_of (def_of table (cursor_shape table root state))) i ∷ []
+enter_adds table root state i order =
+    steps_on state.mode state.cursor (i ∷ []) state.tree (enter_child table here i) order.leads
+    ∙ ap (λ (step : PathStep). path_of state ++ step ∷ [])
+    (changed_below i (enter (def_of table (child_shape table here i))) (opened (def_of table here) (cursor_tree state))
+    ∙ opened_below state.mode table here i (cursor_tree state) (at_cursor state.mode state.cursor state.tree order.leads)
+    (suits_at state.mode table root state.cursor state.tree order.leads order.suits))
+  where
+    here : ℕ
+    here = cursor_shape table root state
+
+-- the cursor goes up
+
+-- all steps but the last
+abbrev front : List PathStep → List PathStep
+front [] = []
+front (step ∷ []) = []
+front (step ∷ next ∷ steps) = step ∷ front (next ∷ steps)
+
+front_of : (before : List PathStep) (last : PathStep) → front (before ++ last ∷ []) ≡ before
+front_of [] last = refl
+front_of (step ∷ []) last = refl
+front_of (step ∷ next ∷ steps) last = ap (λ (rest : List PathStep). step ∷ rest) (front_of (next ∷ steps) last)
+
+steps_up : (mode : Mode) (here : Place) (t : Tree) (v : Val) → Leads mode here t
+    → steps_in (up here) (change_at here (λ old. whole v) t) ≡ front (steps_in here t)
+steps_up mode [] t v leads = refl
+steps_up mode (i ∷ []) t v leads = refl
+steps_up mode (i ∷ j ∷ here) (begun form ts) v leads =
+    ap (λ (steps : List PathStep). step_as form i ∷ steps)
+    (ap (steps_in (up (j ∷ here)))
+    (changed_nth i (λ child. change_at (j ∷ here) (λ old. whole v) child) ts
+    (leads_within mode i (λ child. Leads mode (j ∷ here) child) ts leads))
+    ∙ steps_up mode (j ∷ here) (tree_nth i ts) v (leads_child mode i (λ child. Leads mode (j ∷ here) child) ts leads))
+steps_up mode (i ∷ j ∷ here) _ v leads = absurd leads
+
+pub leave_drops : (state : State) (v : Val) (before : List PathStep) (last : PathStep) → Leads state.mode state.cursor state.tree
+    → path_of state ≡ before ++ last ∷ [] → path_of (puts_and_leaves state v) ≡ before
+leave_drops state v before last leads is =
+    steps_up state.mode state.cursor state.tree v leads ∙ ap front is ∙ front_of before last
+
+steps_left : (here : Place) (t : Tree) → steps_in (up here) t ≡ front (steps_in here t)
+steps_left [] t = refl
+steps_left (i ∷ []) t = refl
+steps_left (i ∷ j ∷ here) t =
+    ap (λ (steps : List PathStep). step_below i t ∷ steps) (steps_left (j ∷ here) (child_tree i t))
+
+pub leave_as_it_is : (state : State) (before : List PathStep) (last : PathStep)
+    → path_of state ≡ before ++ last ∷ [] → path_of (leaves state) ≡ before
+leave_as_it_is state before last is =
+    steps_left state.cursor state.tree ∙ ap front is ∙ front_of before last

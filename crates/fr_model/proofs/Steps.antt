@@ -1,0 +1,312 @@
+-- One command does the same to the journal and to the tree.
+use Rattle.std.proofs.Common.{◌≡◌, ℕ, ◌<◌, ◌==◌, eqb-true, ltb-true, Bool, true, false, if◌then◌else◌, List, [], ◌∷◌, ◌++◌, length, nat_lt, Option, Some, None, Result, Ok, Err, refl, sym, ◌∙◌, ap, subst}
+use Rattle.fr_shape.specs.declared.error.ReflectErrorKind.{ReflectErrorKind}
+use Rattle.fr_shape.specs.declared.error.Operation.{Operation}
+use Rattle.fr_shape.specs.declared.error.Invariant.{Invariant}
+use Rattle.fr_shape.specs.Checked.{IsChecked}
+use Rattle.fr_shape.specs.Fills.{preset_of}
+use Rattle.fr_shape.specs.Fits.{fits}
+use Rattle.fr_shape.specs.Hooks.{Meanings}
+use Rattle.fr_shape.specs.Look.{Table, def_of}
+use Rattle.fr_shape.specs.Val.{Val}
+use Rattle.fr_model.specs.Commands.{Call}
+use Rattle.fr_shape.specs.Named.{field_named}
+use Rattle.fr_model.specs.Places.{Place, Column, strict_column, is_root, shape_at}
+use Rattle.fr_model.specs.Journal.{entered_at, wrote_at, Journal, Held, held, completes, Progress, may_enter, goes_to_child, goes_to_found, writes, ends, goes_up, end_rule, begin_deferred_rule, finishes_with, finish_rule, finish_notes, rule}
+use Rattle.fr_model.specs.Tree.{Tree, whole, Mode, strict, deferred, State, cursor_shape, cursor_tree, one_more_call}
+use Rattle.fr_model.specs.Complete.{complete}
+use Rattle.fr_model.specs.Finish.{finished}
+use Rattle.fr_model.specs.Step.{unless_refused, field_refusal, named_refusal, at_shape, enter_child, enters, begins_named, puts, set_refusal, puts_default, violates, ended, leaves, end_in, begins_deferred, finishes, finish_in, step}
+use Rattle.fr_model.specs.Scripts.{IsFitting}
+use Rattle.fr_model.specs.Well.{IsInOrder}
+use Rattle.fr_model.proofs.Plain.{AllPlain}
+use Rattle.fr_model.proofs.Beneath.{along, held_along}
+use Rattle.fr_model.proofs.Agreement.{by_value, Agrees, agree_along, completes_at, under_entered, under_wrote, follow}
+use Rattle.fr_model.proofs.Children.{nothing_below, SeesWhole, sees_whole, may_enter_by, ChildOf, enterable, ChildCase, a_child, no_child, child_case, NamedCase, a_named, no_such_name, no_names, named_case}
+use Rattle.fr_model.proofs.Cursor.{at_cursor, suits_at, plain_at, same_shape, entry_at, begun_in_order, put_in_order, ended_in_order, left_in_order, deferred_in_order}
+use Rattle.fr_model.proofs.FinishAgreement.{BothFinish, finish_agrees}
+use Rattle.fr_model.proofs.Finishes.{Kept, finish_keeps, finish_leads}
+use Rattle.fr_model.proofs.Templates.{preset_template}
+
+-- a builder's state and a run of the rules that have come equally far
+pub record Alike (table : Table) (root : ℕ) (state : State) (run : Progress) : Type 0 where
+  pub in_order : IsInOrder table root state
+  pub agrees : Agrees table root run.notes state.tree
+  pub same_cursor : run.cursor ≡ state.cursor
+  pub same_mode : run.mode ≡ state.mode
+
+-- both go on alike, or neither does
+abbrev pub BothStep : Table → ℕ → Result State ReflectErrorKind → Option Progress → Type 0
+BothStep table root (Ok next) (Some run) = Alike table root next run
+BothStep table root (Err kind) None = Unit {0}
+BothStep table root _ _ = ⊥
+
+-- where a child is entered
+
+abbrev entered_run : Progress → ℕ → Progress
+entered_run run i = record run { notes = entered_at (run.cursor ++ i ∷ []) ∷ run.notes; cursor = run.cursor ++ i ∷ [] }
+
+begun_both : (table : Table) (root s i : ℕ) (refusal : Option Operation) (may : Bool) (next : State) (run : Progress)
+    → refusal ≡ None → may ≡ true → Alike table root next (entered_run run i)
+    → BothStep table root (unless_refused (at_shape s refusal) next) (goes_to_child may run i)
+begun_both table root s i refusal may next run admitted there alike = rw (admitted, there) alike
+
+begun_neither : (table : Table) (root s i : ℕ) (refusal : Option Operation) (may : Bool) (operation : Operation)
+    (next : State) (run : Progress)
+    → refusal ≡ Some operation → may ≡ false
+    → BothStep table root (unless_refused (at_shape s refusal) next) (goes_to_child may run i)
+begun_neither table root s i refusal may operation next run refused absent = rw (refused, absent) tt
+
+named_both : (table : Table) (root s i : ℕ) (state : State) (refusal : Option Operation) (found : Option ℕ)
+    (run : Progress) (t : ℕ) → refusal ≡ None → found ≡ Some i → may_enter table t i (held run.notes run.cursor) ≡ true
+    → Alike table root (enters table s state i) (entered_run run i)
+    → BothStep table root (begins_named table s state (at_shape s refusal) found) (goes_to_found table t run found)
+named_both table root s i state refusal found run t admitted is there alike = rw (admitted, is, there) alike
+
+named_none : (table : Table) (root s t : ℕ) (state : State) (refusal : Option ReflectErrorKind) (found : Option ℕ)
+    (run : Progress) → found ≡ None
+    → BothStep table root (begins_named table s state refusal found) (goes_to_found table t run found)
+named_none table root s t state (Some kind) found run is = rw is tt
+named_none table root s t state None found run is = rw is tt
+
+-- the end of deferred mode
+
+-- the state in which deferred mode has ended
+abbrev pub finishes_as : State → Tree → State
+finishes_as state tree = record state { tree = tree; mode = strict; calls = one_more_call state.calls }
+
+pub finished_in_order : (hooks : Meanings) (table : Table) (root : ℕ) (state : State) (tree : Tree) → IsChecked table
+    → IsInOrder table root state → finished hooks table root state.cursor state.tree ≡ Some tree
+    → IsInOrder table root (finishes_as state tree)
+finished_in_order hooks table root state tree checked order is =
+    let kept : Kept table root state.tree tree
+    = finish_keeps hooks table root state.cursor state.tree tree checked order.suits is in
+    record {
+      suits = kept.suits;
+      leads = finish_leads hooks table root state.mode state.cursor state.tree tree order.leads is;
+      began = tt;
+    }
+
+-- each command, at a tree and a journal that agree
+module _ (hooks : Meanings) (table : Table) (checked : IsChecked table) (root : ℕ) (plain : AllPlain table root)
+    (state : State) (notes : Journal) (order : IsInOrder table root state) (agrees : Agrees table root notes state.tree) where
+  abbrev run : Progress
+  run = record { notes = notes; cursor = state.cursor; mode = state.mode }
+
+  -- the shape of the place at the cursor
+  abbrev at_here : ℕ
+  at_here = cursor_shape table root state
+
+  same : shape_at table root state.cursor ≡ at_here
+  same = same_shape state.mode table root state.cursor state.tree order.leads
+
+  -- what the journal knows of the place at the cursor
+  sees : SeesWhole (def_of table at_here) (cursor_tree state) (held notes state.cursor)
+  sees =
+      subst (λ (h : Held). SeesWhole (def_of table at_here) (cursor_tree state) h) (sym (held_along notes state.cursor))
+      (sees_whole state.mode table at_here (cursor_tree state) (along state.cursor notes)
+      (at_cursor state.mode state.cursor state.tree order.leads)
+      (agree_along state.mode table root state.cursor state.tree notes order.leads agrees))
+
+  -- a child is entered
+  entered_alike : (i : ℕ) → ChildOf (def_of table at_here) i (cursor_tree state)
+      → Alike table root (enters table at_here state i) (entered_run run i)
+  entered_alike i child = record {
+    in_order = begun_in_order table root state i (enterable table at_here i (cursor_tree state) child) order;
+    agrees = rw (← under_entered state.cursor (i ∷ []))
+        (follow state.mode table root state.cursor state.tree notes (entered_at (i ∷ [])) (enter_child table at_here i)
+        order.leads agrees
+        ((entry_at table root state i (enterable table at_here i (cursor_tree state) child) order).agrees (along state.cursor notes)));
+    same_cursor = refl;
+    same_mode = refl;
+  }
+
+  may_is : (i : ℕ) (b : Bool) → may_enter_by (def_of table at_here) i (held notes state.cursor) ≡ b
+      → may_enter table (shape_at table root state.cursor) i (held notes state.cursor) ≡ b
+  may_is i b e = ap (λ (s : ℕ). may_enter table s i (held notes state.cursor)) same ∙ e
+
+  begins_alike : (i : ℕ)
+      → BothStep table root (step hooks table root state (Call.BeginNthField i)) (rule table root run (Call.BeginNthField i))
+  begins_alike i = go (child_case (def_of table at_here) i (cursor_tree state))
+    where
+      go : ChildCase (def_of table at_here) i (cursor_tree state)
+          → BothStep table root
+          (unless_refused (at_shape at_here (field_refusal (def_of table at_here) (cursor_tree state) i))
+          (enters table at_here state i))
+          (goes_to_child (may_enter table (shape_at table root state.cursor) i (held notes state.cursor)) run i)
+      go (a_child child admitted may) =
+          begun_both table root at_here i (field_refusal (def_of table at_here) (cursor_tree state) i)
+          (may_enter table (shape_at table root state.cursor) i (held notes state.cursor)) (enters table at_here state i) run admitted
+          (may_is i true (may (held notes state.cursor) sees)) (entered_alike i child)
+      go (no_child operation refused may) =
+          begun_neither table root at_here i (field_refusal (def_of table at_here) (cursor_tree state) i)
+          (may_enter table (shape_at table root state.cursor) i (held notes state.cursor)) operation (enters table at_here state i) run
+          refused (may_is i false (may (held notes state.cursor) sees))
+
+  named_alike : (name : List ℕ)
+      → BothStep table root (step hooks table root state (Call.BeginField name)) (rule table root run (Call.BeginField name))
+  named_alike name =
+      subst
+      (λ (s : ℕ). BothStep table root
+      (begins_named table at_here state (at_shape at_here (named_refusal (def_of table at_here)))
+      (field_named name (def_of table at_here)))
+      (goes_to_found table s run (field_named name (def_of table s))))
+      (sym same) (go (named_case name (def_of table at_here) (cursor_tree state)))
+    where
+      go : NamedCase name (def_of table at_here) (cursor_tree state)
+          → BothStep table root
+          (begins_named table at_here state (at_shape at_here (named_refusal (def_of table at_here)))
+          (field_named name (def_of table at_here)))
+          (goes_to_found table at_here run (field_named name (def_of table at_here)))
+      go (a_named i child admitted is may) =
+          named_both table root at_here i state (named_refusal (def_of table at_here))
+          (field_named name (def_of table at_here)) run at_here admitted is (may (held notes state.cursor)) (entered_alike i child)
+      go (no_such_name admitted is) =
+          named_none table root at_here at_here state (at_shape at_here (named_refusal (def_of table at_here)))
+          (field_named name (def_of table at_here)) run is
+      go (no_names operation refused is) =
+          named_none table root at_here at_here state (at_shape at_here (named_refusal (def_of table at_here)))
+          (field_named name (def_of table at_here)) run is
+
+  -- a value is put
+  put_alike : (v : Val) → fits table at_here v ≡ true
+      → Alike table root (puts state v)
+      (record { notes = wrote_at state.cursor v ∷ notes; cursor = state.cursor; mode = state.mode })
+  put_alike v fit = record {
+    in_order = put_in_order table root state v fit order;
+    agrees = rw (← under_wrote state.cursor v)
+        (follow state.mode table root state.cursor state.tree notes (wrote_at [] v) (λ old. whole v) order.leads agrees
+        (λ old. by_value refl));
+    same_cursor = refl;
+    same_mode = refl;
+  }
+
+  sets_alike : (given : ℕ) (v : Val) → fits table given v ≡ true
+      → BothStep table root (step hooks table root state (Call.Set given v)) (rule table root run (Call.Set given v))
+  sets_alike given v fit = rw same (go (at_here == given) refl)
+    where
+      go : (b : Bool) → (at_here == given) ≡ b
+          → BothStep table root (unless_refused (set_refusal at_here given) (puts state v))
+          (writes run (if at_here == given then Some v else None))
+      go true e =
+          rw e (put_alike v (ap (λ (s : ℕ). fits table s v) (eqb-true at_here given e) ∙ fit))
+      go false e = rw e tt
+
+  defaults_alike : BothStep table root (step hooks table root state Call.SetDefault) (rule table root run Call.SetDefault)
+  defaults_alike = rw same (go (preset_of table at_here) refl)
+    where
+      go : (preset : Option Val) → preset_of table at_here ≡ preset
+          → BothStep table root (puts_default at_here state preset) (writes run preset)
+      go (Some v) is =
+          let template = preset_template table at_here v checked is in put_alike v template.fit
+      go None is = tt
+
+  -- what the place at the cursor makes, by the rules of either column
+  completes_here : (column : Column)
+      → completes column table notes (shape_at table root state.cursor) state.cursor
+      ≡ complete column hooks table at_here (cursor_tree state)
+  completes_here column =
+      ap (λ (s : ℕ). completes column table notes s state.cursor) same
+      ∙ completes_at state.mode column hooks table root state.cursor state.tree notes checked
+      (plain_at state.mode table root state.cursor state.tree order.leads order.suits plain) order.leads
+      (suits_at state.mode table root state.cursor state.tree order.leads order.suits) agrees
+
+  -- end in strict mode
+  ends_alike : state.mode ≡ strict → (value : Option Val) (by_notes : Option Val)
+      → complete strict_column hooks table at_here (cursor_tree state) ≡ value → by_notes ≡ value
+      → BothStep table root (ended hooks table at_here state value) (ends run by_notes)
+  ends_alike is_strict (Some v) by_notes is same_value = rw same_value (record {
+    in_order = ended_in_order strict_column hooks table root state v checked is_strict is order;
+    agrees = rw (← under_wrote state.cursor v)
+        (follow state.mode table root state.cursor state.tree notes (wrote_at [] v) (λ old. whole v) order.leads agrees
+        (λ old. by_value refl));
+    same_cursor = refl;
+    same_mode = refl;
+  })
+  ends_alike is_strict None by_notes is same_value = rw same_value tt
+
+  -- end in deferred mode
+  left_alike : (start : ℕ) → state.mode ≡ deferred start → start < length state.cursor
+      → Alike table root (leaves state) (goes_up run)
+  left_alike start is deeper = record {
+    in_order = left_in_order table root start state is deeper order;
+    agrees = agrees;
+    same_cursor = refl;
+    same_mode = refl;
+  }
+
+  leaves_alike : (start : ℕ) → state.mode ≡ deferred start → (here : Place) → state.cursor ≡ here
+      → BothStep table root
+      (if is_root here then Err (violates Invariant.EndAtRoot)
+      else (if nat_lt start (length here) then Ok (leaves state) else Err (violates Invariant.EndAtStart)))
+      (if nat_lt start (length here) then Some (goes_up run) else None)
+  leaves_alike start is [] at = rw (nothing_below start) tt
+  leaves_alike start is (i ∷ here) at = go (nat_lt start (length (i ∷ here))) refl
+    where
+      go : (b : Bool) → nat_lt start (length (i ∷ here)) ≡ b
+          → BothStep table root (if b then Ok (leaves state) else Err (violates Invariant.EndAtStart))
+          (if b then Some (goes_up run) else None)
+      go true e =
+          left_alike start is
+          (subst (λ (place : Place). start < length place) (sym at) (ltb-true start (length (i ∷ here)) e))
+      go false e = tt
+
+  end_alike : (mode : Mode) → state.mode ≡ mode
+      → BothStep table root
+      (if is_root state.cursor then Err (violates Invariant.EndAtRoot) else end_in hooks table at_here state mode)
+      (end_rule table (shape_at table root state.cursor) run mode)
+  end_alike strict is = go (is_root state.cursor)
+    where
+      go : (b : Bool)
+          → BothStep table root
+          (if b then Err (violates Invariant.EndAtRoot)
+          else ended hooks table at_here state (complete strict_column hooks table at_here (cursor_tree state)))
+          (if b then None
+          else ends run (completes strict_column table notes (shape_at table root state.cursor) state.cursor))
+      go true = tt
+      go false =
+          ends_alike is (complete strict_column hooks table at_here (cursor_tree state))
+          (completes strict_column table notes (shape_at table root state.cursor) state.cursor) refl
+          (completes_here strict_column)
+  end_alike (deferred start) is = leaves_alike start is state.cursor refl
+
+  -- deferred mode
+  defers_alike : (mode : Mode) → state.mode ≡ mode
+      → BothStep table root (begins_deferred state mode) (begin_deferred_rule run mode)
+  defers_alike strict is = record {
+    in_order = deferred_in_order table root state is order;
+    agrees = agrees;
+    same_cursor = refl;
+    same_mode = refl;
+  }
+  defers_alike (deferred start) is = tt
+
+  finished_alike : (tree : Option Tree) (added : Option Journal)
+      → finished hooks table root state.cursor state.tree ≡ tree → BothFinish table root notes tree added
+      → BothStep table root (finishes hooks table root state tree) (finishes_with run added)
+  finished_alike (Some tree) (Some added) is both = record {
+    in_order = finished_in_order hooks table root state tree checked order is;
+    agrees = both;
+    same_cursor = refl;
+    same_mode = refl;
+  }
+  finished_alike (Some tree) None is both = absurd both
+  finished_alike None (Some added) is both = absurd both
+  finished_alike None None is both = tt
+
+  finish_alike : (mode : Mode)
+      → BothStep table root (finish_in hooks table root state mode) (finish_rule table root run mode)
+  finish_alike strict = tt
+  finish_alike (deferred start) =
+      finished_alike (finished hooks table root state.cursor state.tree) (finish_notes table notes root [] state.cursor) refl
+      (finish_agrees hooks table root state notes checked plain order agrees)
+
+  pub steps_alike : (command : Call) → IsFitting table command
+      → BothStep table root (step hooks table root state command) (rule table root run command)
+  steps_alike (Call.BeginField name) fit = named_alike name
+  steps_alike (Call.BeginNthField i) fit = begins_alike i
+  steps_alike (Call.Set given v) fit = sets_alike given v fit.1
+  steps_alike Call.SetDefault fit = defaults_alike
+  steps_alike Call.End fit = end_alike state.mode refl
+  steps_alike Call.BeginDeferred fit = defers_alike state.mode refl
+  steps_alike Call.FinishDeferred fit = finish_alike state.mode

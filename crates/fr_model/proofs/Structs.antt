@@ -1,0 +1,188 @@
+-- Trees of structs and arrays and their values: what fits opens into fitting children, and fitting children make what fits.
+use Rattle.std.proofs.Common.{◌≡◌, ℕ, zero, suc, ◌+◌, eq-eqb, true, List, [], ◌∷◌, length, slice_get, Option, Some, None, refl, sym, ◌∙◌, ap, subst, arith}
+use Rattle.fr_shape.specs.declared.shape.Def.{Def}
+use Rattle.fr_shape.specs.declared.shape.ShapeId.{ShapeId}
+use Rattle.fr_shape.specs.declared.shape.StructDef.{StructDef}
+use Rattle.fr_shape.specs.declared.shape.Field.{Field}
+use Rattle.fr_shape.specs.Look.{Table, def_of, settled}
+use Rattle.fr_shape.specs.Val.{Val, Vals, product, no_vals, first}
+use Rattle.fr_shape.specs.Fits.{fits, all_fit, fields_fit, count_vals}
+use Rattle.fr_model.specs.Places.{child_shape, one_more, product_of}
+use Rattle.fr_model.specs.Tree.{Form, as_struct, as_array, Tree, Trees, no_trees, branch, tree_nth, change_nth, child_as, shapes_from, count_trees, holes, wholes}
+use Rattle.fr_model.specs.Complete.{made}
+use Rattle.fr_model.specs.Well.{IsFullAs, IsBegunAs, Suits, SuitAll}
+use Rattle.fr_model.proofs.Templates.{both_true}
+
+-- definitions that stand for themselves
+
+pub settled_struct : (table : Table) (s : ℕ) (struct : StructDef) → def_of table s ≡ Def.Struct struct
+    → settled table s ≡ Def.Struct struct
+settled_struct [] s struct e = cc
+settled_struct (shape ∷ shapes) s struct e = rw e refl
+
+pub settled_array : (table : Table) (s : ℕ) (t : ShapeId) (n : ℕ) → def_of table s ≡ Def.Array t n
+    → settled table s ≡ Def.Array t n
+settled_array [] s t n e = cc
+settled_array (shape ∷ shapes) s t n e = rw e refl
+
+pub settled_option : (table : Table) (s : ℕ) (t : ShapeId) → def_of table s ≡ Def.Option t
+    → settled table s ≡ Def.Option t
+settled_option [] s t e = cc
+settled_option (shape ∷ shapes) s t e = rw e refl
+
+-- the fields from number i on, as a list of their own
+abbrev pub AreFrom : List Field → ℕ → List Field → Type 0
+AreFrom all i fields = (k : ℕ) → slice_get all (i + k) ≡ slice_get fields k
+
+next_are : (all : List Field) (i : ℕ) (field : Field) (fields : List Field) → AreFrom all i (field ∷ fields)
+    → AreFrom all (suc i) fields
+next_are all i field fields from k =
+    let e : suc i + k ≡ i + suc k = omega arith in ap (slice_get all) e ∙ from (suc k)
+
+first_is : (all : List Field) (i : ℕ) (field : Field) (fields : List Field) → AreFrom all i (field ∷ fields)
+    → slice_get all i ≡ Some field
+first_is all i field fields from = let e : i ≡ i + 0 = omega arith in ap (slice_get all) e ∙ from 0
+
+pub all_from : (all : List Field) → AreFrom all 0 all
+all_from all k = ap (slice_get all) (omega arith)
+
+-- what completes
+
+pub record OneMore (o : Option Val) (os : Option Vals) (vs : Vals) : Type 0 where
+  pub head : Val
+  pub tail : Vals
+  pub head_is : o ≡ Some head
+  pub tail_is : os ≡ Some tail
+  pub same : vs ≡ first head tail
+
+pub one_more_is : (o : Option Val) (os : Option Vals) (vs : Vals) → one_more o os ≡ Some vs → OneMore o os vs
+one_more_is (Some v) (Some ws) vs e = record { head = v; tail = ws; head_is = refl; tail_is = refl; same = cc }
+one_more_is (Some v) None vs e = cc
+one_more_is None os vs e = cc
+
+pub record ProductOf (os : Option Vals) (v : Val) : Type 0 where
+  pub parts : Vals
+  pub parts_are : os ≡ Some parts
+  pub same : v ≡ product parts
+
+pub product_is : (os : Option Vals) (v : Val) → product_of os ≡ Some v → ProductOf os v
+product_is (Some vs) v e = record { parts = vs; parts_are = refl; same = cc }
+product_is None v e = cc
+
+field_shape : (table : Table) (s : ℕ) (struct : StructDef) (i : ℕ) (field : Field) → def_of table s ≡ Def.Struct struct
+    → slice_get struct.fields i ≡ Some field → child_shape table s i ≡ field.shape.0
+field_shape table s struct i field is e = rw (is, e) refl
+
+-- children that fit, of a place of shape s that is begun so, from number i on
+abbrev pub ChildrenFit : Table → ℕ → Form → ℕ → Vals → Type 0
+ChildrenFit table s form i no_vals = Unit {0}
+ChildrenFit table s form i (first v vs) =
+    (fits table (child_as table s form i) v ≡ true) × ChildrenFit table s form (suc i) vs
+
+fields_all_fit : (table : Table) (s : ℕ) (struct : StructDef) → def_of table s ≡ Def.Struct struct
+    → (i : ℕ) (fields : List Field) (vs : Vals) → AreFrom struct.fields i fields → count_vals vs ≡ length fields
+    → ChildrenFit table s as_struct i vs → fields_fit table fields vs ≡ true
+fields_all_fit table s struct is i [] no_vals from count fit = refl
+fields_all_fit table s struct is i [] (first v vs) from count fit = absurd (omega arith)
+fields_all_fit table s struct is i (field ∷ fields) no_vals from count fit = absurd (omega arith)
+fields_all_fit table s struct is i (field ∷ fields) (first v vs) from count fit =
+    let shape : child_shape table s i ≡ field.shape.0
+    = field_shape table s struct i field is (first_is struct.fields i field fields from) in
+    let here : fits table field.shape.0 v ≡ true = rw shape at fit.0 in
+    let others : fields_fit table fields vs ≡ true
+    = fields_all_fit table s struct is (suc i) fields vs (next_are struct.fields i field fields from) (omega arith) fit.1 in
+    rw (here, others) refl
+
+elements_all_fit : (table : Table) (s : ℕ) (t : ShapeId) (n : ℕ) → def_of table s ≡ Def.Array t n → (i : ℕ) (vs : Vals)
+    → ChildrenFit table s as_array i vs → all_fit table t.0 vs ≡ true
+elements_all_fit table s t n is i no_vals fit = refl
+elements_all_fit table s t n is i (first v vs) fit =
+    let shape : child_shape table s i ≡ t.0 = rw is refl in
+    let here : fits table t.0 v ≡ true = rw shape at fit.0 in
+    let others : all_fit table t.0 vs ≡ true = elements_all_fit table s t n is (suc i) vs fit.1 in
+    rw (here, others) refl
+
+-- what a struct or an array makes of its children's values
+pub made_product : (form : Form) (values : Option Vals) → made form values ≡ product_of values
+made_product as_struct values = refl
+made_product as_array values = refl
+
+pub begun_full : (def : Def) (form : Form) (count : ℕ) → IsBegunAs def form count → IsFullAs def form count
+begun_full (Def.Struct struct) as_struct count begun_as = begun_as.0
+begun_full (Def.Array t n) as_array count begun_as = begun_as.0
+begun_full _ _ count begun_as = absurd begun_as.0
+
+-- fitting children, one for each field or element, make a value that fits
+pub product_fits : (table : Table) (s : ℕ) (form : Form) (vs : Vals) → IsFullAs (def_of table s) form (count_vals vs)
+    → ChildrenFit table s form 0 vs → fits table s (product vs) ≡ true
+product_fits table s form vs count fit = go (def_of table s) form refl count fit
+  where
+    go : (def : Def) (form : Form) → def_of table s ≡ def → IsFullAs def form (count_vals vs)
+        → ChildrenFit table s form 0 vs → fits table s (product vs) ≡ true
+    go (Def.Struct struct) as_struct is count fit =
+        rw (settled_struct table s struct is)
+        (fields_all_fit table s struct is 0 struct.fields vs (all_from struct.fields) count fit)
+    go (Def.Array t n) as_array is count fit =
+        rw (settled_array table s t n is, eq-eqb (count_vals vs) n count, elements_all_fit table s t n is 0 vs fit) refl
+    go _ _ is count fit = absurd count
+
+-- the trees suit the shapes of the children from number i on, of a place of shape s that is begun so
+abbrev pub SuitFrom : Table → ℕ → Form → ℕ → Trees → Type 0
+SuitFrom table s form i ts = SuitAll table (shapes_from table s form (count_trees ts) i) ts
+
+-- what is opened
+
+pub count_change : (i : ℕ) (change : Tree → Tree) (ts : Trees) → count_trees (change_nth i change ts) ≡ count_trees ts
+count_change i change no_trees = refl
+count_change zero change (branch t ts) = refl
+count_change (suc i) change (branch t ts) = ap suc (count_change i change ts)
+
+pub count_holes : (n : ℕ) → count_trees (holes n) ≡ n
+count_holes zero = refl
+count_holes (suc n) = ap suc (count_holes n)
+
+pub holes_suit : (table : Table) (s : ℕ) (form : Form) (i n : ℕ) → SuitFrom table s form i (holes n)
+holes_suit table s form i zero = tt
+holes_suit table s form i (suc n) = (tt, holes_suit table s form (suc i) n)
+
+pub record WholesSuit (table : Table) (s i : ℕ) (fields : List Field) (vs : Vals) : Type 0 where
+  pub count : count_trees (wholes vs) ≡ length fields
+  pub suit : SuitFrom table s as_struct i (wholes vs)
+
+pub wholes_suit : (table : Table) (s : ℕ) (struct : StructDef) → def_of table s ≡ Def.Struct struct
+    → (i : ℕ) (fields : List Field) (vs : Vals) → AreFrom struct.fields i fields → fields_fit table fields vs ≡ true
+    → WholesSuit table s i fields vs
+wholes_suit table s struct is i [] no_vals from fit = record { count = refl; suit = tt }
+wholes_suit table s struct is i [] (first v vs) from fit = cc
+wholes_suit table s struct is i (field ∷ fields) no_vals from fit = cc
+wholes_suit table s struct is i (field ∷ fields) (first v vs) from fit =
+    let both : (fits table field.shape.0 v ≡ true) × (fields_fit table fields vs ≡ true)
+    = both_true (fits table field.shape.0 v) (fields_fit table fields vs) fit in
+    let rest : WholesSuit table s (suc i) fields vs
+    = wholes_suit table s struct is (suc i) fields vs (next_are struct.fields i field fields from) both.1 in
+    let shape : child_shape table s i ≡ field.shape.0
+    = field_shape table s struct i field is (first_is struct.fields i field fields from) in
+    record { count = ap suc rest.count; suit = (rw shape both.0, rest.suit) }
+
+-- one child, and all of them with one changed
+
+pub suit_change : (table : Table) (s : ℕ) (form : Form) (d k : ℕ) (ts : Trees) (i : ℕ) (change : Tree → Tree)
+    → i ≡ k + d → SuitFrom table s form k ts
+    → (Suits table (child_as table s form i) (tree_nth d ts) → Suits table (child_as table s form i) (change (tree_nth d ts)))
+    → SuitFrom table s form k (change_nth d change ts)
+suit_change table s form d k no_trees i change e suits step = tt
+suit_change table s form zero k (branch t ts) i change e suits step =
+    let here : i ≡ k = omega arith in (
+      subst (λ (m : ℕ). Suits table (child_as table s form m) (change t)) here
+          (step (subst (λ (m : ℕ). Suits table (child_as table s form m) t) (sym here) suits.0)),
+      suits.1,
+    )
+suit_change table s form (suc d) k (branch t ts) i change e suits step =
+    (suits.0, suit_change table s form d (suc k) ts i change (omega arith) suits.1 step)
+
+pub suit_nth : (table : Table) (s : ℕ) (form : Form) (d k : ℕ) (ts : Trees) (i : ℕ) → i ≡ k + d
+    → SuitFrom table s form k ts → Suits table (child_as table s form i) (tree_nth d ts)
+suit_nth table s form d k no_trees i e suits = tt
+suit_nth table s form zero k (branch t ts) i e suits =
+    let here : i ≡ k = omega arith in subst (λ (m : ℕ). Suits table (child_as table s form m) t) (sym here) suits.0
+suit_nth table s form (suc d) k (branch t ts) i e suits = suit_nth table s form d (suc k) ts i (omega arith) suits.1
