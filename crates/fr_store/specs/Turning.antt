@@ -9,6 +9,7 @@ use Rattle.fr_path.specs.declared.path_steps.PathStep.{PathStep}
 use Rattle.fr_model.specs.Complete.{complete}
 use Rattle.fr_model.specs.Failing.{own_lack}
 use Rattle.fr_model.specs.Finish.{finished, finished_here, failures_off}
+use Rattle.fr_model.specs.Paths.{steps_in}
 use Rattle.fr_model.specs.Places.{Place, deferred_column}
 use Rattle.fr_model.specs.Tree.{Tree, whole, tree_at, change_at, shape_in}
 use Rattle.fr_model.specs.Well.{Suits}
@@ -102,6 +103,8 @@ pub record Walked (means : Meanings) (table : Table) (plan : Plan) (before : Lis
   pub here :
       CompletesAsBefore means table (root_shape plan) (tree_in_slots before stack) (tree_in_slots now stack)
       (cursor_in before stack)
+  pub path :
+      steps_in (cursor_in before stack) (tree_in_slots now stack) ≡ steps_in (cursor_in before stack) (tree_in_slots before stack)
   pub finish :
       finished means table (root_shape plan) (cursor_in before stack) (tree_in_slots now stack)
       ≡ finished means table (root_shape plan) (cursor_in before stack) (tree_in_slots before stack)

@@ -12,6 +12,7 @@ use Rattle.fr_model.specs.FailingLaws.{FailuresLieThere, FinishesOrRefuses, Firs
 use Rattle.fr_model.specs.Finish.{failures_off, finish_cause, finished, kind_of}
 use Rattle.fr_model.specs.FinishLaws.{closed_at}
 use Rattle.fr_model.specs.Laws.{CompletingFits}
+use Rattle.fr_model.specs.Paths.{steps_in}
 use Rattle.fr_model.specs.Places.{Place, deferred_column}
 use Rattle.fr_model.specs.Relation.{HasPlace}
 use Rattle.fr_model.specs.Tree.{Tree, deferred, whole, change_at, shape_in, tree_at}
@@ -21,7 +22,7 @@ use Rattle.fr_frame.specs.declared.places.Slot.{Slot}
 use Rattle.fr_frame.specs.Changes.{SameTokens}
 use Rattle.fr_frame.specs.Heap.{heap_of}
 use Rattle.fr_frame.specs.Kids.{Kid, there, tree_of}
-use Rattle.fr_store.specs.ClosingLaws.{suits_at, suits_change}
+use Rattle.fr_store.specs.ClosingLaws.{steps_kept, suits_at, suits_change}
 use Rattle.fr_store.specs.HeadLaws.{Head, head_closed, head_of, one_place, walk_on}
 use Rattle.fr_store.specs.HeldLaws.{first_fails, held_by_first, leads_deferred, no_marks}
 use Rattle.fr_store.specs.Moves.{IsOpenAt, cursor_in, tree_in_slots}
@@ -30,7 +31,8 @@ use Rattle.fr_store.specs.Stands.{IsOpen}
 use Rattle.fr_store.specs.Turning.{HasTurned, IsLackingAt, KeepsTheRest, MayTurn, Walked, kid_here}
 use Rattle.fr_store.specs.Turns.{CompletesAsBefore, IsHeldUp, Turned, root_shape}
 use Rattle.fr_store.specs.Walks.{IsStoredAt, IsWalk}
-use Rattle.fr_store.specs.Ways.{kid_at, put_at, Leads, NoneStored, Reaches}
+use Rattle.fr_store.specs.Ways.{put_at, Leads}
+use Rattle.fr_store.specs.WayLaws.{leads_reach}
 
 -- Turns, one after another.
 
@@ -73,6 +75,7 @@ module _ (means : Meanings) (table : Table) (plan : Plan) (before : List Slot) (
     split = refl;
     turned = refl;
     here = record { value = refl; failing = λ path. refl };
+    path = refl;
     finish = refl;
     failing = λ path. refl;
     tokens = λ t. refl;
@@ -130,6 +133,7 @@ module _ (means : Meanings) (table : Table) (plan : Plan) (before : List Slot) (
           (λ (p : Place). CompletesAsBefore means table (root_shape plan) (tree_in_slots now stack)
           (tree_in_slots next stack) p)
           walked.cursor keeps.cursor);
+      path = steps_on ∙ walked.path;
       finish =
           subst
           (λ (p : Place). finished means table (root_shape plan) p (tree_in_slots next stack)
@@ -158,6 +162,22 @@ module _ (means : Meanings) (table : Table) (plan : Plan) (before : List Slot) (
 
         has : HasPlace turned.place (tree_in_slots now stack)
         has = reach_place turned.place (kid_here now stack) turned.stored.reaches
+
+        -- the cursor's place is one of the tree still, and the same steps lead there
+        has_cursor : HasPlace (cursor_in before stack) (closed_at turned.place turned.value (tree_in_slots now stack))
+        has_cursor =
+            subst (λ (t : Tree). HasPlace (cursor_in before stack) t) turned.stands.built
+            (reach_place (cursor_in before stack) (kid_here next stack)
+            (leads_reach (cursor_in before stack) [] (kid_here next stack)
+            (subst (λ (p : Place). Leads p (kid_here next stack))
+            (turned.stands.cursor ∙ walked.cursor ∙ sym (append-nil (cursor_in before stack)))
+            turned.stands.open_still.stands.leads)))
+
+        steps_on : steps_in (cursor_in before stack) (tree_in_slots next stack)
+            ≡ steps_in (cursor_in before stack) (tree_in_slots now stack)
+        steps_on =
+            ap (steps_in (cursor_in before stack)) turned.stands.built
+            ∙ steps_kept turned.place (cursor_in before stack) turned.value (tree_in_slots now stack) has has_cursor
 
         suits_on : Suits table (root_shape plan) (closed_at turned.place turned.value (tree_in_slots now stack))
         suits_on =

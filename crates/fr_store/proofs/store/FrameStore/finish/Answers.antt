@@ -1,0 +1,37 @@
+use Rattle.std.proofs.Common.{◌≡◌, ℕ, List, sym, ap, subst, ◌∙◌}
+use Rattle.fr_shape.specs.Released.{Room, RoseBy}
+use Rattle.fr_shape.specs.TokenLaws.{Room_same, RoseBy_same}
+use Rattle.fr_frame.specs.declared.places.Slot.{Slot}
+use Rattle.fr_frame.specs.Heap.{slots_occur}
+use Rattle.fr_store.specs.MoveLaws.{slots_tokens}
+use Rattle.fr_store.specs.Moves.{tokens_in}
+use Rattle.fr_store.proofs.store.FrameStore.finish.Given.{Over}
+use Rattle.fr_store.proofs.store.FrameStore.finish.Goals as goal
+use Rattle.fr_store.proofs.store.FrameStore.finish.Goals.{After-replace-rest}
+
+-- the slots that are released hold what the tree held at the start
+held : (g : Over) (c : After-replace-rest g) (t : ℕ)
+    → slots_occur c.replace-rest.result t ≡ tokens_in c.args.slots.now c.args.stack.now t
+held g c t =
+    ap (λ (slots : List Slot). slots_occur slots t) c.replace-rest.ensures.value
+    ∙ c.complete_all-result.ensures.tokens t
+    ∙ slots_tokens c.args.plan.now c.args.slots.now c.args.stack.now c.requires.is_open t
+
+pub release-requires-clause-scaffold : goal.release-requires-clause-scaffold
+release-requires-clause-scaffold g c = ?
+
+pub release-requires-clause-room : goal.release-requires-clause-room
+release-requires-clause-room g c =
+    Room_same (tokens_in c.args.slots.now c.args.stack.now) (slots_occur c.replace-rest.result)
+    c.complete_all-result.new.ledger
+    (λ t. sym (held g (goal.at.release-requires-clause-room g c).After-replace-rest t))
+    (subst (Room (tokens_in c.args.slots.now c.args.stack.now)) (sym c.complete_all-result.ensures.ledger) c.requires.room)
+
+pub returns-in-Err-clause-released : goal.returns-in-Err-clause-released
+returns-in-Err-clause-released g c =
+    subst
+    (λ (ledger : List ℕ). RoseBy (tokens_in c.args.slots.now c.args.stack.now) ledger c.release.new.ledger)
+    c.complete_all-result.ensures.ledger
+    (RoseBy_same (slots_occur c.replace-rest.result) (tokens_in c.args.slots.now c.args.stack.now)
+    c.complete_all-result.new.ledger c.release.new.ledger
+    (held g (goal.at.returns-in-Err-clause-released g c).After-replace-rest) c.release.ensures.released)

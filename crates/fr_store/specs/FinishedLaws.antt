@@ -1,0 +1,268 @@
+-- Laws of the end of deferred mode, for proofs: all stored places had their turn, nothing is stored, and the place at which the
+-- builder works is finished.
+use Rattle.std.proofs.Common.{◌≡◌, ◌≢◌, ◌⊎◌, ℕ, zero, suc, ◌+◌, ◌<◌, Bool, true, false, List, [], ◌∷◌, ◌++◌, append-nil, nat_eq, Option, option_map, Some, None, inl, inr, refl, sym, ◌∙◌, ap, subst, arith}
+use Rattle.std.specs.List.{Contains}
+use Rattle.fr_shape.specs.declared.error.ReflectErrorKind.{ReflectErrorKind}
+use Rattle.fr_shape.specs.Hooks.{Meanings}
+use Rattle.fr_shape.specs.Look.{Table}
+use Rattle.fr_path.specs.declared.path_steps.PathStep.{PathStep}
+use Rattle.fr_model.specs.Failing.{failure_at, failures, own_lack}
+use Rattle.fr_model.specs.FailingLaws.{FinishesOrRefuses, FinishOfDone, NothingFailsOfDone}
+use Rattle.fr_model.specs.Finish.{failures_off, finished, finished_here, finish_cause}
+use Rattle.fr_model.specs.Paths.{steps_in}
+use Rattle.fr_model.specs.Places.{Place}
+use Rattle.fr_model.specs.Relation.{HasPlace}
+use Rattle.fr_model.specs.Tree.{Form, Tree, hole, strict, change_at, shape_in, tree_at}
+use Rattle.fr_model.specs.Well.{Suits, Leads as LeadsIn}
+use Rattle.fr_plan.specs.declared.nodes.NodeId.{NodeId}
+use Rattle.fr_plan.specs.TypePlan.{Plan}
+use Rattle.fr_frame.specs.declared.places.FrameOwner.{FrameOwner}
+use Rattle.fr_frame.specs.declared.places.Slot.{Slot}
+use Rattle.fr_frame.specs.Changes.{SameTokens}
+use Rattle.fr_frame.specs.Heap.{Heap, heap_of, marked, stored_in}
+use Rattle.fr_frame.specs.Kids.{Kid, gone, there, at, Plot, entered_plot, whole_plot, begun_plot, Kids, no_kids, kid, tree_of, tree_in, child_node, child_owner, Holds, HoldsIn, HoldsAll}
+use Rattle.fr_store.specs.FailLaws.{fails_itself, none_here, same_lack}
+use Rattle.fr_store.specs.HeadLaws.{contains_cases}
+use Rattle.fr_store.specs.HeldLaws.{held_by_last, leads_deferred, leads_strict, no_marks}
+use Rattle.fr_store.specs.HoldLaws.{holds_frame}
+use Rattle.fr_store.specs.Moves.{IsOpenAt, cursor_in, tree_in_slots}
+use Rattle.fr_store.specs.OffLaws.{reach_place}
+use Rattle.fr_store.specs.Stands.{IsOpen, Stands}
+use Rattle.fr_store.specs.Stored.{NothingStored}
+use Rattle.fr_store.specs.TurnedLaws.{open_shown}
+use Rattle.fr_store.specs.Turning.{CameByTurns, FinishedHere, LacksHere, Walked, kid_here}
+use Rattle.fr_store.specs.Turns.{IsFinished, IsHeldUp, root_shape}
+use Rattle.fr_store.specs.Walks.{IsStoredAt, AreInWalkOrder, AreStoredAt}
+use Rattle.fr_store.specs.Ways.{kid_at, counts_if, uses, uses_in, uses_among, AllMarkedIn, AllMarkedAmong, Leads, NoneStored, Reaches}
+use Rattle.fr_store.specs.WayLaws.{counts_other, leads_at, leads_reach, same_or_other, tree_of_at}
+
+-- Walks.
+
+no_places : (k : Kid) (places : List Place) → AreStoredAt k [] places → places ≡ []
+no_places k [] stored = refl
+no_places k (place ∷ places) stored = absurd stored
+
+stored_among : (k : Kid) (slots : List ℕ) (places : List Place) (place : Place) → AreStoredAt k slots places
+    → Contains places place → (slot : ℕ) × IsStoredAt k slot place
+stored_among k [] [] place stored found = absurd (omega (arith, found.1))
+stored_among k [] (first ∷ places) place stored found = absurd stored
+stored_among k (slot ∷ slots) [] place stored found = absurd stored
+stored_among k (slot ∷ slots) (first ∷ places) place stored found =
+    go (contains_cases first places place found) (λ later. stored_among k slots places place stored.1 later)
+  where
+    go : (first ≡ place) ⊎ Contains places place → (Contains places place → (slot : ℕ) × IsStoredAt k slot place)
+        → (slot : ℕ) × IsStoredAt k slot place
+    go (inl e) rest = (slot, subst (IsStoredAt k slot) e stored.0)
+    go (inr later) rest = rest later
+
+-- Where no place is stored, no slot that serves is marked.
+
+mutual
+  unmarked : (plan : Plan) (heap : Heap) (node : NodeId) (owner : FrameOwner) (depth : ℕ) (k : Kid) (n : ℕ)
+      → Holds plan heap node owner depth k → NoneStored k → 0 < uses k n → marked heap n ≡ false
+  unmarked plan heap node owner depth gone n holds none h = absurd (omega arith)
+  unmarked plan heap node owner depth (there v) n holds none h = absurd (omega arith)
+  unmarked plan heap node owner depth (at slot stored plot) n holds none h =
+      go (same_or_other slot n) (λ more. unmarked_in plan heap node slot (suc depth) plot n holds.2 none.1 more)
+    where
+      go : (slot ≡ n) ⊎ (slot ≢ n) → (0 < uses_in plot n → marked heap n ≡ false) → marked heap n ≡ false
+      go (inl e) below = ap (marked heap) (sym e) ∙ ap stored_in holds.0 ∙ none.0
+      go (inr ne) below =
+          let other : counts_if (nat_eq slot n) ≡ 0 = counts_other slot n ne in
+          below (omega arith)
+
+  unmarked_in : (plan : Plan) (heap : Heap) (node : NodeId) (slot depth : ℕ) (plot : Plot) (n : ℕ)
+      → HoldsIn plan heap node slot depth plot → AllMarkedIn false plot → 0 < uses_in plot n → marked heap n ≡ false
+  unmarked_in plan heap node slot depth entered_plot n holds none h = absurd (omega arith)
+  unmarked_in plan heap node slot depth (whole_plot v) n holds none h = absurd (omega arith)
+  unmarked_in plan heap node slot depth (begun_plot form kids) n holds none h =
+      unmarked_among plan heap node slot form 0 depth kids n holds none h
+
+  unmarked_among : (plan : Plan) (heap : Heap) (node : NodeId) (slot : ℕ) (form : Form) (i depth : ℕ) (ks : Kids) (n : ℕ)
+      → HoldsAll plan heap node slot form i depth ks → AllMarkedAmong false ks → 0 < uses_among ks n
+      → marked heap n ≡ false
+  unmarked_among plan heap node slot form i depth no_kids n holds none h = absurd (omega arith)
+  unmarked_among plan heap node slot form i depth (kid k ks) n holds none h =
+      go (uses k n) refl
+      (λ here. unmarked plan heap (child_node plan node form i) (child_owner slot form i) depth k n holds.0 none.0 here)
+      (λ later. unmarked_among plan heap node slot form (suc i) depth ks n holds.1 none.1 later)
+    where
+      go : (count : ℕ) → uses k n ≡ count → (0 < uses k n → marked heap n ≡ false)
+          → (0 < uses_among ks n → marked heap n ≡ false) → marked heap n ≡ false
+      go zero e here later = later (omega (arith, e))
+      go (suc count) e here later = here (omega (arith, e))
+
+-- what stands at the end of the way is no hole
+leads_there : (place : Place) (k : Kid) → Leads place k → tree_at place (tree_of k) ≢ hole
+leads_there place k leads e =
+    go (kid_at place k) (leads_at place [] k (subst (λ (p : Place). Leads p k) (sym (append-nil place)) leads))
+    (tree_of_at place k ∙ e)
+  where
+    go : (x : Kid) → Leads [] x → tree_of x ≡ hole → ⊥
+    go gone l is = absurd l
+    go (there v) l is = absurd l
+    go (at slot stored entered_plot) l is = cc
+    go (at slot stored (whole_plot v)) l is = cc
+    go (at slot stored (begun_plot form kids)) l is = cc
+
+-- All had their turn, and what is marked still isn't any more.
+module _ (means : Meanings) (table : Table) (plan : Plan) (before : List Slot) (stack : List ℕ) (now : List Slot) (walk : List ℕ)
+    (walked : Walked means table plan before stack now walk []) (mid : List Slot)
+    (others : (n : ℕ) → marked (heap_of now) n ≡ false → heap_of mid n ≡ heap_of now n) (tokens : SameTokens now mid) where
+  none_left : walked.left.places ≡ []
+  none_left = no_places (kid_here now stack) walked.left.places walked.left.stored
+
+  none_stored : NoneStored (kid_here now stack)
+  none_stored =
+      no_marks (kid_here now stack)
+      (λ slot place stored.
+      let found : Contains [] place
+      = subst (λ (ps : List Place). Contains ps place) none_left (walked.left.all slot place stored) in
+      absurd (omega (arith, found.1)))
+
+  stands_mid : Stands plan (heap_of mid) stack (cursor_in now stack) (kid_here now stack)
+  stands_mid = record {
+    holds =
+        holds_frame plan (heap_of now) (heap_of mid) plan.root FrameOwner.Root 0 (kid_here now stack)
+        walked.still.stands.holds
+        (λ n h.
+        others n
+        (unmarked plan (heap_of now) plan.root FrameOwner.Root 0 (kid_here now stack) n walked.still.stands.holds none_stored
+        h));
+    once = walked.still.stands.once;
+    leads = walked.still.stands.leads;
+    along = walked.still.stands.along;
+  }
+
+  open_mid : IsOpenAt plan mid stack (cursor_in now stack) (tree_in_slots now stack)
+  open_mid =
+      open_shown plan mid stack (cursor_in now stack) (kid_here now stack) (tree_in_slots now stack) stands_mid
+      (λ t. tokens t ∙ walked.still.tokens t) refl
+
+  pub still_open : IsOpen plan mid stack
+  still_open = open_mid.open_still
+
+  pub still_suits : Suits table (root_shape plan) (tree_in_slots mid stack)
+  still_suits = subst (Suits table (root_shape plan)) (sym open_mid.built) walked.suits
+
+  cursor_mid : cursor_in mid stack ≡ cursor_in before stack
+  cursor_mid = open_mid.cursor ∙ walked.cursor
+
+  leads_now : Leads (cursor_in before stack) (kid_here now stack)
+  leads_now = subst (λ (p : Place). Leads p (kid_here now stack)) walked.cursor walked.still.stands.leads
+
+  strict_now : LeadsIn strict (cursor_in before stack) (tree_in_slots now stack)
+  strict_now = leads_strict (cursor_in before stack) (kid_here now stack) leads_now none_stored
+
+  -- said of the slots then, it is of the tree after all turns
+  module _ (So : Place → Tree → Type 0) where
+    said_now : So (cursor_in mid stack) (tree_in_slots mid stack) → So (cursor_in before stack) (tree_in_slots now stack)
+    said_now so =
+        subst (λ (t : Tree). So (cursor_in before stack) t) open_mid.built
+        (subst (λ (p : Place). So p (tree_in_slots mid stack)) cursor_mid so)
+
+  module _ (after : List Slot) (ends : FinishedHere means table plan mid stack after) where
+    meant_now : finished_here means table
+        (shape_in table (root_shape plan) (cursor_in before stack) (tree_in_slots now stack))
+        (tree_at (cursor_in before stack) (tree_in_slots now stack))
+        ≡ Some ends.tree
+    meant_now =
+        said_now
+        (λ p t. finished_here means table (shape_in table (root_shape plan) p t) (tree_at p t) ≡ Some ends.tree) ends.meant
+
+    stands_now : IsOpenAt plan after stack (cursor_in before stack)
+        (change_at (cursor_in before stack) (λ old. ends.tree) (tree_in_slots now stack))
+    stands_now = said_now (λ p t. IsOpenAt plan after stack p (change_at p (λ old. ends.tree) t)) ends.stands
+
+    -- the end came about
+    pub is_finished : FinishOfDone → IsFinished means table plan before stack after stack
+    is_finished done = record {
+      tree = change_at (cursor_in before stack) (λ old. ends.tree) (tree_in_slots now stack);
+      meant =
+          sym walked.finish
+          ∙ done means table (root_shape plan) (cursor_in before stack) (tree_in_slots now stack) strict_now
+          ∙ ap
+          (option_map (λ (here : Tree). change_at (cursor_in before stack) (λ old. here) (tree_in_slots now stack)))
+          meant_now;
+      stands = stands_now;
+    }
+
+    all_done : walked.first.places ≡ walked.done
+    all_done =
+        walked.split ∙ ap (λ (ps : List Place). walked.done ++ ps) none_left ∙ append-nil walked.done
+
+    -- turn by turn
+    pub came_by_turns : CameByTurns means table plan before stack after stack
+    came_by_turns = record {
+      done = walked.done;
+      order = subst (AreInWalkOrder (tree_in_slots before stack)) all_done walked.first.order;
+      all = λ slot place stored.
+          subst (λ (ps : List Place). Contains ps place) all_done (walked.first.all slot place stored);
+      each = λ place found.
+          stored_among (kid_here before stack) walk walked.first.places place walked.first.stored
+          (subst (λ (ps : List Place). Contains ps place) (sym all_done) found);
+      tree = tree_in_slots now stack;
+      turned = walked.turned;
+      here = ends.tree;
+      finishes = meant_now;
+      last = stands_now.built;
+    }
+
+  -- the place at which the builder works lacks something
+  module _ (refuses : FinishesOrRefuses) (nothing : NothingFailsOfDone) (open_first : IsOpen plan before stack)
+      (kind : ReflectErrorKind) (lacks : LacksHere means table plan mid stack kind) where
+    to : List PathStep
+    to = [] ++ steps_in (cursor_in before stack) (tree_in_slots before stack)
+
+    none_now : (path : List PathStep)
+        → failures_off means table (root_shape plan) path (cursor_in before stack) (tree_in_slots now stack) ≡ []
+    none_now path = nothing means table (root_shape plan) path (cursor_in before stack) (tree_in_slots now stack) strict_now
+
+    none_before : (path : List PathStep)
+        → failures_off means table (root_shape plan) path (cursor_in before stack) (tree_in_slots before stack) ≡ []
+    none_before path = sym (walked.failing path) ∙ none_now path
+
+    lacks_now : own_lack means table (shape_in table (root_shape plan) (cursor_in before stack) (tree_in_slots now stack))
+        (tree_at (cursor_in before stack) (tree_in_slots now stack))
+        ≡ Some kind
+    lacks_now =
+        said_now (λ p t. own_lack means table (shape_in table (root_shape plan) p t) (tree_at p t) ≡ Some kind) lacks
+
+    has : (k : Kid) → Leads (cursor_in before stack) k → HasPlace (cursor_in before stack) (tree_of k)
+    has k leads =
+        reach_place (cursor_in before stack) k
+        (leads_reach (cursor_in before stack) [] k
+        (subst (λ (p : Place). Leads p k) (sym (append-nil (cursor_in before stack))) leads))
+
+    -- so it did at the start
+    lacks_before : own_lack means table
+        (shape_in table (root_shape plan) (cursor_in before stack) (tree_in_slots before stack))
+        (tree_at (cursor_in before stack) (tree_in_slots before stack))
+        ≡ Some kind
+    unfolding to
+    lacks_before =
+        same_lack to
+        (own_lack means table (shape_in table (root_shape plan) (cursor_in before stack) (tree_in_slots before stack))
+        (tree_at (cursor_in before stack) (tree_in_slots before stack)))
+        (own_lack means table (shape_in table (root_shape plan) (cursor_in before stack) (tree_in_slots now stack))
+        (tree_at (cursor_in before stack) (tree_in_slots now stack)))
+        (sym (fails_itself means table
+        (shape_in table (root_shape plan) (cursor_in before stack) (tree_in_slots before stack)) to
+        (tree_at (cursor_in before stack) (tree_in_slots before stack))
+        (leads_there (cursor_in before stack) (kid_here before stack) open_first.stands.leads)
+        (none_here means table (root_shape plan) [] to (cursor_in before stack) (tree_in_slots before stack)
+        (has (kid_here before stack) open_first.stands.leads) refl (none_before [])))
+        ∙ sym (walked.here.failing to)
+        ∙ fails_itself means table (shape_in table (root_shape plan) (cursor_in before stack) (tree_in_slots now stack)) to
+        (tree_at (cursor_in before stack) (tree_in_slots now stack))
+        (leads_there (cursor_in before stack) (kid_here now stack) leads_now)
+        (none_here means table (root_shape plan) [] to (cursor_in before stack) (tree_in_slots now stack)
+        (has (kid_here now stack) leads_now) (sym walked.path) (none_now [])))
+        ∙ lacks_now
+
+    pub held_here : IsHeldUp means table plan before stack kind
+    held_here =
+        let held = held_by_last refuses means table (root_shape plan) (cursor_in before stack) (tree_in_slots before stack) kind
+        (leads_deferred 0 (cursor_in before stack) (kid_here before stack) open_first.stands.leads) (none_before [])
+        lacks_before in
+        record { unfinished = held.0; cause = held.1 }
