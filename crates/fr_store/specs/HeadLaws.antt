@@ -240,13 +240,12 @@ module _ (k : Kid) (n : ℕ) (rest : List ℕ) (walk : IsWalk k (n ∷ rest)) (h
       each [] [] before stored = tt
       each [] (place ∷ places) before stored = absurd stored
       each (slot ∷ slots) [] before stored = absurd stored
-      each (slot ∷ slots) (place ∷ places) before stored =
-          (
-            still slot place (all_first (λ (other : Place). ComesBefore (tree_of k) head.place other) place places before)
-                stored.0,
-            each slots places (all_rest (λ (other : Place). ComesBefore (tree_of k) head.place other) place places before)
-                stored.1,
-          )
+      each (slot ∷ slots) (place ∷ places) before stored = (
+        still slot place (all_first (λ (other : Place). ComesBefore (tree_of k) head.place other) place places before)
+            stored.0,
+        each slots places (all_rest (λ (other : Place). ComesBefore (tree_of k) head.place other) place places before)
+            stored.1,
+      )
 
       stored_on : AreStoredAt (put_at head.place (there v) k) rest head.places
       stored_on = each rest head.places head.before head.others

@@ -59,13 +59,14 @@ half_stored cursor place k leads off has half =
     go gone e marked half = absurd (subst (λ (x : Kid). IsHalfDone (tree_of x)) e half)
     go (there v) e marked half = absurd (subst (λ (x : Kid). IsHalfDone (tree_of x)) e half)
     go (at slot mark plot) e marked half =
-        let stored : AllMarked true (at slot mark plot) = subst (AllMarked true) e marked in
-        (slot,
+        let stored : AllMarked true (at slot mark plot) = subst (AllMarked true) e marked in (
+          slot,
           record {
             plot = plot;
             reaches = place_reach place k has;
             is = e ∙ ap (λ (b : Bool). at slot b plot) stored.0;
-          })
+          },
+        )
 
 -- a place that lacks something by itself, and is in a slot, is half done
 lacks_half : (hooks : Meanings) (table : Table) (s : ℕ) (plot : Plot) (kind : ReflectErrorKind)
@@ -266,9 +267,9 @@ held_by_first refuses hooks table s cursor tree kind leads first = (
       (λ (x : Option ReflectErrorKind). is_some
       (option_or x (own_lack hooks table (shape_in table s cursor tree) (tree_at cursor tree)))) first),
   sym (ap
-  (λ (x : Option ReflectErrorKind). refusal_or
-  (option_or x (own_lack hooks table (shape_in table s cursor tree) (tree_at cursor tree)))
-  (missing_value (shape_in table s cursor tree))) first),
+      (λ (x : Option ReflectErrorKind). refusal_or
+      (option_or x (own_lack hooks table (shape_in table s cursor tree) (tree_at cursor tree)))
+      (missing_value (shape_in table s cursor tree))) first),
 )
 
 -- and where none fails it is what the place at which the builder works lacks

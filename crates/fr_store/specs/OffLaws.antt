@@ -113,14 +113,13 @@ leads_off [] (i ∷ here) new (at slot stored (begun_plot form kids)) leads off 
   marked_put_nth true i (put_at here new (kid_nth i kids)) kids leads.1
       (marked_put_at true here new (kid_nth i kids) (among_nth i kids leads.1) is),
 )
-leads_off (j ∷ place) (i ∷ here) new (at slot stored (begun_plot form kids)) leads off reach is =
-    (
-      leads.0,
-      go (same_or_other i j)
-          (λ e.
-          leads_off place here new (kid_nth i kids) (leads_same i j place kids e leads.1)
-          (off_same i j place here e off) reach.1 is),
-    )
+leads_off (j ∷ place) (i ∷ here) new (at slot stored (begun_plot form kids)) leads off reach is = (
+  leads.0,
+  go (same_or_other i j)
+      (λ e.
+      leads_off place here new (kid_nth i kids) (leads_same i j place kids e leads.1)
+      (off_same i j place here e off) reach.1 is),
+)
   where
     go : (i ≡ j) ⊎ (i ≢ j) → (i ≡ j → Leads place (put_at here new (kid_nth i kids)))
         → StoredBut j (λ below. Leads place below) (put_nth i (put_at here new (kid_nth i kids)) kids)

@@ -9,8 +9,6 @@ use Rattle.fr_store.specs.TurnedLaws.{above_in_use, child_absent, has_turned, ke
 use Rattle.fr_store.specs.Turning.{IsLackingAt}
 use Rattle.fr_store.proofs.finishing.turn.Goals as goal
 
-
-
 pub step_to-step-requires : goal.step_to-step-requires
 step_to-step-requires g c =
     numbered c.args.plan.now c.args.slots.now c.args.stack.now c.args.place.0 c.requires.is_open c.requires.due
@@ -18,7 +16,6 @@ step_to-step-requires g c =
 pub above-parent-requires : goal.above-parent-requires
 above-parent-requires g c =
     numbered c.args.plan.now c.args.slots.now c.args.stack.now c.args.place.0 c.requires.is_open c.requires.due
-
 
 pub complete_by_defaults-requires-clause-place : goal.complete_by_defaults-requires-clause-place
 complete_by_defaults-requires-clause-place g c =

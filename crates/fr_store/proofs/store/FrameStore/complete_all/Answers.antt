@@ -6,9 +6,6 @@ use Rattle.fr_store.specs.Turning.{LacksHere}
 use Rattle.fr_store.specs.Turns.{IsHeldUp}
 use Rattle.fr_store.proofs.store.FrameStore.complete_all.Goals as goal
 
-pub law_failing-requires : goal.law_failing-requires
-law_failing-requires g c = ?
-
 pub complete_top-requires-clause-is_open : goal.complete_top-requires-clause-is_open
 complete_top-requires-clause-is_open g c =
     still_open (g.H.Hooks.means c.args.hooks.now) c.args.table.now c.args.plan.now c.args.slots.now c.args.stack.now

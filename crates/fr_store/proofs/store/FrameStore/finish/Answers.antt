@@ -17,9 +17,6 @@ held g c t =
     ∙ c.complete_all-result.ensures.tokens t
     ∙ slots_tokens c.args.plan.now c.args.slots.now c.args.stack.now c.requires.is_open t
 
-pub release-requires-clause-scaffold : goal.release-requires-clause-scaffold
-release-requires-clause-scaffold g c = ?
-
 pub release-requires-clause-room : goal.release-requires-clause-room
 release-requires-clause-room g c =
     Room_same (tokens_in c.args.slots.now c.args.stack.now) (slots_occur c.replace-rest.result)

@@ -3,7 +3,6 @@ use Rattle.fr_store.specs.Stored.{IsKept}
 use Rattle.fr_store.proofs.KeptLaws.{kept_more}
 use Rattle.fr_store.proofs.store.FrameStore.insert.Goals as goal
 
-
 pub returns-clause-kept : goal.returns-clause-kept
 returns-clause-kept c =
     subst (λ (l : List ℕ). IsKept l c.mark.new.slots) (sym c.in_ok-append.ensures.appended)
