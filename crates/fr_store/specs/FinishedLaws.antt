@@ -1,14 +1,14 @@
 -- Laws of the end of deferred mode, for proofs: all stored places had their turn, nothing is stored, and the place at which the
 -- builder works is finished.
-use Rattle.std.proofs.Common.{◌≡◌, ◌≢◌, ◌⊎◌, ℕ, zero, suc, ◌+◌, ◌<◌, Bool, true, false, List, [], ◌∷◌, ◌++◌, append-nil, nat_eq, Option, option_map, Some, None, inl, inr, refl, sym, ◌∙◌, ap, subst, arith}
+use Rattle.std.proofs.Common.{◌≡◌, ◌≢◌, ◌⊎◌, ℕ, zero, suc, ◌<◌, false, List, [], ◌∷◌, ◌++◌, append-nil, nat_eq, option_map, Some, inl, inr, refl, sym, ◌∙◌, ap, subst, arith}
 use Rattle.std.specs.List.{Contains}
 use Rattle.fr_shape.specs.declared.error.ReflectErrorKind.{ReflectErrorKind}
 use Rattle.fr_shape.specs.Hooks.{Meanings}
 use Rattle.fr_shape.specs.Look.{Table}
 use Rattle.fr_path.specs.declared.path_steps.PathStep.{PathStep}
-use Rattle.fr_model.specs.Failing.{failure_at, failures, own_lack}
+use Rattle.fr_model.specs.Failing.{own_lack}
 use Rattle.fr_model.specs.FailingLaws.{FinishesOrRefuses, FinishOfDone, NothingFailsOfDone}
-use Rattle.fr_model.specs.Finish.{failures_off, finished, finished_here, finish_cause}
+use Rattle.fr_model.specs.Finish.{failures_off, finished_here}
 use Rattle.fr_model.specs.Paths.{steps_in}
 use Rattle.fr_model.specs.Places.{Place}
 use Rattle.fr_model.specs.Relation.{HasPlace}
@@ -20,7 +20,7 @@ use Rattle.fr_frame.specs.declared.places.FrameOwner.{FrameOwner}
 use Rattle.fr_frame.specs.declared.places.Slot.{Slot}
 use Rattle.fr_frame.specs.Changes.{SameTokens}
 use Rattle.fr_frame.specs.Heap.{Heap, heap_of, marked, stored_in}
-use Rattle.fr_frame.specs.Kids.{Kid, gone, there, at, Plot, entered_plot, whole_plot, begun_plot, Kids, no_kids, kid, tree_of, tree_in, child_node, child_owner, Holds, HoldsIn, HoldsAll}
+use Rattle.fr_frame.specs.Kids.{Kid, gone, there, at, Plot, entered_plot, whole_plot, begun_plot, Kids, no_kids, kid, tree_of, child_node, child_owner, Holds, HoldsIn, HoldsAll}
 use Rattle.fr_store.specs.FailLaws.{fails_itself, none_here, same_lack}
 use Rattle.fr_store.specs.HeadLaws.{contains_cases}
 use Rattle.fr_store.specs.HeldLaws.{held_by_last, leads_deferred, leads_strict, no_marks}
@@ -28,12 +28,11 @@ use Rattle.fr_store.specs.HoldLaws.{holds_frame}
 use Rattle.fr_store.specs.Moves.{IsOpenAt, cursor_in, tree_in_slots}
 use Rattle.fr_store.specs.OffLaws.{reach_place}
 use Rattle.fr_store.specs.Stands.{IsOpen, Stands}
-use Rattle.fr_store.specs.Stored.{NothingStored}
 use Rattle.fr_store.specs.TurnedLaws.{open_shown}
 use Rattle.fr_store.specs.Turning.{CameByTurns, FinishedHere, LacksHere, Walked, kid_here}
 use Rattle.fr_store.specs.Turns.{IsFinished, IsHeldUp, root_shape}
 use Rattle.fr_store.specs.Walks.{IsStoredAt, AreInWalkOrder, AreStoredAt}
-use Rattle.fr_store.specs.Ways.{kid_at, counts_if, uses, uses_in, uses_among, AllMarkedIn, AllMarkedAmong, Leads, NoneStored, Reaches}
+use Rattle.fr_store.specs.Ways.{kid_at, counts_if, uses, uses_in, uses_among, AllMarkedIn, AllMarkedAmong, Leads, NoneStored}
 use Rattle.fr_store.specs.WayLaws.{counts_other, leads_at, leads_reach, same_or_other, tree_of_at}
 
 -- Walks.

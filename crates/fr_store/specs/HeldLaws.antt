@@ -1,10 +1,9 @@
 -- Laws of a walk that is refused, for proofs: the first place of it that makes no value is the first place that fails.
-use Rattle.std.proofs.Common.{◌≡◌, ◌≢◌, ◌⊎◌, ℕ, zero, suc, ◌+◌, ◌<◌, Bool, true, false, List, [], ◌∷◌, ◌++◌, map, Option, Some, None, inl, inr, refl, sym, ◌∙◌, ap, subst, arith}
+use Rattle.std.proofs.Common.{◌≡◌, ◌⊎◌, ℕ, zero, suc, ◌<◌, Bool, true, false, List, [], ◌∷◌, ◌++◌, map, Option, Some, None, inl, inr, refl, sym, ◌∙◌, ap, subst, arith}
 use Rattle.std.proofs.lemmas.List.Elements.{All-contains}
 use Rattle.std.specs.List.{Contains}
 use Rattle.std.specs.Option.{option_or}
 use Rattle.std.specs.Prelude.{is_none, is_some}
-use Rattle.std.specs.declared.cmp.Ordering.{Ordering}
 use Rattle.fr_path.specs.declared.path_steps.PathStep.{PathStep}
 use Rattle.fr_path.specs.Order.{number, walk_order}
 use Rattle.fr_shape.specs.declared.error.ReflectErrorKind.{ReflectErrorKind}
@@ -18,7 +17,7 @@ use Rattle.fr_model.specs.Finishing.{IsOffTheWay}
 use Rattle.fr_model.specs.Paths.{steps_in}
 use Rattle.fr_model.specs.Places.{Place}
 use Rattle.fr_model.specs.Relation.{HasPlace}
-use Rattle.fr_model.specs.Tree.{Mode, strict, deferred, Tree, hole, entered, whole, begun, Trees, no_trees, branch, tree_at, tree_nth, count_trees, shape_in}
+use Rattle.fr_model.specs.Tree.{strict, deferred, Tree, Trees, no_trees, branch, tree_at, count_trees, shape_in}
 use Rattle.fr_model.specs.Well.{AllOff, AtCursor, OffBut, Leads as LeadsIn}
 use Rattle.fr_frame.specs.Bodies.{IsClosed, AreUnplaced}
 use Rattle.fr_frame.specs.Kids.{Kid, gone, there, at, Plot, entered_plot, whole_plot, begun_plot, Kids, no_kids, kid, tree_of, tree_in, trees_in, cells_in, body_in}

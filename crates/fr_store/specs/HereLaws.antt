@@ -1,5 +1,5 @@
 -- Laws of the place at which a builder works, for proofs: at the end of deferred mode, nothing being stored, it is finished.
-use Rattle.std.proofs.Common.{◌≡◌, ◌≢◌, ◌⊎◌, ℕ, ◌+◌, Bool, true, false, List, [], ◌∷◌, append-nil, length, Option, option_map, Some, None, inl, inr, refl, sym, ◌∙◌, ap, subst, arith}
+use Rattle.std.proofs.Common.{◌≡◌, ◌≢◌, ◌⊎◌, ℕ, ◌+◌, true, false, List, [], ◌∷◌, append-nil, Option, option_map, Some, None, inl, inr, refl, sym, ◌∙◌, ap, subst, arith}
 use Rattle.std.specs.Prelude.{IsSome, IsSomeAnd, is_some}
 use Rattle.fr_shape.specs.declared.error.ReflectErrorKind.{ReflectErrorKind}
 use Rattle.fr_shape.specs.Checked.{IsChecked}
@@ -12,7 +12,7 @@ use Rattle.fr_model.specs.Failing.{own_lack}
 use Rattle.fr_model.specs.Finish.{begun_with, finished_here}
 use Rattle.fr_model.specs.Laws.{CompletingKeepsTokens}
 use Rattle.fr_model.specs.Places.{Place, deferred_column, one_more}
-use Rattle.fr_model.specs.Tree.{Form, as_struct, as_array, Tree, hole, entered, whole, begun, Trees, branch, change_at, shape_in, tree_at, tree_occurs, wholes}
+use Rattle.fr_model.specs.Tree.{Form, as_struct, as_array, Tree, hole, whole, begun, Trees, branch, change_at, shape_in, tree_at, tree_occurs, wholes}
 use Rattle.fr_model.specs.Well.{Suits}
 use Rattle.fr_plan.specs.LookupLaws.{LookupsAgree, LookupPathsAgree}
 use Rattle.fr_plan.specs.TypePlan.{Plan}
@@ -23,7 +23,7 @@ use Rattle.fr_frame.specs.Changes.{Becomes, IfInUse, SameTokens, Shows}
 use Rattle.fr_frame.specs.Completing.{shape_of, FillsAt, IsPlanFor, MayComplete}
 use Rattle.fr_frame.specs.Defaults.{KeepsForm, WhyNotDefault}
 use Rattle.fr_frame.specs.Heap.{Node, heap_of, marked, slots_occur, stored_in, with_body, with_slot}
-use Rattle.fr_frame.specs.Kids.{Kid, gone, Kids, Plot, tree_of, tree_in, trees_in, cells_in, body_in, kids_in, plot_in, kid_occurs, plot_occurs}
+use Rattle.fr_frame.specs.Kids.{Kid, gone, Plot, tree_of, tree_in, trees_in, cells_in, body_in, kids_in, plot_in, kid_occurs, plot_occurs}
 use Rattle.fr_store.specs.EndLaws.{value_tokens}
 use Rattle.fr_store.specs.MoveLaws.{closed_open, open_top, so_top, top_changed, top_found, top_node, top_so}
 use Rattle.fr_store.specs.Moves.{IsOpenAt, cursor_in, tree_in_slots}

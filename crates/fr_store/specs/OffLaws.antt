@@ -1,15 +1,15 @@
 -- Laws of places off the way, for proofs: what something else there changes, and what it leaves as it is.
-use Rattle.std.proofs.Common.{◌≡◌, ◌≢◌, ◌⊎◌, ℕ, zero, suc, ◌+◌, ◌<◌, Bool, true, false, List, [], ◌∷◌, ◌++◌, append-nil, inl, inr, refl, sym, ◌∙◌, ap, subst, arith}
+use Rattle.std.proofs.Common.{◌≡◌, ◌≢◌, ◌⊎◌, ℕ, zero, suc, ◌<◌, Bool, true, List, [], ◌∷◌, ◌++◌, append-nil, inl, inr, refl, sym, ◌∙◌, ap, subst, arith}
 use Rattle.fr_shape.specs.Val.{Val}
 use Rattle.fr_model.specs.Finishing.{IsOffTheWay}
 use Rattle.fr_model.specs.Places.{Place}
 use Rattle.fr_model.specs.Relation.{HasPlace}
-use Rattle.fr_model.specs.Tree.{Tree, Trees, count_trees, tree_nth}
+use Rattle.fr_model.specs.Tree.{Tree, count_trees}
 use Rattle.fr_frame.specs.Bodies.{IsClosed, AreUnplaced}
 use Rattle.fr_frame.specs.Kids.{Kid, gone, there, at, Plot, entered_plot, whole_plot, begun_plot, Kids, no_kids, kid, tree_of, trees_in, cells_in, body_in}
 use Rattle.fr_store.specs.LeaveLaws.{kid_at_append}
 use Rattle.fr_store.specs.Walks.{IsStoredAt}
-use Rattle.fr_store.specs.Ways.{count_kids, kid_nth, kid_below, kid_at, put_nth, put_at, slots_along, AllMarked, AllMarkedIn, AllMarkedAmong, StoredBut, Leads, Reaches}
+use Rattle.fr_store.specs.Ways.{count_kids, kid_nth, kid_at, put_nth, put_at, slots_along, AllMarked, AllMarkedAmong, StoredBut, Leads, Reaches}
 use Rattle.fr_store.specs.WayLaws.{same_or_other, nth_put, count_put, kid_put_at, marked_at, marked_put_nth, marked_put_at, tree_of_nth, leads_at}
 
 -- Children of one place.

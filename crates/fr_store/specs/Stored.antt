@@ -1,5 +1,5 @@
 -- Places that are stored: left half done, off the way to the place at which a builder works.
-use Rattle.std.specs.Prelude.{◌≡◌, ◌↔◌, ℕ, Bool, true, false, List, Option, Some}
+use Rattle.std.specs.Prelude.{◌≡◌, ◌↔◌, ℕ, true, false, List, Option, Some}
 use Rattle.std.specs.List.{Contains}
 use Rattle.std.specs.Option.{option_and_then}
 use Rattle.fr_path.specs.declared.path_steps.PathStep.{PathStep}

@@ -2,10 +2,9 @@
 use Rattle.std.proofs.Common.{◌≡◌, ◌≢◌, ◌⊎◌, ℕ, zero, suc, ◌+◌, ◌<◌, ◌≤◌, Bool, true, false, List, [], ◌∷◌, ◌++◌, length, nat_eq, Option, Some, None, inl, inr, refl, sym, ◌∙◌, ap, subst, arith}
 use Rattle.std.specs.Prelude.{is_some}
 use Rattle.fr_shape.specs.Val.{Val}
-use Rattle.fr_path.specs.declared.path_steps.PathStep.{PathStep}
 use Rattle.fr_model.specs.Finishing.{IsOffTheWay}
 use Rattle.fr_model.specs.Paths.{step_as}
-use Rattle.fr_model.specs.Places.{Place, is_root}
+use Rattle.fr_model.specs.Places.{Place}
 use Rattle.fr_model.specs.Tree.{Form}
 use Rattle.fr_plan.specs.declared.nodes.NodeId.{NodeId}
 use Rattle.fr_plan.specs.TypePlan.{Plan}
@@ -18,9 +17,9 @@ use Rattle.fr_store.specs.HoldLaws.{AgreeBeside, Replaces, holds_at, holds_frame
 use Rattle.fr_store.specs.LeaveLaws.{below_root, cell_of_child, kid_at_append, owner_append, put_append, unlinked_child, with_child}
 use Rattle.fr_store.specs.OffLaws.{along_off, leads_off, off_stored}
 use Rattle.fr_store.specs.Stands.{Stands}
-use Rattle.fr_store.specs.TopLaws.{body_here, body_other, closed_uses, slot_here, slot_other}
-use Rattle.fr_store.specs.Ways.{count_kids, kid_nth, kid_below, kid_at, put_nth, put_at, counts_if, uses, uses_in, uses_among, Leads, Reaches, node_along, owner_along, owner_below}
-use Rattle.fr_store.specs.WayLaws.{counts_same, count_put, nth_put, same_or_other, uses_at, uses_nth, uses_put_at, uses_put_nth}
+use Rattle.fr_store.specs.TopLaws.{body_here, body_other, slot_here, slot_other}
+use Rattle.fr_store.specs.Ways.{count_kids, kid_nth, kid_at, put_nth, put_at, counts_if, uses, uses_in, uses_among, Reaches, node_along, owner_along, owner_below}
+use Rattle.fr_store.specs.WayLaws.{counts_same, count_put, nth_put, same_or_other, uses_at, uses_nth, uses_put_at}
 
 -- One slot after another.
 

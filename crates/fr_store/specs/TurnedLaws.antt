@@ -1,5 +1,5 @@
 -- Laws of a turn in slots, for proofs: from what its calls say to what it owes.
-use Rattle.std.proofs.Common.{◌≡◌, ◌≢◌, ◌⊎◌, ℕ, zero, suc, ◌+◌, ◌<◌, true, List, [], ◌∷◌, append-nil, length, slice_get, Option, Some, None, option_map, unwrap_or, inl, inr, refl, sym, ◌∙◌, ap, subst, arith}
+use Rattle.std.proofs.Common.{◌≡◌, ◌≢◌, ◌⊎◌, ℕ, zero, suc, ◌+◌, ◌<◌, List, [], ◌∷◌, append-nil, length, slice_get, Option, Some, None, option_map, unwrap_or, inl, inr, refl, sym, ◌∙◌, ap, subst, arith}
 use Rattle.std.specs.Prelude.{is_some, IsSomeAnd}
 use Rattle.fr_shape.specs.declared.error.ReflectErrorKind.{ReflectErrorKind}
 use Rattle.fr_shape.specs.Checked.{IsChecked}
@@ -17,12 +17,11 @@ use Rattle.fr_model.specs.Laws.{CompletingKeepsTokens}
 use Rattle.fr_model.specs.Paths.{step_as}
 use Rattle.fr_model.specs.Places.{Place, deferred_column}
 use Rattle.fr_model.specs.Relation.{HasPlace}
-use Rattle.fr_model.specs.Tree.{Form, as_struct, as_array, Tree, hole, whole, change_at, count_trees, shape_in, tree_at, tree_occurs}
+use Rattle.fr_model.specs.Tree.{Form, as_struct, as_array, Tree, count_trees, shape_in, tree_at, tree_occurs}
 use Rattle.fr_model.specs.Well.{IsFullAs, Suits}
 use Rattle.fr_plan.specs.declared.nodes.NodeId.{NodeId}
 use Rattle.fr_plan.specs.declared.nodes.TypePlanNode.{TypePlanNode}
 use Rattle.fr_plan.specs.LookupLaws.{LookupsAgree, LookupPathsAgree}
-use Rattle.fr_plan.specs.Lookups.{node_at}
 use Rattle.fr_plan.specs.TypePlan.{Plan}
 use Rattle.fr_frame.specs.declared.places.FrameOwner.{FrameOwner}
 use Rattle.fr_frame.specs.declared.places.Slot.{Slot}
@@ -32,7 +31,7 @@ use Rattle.fr_frame.specs.Changes.{IfInUse, IsInUse, SameTokens, Shows}
 use Rattle.fr_frame.specs.Completing.{shape_of, FillsAt, IsFull, IsPlanFor, MayComplete}
 use Rattle.fr_frame.specs.Defaults.{WhyNotDefault}
 use Rattle.fr_frame.specs.Heap.{Node, heap_of, slots_occur, with_body, without}
-use Rattle.fr_frame.specs.Kids.{Kid, gone, at, there, tree_of, body_in, cell_of, cells_in, kid_occurs, child_owner}
+use Rattle.fr_frame.specs.Kids.{Kid, gone, there, tree_of, cell_of, cells_in, kid_occurs, child_owner}
 use Rattle.fr_store.specs.ClosingLaws.{completes_still}
 use Rattle.fr_store.specs.Moves.{IsAbove, IsNumbered, IsOpenAt, IsStepTo, cursor_in, tree_in_slots}
 use Rattle.fr_store.specs.OffLaws.{reach_place}
@@ -44,7 +43,7 @@ use Rattle.fr_store.specs.TurnLaws.{Over, due_apart, due_found, due_node, due_of
 use Rattle.fr_store.specs.Turning.{HasTurned, IsLackingAt, KeepsTheRest, MayTurn, kid_here}
 use Rattle.fr_store.specs.Turns.{CompletesAsBefore, root_shape}
 use Rattle.fr_store.specs.Walks.{IsStoredAt}
-use Rattle.fr_store.specs.Ways.{kid_at, kid_nth, put_at, put_nth, Leads, Reaches, node_along, owner_along}
+use Rattle.fr_store.specs.Ways.{kid_at, kid_nth, put_at, put_nth, Leads, Reaches, node_along}
 use Rattle.fr_store.specs.WayLaws.{leads_reach, occurs_put_at, tree_of_at, tree_put_at, tree_tokens}
 
 -- A place of a plan.

@@ -1,12 +1,12 @@
 -- The walk over stored places at the end of deferred mode, turn by turn, and what comes of it.
-use Rattle.std.specs.Prelude.{◌≡◌, ◌⊎◌, ℕ, List, [], ◌∷◌, ◌++◌, Option, Some, None}
+use Rattle.std.specs.Prelude.{◌≡◌, ℕ, List, [], ◌∷◌, Some, None}
 use Rattle.fr_shape.specs.declared.error.ReflectErrorKind.{ReflectErrorKind}
 use Rattle.fr_shape.specs.Hooks.{Meanings}
 use Rattle.fr_shape.specs.Look.{Table}
 use Rattle.fr_shape.specs.Val.{Val}
 use Rattle.fr_path.specs.declared.path_steps.PathStep.{PathStep}
 use Rattle.fr_model.specs.Complete.{complete}
-use Rattle.fr_model.specs.Failing.{failures, own_lack}
+use Rattle.fr_model.specs.Failing.{failures}
 use Rattle.fr_model.specs.Finish.{finished, finish_cause}
 use Rattle.fr_model.specs.Places.{Place, deferred_column}
 use Rattle.fr_model.specs.Tree.{Tree, whole, tree_at, change_at, shape_in}

@@ -1,13 +1,12 @@
 -- Laws of a walk, for proofs: it begins, goes on by a turn, is refused, or comes to its end.
-use Rattle.std.proofs.Common.{◌≡◌, ◌≢◌, ◌⊎◌, ℕ, true, List, [], ◌∷◌, ◌++◌, append-nil, append_assoc, Some, None, inl, inr, refl, sym, ◌∙◌, ap, subst}
-use Rattle.fr_path.specs.declared.path_steps.PathStep.{PathStep}
+use Rattle.std.proofs.Common.{◌≡◌, ℕ, true, List, [], ◌∷◌, ◌++◌, append-nil, append_assoc, Some, None, refl, sym, ◌∙◌, ap, subst}
 use Rattle.fr_shape.specs.declared.error.ReflectErrorKind.{ReflectErrorKind}
 use Rattle.fr_shape.specs.Checked.{IsChecked}
 use Rattle.fr_shape.specs.Hooks.{Meanings}
 use Rattle.fr_shape.specs.Look.{Table}
 use Rattle.fr_shape.specs.Val.{Val}
 use Rattle.fr_model.specs.Complete.{complete}
-use Rattle.fr_model.specs.Failing.{Failure, failures, first_by_walk, own_lack}
+use Rattle.fr_model.specs.Failing.{Failure, first_by_walk, own_lack}
 use Rattle.fr_model.specs.FailingLaws.{FailuresLieThere, FinishesOrRefuses, FirstByWalkIs, LackingFails}
 use Rattle.fr_model.specs.Finish.{failures_off, finish_cause, finished, kind_of}
 use Rattle.fr_model.specs.FinishLaws.{closed_at}
@@ -15,17 +14,16 @@ use Rattle.fr_model.specs.Laws.{CompletingFits}
 use Rattle.fr_model.specs.Paths.{steps_in}
 use Rattle.fr_model.specs.Places.{Place, deferred_column}
 use Rattle.fr_model.specs.Relation.{HasPlace}
-use Rattle.fr_model.specs.Tree.{Tree, deferred, whole, change_at, shape_in, tree_at}
-use Rattle.fr_model.specs.Well.{Suits, Leads as LeadsIn}
+use Rattle.fr_model.specs.Tree.{Tree, whole, change_at, shape_in, tree_at}
+use Rattle.fr_model.specs.Well.{Suits}
 use Rattle.fr_plan.specs.TypePlan.{Plan}
 use Rattle.fr_frame.specs.declared.places.Slot.{Slot}
 use Rattle.fr_frame.specs.Changes.{SameTokens}
-use Rattle.fr_frame.specs.Heap.{heap_of}
-use Rattle.fr_frame.specs.Kids.{Kid, there, tree_of}
+use Rattle.fr_frame.specs.Kids.{Kid, there}
 use Rattle.fr_store.specs.ClosingLaws.{steps_kept, suits_at, suits_change}
 use Rattle.fr_store.specs.HeadLaws.{Head, head_closed, head_of, one_place, walk_on}
-use Rattle.fr_store.specs.HeldLaws.{first_fails, held_by_first, leads_deferred, no_marks}
-use Rattle.fr_store.specs.Moves.{IsOpenAt, cursor_in, tree_in_slots}
+use Rattle.fr_store.specs.HeldLaws.{first_fails, held_by_first, leads_deferred}
+use Rattle.fr_store.specs.Moves.{cursor_in, tree_in_slots}
 use Rattle.fr_store.specs.OffLaws.{reach_place}
 use Rattle.fr_store.specs.Stands.{IsOpen}
 use Rattle.fr_store.specs.Turning.{HasTurned, IsLackingAt, KeepsTheRest, MayTurn, Walked, kid_here}

@@ -2,10 +2,7 @@ use Rattle.std.proofs.Common.{◌≡◌, ◌⊎◌, subst, sym}
 use Rattle.std.proofs.lemmas.Result.{err_from_is_err_and}
 use Rattle.fr_shape.specs.declared.error.ReflectErrorKind.{ReflectErrorKind}
 use Rattle.fr_shape.specs.View.{view}
-use Rattle.fr_store.specs.HeldLaws.{held_by_last}
-use Rattle.fr_store.specs.WalkedLaws.{walk_held_up}
-use Rattle.fr_store.specs.HeadLaws.{walk_on}
-use Rattle.fr_store.specs.TurnedLaws.{above_in_use, child_absent, has_turned, keeps_the_rest, may_be_completed, numbered, refused, same_tokens}
+use Rattle.fr_store.specs.TurnedLaws.{above_in_use, child_absent, has_turned, keeps_the_rest, may_be_completed, numbered, refused}
 use Rattle.fr_store.specs.Turning.{IsLackingAt}
 use Rattle.fr_store.proofs.finishing.turn.Goals as goal
 

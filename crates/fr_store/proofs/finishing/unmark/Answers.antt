@@ -1,1 +1,0 @@
-use Rattle.fr_store.proofs.finishing.unmark.Goals as goal

@@ -1,1 +1,0 @@
-use Rattle.fr_store.proofs.turning.turn_of.Goals as goal

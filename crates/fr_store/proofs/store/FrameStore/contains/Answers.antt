@@ -1,1 +1,0 @@
-use Rattle.fr_store.proofs.store.FrameStore.contains.Goals as goal

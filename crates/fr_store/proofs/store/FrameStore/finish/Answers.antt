@@ -17,12 +17,13 @@ held g c t =
     ∙ c.complete_all-result.ensures.tokens t
     ∙ slots_tokens c.args.plan.now c.args.slots.now c.args.stack.now c.requires.is_open t
 
-pub release-requires-clause-room : goal.release-requires-clause-room
-release-requires-clause-room g c =
-    Room_same (tokens_in c.args.slots.now c.args.stack.now) (slots_occur c.replace-rest.result)
-    c.complete_all-result.new.ledger
-    (λ t. sym (held g (goal.at.release-requires-clause-room g c).After-replace-rest t))
-    (subst (Room (tokens_in c.args.slots.now c.args.stack.now)) (sym c.complete_all-result.ensures.ledger) c.requires.room)
+pub release-requires : goal.release-requires
+release-requires g c = record {
+  room =
+      Room_same (tokens_in c.args.slots.now c.args.stack.now) (slots_occur c.replace-rest.result)
+      c.complete_all-result.new.ledger (λ t. sym (held g (goal.at.release-requires g c).After-replace-rest t))
+      (subst (Room (tokens_in c.args.slots.now c.args.stack.now)) (sym c.complete_all-result.ensures.ledger) c.requires.room);
+}
 
 pub returns-in-Err-clause-released : goal.returns-in-Err-clause-released
 returns-in-Err-clause-released g c =
