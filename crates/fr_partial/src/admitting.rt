@@ -102,11 +102,10 @@ pub fn field_named(
     requires shape { shape.0 ≡ shape_here table.now root.0 slots.now stack.now }
     ensures { result ≡ field_named name.now (def_of table.now shape.0) }
 {
-    let _table = table;
     let _root = root;
     let _slots = slots;
     let _stack = stack;
-    match plan.declared_field(shape, None, name) {
+    match plan.declared_field(table, shape, None, name) {
         Some(number) => Some(number as usize),
         None => None,
     }

@@ -1,9 +1,9 @@
 pub mod Build
+pub mod Fields
 pub mod FillQuestions
 pub mod Lists
 pub mod LookupLaws
 pub mod Lookups
-pub mod NamedNumbers
 pub mod Names
 pub mod Nodes
 pub mod PathLaws
@@ -12,5 +12,6 @@ pub mod Plans
 pub mod ProxyLookups
 pub mod RefusalLaws
 pub mod Results
+pub mod ShapeFields
 pub mod SizeLaws
 pub mod TypePlan

@@ -2,26 +2,26 @@
 use Rattle.std.specs.Prelude.{◌≡◌, List, Ok}
 use Rattle.fr_shape.specs.declared.shape.ShapeId.{ShapeId}
 use Rattle.fr_shape.specs.Look.{Table}
-use Rattle.fr_plan.specs.declared.names.ShapeNames.{ShapeNames}
+use Rattle.fr_plan.specs.declared.shape_fields.ShapeFields.{ShapeFields}
 use Rattle.fr_plan.specs.declared.nodes.NodeId.{NodeId}
 use Rattle.fr_plan.specs.declared.nodes.TypePlanNode.{TypePlanNode}
 use Rattle.fr_plan.specs.declared.outlines.Walk.{Walk}
 use Rattle.fr_plan.specs.declared.lists.PlanLists.{PlanLists}
 use Rattle.fr_plan.specs.Build.{planned}
-use Rattle.fr_plan.specs.Names.{AreAllNames}
 use Rattle.fr_plan.specs.Nodes.{AreNodes}
+use Rattle.fr_plan.specs.ShapeFields.{AreAllKept}
 
--- the nodes with their outlines, the lists in which the parts of nodes lie, the number of the root's node, and the declared
--- names of each shape's fields
+-- the nodes with their outlines, the lists in which the parts of nodes lie, the number of the root's node, and what is kept
+-- of each shape's fields
 pub record Plan : Type 0 where
   pub nodes : List TypePlanNode
   pub root : NodeId
   pub lists : PlanLists
   pub walk : Walk
-  pub names : List ShapeNames
+  pub shape_fields : List ShapeFields
 
--- the nodes are those that are built for the root, each told from its outline, and the names those of the table
+-- the nodes are those that are built for the root, each told from its outline, and the fields of all that is built are kept
 pub record IsPlanOf (table : Table) (id : ShapeId) (plan : Plan) : Type 0 where
   pub built : planned table id ≡ Ok (record { walk = plan.walk; node = plan.root })
   pub told : AreNodes table plan.lists plan.walk.nodes plan.nodes
-  pub named : AreAllNames table plan.walk.marks plan.names
+  pub fields : AreAllKept table plan.walk.marks plan.shape_fields

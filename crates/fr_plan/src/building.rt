@@ -41,7 +41,10 @@ fn build_new(
     depth: usize,
     id: ShapeId,
 ) -> Result<NodeId, PlanError>
-    ensures { Gives (build_new (λ then next. build table.now depth then next) walk.old id (slice_get table.now id.0)) result walk.new }
+    ensures { Gives
+        (build_new (λ then next. build table.now depth then next) walk.old id
+        (slice_get table.now id.0))
+        result walk.new }
 {
     let Some(shape) = table.get(id) else {
         return walk.refer_back(alloc, id);
@@ -72,7 +75,10 @@ fn build_children(
     id: ShapeId,
     shape: &Shape,
 ) -> Result<Items<NodeId>, PlanError>
-    ensures { GivesAll (children_built (λ then next. build table.now depth then next) walk.old id shape.now.def shape.now) result walk.new }
+    ensures { GivesAll
+        (children_built (λ then next. build table.now depth then next) walk.old id
+        shape.now.def shape.now)
+        result walk.new }
 {
     match &shape.def {
         Def::Struct(described) => {
@@ -115,7 +121,10 @@ fn build_wrapped(
     depth: usize,
     id: Option<ShapeId>,
 ) -> Result<Items<NodeId>, PlanError>
-    ensures { GivesAll (each_built (λ then next. build table.now depth then next) (none_yet walk.old) (option_to_list id)) result walk.new }
+    ensures { GivesAll
+        (each_built (λ then next. build table.now depth then next) (none_yet walk.old)
+        (option_to_list id))
+        result walk.new }
 {
     match id {
         Some(id) => build_each(alloc, table, walk, depth, &[id]),
@@ -132,7 +141,9 @@ fn build_each(
     depth: usize,
     ids: &[ShapeId],
 ) -> Result<Items<NodeId>, PlanError>
-    ensures { GivesAll (each_built (λ then next. build table.now depth then next) (none_yet walk.old) ids.now) result walk.new }
+    ensures { GivesAll
+        (each_built (λ then next. build table.now depth then next) (none_yet walk.old) ids.now)
+        result walk.new }
 {
     let mut nodes = Items::new(alloc);
     for id in ids {
@@ -158,7 +169,10 @@ fn build_variants(
     id: ShapeId,
     variants: &[VariantDef],
 ) -> Result<Items<NodeId>, PlanError>
-    ensures { GivesAll (fields_built (λ then next. build table.now depth then next) (none_yet walk.old) (variant_fields_from id 0 variants.now)) result walk.new }
+    ensures { GivesAll
+        (fields_built (λ then next. build table.now depth then next) (none_yet walk.old)
+        (variant_fields_from id 0 variants.now))
+        result walk.new }
 {
     let mut nodes = Items::new(alloc);
     for i in 0..variants.len() {
@@ -189,7 +203,11 @@ fn build_fields(
     fields: &[Field],
     nodes: &mut Items<NodeId>,
 ) -> Result<(), PlanError>
-    ensures { GivesMore (fields_built (λ then next. build table.now depth then next) (record { walk = walk.old; nodes = nodes.old }) (fields_from of.shape of.variant 0 fields.now)) result walk.new nodes.new }
+    ensures { GivesMore
+        (fields_built (λ then next. build table.now depth then next)
+        (record { walk = walk.old; nodes = nodes.old })
+        (fields_from of.shape of.variant 0 fields.now))
+        result walk.new nodes.new }
 {
     for i in 0..fields.len() {
         let Ok(index) = u32::try_from(i) else {
@@ -223,7 +241,10 @@ fn build_field(
     meant: FieldRef,
     field: &Field,
 ) -> Result<NodeId, PlanError>
-    ensures { Gives (field_built (λ then next. build table.now depth then next) walk.old (record { meant = meant; field = field.now })) result walk.new }
+    ensures { Gives
+        (field_built (λ then next. build table.now depth then next) walk.old
+        (record { meant = meant; field = field.now }))
+        result walk.new }
 {
     let Ok(ids) = sources_of(alloc, &field.proxy, &field.format_proxies) else {
         return Err(PlanError::OutOfMemory);

@@ -7,10 +7,10 @@ mod fields;
 mod laws;
 mod lists;
 mod lookups;
-mod names;
 mod nodes;
 mod outlines;
 mod plans;
+mod shape_fields;
 mod strategies;
 mod telling;
 #[cfg(test)]

@@ -5,7 +5,7 @@ use crate::lookups::entry;
 use crate::*;
 use building::*;
 use fr_rules::FieldLookup;
-use fr_shape::{Def, Items, PlanError, PlanFault, Shape, ShapeId};
+use fr_shape::{Def, Items, PlanError, PlanFault, Shape, ShapeId, ShapeTable};
 use std::alloc::Global;
 use std::process::Abort;
 
@@ -284,14 +284,19 @@ fn named_shapes(rt: &impl Abort, alloc: Global) -> Items<Shape> {
 #[test]
 fn fields_are_found_by_the_names_that_they_are_declared_under(rt: HostRuntime) {
     let alloc = rt.alloc();
-    let plan = plan_of(&rt, alloc, named_shapes(&rt, alloc), 3);
+    let table = ShapeTable::new(alloc, named_shapes(&rt, alloc));
+    let plan = plan_in(&rt, alloc, &table, 3);
     for (name, want) in [
         ("id", Some(0)),
         ("size", Some(2)),
         ("bytes", None),
         ("", None),
     ] {
-        assert_eq!(&rt; plan.declared_field(ShapeId(2), None, name), want, "{name}");
+        assert_eq!(&rt;
+            plan.declared_field(&table, ShapeId(2), None, name),
+            want,
+            "{name}"
+        );
     }
     for (variant, name, want) in [
         (None, "file", None),
@@ -301,9 +306,46 @@ fn fields_are_found_by_the_names_that_they_are_declared_under(rt: HostRuntime) {
         (Some(2), "file", None),
     ] {
         assert_eq!(&rt;
-            plan.declared_field(ShapeId(3), variant, name),
+            plan.declared_field(&table, ShapeId(3), variant, name),
             want,
             "{name}"
         );
+    }
+}
+
+/// A struct without validators, of number 2, one with, of number 3, and an enum whose last variant has one, of number 4.
+fn validated_shapes(rt: &impl Abort, alloc: Global) -> Items<Shape> {
+    let mut shapes = two_scalars(rt, alloc);
+    let free = fields(rt, alloc, &[("a", 0)]);
+    add(rt, alloc, &mut shapes, "Free", record(free));
+    let mut own = fields(rt, alloc, &[("free", 2)]);
+    add_validated(rt, alloc, &mut own, "count");
+    add(rt, alloc, &mut shapes, "Bound", record(own));
+    let mut variants = Items::new(alloc);
+    add_variant(rt, alloc, &mut variants, "Empty", &[]);
+    add_variant(rt, alloc, &mut variants, "Free", &[("bound", 3)]);
+    let mut bound = Items::new(alloc);
+    add_validated(rt, alloc, &mut bound, "x");
+    add_variant_of(rt, alloc, &mut variants, "Bound", bound);
+    add(rt, alloc, &mut shapes, "Slot", choice(variants));
+    shapes
+}
+
+#[test]
+fn shapes_with_validators_are_told(rt: HostRuntime) {
+    let alloc = rt.alloc();
+    let plan = plan_of(&rt, alloc, validated_shapes(&rt, alloc), 4);
+    for (shape, variant, want) in [
+        (0, None, false),
+        (2, None, false),
+        (3, None, true),
+        (3, Some(0), false),
+        (4, None, false),
+        (4, Some(0), false),
+        (4, Some(1), false),
+        (4, Some(2), true),
+        (4, Some(3), false),
+    ] {
+        assert_eq!(&rt; plan.has_validators(ShapeId(shape), variant), want);
     }
 }

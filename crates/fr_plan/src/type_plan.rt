@@ -6,16 +6,17 @@ ghost use Rattle.fr_shape.specs.Plannable.{Reached};
 ghost use Rattle.fr_shape.specs.declared.shape.ShapeId.{ShapeId as Id};
 ghost use Rattle.fr_rules.specs.Pools.{part_of};
 ghost use Rattle.fr_plan.specs.Build.{planned};
+ghost use Rattle.fr_plan.specs.Fields.{has_validators};
 ghost use Rattle.fr_plan.specs.Names.{declared_field};
 ghost use Rattle.fr_plan.specs.Results.{IsMeant};
 ghost use Rattle.fr_plan.specs.declared.outlines.Mark.{Mark as TheMark};
 
 use crate::building::build_shape;
 use crate::lists::PlanLists;
-use crate::names::{ShapeNames, all_names, find_name};
 use crate::nodes::{NodeId, TypePlanNode};
 use crate::outlines::{Mark, Walk};
 use crate::plans::{FieldPlan, FieldRange, ValidatorRange, VariantPlanMeta, VariantRange};
+use crate::shape_fields::{ShapeFields, all_kept, are_validated, find_declared};
 use crate::telling::nodes_of;
 use fr_arena::{Arena, Idx};
 use fr_rules::{LookupPool, PrecomputedValidator};
@@ -30,7 +31,7 @@ pub struct TypePlanCore {
     pub(crate) root: NodeId,
     pub(crate) lists: PlanLists,
     pub(crate) walk: Walk,
-    pub(crate) names: Arena<ShapeNames>,
+    pub(crate) shape_fields: Arena<ShapeFields>,
 }
 
 impl Model for TypePlanCore {
@@ -38,7 +39,7 @@ impl Model for TypePlanCore {
 
     ghost Value = { Plan };
 
-    ghost view = { λ core. record { nodes = core.nodes; root = core.root; lists = core.lists; walk = core.walk; names = core.names } };
+    ghost view = { λ core. record { nodes = core.nodes; root = core.root; lists = core.lists; walk = core.walk; shape_fields = core.shape_fields } };
 
     ghost use Rattle.std.specs.Prelude.{◌<◌, length};
 
@@ -65,7 +66,7 @@ impl TypePlanCore {
             Ok(root) => root,
             Err(refused) => return Err(refused),
         };
-        let Ok(names) = all_names(alloc, table, &walk.marks) else {
+        let Ok(shape_fields) = all_kept(alloc, table, &walk.marks) else {
             return Err(PlanError::OutOfMemory);
         };
         let mut lists = PlanLists::new(alloc);
@@ -75,7 +76,7 @@ impl TypePlanCore {
                 root,
                 lists,
                 walk,
-                names,
+                shape_fields,
             }),
             Err(OutOfMemory) => Err(PlanError::OutOfMemory),
         }
@@ -153,13 +154,30 @@ impl TypePlanCore {
 
     /// The number of the first field that is declared under this name, of a struct or of an enum's variant of this number.
     ///
-    /// It compares names O(log n) times among n fields. A field isn't found here by the name that it goes by instead.
-    pub fn declared_field(&self, shape: ShapeId, variant: Option<u32>, name: &str) -> Option<u32>
-        ensures first { (table : Table) (root : Id) → IsChecked table → IsIn table root.0
-            → IsPlanOf table root self.now → Reached table root.0 shape.0
-            → result ≡ declared_field (def_of table shape.0) variant name.now }
+    /// The names stand in the table from which the plan was made. It compares them O(log n) times among n fields. A field
+    /// isn't found here by the name that it goes by instead.
+    pub fn declared_field(
+        &self,
+        table: &ShapeTable,
+        shape: ShapeId,
+        variant: Option<u32>,
+        name: &str,
+    ) -> Option<u32>
+        ensures first { (root : Id) → IsChecked table.now → IsIn table.now root.0
+            → IsPlanOf table.now root self.now → Reached table.now root.0 shape.0
+            → result ≡ declared_field (def_of table.now shape.0) variant name.now }
     {
-        find_name(&self.names, shape, variant, name)
+        find_declared(table, &self.shape_fields, shape, variant, name)
+    }
+
+    /// Whether a field of the struct, or of the enum's variant of this number, has a validator. It takes the same time
+    /// however many there are.
+    pub fn has_validators(&self, shape: ShapeId, variant: Option<u32>) -> bool
+        ensures some { (table : Table) (root : Id) → IsChecked table → IsIn table root.0
+            → IsPlanOf table root self.now → Reached table root.0 shape.0
+            → result ≡ has_validators (def_of table shape.0) variant }
+    {
+        are_validated(&self.shape_fields, shape, variant)
     }
 
     /// How many nodes there are.

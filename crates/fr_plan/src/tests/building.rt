@@ -2,8 +2,8 @@
 use crate::*;
 use fr_shape::{
     Def, EnumDef, EnumRepr, Field, HookId, Items, KnownPointer, OutOfMemory, PlanError, PointerDef,
-    ProxyDef, ScalarKind, Shape, ShapeId, ShapeTable, StructDef, StructKind, Template, Text, Value,
-    VariantDef,
+    ProxyDef, ScalarKind, Shape, ShapeId, ShapeTable, StructDef, StructKind, Template, Text,
+    ValidatorDef, Value, VariantDef,
 };
 use std::alloc::Global;
 use std::process::Abort;
@@ -38,6 +38,15 @@ pub fn renamed(rt: &impl Abort, alloc: Global, name: &str, rename: &str, shape: 
     field
 }
 
+/// Adds a field of shape 0 whose value has to be at least 1.
+pub fn add_validated(rt: &impl Abort, alloc: Global, fields: &mut Items<Field>, name: &str) {
+    let mut field = field(rt, alloc, name, 0);
+    push(&mut field.validators, ValidatorDef::Min(1))
+        .ok()
+        .expect(rt, "no memory");
+    push(fields, field).ok().expect(rt, "no memory");
+}
+
 /// Fields of these names and shapes.
 pub fn fields(rt: &impl Abort, alloc: Global, rows: &[(&str, u32)]) -> Items<Field> {
     let mut fields = Items::new(alloc);
@@ -57,7 +66,7 @@ pub fn record(fields: Items<Field>) -> Def {
     })
 }
 
-/// Adds a variant with these fields.
+/// Adds a variant with fields of these names and shapes.
 pub fn add_variant(
     rt: &impl Abort,
     alloc: Global,
@@ -65,12 +74,24 @@ pub fn add_variant(
     name: &str,
     rows: &[(&str, u32)],
 ) {
+    let fields = fields(rt, alloc, rows);
+    add_variant_of(rt, alloc, variants, name, fields);
+}
+
+/// Adds a variant with these fields.
+pub fn add_variant_of(
+    rt: &impl Abort,
+    alloc: Global,
+    variants: &mut Items<VariantDef>,
+    name: &str,
+    fields: Items<Field>,
+) {
     let name = text(rt, alloc, name);
     let variant = VariantDef {
         name,
         rename: None,
         kind: StructKind::Struct,
-        fields: fields(rt, alloc, rows),
+        fields,
         discriminant: None,
         other: false,
     };
@@ -127,21 +148,30 @@ pub fn two_scalars(rt: &impl Abort, alloc: Global) -> Items<Shape> {
     shapes
 }
 
-/// What becomes of planning the shape of this number.
-pub fn try_plan(alloc: Global, shapes: Items<Shape>, root: u32) -> Result<TypePlanCore, PlanError> {
-    let table = ShapeTable::new(alloc, shapes);
+/// What becomes of planning the shape of this number in a table.
+fn try_plan_in(alloc: Global, table: &ShapeTable, root: u32) -> Result<TypePlanCore, PlanError> {
     if table.len() > u32::MAX as usize || root as usize >= table.len() {
         return Err(PlanError::OutOfMemory);
     }
     let Ok(()) = table.check() else {
         return Err(PlanError::OutOfMemory);
     };
-    TypePlanCore::from_shape(alloc, &table, ShapeId(root))
+    TypePlanCore::from_shape(alloc, table, ShapeId(root))
+}
+
+/// The same in the table of these shapes.
+pub fn try_plan(alloc: Global, shapes: Items<Shape>, root: u32) -> Result<TypePlanCore, PlanError> {
+    try_plan_in(alloc, &ShapeTable::new(alloc, shapes), root)
 }
 
 /// The plan of the shape of this number.
 pub fn plan_of(rt: &impl Abort, alloc: Global, shapes: Items<Shape>, root: u32) -> TypePlanCore {
     try_plan(alloc, shapes, root).ok().expect(rt, "no plan")
+}
+
+/// The plan of the shape of this number in a table.
+pub fn plan_in(rt: &impl Abort, alloc: Global, table: &ShapeTable, root: u32) -> TypePlanCore {
+    try_plan_in(alloc, table, root).ok().expect(rt, "no plan")
 }
 
 /// The name of a kind.

@@ -17,7 +17,7 @@ returns-in-Some c =
     (tree_leads 0 (cursor_in c.args.slots.now c.args.stack.now) (kid_shown (heap_of c.args.slots.now) c.args.stack.now)
     ready.shown.stands.leads)) in
     sym c.in-Some.is
-    ∙ c.declared_field.ensures.first c.args.table.now c.args.root ready.checked ready.inside ready.planned reached
+    ∙ c.declared_field.ensures.first c.args.root ready.checked ready.inside ready.planned reached
 
 pub returns-in-None : goal.returns-in-None
 returns-in-None c =
@@ -29,4 +29,4 @@ returns-in-None c =
     (tree_leads 0 (cursor_in c.args.slots.now c.args.stack.now) (kid_shown (heap_of c.args.slots.now) c.args.stack.now)
     ready.shown.stands.leads)) in
     sym c.in-None.is
-    ∙ c.declared_field.ensures.first c.args.table.now c.args.root ready.checked ready.inside ready.planned reached
+    ∙ c.declared_field.ensures.first c.args.root ready.checked ready.inside ready.planned reached

@@ -28,7 +28,7 @@ returns-in-Ok-nodes_of-clause-plan c = record {
       sym (planned_from c.args.table.now c.args.id c.in-Ok.walk c.len.result c.len-depth.result c.in-Ok.ensures c.len.ensures.count c.len-depth.ensures.count)
       ∙ c.in-Ok-build_shape.ensures;
   told = c.in-Ok-nodes_of.ensures.told;
-  named = c.in-Ok-all_names.ensures;
+  fields = c.in-Ok-all_kept.ensures;
 }
 
 -- as many nodes as outlines
