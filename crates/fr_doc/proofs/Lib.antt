@@ -1,4 +1,5 @@
 pub mod Dynamics
+pub mod FieldParts
 pub mod Loops
 pub mod Moved
 pub mod Pairs

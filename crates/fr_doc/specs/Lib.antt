@@ -6,6 +6,7 @@ pub mod DynForms
 pub mod FaultSteps
 pub mod Faults
 pub mod FieldForms
+pub mod FieldMembers
 pub mod FloatFree
 pub mod Keys
 pub mod Memory

@@ -67,7 +67,8 @@ fn read_tagged_dyn(alloc: Global, members: &Map<String, Json>) -> Result<Dyn, Fo
 
 #[cycle(dynamic)]
 fn read_dyns(alloc: Global, items: &Vec<Json>) -> Result<Items<Dyn>, FormError>
-    ensures { Reads (λ ds. dynamics_of (map dyn_view ds)) (dynamics_form (items_view items.now.items)) result }
+    ensures { Reads (λ ds. dynamics_of (map dyn_view ds))
+        (dynamics_form (items_view items.now.items)) result }
 {
     let mut dyns = Items::new(alloc);
     for item in items {
@@ -79,7 +80,8 @@ fn read_dyns(alloc: Global, items: &Vec<Json>) -> Result<Items<Dyn>, FormError>
 /// The entries of a dynamic object.
 #[cycle(dynamic)]
 fn read_dyn_members(alloc: Global, json: &Json) -> Result<Items<(Text, Dyn)>, FormError>
-    ensures { Reads (λ ms. members_of (map member_view ms)) (dyn_object_form (data_of json.now)) result }
+    ensures { Reads (λ ms. members_of (map member_view ms))
+        (dyn_object_form (data_of json.now)) result }
 {
     let Json::Array(items) = json else {
         return Err(ReadError::Fault(Broken));

@@ -43,7 +43,8 @@ fn print_bytes(alloc: Global, bytes: &[u8]) -> Result<Json, AllocError>
 /// The values as an array.
 #[cycle(print_dyn)]
 fn print_dyns(alloc: Global, values: &Items<Dyn>) -> Result<Json, AllocError>
-    ensures { IfOk result (λ json. data_of json ≡ array (dynamics_data (dynamics_of (map dyn_view values.now)))) }
+    ensures { IfOk result (λ json. data_of json
+        ≡ array (dynamics_data (dynamics_of (map dyn_view values.now)))) }
 {
     let mut items = Vec::new(alloc);
     for value in values.as_slice() {
@@ -55,7 +56,8 @@ fn print_dyns(alloc: Global, values: &Items<Dyn>) -> Result<Json, AllocError>
 /// An object's entries as an array of pairs.
 #[cycle(print_dyn)]
 fn print_members(alloc: Global, members: &Items<(Text, Dyn)>) -> Result<Json, AllocError>
-    ensures { IfOk result (λ json. data_of json ≡ array (dyn_members_data (members_of (map member_view members.now)))) }
+    ensures { IfOk result (λ json. data_of json
+        ≡ array (dyn_members_data (members_of (map member_view members.now)))) }
 {
     let mut items = Vec::new(alloc);
     for (key, value) in members.as_slice() {

@@ -1,12 +1,13 @@
 //! Reading fields.
 ghost use Rattle.std.specs.Prelude.{◌≡◌, option_map};
 ghost use Rattle.serde_json.specs.View.{view as data_of};
-ghost use Rattle.fr_doc.specs.FieldForms.{named_default, keyed_default, default_form, field_object as field_object_form, field_form, fields_form};
+ghost use Rattle.fr_doc.specs.FieldForms.{named_default, keyed_default, default_form, field_form, fields_form};
 ghost use Rattle.fr_doc.specs.Keys.{given};
 ghost use Rattle.fr_doc.specs.Reading.{Reads};
 
 use crate::fault::ReadError;
-use crate::members::{object_of, only_member, required};
+use crate::field_members::field_members_of;
+use crate::members::only_member;
 use crate::numerals::id_of;
 use crate::optional::{read_flag, read_given_text, read_text};
 use crate::proxy_form::{read_format_proxies, read_given_proxy};
@@ -55,6 +56,7 @@ fn read_keyed_default(alloc: Global, key: &str, inner: &Json) -> Result<DefaultS
 }
 
 /// A default, if one is given.
+#[inline]
 #[tactic(auto, unfolding(crate::specs::Keys::given))]
 fn read_given_default(
     alloc: Global,
@@ -69,46 +71,24 @@ fn read_given_default(
     }
 }
 
-/// An object that has no other keys than a field's.
-#[tactic(auto, unfolding(crate::specs::FieldForms::field_object))]
-fn field_object(json: &Json) -> Result<&Json, FormError>
-    ensures { Reads (λ field. data_of field.now) (field_object_form (data_of json.now)) result }
-{
-    object_of(
-        json,
-        &[
-            "name",
-            "shape",
-            "rename",
-            "alias",
-            "default",
-            "skip",
-            "flatten",
-            "proxy",
-            "format_proxies",
-            "validators",
-        ],
-    )
-}
-
-#[tactic(auto, unfolding(crate::specs::FieldForms::field_form))]
+#[tactic(auto, using(crate::proofs::FieldParts::field_from_parts))]
 fn read_field(alloc: Global, json: &Json) -> Result<Field, FormError>
     ensures { Reads (λ field. field) (field_form (data_of json.now)) result }
 {
-    let field = field_object(json)?;
-    let name = read_text(alloc, required(field, "name")?)?;
-    let shape = id_of(required(field, "shape")?).ok_or(Broken)?;
+    let members = field_members_of(json)?;
+    let name = read_text(alloc, members.name.ok_or(Broken)?)?;
+    let shape = id_of(members.shape.ok_or(Broken)?).ok_or(Broken)?;
     Ok(Field {
         name,
-        rename: read_given_text(alloc, field.get("rename"))?,
-        alias: read_given_text(alloc, field.get("alias"))?,
+        rename: read_given_text(alloc, members.rename)?,
+        alias: read_given_text(alloc, members.alias)?,
         shape,
-        default: read_given_default(alloc, field.get("default"))?,
-        skip: read_flag(field.get("skip"), false)?,
-        flatten: read_flag(field.get("flatten"), false)?,
-        proxy: read_given_proxy(field.get("proxy"))?,
-        format_proxies: read_format_proxies(alloc, field.get("format_proxies"))?,
-        validators: read_validators(alloc, field.get("validators"))?,
+        default: read_given_default(alloc, members.default)?,
+        skip: read_flag(members.skip, false)?,
+        flatten: read_flag(members.flatten, false)?,
+        proxy: read_given_proxy(members.proxy)?,
+        format_proxies: read_format_proxies(alloc, members.format_proxies)?,
+        validators: read_validators(alloc, members.validators)?,
     })
 }
 

@@ -11,6 +11,7 @@ mod dyn_form;
 mod dyn_json;
 mod fault;
 mod field_form;
+mod field_members;
 mod json_parts;
 mod laws;
 mod looping;

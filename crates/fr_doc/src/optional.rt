@@ -37,6 +37,7 @@ pub fn read_text(alloc: Global, json: &Json) -> Result<Text, FormError>
 }
 
 /// A text, if one is given.
+#[inline]
 #[tactic(auto, unfolding(crate::specs::Keys::given))]
 pub fn read_given_text(alloc: Global, found: Option<&Json>) -> Result<Option<Text>, FormError>
     ensures { Reads (λ text. text)

@@ -26,6 +26,7 @@ fn read_proxy(json: &Json) -> Result<ProxyDef, FormError>
 }
 
 /// A proxy, if one is given.
+#[inline]
 #[tactic(auto, unfolding(crate::specs::Keys::given))]
 pub fn read_given_proxy(found: Option<&Json>) -> Result<Option<ProxyDef>, FormError>
     ensures { Reads (λ proxy. proxy)

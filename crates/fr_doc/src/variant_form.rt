@@ -30,7 +30,8 @@ fn read_kind(found: Option<&Json>) -> Result<StructKind, FormError>
 /// An object that has no other keys than a variant's.
 #[tactic(auto, unfolding(crate::specs::VariantForms::variant_object))]
 fn variant_object(json: &Json) -> Result<&Json, FormError>
-    ensures { Reads (λ variant. data_of variant.now) (variant_object_form (data_of json.now)) result }
+    ensures { Reads (λ variant. data_of variant.now)
+        (variant_object_form (data_of json.now)) result }
 {
     object_of(
         json,
