@@ -33,7 +33,7 @@ use Rattle.fr_frame.specs.Defaults.{WhyNotDefault}
 use Rattle.fr_frame.specs.Heap.{Node, heap_of, slots_occur, with_body, without}
 use Rattle.fr_frame.specs.Kids.{Kid, gone, there, tree_of, cell_of, cells_in, kid_occurs, child_owner}
 use Rattle.fr_store.specs.ClosingLaws.{completes_still}
-use Rattle.fr_store.specs.Moves.{IsAbove, IsNumbered, IsOpenAt, IsStepTo, cursor_in, tree_in_slots}
+use Rattle.fr_store.specs.Moves.{OwnerIsIn, OwnerIsNumbered, IsOpenAt, IsStepTo, cursor_in, tree_in_slots}
 use Rattle.fr_store.specs.OffLaws.{reach_place}
 use Rattle.fr_store.specs.ShapeLaws.{IsOfShape, Along, along, root_shaped}
 use Rattle.fr_store.specs.StandLaws.{cursor_is, kid_is, stands_shown, tree_is}
@@ -137,12 +137,12 @@ module _ (plan : Plan) (before : List Slot) (stack : List ℕ) (n : ℕ) (open_n
   unfolding below
   owner = over.owner
 
-  pub numbered : IfInUse before n (λ (x : Node). IsNumbered x.owner)
+  pub numbered : IfInUse before n (λ (x : Node). OwnerIsNumbered x.owner)
   numbered =
-      so_said (λ (x : Node). IsNumbered x.owner)
-      (subst (λ (o : FrameOwner). IsNumbered o) (sym owner) (go over.form))
+      so_said (λ (x : Node). OwnerIsNumbered x.owner)
+      (subst (λ (o : FrameOwner). OwnerIsNumbered o) (sym owner) (go over.form))
     where
-      go : (form : Form) → IsNumbered (child_owner over.slot form over.i)
+      go : (form : Form) → OwnerIsNumbered (child_owner over.slot form over.i)
       go as_struct = tt
       go as_array = tt
 
@@ -151,8 +151,8 @@ module _ (plan : Plan) (before : List Slot) (stack : List ℕ) (n : ℕ) (open_n
   step_is step told =
       subst (λ (o : FrameOwner). IsStepTo step o) owner (said (λ (x : Node). IsStepTo step x.owner) told)
 
-  pub slot_is : (m : ℕ) → IfInUse before n (λ (x : Node). IsAbove m x.owner) → m ≡ over.slot
-  slot_is m told = subst (λ (o : FrameOwner). IsAbove m o) owner (said (λ (x : Node). IsAbove m x.owner) told)
+  pub slot_is : (m : ℕ) → IfInUse before n (λ (x : Node). OwnerIsIn m x.owner) → m ≡ over.slot
+  slot_is m told = subst (λ (o : FrameOwner). OwnerIsIn m o) owner (said (λ (x : Node). OwnerIsIn m x.owner) told)
 
   own : own_tree below.body ≡ tree_at due.place (tree_in_slots before stack)
   unfolding below
@@ -210,7 +210,7 @@ module _ (plan : Plan) (before : List Slot) (stack : List ℕ) (n : ℕ) (open_n
     module _ (means : Meanings) (keeps_tokens : CompletingKeepsTokens) (first mid last : List Slot) (parent : ℕ)
         (step : PathStep) (v : Val)
         (to : IfInUse before n (λ (x : Node). IsStepTo step x.owner))
-        (from : IfInUse before n (λ (x : Node). IsAbove parent x.owner))
+        (from : IfInUse before n (λ (x : Node). OwnerIsIn parent x.owner))
         (filled : IfInUse before n (FillsAt deferred_column means table plan before first n))
         (worth : IfInUse first n (λ (x : Node). value_of x.body ≡ Some v))
         (left : IfInUse first n (λ (x : Node). Shows mid (without (heap_of first) n x.owner))) where

@@ -20,7 +20,8 @@ use Rattle.fr_frame.specs.Changes.{SameTokens}
 use Rattle.fr_frame.specs.Heap.{heap_of, marked}
 use Rattle.fr_frame.specs.Kids.{Kid, at, Plot, there, body_in}
 use Rattle.fr_store.specs.Moves.{IsOpenAt, cursor_in, tree_in_slots}
-use Rattle.fr_store.specs.Stands.{kid_shown, IsOpen}
+pub use Rattle.fr_store.specs.Stands.{kid_here}
+use Rattle.fr_store.specs.Stands.{IsOpen}
 use Rattle.fr_store.specs.Turns.{root_shape, CompletesAsBefore, Turned}
 use Rattle.fr_store.specs.Walks.{IsStoredAt, AreInWalkOrder, IsWalk}
 use Rattle.fr_store.specs.Ways.{kid_at, put_at, Reaches}
@@ -30,10 +31,6 @@ abbrev pub is_entered : Body → Bool
 is_entered entered_body = true
 is_entered (whole_body v) = false
 is_entered (begun_body form cells) = false
-
--- what lies in the slots of an open builder
-abbrev pub kid_here : List Slot → List ℕ → Kid
-kid_here slots stack = kid_shown (heap_of slots) stack
 
 -- it is a place's turn: the place in this slot is stored, and nothing beneath it is in a slot
 pub record MayTurn (slots : List Slot) (stack : List ℕ) (slot : ℕ) : Type 0 where

@@ -8,7 +8,7 @@ ghost use Rattle.fr_model.specs.Well.{Suits};
 ghost use Rattle.fr_frame.specs.Changes.{IfInUse, IsInUse, SameTokens};
 ghost use Rattle.fr_frame.specs.Completing.{IsPlanFor};
 ghost use Rattle.fr_frame.specs.Heap.{heap_of, marked};
-ghost use Rattle.fr_store.specs.Moves.{tokens_in, tree_in_slots, IsAbove, IsNumbered};
+ghost use Rattle.fr_store.specs.Moves.{tokens_in, tree_in_slots, OwnerIsIn, OwnerIsNumbered};
 ghost use Rattle.fr_store.specs.Numbers.{numbers};
 ghost use Rattle.fr_store.specs.Stands.{IsOpen};
 ghost use Rattle.fr_store.specs.Stored.{IsKept, NothingStored};
@@ -25,8 +25,8 @@ use fr_shape::{Hooks, Ledger, ReflectErrorKind, ShapeTable};
 
 /// The slot of the place above.
 fn above(slots: &Slots, place: SlotId) -> SlotId
-    requires { IfInUse slots.now place.0 (λ at. IsNumbered at.owner) }
-    ensures { IfInUse slots.now place.0 (λ at. IsAbove result.0 at.owner) }
+    requires { IfInUse slots.now place.0 (λ at. OwnerIsNumbered at.owner) }
+    ensures { IfInUse slots.now place.0 (λ at. OwnerIsIn result.0 at.owner) }
 {
     let Some(found) = slots.place(place) else {
         unreachable!()

@@ -20,16 +20,16 @@ enter-requires-clause-owner c =
 
 pub returns-in-Ok-clause-entered : goal.returns-in-Ok-clause-entered
 returns-in-Ok-clause-entered c =
-    let owner : FrameOwner.Child c.in-Some.above c.step_of-step.result
+    let owner : FrameOwner.Child c.in-Some.above c.child_step-step.result
     ≡ child_owner c.in-Some.above.0 (as_form c.args.form) c.args.i
-    = ap (FrameOwner.Child c.in-Some.above) c.step_of-step.ensures in
+    = ap (FrameOwner.Child c.in-Some.above) c.child_step-step.ensures in
     let none : (child : ℕ)
     → IsStoredChild (heap_of c.args.slots.now) c.in-Some.above.0 (step_as (as_form c.args.form) c.args.i) child → ⊥
     = λ child so.
     let stored = c.contains.ensures.stored.1 (
       child,
       subst (λ (s : PathStep). IsStoredChild (heap_of c.args.slots.now) c.in-Some.above.0 s child)
-          (sym c.step_of-step.ensures) so,
+          (sym c.child_step-step.ensures) so,
     ) in
     cc (stored, c.if-contains.false) in
     open_entered c.args.plan.now c.args.slots.now c.args.self.now c.requires.is_open c.in-Some.above.0
@@ -51,7 +51,7 @@ returns-then-contains-clause-entered c =
     c.in-Some.above.0 c.in-Some.ensures.last (as_form c.args.form) c.args.i
     (def_of c.args.table.now (shape_of c.args.plan.now c.args.node)) c.in-Some-take.child.0 c.requires.child
     (subst (λ (s : PathStep). IsStoredChild (heap_of c.args.slots.now) c.in-Some.above.0 s c.in-Some-take.child.0)
-    c.step_of-step.ensures c.in-Some-take.ensures.taken)
+    c.child_step-step.ensures c.in-Some-take.ensures.taken)
     c.in-Some-take.ensures.unmarked c.in-Some-take.ensures.tokens
     (c.put_top.ensures c.args.self.now c.in-Some.above.0 c.in_ok-push.ensures.appended)
 
@@ -59,5 +59,5 @@ pub returns-in-Ok-clause-kept : goal.returns-in-Ok-clause-kept
 returns-in-Ok-clause-kept c =
     kept_entered c.args.store.now c.args.slots.now c.enter.new.self
     (def_of c.args.table.now (shape_of c.args.plan.now c.args.node)) c.args.node
-    (FrameOwner.Child c.in-Some.above c.step_of-step.result) c.in-Ok.child.0 c.requires.kept c.in-Ok.ensures.vacant
+    (FrameOwner.Child c.in-Some.above c.child_step-step.result) c.in-Ok.child.0 c.requires.kept c.in-Ok.ensures.vacant
     c.in-Ok.ensures.entered
