@@ -377,6 +377,21 @@ module _ (plan : Plan) (before : List Slot) (stack : List ℕ) (open_now : IsOpe
       (tokens_kept before after k now tokens open_now.tokens same_tokens) all tree,
       stay_shown plan after (stack ++ n ∷ []) (place ++ i ∷ []) now k stands stay)
 
+  -- the same, of slots that are those
+  pub open_entered_from : (mid after : List Slot) (next : List ℕ) (form : Form) (i : ℕ) (def : Def) (n : ℕ) (node : NodeId)
+      → mid ≡ before → HasChild form i (tree_here before stack) → node ≡ child_node plan (node_here plan before stack) form i
+      → ((child : ℕ) → IsStoredChild (heap_of before) p (step_as form i) child → ⊥) → heap_of mid n ≡ None
+      → Shows after (with_entered def (heap_of mid) node (child_owner p form i) n)
+      → depth_below (heap_of mid) (child_owner p form i) < depth_limit → SameTokens mid after → next ≡ stack ++ n ∷ []
+      → IsOpenAt plan after next (cursor_in before stack ++ i ∷ [])
+      (change_at (cursor_in before stack) (change_child i (enter def)) (tree_in_slots before stack))
+      × AllStayPut (kid_here before stack) (kid_here after next)
+  open_entered_from mid after next form i def n node same has is none free shows limit tokens along =
+      open_entered after next form i def n node has is none (subst (λ (s : List Slot). heap_of s n ≡ None) same free)
+      (subst (λ (s : List Slot). Shows after (with_entered def (heap_of s) node (child_owner p form i) n)) same shows)
+      (subst (λ (s : List Slot). depth_below (heap_of s) (child_owner p form i) < depth_limit) same limit)
+      (subst (λ (s : List Slot). SameTokens s after) same tokens) along
+
 -- no place is stored that wasn't
 pub kept_entered : (store : List ℕ) (before after : List Slot) (def : Def) (node : NodeId) (owner : FrameOwner) (n : ℕ)
     → IsKept store before → heap_of before n ≡ None → Shows after (with_entered def (heap_of before) node owner n)
