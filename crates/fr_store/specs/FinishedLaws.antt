@@ -1,6 +1,7 @@
 -- Laws of the end of deferred mode, for proofs: all stored places had their turn, nothing is stored, and the place at which the
 -- builder works is finished.
-use Rattle.std.proofs.Common.{◌≡◌, ◌≢◌, ◌⊎◌, ℕ, zero, suc, ◌<◌, false, List, [], ◌∷◌, ◌++◌, append-nil, nat_eq, option_map, Some, inl, inr, refl, sym, ◌∙◌, ap, subst, arith}
+use Rattle.std.proofs.Common.{◌≡◌, ◌≢◌, ◌⊎◌, ℕ, zero, suc, ◌<◌, Bool, true, false, List, [], ◌∷◌, ◌++◌, append-nil, nat_eq, option_map, Option, Some, None, inl, inr, refl, sym, ◌∙◌, ap, subst, arith}
+use Rattle.std.specs.Prelude.{IsSome}
 use Rattle.std.specs.List.{Contains}
 use Rattle.fr_shape.specs.declared.error.ReflectErrorKind.{ReflectErrorKind}
 use Rattle.fr_shape.specs.Hooks.{Meanings}
@@ -19,7 +20,7 @@ use Rattle.fr_plan.specs.TypePlan.{Plan}
 use Rattle.fr_frame.specs.declared.places.FrameOwner.{FrameOwner}
 use Rattle.fr_frame.specs.declared.places.Slot.{Slot}
 use Rattle.fr_frame.specs.Changes.{SameTokens}
-use Rattle.fr_frame.specs.Heap.{Heap, heap_of, marked, stored_in}
+use Rattle.fr_frame.specs.Heap.{Heap, Node, heap_of, marked, stored_in}
 use Rattle.fr_frame.specs.Kids.{Kid, gone, there, at, Plot, entered_plot, whole_plot, begun_plot, Kids, no_kids, kid, tree_of, child_node, child_owner, Holds, HoldsIn, HoldsAll}
 use Rattle.fr_store.specs.FailLaws.{fails_itself, none_here, same_lack}
 use Rattle.fr_store.specs.HeadLaws.{contains_cases}
@@ -133,10 +134,21 @@ module _ (means : Meanings) (table : Table) (plan : Plan) (before : List Slot) (
     along = walked.still.stands.along;
   }
 
+  all_mid : (n : ℕ) → IsSome (heap_of mid n) → 0 < uses (kid_here now stack) n
+  all_mid n used = go (marked (heap_of now) n) refl
+    where
+      in_use : (found : Option Node) → stored_in found ≡ true → IsSome found
+      in_use (Some found) e = refl
+      in_use None e = absurd (cc)
+
+      go : (mark : Bool) → marked (heap_of now) n ≡ mark → 0 < uses (kid_here now stack) n
+      go true e = walked.still.all n (in_use (heap_of now n) e)
+      go false e = walked.still.all n (subst (λ (o : Option Node). IsSome o) (others n e) used)
+
   open_mid : IsOpenAt plan mid stack (cursor_in now stack) (tree_in_slots now stack)
   open_mid =
       open_shown plan mid stack (cursor_in now stack) (kid_here now stack) (tree_in_slots now stack) stands_mid
-      (λ t. tokens t ∙ walked.still.tokens t) refl
+      (λ t. tokens t ∙ walked.still.tokens t) all_mid refl
 
   pub still_open : IsOpen plan mid stack
   still_open = open_mid.open_still
