@@ -230,8 +230,9 @@ open_again plan before after stack next open_now p last form i def child has sto
     found.2 child placed.0 placed.1 shows in
     subst
     (λ (s : List ℕ). IsOpenAt plan after s (place ++ i ∷ [])
-    (change_at place (change_child i (enter def)) (tree_of k)) × AllStayPut k (kid_here after s)) (sym along)
-    (open_at_from plan after (stack ++ child ∷ []) (place ++ i ∷ []) now
-    (change_at place (change_child i (enter def)) (tree_of k)) stands
-    (tokens_kept before after k now tokens open_now.tokens same_tokens) all tree,
-    stay_shown plan after (stack ++ child ∷ []) (place ++ i ∷ []) now k stands stay)
+    (change_at place (change_child i (enter def)) (tree_of k)) × AllStayPut k (kid_here after s)) (sym along) (
+      open_at_from plan after (stack ++ child ∷ []) (place ++ i ∷ []) now
+          (change_at place (change_child i (enter def)) (tree_of k)) stands
+          (tokens_kept before after k now tokens open_now.tokens same_tokens) all tree,
+      stay_shown plan after (stack ++ child ∷ []) (place ++ i ∷ []) now k stands stay,
+    )

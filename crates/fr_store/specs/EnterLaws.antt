@@ -10,17 +10,16 @@ use Rattle.fr_model.specs.Step.{enter}
 use Rattle.fr_model.specs.Tree.{Form, Tree, Trees, whole, entered, begun, fresh, change_child, tree_at, change_at}
 use Rattle.fr_plan.specs.declared.nodes.NodeId.{NodeId}
 use Rattle.fr_plan.specs.TypePlan.{Plan}
-use Rattle.fr_path.specs.declared.path_steps.PathStep.{PathStep}
 use Rattle.fr_frame.specs.declared.places.FrameOwner.{FrameOwner}
 use Rattle.fr_frame.specs.declared.places.Slot.{Slot}
-use Rattle.fr_frame.specs.Changes.{IsOwnerInUse, SameTokens, Shows}
+use Rattle.fr_frame.specs.Changes.{SameTokens, Shows}
 use Rattle.fr_frame.specs.Bodies.{Body, entered_body, whole_body, begun_body, fresh_body, taken_over, linked, linked_by, IsUnplaced, IsClosed}
 use Rattle.fr_frame.specs.Heap.{heap_of, marked, stored_in, Node, Heap, with_entered, entered_node, links, held_by, depth_below, depth_above, depth_limit}
 use Rattle.fr_frame.specs.Kids.{Kid, gone, there, at, Plot, entered_plot, whole_plot, begun_plot, Kids, tree_of, tree_in, cell_of, cells_in, body_in, trees_in, kid_occurs, plot_occurs, kids_occur, child_node, child_owner, Holds}
 use Rattle.fr_store.specs.ChildLaws.{child_cell, kids_held, kids_stored, not_parent, parent_is, part_uses, plot_has, unplaced_child}
 use Rattle.fr_store.specs.HoldLaws.{Replaces, holds_put_nth, unused}
 use Rattle.fr_store.specs.LeaveLaws.{cell_of_child, with_child}
-use Rattle.fr_store.specs.MoveLaws.{open_at_from, open_top, tokens_kept, top_in_use, top_slot}
+use Rattle.fr_store.specs.MoveLaws.{open_at_from, open_top, tokens_kept, top_slot}
 use Rattle.fr_store.specs.Moves.{HasChild, IsOpenAt, cursor_in, node_here, tree_here, tree_in_slots}
 use Rattle.fr_store.specs.Numbers.{IsLast}
 use Rattle.fr_store.specs.StandLaws.{all_changed, stands_change, AllServe}
@@ -366,11 +365,12 @@ module _ (plan : Plan) (before : List Slot) (stack : List ℕ) (open_now : IsOpe
       found.2 unplaced def n free shown deep in
       subst
       (λ (s : List ℕ). IsOpenAt plan after s (place ++ i ∷ [])
-      (change_at place (change_child i (enter def)) (tree_of k)) × AllStayPut k (kid_here after s)) (sym along)
-      (open_at_from plan after (stack ++ n ∷ []) (place ++ i ∷ []) now
-      (change_at place (change_child i (enter def)) (tree_of k)) stands
-      (tokens_kept before after k now tokens open_now.tokens same_tokens) all tree,
-      stay_shown plan after (stack ++ n ∷ []) (place ++ i ∷ []) now k stands stay)
+      (change_at place (change_child i (enter def)) (tree_of k)) × AllStayPut k (kid_here after s)) (sym along) (
+        open_at_from plan after (stack ++ n ∷ []) (place ++ i ∷ []) now
+            (change_at place (change_child i (enter def)) (tree_of k)) stands
+            (tokens_kept before after k now tokens open_now.tokens same_tokens) all tree,
+        stay_shown plan after (stack ++ n ∷ []) (place ++ i ∷ []) now k stands stay,
+      )
 
   -- the same, of slots that are those
   pub open_entered_from : (mid after : List Slot) (next : List ℕ) (form : Form) (i : ℕ) (def : Def) (n : ℕ) (node : NodeId)

@@ -1,7 +1,5 @@
 -- Laws of places that stay in their slots, for proofs: where what lies at one place is replaced, all beside it stays.
-use Rattle.std.proofs.Common.{◌≡◌, ◌≢◌, ◌⊎◌, ℕ, zero, suc, ◌+◌, ◌<◌, Bool, List, [], ◌∷◌, ◌++◌, append-nil, inl, inr, refl, sym, ◌∙◌, ap, subst, arith}
-use Rattle.fr_shape.specs.Val.{Val}
-use Rattle.fr_model.specs.Finishing.{IsAbove}
+use Rattle.std.proofs.Common.{◌≡◌, ◌≢◌, ◌⊎◌, ℕ, zero, suc, ◌<◌, Bool, List, [], ◌∷◌, ◌++◌, append-nil, inl, inr, refl, sym, ◌∙◌, ap, subst}
 use Rattle.fr_model.specs.Places.{Place}
 use Rattle.fr_plan.specs.TypePlan.{Plan}
 use Rattle.fr_frame.specs.declared.places.FrameOwner.{FrameOwner}
@@ -16,7 +14,7 @@ use Rattle.fr_store.specs.Places.{slot_at, slot_here, IsHere, IsPlaced}
 use Rattle.fr_store.specs.StandLaws.{kid_is}
 use Rattle.fr_store.specs.Stands.{Stands, IsOpen, cursor_shown, kid_here}
 use Rattle.fr_store.specs.Staying.{StaysPut, AllStayPut, StayPutBut, StayPutButBeneath}
-use Rattle.fr_store.specs.Ways.{count_kids, kid_nth, kid_at, put_nth, put_at, Reaches}
+use Rattle.fr_store.specs.Ways.{kid_nth, kid_at, put_nth, put_at, Reaches}
 use Rattle.fr_store.specs.WayLaws.{count_put, nth_put, same_or_other}
 
 pub stay_same : (k : Kid) → AllStayPut k k

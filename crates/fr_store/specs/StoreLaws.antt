@@ -229,8 +229,7 @@ open_left plan before after stack next open_now below n taken shows tokens =
     (λ t. tokens t ∙ open_now.tokens t
     ∙ sym (tokens_left plan (heap_of before) (heap_of after) stack next way.0 way.1 k stands top stored found t))
     (all_left plan (heap_of before) (heap_of after) stack next way.0 way.1 k stands top stored found open_now.all)
-    (tree_left plan (heap_of before) (heap_of after) stack next way.0 way.1 k stands top stored found) in
-    (
+    (tree_left plan (heap_of before) (heap_of after) stack next way.0 way.1 k stands top stored found) in (
       subst (λ (p : Place). IsOpenAt plan after next p (tree_of k)) (sym (ap up way.2 ∙ up_append way.0 way.1)) left,
       stay_shown plan after next way.0 (put_at place (at top.slot true top.plot) k) k after_it
           (stay_left plan (heap_of before) (heap_of after) stack next way.0 way.1 k stands top stored found),
