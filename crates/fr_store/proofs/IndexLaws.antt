@@ -3,7 +3,9 @@ use Rattle.std.proofs.Common.{◌≡◌, ◌≢◌, ◌⊎◌, ◌↔◌, ℕ, z
 use Rattle.std.proofs.lemmas.List.{length-map, get_or_default, get_or_append_left, get_or_push, get_or-set_same, get_or-set_other, length_push, map_push, map-set}
 use Rattle.fr_frame.specs.declared.places.SlotId.{SlotId}
 use Rattle.fr_store.specs.Numbers.{number_of, numbers, IsIndexed}
+use Rattle.fr_store.specs.Places.{AreOnce}
 use Rattle.fr_store.specs.WayLaws.{same_or_other}
+use Rattle.fr_store.proofs.PairLaws.{room_below}
 
 -- Reading.
 
@@ -242,3 +244,8 @@ slots_more slots after positions place at items is indexed apart room =
     subst (λ (l : List ℕ). IsIndexed l (set positions place.0 at)) (sym all)
     (subst (λ (k : ℕ). IsIndexed (numbers slots ++ place.0 ∷ []) (set positions place.0 k)) count
     (indexed_more (numbers slots) positions place.0 indexed apart room))
+
+-- Positions have an entry for each.
+pub room_indexed : (all positions : List ℕ) → AreOnce all → IsIndexed all positions → length all ≤ length positions
+room_indexed all positions once indexed =
+    room_below all (length positions) once (λ n at. there positions n at.0 (stands_at all positions n indexed at))

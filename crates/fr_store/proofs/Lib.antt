@@ -6,8 +6,10 @@ pub mod PairLaws
 pub mod PlaceLaws
 pub mod PruneSteps
 pub mod PruneTurns
+pub mod QueueLaws
 pub mod RunLaws
 pub mod SetLaws
+pub mod SiblingLaws
 pub mod SpreadLaws
-pub mod TurnLaws
+pub mod StoredLaws
 pub mod WalkLaws

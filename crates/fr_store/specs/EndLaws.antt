@@ -18,7 +18,7 @@ use Rattle.fr_frame.specs.Heap.{Node, with_body, without, heap_of, marked, store
 use Rattle.fr_frame.specs.Kids.{Kid, gone, there, at, Plot, begun_plot, Kids, no_kids, kid, tree_of, cell_of, cells_in, body_in, kid_occurs, plot_occurs, child_owner}
 use Rattle.fr_store.specs.LeaveLaws.{Above, above_of, gone_above, gone_is, left_top, owner_append, put_append, above_append, up_append, cell_of_child, with_child}
 use Rattle.fr_store.specs.MoveLaws.{same_last, same_front, open_at_from, open_strict}
-use Rattle.fr_store.specs.Moves.{IsOpenAt, IsStepTo, IsNumbered, cursor_in, tree_in_slots}
+use Rattle.fr_store.specs.Moves.{IsOpenAt, IsStepTo, OwnerIsNumbered, cursor_in, tree_in_slots}
 use Rattle.fr_store.specs.Numbers.{IsLast}
 use Rattle.fr_store.specs.Stands.{Stands, IsOpen, kid_shown}
 use Rattle.fr_store.specs.Stored.{NothingStored}
@@ -149,13 +149,13 @@ module _ (plan : Plan) (slots : List Slot) (stack : List ℕ) (open_now : IsOpen
       = subst (λ (o : Option Node). IsSomeAnd o (λ (x : Node). IsStepTo step x.owner)) found told in
       subst (λ (o : FrameOwner). IsStepTo step o) owner_now so
 
-  pub numbered_now : (n : ℕ) → top_now.slot ≡ n → IfInUse slots n (λ (found : Node). IsNumbered found.owner)
+  pub numbered_now : (n : ℕ) → top_now.slot ≡ n → IfInUse slots n (λ (found : Node). OwnerIsNumbered found.owner)
   numbered_now n same =
       let found = ap (heap_of slots) (sym same) ∙ top_now.here in
-      subst (λ (o : Option Node). IsSomeAnd o (λ (x : Node). IsNumbered x.owner)) (sym found)
-      (subst (λ (o : FrameOwner). IsNumbered o) (sym owner_now) (go above_now.form))
+      subst (λ (o : Option Node). IsSomeAnd o (λ (x : Node). OwnerIsNumbered x.owner)) (sym found)
+      (subst (λ (o : FrameOwner). OwnerIsNumbered o) (sym owner_now) (go above_now.form))
     where
-      go : (form : Form) → IsNumbered (child_owner above_now.slot form i)
+      go : (form : Form) → OwnerIsNumbered (child_owner above_now.slot form i)
       go as_struct = tt
       go as_array = tt
 

@@ -49,9 +49,9 @@ IsStepTo step FrameOwner.Root = ⊥
 IsStepTo step (FrameOwner.Child parent to) = step ≡ to
 
 -- the place above one of this owner is in this slot
-abbrev pub IsAbove : ℕ → FrameOwner → Type 0
-IsAbove n FrameOwner.Root = ⊥
-IsAbove n (FrameOwner.Child parent step) = n ≡ parent.0
+abbrev pub OwnerIsIn : ℕ → FrameOwner → Type 0
+OwnerIsIn n FrameOwner.Root = ⊥
+OwnerIsIn n (FrameOwner.Child parent step) = n ≡ parent.0
 
 abbrev pub IsNumberedStep : PathStep → Type 0
 IsNumberedStep (PathStep.Field i) = Unit {0}
@@ -68,9 +68,9 @@ IsNumberedStep PathStep.SetItem = ⊥
 IsNumberedStep (PathStep.Entry key) = ⊥
 
 -- a place of this owner is a field or an element of the one above
-abbrev pub IsNumbered : FrameOwner → Type 0
-IsNumbered FrameOwner.Root = ⊥
-IsNumbered (FrameOwner.Child parent step) = IsNumberedStep step
+abbrev pub OwnerIsNumbered : FrameOwner → Type 0
+OwnerIsNumbered FrameOwner.Root = ⊥
+OwnerIsNumbered (FrameOwner.Child parent step) = IsNumberedStep step
 
 -- the place is begun so, and has a child of this number
 abbrev pub HasChild : Form → ℕ → Tree → Type 0

@@ -1,5 +1,5 @@
 -- How slots and a stack of them stand for one tree and the place at which a builder works.
-use Rattle.std.specs.Prelude.{◌≡◌, ℕ, ◌≤◌, List, [], ◌∷◌, ◌++◌, map, Option, Some, None}
+use Rattle.std.specs.Prelude.{◌≡◌, ℕ, ◌<◌, ◌≤◌, List, [], ◌∷◌, ◌++◌, map, Option, Some, None, IsSome}
 use Rattle.fr_path.specs.declared.path_steps.PathStep.{PathStep}
 use Rattle.fr_path.specs.Order.{number}
 use Rattle.fr_model.specs.Places.{Place}
@@ -51,3 +51,5 @@ cursor_shown heap stack = map number (steps_to heap stack)
 pub record IsOpen (plan : Plan) (slots : List Slot) (stack : List ℕ) : Type 0 where
   pub stands : Stands plan (heap_of slots) stack (cursor_shown (heap_of slots) stack) (kid_shown (heap_of slots) stack)
   pub tokens : (t : ℕ) → slots_occur slots t ≡ kid_occurs (kid_shown (heap_of slots) stack) t
+  -- each slot in use is that of a place of the tree
+  pub all : (n : ℕ) → IsSome (heap_of slots n) → 0 < uses (kid_shown (heap_of slots) stack) n

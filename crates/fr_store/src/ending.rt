@@ -5,7 +5,7 @@ ghost use Rattle.fr_model.specs.Places.{is_root, up};
 ghost use Rattle.fr_model.specs.Tree.{change_at, whole};
 ghost use Rattle.fr_frame.specs.Bodies.{value_of};
 ghost use Rattle.fr_frame.specs.Changes.{IfInUse, SameTokens};
-ghost use Rattle.fr_store.specs.Moves.{cursor_in, tree_in_slots, AtTop, IsNumbered, IsOpenAt, IsStepTo};
+ghost use Rattle.fr_store.specs.Moves.{cursor_in, tree_in_slots, AtTop, OwnerIsNumbered, IsOpenAt, IsStepTo};
 ghost use Rattle.fr_store.specs.Stands.{IsOpen};
 ghost use Rattle.fr_store.specs.Stored.{IsKept, NothingStored};
 
@@ -17,7 +17,7 @@ use fr_shape::{Ledger, OutOfMemory};
 
 /// The step to a field or an element.
 pub(crate) fn step_to(slots: &Slots, place: SlotId) -> PathStep
-    requires { IfInUse slots.now place.0 (λ at. IsNumbered at.owner) }
+    requires { IfInUse slots.now place.0 (λ at. OwnerIsNumbered at.owner) }
     ensures { IfInUse slots.now place.0 (λ at. IsStepTo result at.owner) }
 {
     let Some(found) = slots.place(place) else {
