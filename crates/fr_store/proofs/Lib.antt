@@ -2,6 +2,7 @@ pub mod EarlierLaws
 pub mod IndexLaws
 pub mod KeptLaws
 pub mod LastLaws
+pub mod NoteLaws
 pub mod PairLaws
 pub mod PlaceLaws
 pub mod PruneSteps
@@ -11,5 +12,6 @@ pub mod RunLaws
 pub mod SetLaws
 pub mod SiblingLaws
 pub mod SpreadLaws
+pub mod SpreadSteps
 pub mod StoredLaws
 pub mod WalkLaws

@@ -261,11 +261,11 @@ upto_long (suc n) = ap suc (upto_long n)
 
 upto_has : (n m : ℕ) → m < n → Contains (upto n) m
 upto_has zero m h = absurd (omega arith)
-upto_has (suc n) m h = go (same_or_other n m)
+upto_has (suc n) m h = go (same_or_other n m) (λ less. upto_has n m less)
   where
-    go : (n ≡ m) ⊎ (n ≢ m) → Contains (n ∷ upto n) m
-    go (inl e) = (0, omega arith, e)
-    go (inr ne) = later_in n m (upto n) (upto_has n m (omega arith))
+    go : (n ≡ m) ⊎ (n ≢ m) → (m < n → Contains (upto n) m) → Contains (n ∷ upto n) m
+    go (inl e) rest = (0, omega arith, e)
+    go (inr ne) rest = later_in n m (upto n) (rest (omega arith))
 
 -- there is room for different numbers below this one
 pub room_below : (xs : List ℕ) (n : ℕ) → AreOnce xs → ((m : ℕ) → Contains xs m → m < n) → length xs ≤ n

@@ -170,6 +170,28 @@ module _ (k : Kid) (cursor : Place) (once : (n : ℕ) → uses k n ≤ 1) (leads
           let none = ap (λ (l : List Place). length l) (none_among k p is) in
           omega (arith, q.head_is, length-append (stored_among k q.done) (stored_among k (p ∷ [])))
 
+    -- what waits before the next open place is written down
+    pub head_within : opened < length cursor + 1 → head ≢ at → head < length queue
+    head_within open_still apart = go q.next
+      where
+        ahead : (o : OpenAhead k cursor q.waiting head opened at) → (before : List Place) → o.before ≡ before
+            → head < length queue
+        ahead o [] e =
+            let none = ap (λ (l : List Place). length l) e in
+            absurd (apart (omega (arith, o.here)))
+        ahead o (p ∷ before) e =
+            let all : All (IsStoredHere k) (p ∷ before) = subst (All (IsStoredHere k)) e o.before_stored in
+            let listed : stored_among k q.waiting ≡ p ∷ before ++ stored_among k (o.above ∷ o.after)
+            = ap (stored_among k) (o.is ∙ ap (λ (l : List Place). l ++ o.above ∷ o.after) e)
+            ∙ more_among k (p ∷ before) (o.above ∷ o.after)
+            ∙ ap (λ (l : List Place). l ++ stored_among k (o.above ∷ o.after)) (all_among k (p ∷ before) all) in
+            omega (arith, written, ap (λ (l : List Place). length l) listed)
+
+        go : ((length cursor + 1 ≡ opened) × All (IsStoredHere k) q.waiting) ⊎ OpenAhead k cursor q.waiting head opened at
+            → head < length queue
+        go (inl over) = let e = over.0 in absurd (omega arith)
+        go (inr o) = ahead o o.before refl
+
     -- A stored place whose slot stands at the head.
     module _ (n d : ℕ) (within : head < length queue) (read : n ≡ get_or queue head d) where
       slot_read : (p : Place) (rest : List Place) → q.waiting ≡ p ∷ rest → IsStoredHere k p → n ≡ slot_at k p
@@ -424,6 +446,10 @@ module _ (k : Kid) (cursor : Place) (once : (n : ℕ) → uses k n ≤ 1) (leads
               ∙ ap (λ (l : List ℕ). queue ++ l) (sym (map-append (slot_at k) front back))
               ∙ ap (λ (l : List Place). queue ++ map (slot_at k) l) (sym among_added)
 
+          waits_then : o.after ++ added ≡ (o.after ++ front) ++ (o.above ++ j ∷ []) ∷ back
+          unfolding added
+          waits_then = sym (append_assoc o.after front ((o.above ++ j ∷ []) ∷ back))
+
           next_turn : IsQueue k cursor opened_more head (opened + 1) (at + length o.after + length (slots_between (first_key n) middle places))
           next_turn = record {
             done = q.done ++ o.above ∷ [];
@@ -450,10 +476,6 @@ module _ (k : Kid) (cursor : Place) (once : (n : ℕ) → uses k n ≤ 1) (leads
                       (arith, now, length-append o.after front, ap (λ (l : List ℕ). length l) first, length-map front (slot_at k));
                 });
           }
-            where
-              waits_then : o.after ++ added ≡ (o.after ++ front) ++ (o.above ++ j ∷ []) ∷ back
-              unfolding added
-              waits_then = sym (append_assoc o.after front ((o.above ++ j ∷ []) ∷ back))
 
       -- what is known of the key in the middle, by what comes on the stack
       pub open_next : (o : OpenAhead k cursor q.waiting head opened at) → n ≡ slot_at k o.above

@@ -45,17 +45,17 @@ fn add_between(
 }
 
 /// The key of open place number `i`; where there is none that many, this one.
-fn key_at(slots: &Slots, open: &[SlotId], i: usize, last: u64) -> u64
-    requires numbered { (n : ℕ) → slice_get (numbers open.now) i ≡ Some n
+fn key_at(slots: &Slots, on_stack: &[SlotId], i: usize, last: u64) -> u64
+    requires numbered { (n : ℕ) → slice_get (numbers on_stack.now) i ≡ Some n
         → IfInUse slots.now n (λ at. OwnerIsNumbered at.owner) }
-    ensures key { (n : ℕ) → slice_get (numbers open.now) i ≡ Some n
+    ensures key { (n : ℕ) → slice_get (numbers on_stack.now) i ≡ Some n
         → IfInUse slots.now n (λ at. IsKeyOf result at.owner) }
-    ensures none { length open.now ≤ i → result ≡ last }
+    ensures none { length on_stack.now ≤ i → result ≡ last }
 {
-    if i >= open.len() {
+    if i >= on_stack.len() {
         return last;
     }
-    key(&noted(slots, open[i]))
+    key(&noted(slots, on_stack[i]))
 }
 
 /// The slots of all stored places: the shortest path first, and among paths of one length step by step from the last to the first.
@@ -76,16 +76,16 @@ pub(crate) fn spread(
     ensures long { length order.new ≡ length order.old }
 {
     let _plan = plan;
-    let open = stack.places();
+    let on_stack = stack.places();
     let mut opened = 0;
     let mut at = 0;
     let mut head = 0;
     let mut count = 0;
-    while opened < open.len() || head < count {
-        if opened < open.len() && head == at {
-            let from = open[opened].0 as u64 * WIDTH;
+    while opened < on_stack.len() || head < count {
+        if opened < on_stack.len() && head == at {
+            let from = on_stack[opened].0 as u64 * WIDTH;
             opened += 1;
-            let middle = key_at(slots, open, opened, from + WIDTH);
+            let middle = key_at(slots, on_stack, opened, from + WIDTH);
             at = add_between(places, from, middle, order, count);
             count = add_between(places, middle, from + WIDTH, order, at);
         } else {
