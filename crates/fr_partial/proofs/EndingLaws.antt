@@ -30,14 +30,14 @@ use Rattle.fr_store.specs.Moves.{cursor_in, tree_here, tree_in_slots, AtTop, IsO
 use Rattle.fr_store.specs.Numbers.{IsLast}
 use Rattle.fr_store.specs.Stands.{IsOpen, kid_shown}
 use Rattle.fr_store.specs.Stored.{NothingStored}
-use Rattle.fr_store.specs.TopLaws.{closed_occur, closed_tree, keeps_closed, slot_here}
+use Rattle.fr_store.specs.TopLaws.{closed_occur, closed_tree, keeps_closed, loses_none, slot_here}
 use Rattle.fr_store.specs.WayLaws.{tree_of_at}
 use Rattle.fr_partial.specs.Ending.{IsEnded, WhyNot}
 use Rattle.fr_partial.specs.Filling.{fills_nothing, has_no_hole}
 use Rattle.fr_partial.specs.Underway.{shape_here, IsReady}
 use Rattle.fr_partial.proofs.FitLaws.{is_there}
 use Rattle.fr_partial.proofs.PlaceLaws.{node_here, here_found, here_along, held_is}
-use Rattle.fr_partial.proofs.ShapeLaws.{IsOfShape}
+use Rattle.fr_store.specs.ShapeLaws.{IsOfShape}
 
 -- A place none of whose children is in a slot.
 
@@ -213,6 +213,7 @@ module _ (plan : Plan) (before after : List Slot) (stack : List ℕ) (shown : Is
       (change_at (cursor_in before stack) (λ old. t) (tree_in_slots before stack)))
       (tree_back kept.body)
       (top_changed plan before after stack shown n last (λ old. kept.body) new is (keeps_closed top.plot new closed)
+      (loses_none top.plot new (closed_open plan before stack shown nothing))
       (λ m. kept.becomes m
       ∙ ap
       (λ (found : Option Node). with_slot (heap_of before) n

@@ -31,7 +31,7 @@ use Rattle.fr_store.specs.Numbers.{IsLast}
 use Rattle.fr_store.specs.ShapeLaws.{Along}
 use Rattle.fr_store.specs.Stands.{IsOpen}
 use Rattle.fr_store.specs.Stored.{NothingStored}
-use Rattle.fr_store.specs.TopLaws.{closed_occur, closed_tree, keeps_closed, slot_here, slot_other}
+use Rattle.fr_store.specs.TopLaws.{closed_occur, closed_tree, keeps_closed, loses_none, slot_here, slot_other}
 use Rattle.fr_store.specs.TurnedLaws.{along_open, may_complete, shape_along}
 use Rattle.fr_store.specs.Turning.{FinishedHere, LacksHere, is_entered, kid_here}
 use Rattle.fr_store.specs.Turns.{root_shape}
@@ -282,7 +282,7 @@ module _ (plan : Plan) (before : List Slot) (stack : List ℕ) (open_now : IsOpe
               (keeps_closed (open_top plan before stack open_now).plot (closed_plot body)
               (subst IsClosed (sym (body_back body (value_closed body fills.filled.value valued)))
               (value_closed body fills.filled.value valued)))
-              changed tokens_there);
+              (loses_none (open_top plan before stack open_now).plot (closed_plot body) closed) changed tokens_there);
         }
 
         nothing_now : NothingStored after

@@ -21,6 +21,8 @@ pub mod Prunes
 pub mod ShapeLaws
 pub mod StandLaws
 pub mod Stands
+pub mod StayLaws
+pub mod Staying
 pub mod StoreLaws
 pub mod Stored
 pub mod TopLaws

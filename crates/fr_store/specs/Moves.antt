@@ -2,7 +2,7 @@
 use Rattle.std.specs.Prelude.{◌≡◌, ℕ, ◌<◌, List}
 use Rattle.fr_path.specs.declared.path_steps.PathStep.{PathStep}
 use Rattle.fr_model.specs.Places.{Place}
-use Rattle.fr_model.specs.Tree.{Form, Tree, hole, entered, whole, begun, count_trees, tree_at, tree_occurs}
+use Rattle.fr_model.specs.Tree.{Form, Tree, hole, entered, whole, begun, count_trees, change_at, tree_at, tree_occurs}
 use Rattle.fr_plan.specs.declared.nodes.NodeId.{NodeId}
 use Rattle.fr_plan.specs.TypePlan.{Plan}
 use Rattle.fr_frame.specs.declared.places.FrameOwner.{FrameOwner}
@@ -30,6 +30,10 @@ tree_in_slots slots stack = tree_shown (heap_of slots) stack
 -- what stands at the place at which it works
 abbrev pub tree_here : List Slot → List ℕ → Tree
 tree_here slots stack = tree_at (cursor_in slots stack) (tree_in_slots slots stack)
+
+-- what was built so far, changed so at the place at which it works
+abbrev pub changed_here : (Tree → Tree) → List Slot → List ℕ → Tree
+changed_here change slots stack = change_at (cursor_in slots stack) change (tree_in_slots slots stack)
 
 -- how often a token stands there
 abbrev pub tokens_here : List Slot → List ℕ → ℕ → ℕ

@@ -20,8 +20,9 @@ use Rattle.fr_frame.specs.Changes.{SameTokens}
 use Rattle.fr_frame.specs.Heap.{heap_of, marked}
 use Rattle.fr_frame.specs.Kids.{Kid, at, Plot, there, body_in}
 use Rattle.fr_store.specs.Moves.{IsOpenAt, cursor_in, tree_in_slots}
-use Rattle.fr_store.specs.Places.{IsPlaced, slot_at}
-use Rattle.fr_store.specs.Stands.{kid_shown, IsOpen}
+pub use Rattle.fr_store.specs.Stands.{kid_here}
+use Rattle.fr_store.specs.Stands.{IsOpen}
+use Rattle.fr_store.specs.Staying.{StaysPut}
 use Rattle.fr_store.specs.Turns.{root_shape, CompletesAsBefore, KeepThoseLeft, Turned}
 use Rattle.fr_store.specs.Walks.{IsStoredAt, AreInWalkOrder, IsWalk}
 use Rattle.fr_store.specs.Ways.{kid_at, put_at, Reaches}
@@ -31,10 +32,6 @@ abbrev pub is_entered : Body → Bool
 is_entered entered_body = true
 is_entered (whole_body v) = false
 is_entered (begun_body form cells) = false
-
--- what lies in the slots of an open builder
-abbrev pub kid_here : List Slot → List ℕ → Kid
-kid_here slots stack = kid_shown (heap_of slots) stack
 
 -- it is a place's turn: the place in this slot is stored, and nothing beneath it is in a slot
 pub record MayTurn (slots : List Slot) (stack : List ℕ) (slot : ℕ) : Type 0 where
@@ -174,7 +171,6 @@ pub record StoppedByTurns (means : Meanings) (table : Table) (plan : Plan) (befo
       (tree_at (next_place left (cursor_in before stack)) tree)
       ≡ Some kind
 
--- each place on the way to the one at which the builder works lies in the slot in which it lay
-abbrev pub OpenStay : (before after : Kid) → (cursor : Place) → Type 0
-OpenStay before after cursor = (place below : Place) → cursor ≡ place ++ below
-    → IsPlaced after place × (slot_at after place ≡ slot_at before place)
+-- each place on the way to the one at which the builder works stays in its slot
+abbrev pub OpenStayPut : (before after : Kid) → (cursor : Place) → Type 0
+OpenStayPut before after cursor = (place below : Place) → cursor ≡ place ++ below → StaysPut before after place

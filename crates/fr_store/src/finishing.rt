@@ -10,7 +10,7 @@ ghost use Rattle.fr_frame.specs.Heap.{slots_occur};
 ghost use Rattle.fr_store.specs.Moves.{cursor_in, tokens_in, tree_in_slots, OwnerIsIn, OwnerIsNumbered};
 ghost use Rattle.fr_store.specs.Stands.{IsOpen};
 ghost use Rattle.fr_store.specs.Stored.{IsKept, NothingStored};
-ghost use Rattle.fr_store.specs.Turning.{is_entered, kid_here, CameByTurns, FinishedHere, HasTurned, IsLackingAt, KeepsTheRest, LacksHere, MayTurn, OpenStay, StoppedByTurns, Walked};
+ghost use Rattle.fr_store.specs.Turning.{is_entered, kid_here, CameByTurns, FinishedHere, HasTurned, IsLackingAt, KeepsTheRest, LacksHere, MayTurn, OpenStayPut, StoppedByTurns, Walked};
 ghost use Rattle.fr_store.specs.Turns.{root_shape, IsFinished, IsHeldUp};
 ghost use Rattle.fr_store.specs.Walks.{IsWalk};
 
@@ -227,7 +227,7 @@ impl FrameStore {
         ensures stopped { IfErr result (λ kind. (kind ≡ Kind.OutOfMemory)
             ⊎ StoppedByTurns (H.means hooks.now) table.now plan.now slots.old stack.old kind) }
         ensures stack { stack.new ≡ stack.old }
-        ensures in_place { OnOk result (OpenStay (kid_here slots.old stack.old)
+        ensures in_place { OnOk result (OpenStayPut (kid_here slots.old stack.old)
             (kid_here slots.new stack.new) (cursor_in slots.old stack.old)) }
         ensures emptied { OnErr result ((t : ℕ) → slots_occur slots.new t ≡ 0) }
         ensures released { OnErr result

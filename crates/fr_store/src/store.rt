@@ -165,6 +165,7 @@ impl FrameStore {
             → child_slot (heap_of slots.old) parent.0 step.now ≡ Some child
             → marked (heap_of slots.old) child ≡ false }
         ensures slots_kept { IsNone result → slots.new ≡ slots.old }
+        ensures store_kept { IsNone result → self.new ≡ self.old }
         ensures kept { IsKept self.new slots.new }
         ensures tokens { SameTokens slots.old slots.new }
     {
