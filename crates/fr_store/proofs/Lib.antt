@@ -3,6 +3,7 @@ pub mod IndexLaws
 pub mod KeptLaws
 pub mod LastLaws
 pub mod NoteLaws
+pub mod OpenLaws
 pub mod PairLaws
 pub mod PlaceLaws
 pub mod PruneSteps

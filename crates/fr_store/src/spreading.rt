@@ -13,14 +13,14 @@ use crate::turning::{StoredPlace, key, noted};
 use fr_frame::{SlotId, Slots};
 use fr_plan::TypePlanCore;
 
-/// How far apart the keys of the first children of neighbouring slots are.
-const WIDTH: u64 = 4294967296;
+/// How far apart the keys of the children of neighbouring slots are. What comes after the last of them needs one bit more than they.
+const WIDTH: u128 = 4294967296;
 
 /// Writes down the slots of the places whose keys are from `from` on and less than `to`, behind the first `count` slots.
 fn add_between(
     places: &[StoredPlace],
-    from: u64,
-    to: u64,
+    from: u128,
+    to: u128,
     order: &mut [u32],
     count: usize,
 ) -> usize
@@ -31,11 +31,11 @@ fn add_between(
         ≡ take count order.old ++ slots_between from to places.now }
     ensures long { length order.new ≡ length order.old }
 {
-    let start = places.partition_point(|place| key(place) < from);
+    let start = places.partition_point(|place| (key(place) as u128) < from);
     let rest = &places[start..];
     let mut count = count;
     for place in rest {
-        if key(place) >= to {
+        if key(place) as u128 >= to {
             return count;
         }
         order[count] = place.slot.0;
@@ -45,7 +45,7 @@ fn add_between(
 }
 
 /// The key of open place number `i`; where there is none that many, this one.
-fn key_at(slots: &Slots, on_stack: &[SlotId], i: usize, last: u64) -> u64
+fn key_at(slots: &Slots, on_stack: &[SlotId], i: usize, last: u128) -> u128
     requires numbered { (n : ℕ) → slice_get (numbers on_stack.now) i ≡ Some n
         → IfInUse slots.now n (λ at. OwnerIsNumbered at.owner) }
     ensures key { (n : ℕ) → slice_get (numbers on_stack.now) i ≡ Some n
@@ -55,7 +55,7 @@ fn key_at(slots: &Slots, on_stack: &[SlotId], i: usize, last: u64) -> u64
     if i >= on_stack.len() {
         return last;
     }
-    key(&noted(slots, on_stack[i]))
+    key(&noted(slots, on_stack[i])) as u128
 }
 
 /// The slots of all stored places: the shortest path first, and among paths of one length step by step from the last to the first.
@@ -83,13 +83,13 @@ pub(crate) fn spread(
     let mut count = 0;
     while opened < on_stack.len() || head < count {
         if opened < on_stack.len() && head == at {
-            let from = on_stack[opened].0 as u64 * WIDTH;
+            let from = on_stack[opened].0 as u128 * WIDTH;
             opened += 1;
             let middle = key_at(slots, on_stack, opened, from + WIDTH);
             at = add_between(places, from, middle, order, count);
             count = add_between(places, middle, from + WIDTH, order, at);
         } else {
-            let from = order[head] as u64 * WIDTH;
+            let from = order[head] as u128 * WIDTH;
             count = add_between(places, from, from + WIDTH, order, count);
             head += 1;
         }

@@ -1,4 +1,5 @@
-use Rattle.std.proofs.Common.{rules, ◌≡◌, ◌≢◌, ◌⊎◌, ◌+◌, ◌-◌, ◌*◌, ◌<◌, ◌≤◌, ◌∙◌, Fits, w32, w64, ℕ, List, ap, get_or, inl, inr, length, sym, refl, arith}
+use Rattle.std.proofs.Common.{rules, ◌≡◌, ◌≢◌, ◌⊎◌, ◌+◌, ◌-◌, ◌*◌, ◌<◌, ◌≤◌, ◌∙◌, Fits, w32, ℕ, List, ap, get_or, inl, inr, length, sym, refl, arith}
+use Rattle.std.specs.Int.{w128}
 use Rattle.std.proofs.lemmas.List.{length-map}
 use Rattle.fr_store.specs.Numbers.{number_of}
 use Rattle.fr_store.specs.Places.{slots_between}
@@ -6,7 +7,7 @@ use Rattle.fr_store.proofs.SpreadSteps.{number_read, open_numbered, open_room, o
 use Rattle.fr_store.proofs.spreading.spread.Goals as goal
 use Rattle.fr_store.proofs.spreading.spread.Goals.{then-opened-on_stack, else-opened-on_stack+then-head-count, else-opened-on_stack-2-via-then-opened-on_stack-2+else-head-at, else-opened-on_stack-2-via-else-opened-on_stack-2, Joined-else-opened-on_stack-2, After-row_known-1}
 
-fits_key : (n : ℕ) → Fits w32 n → Fits w64 (n * 4294967296 + 4294967296)
+fits_key : (n : ℕ) → Fits w32 n → Fits w128 (n * 4294967296 + 4294967296)
 fits_key n fits = record { fits = let small = fits.fits in omega arith }
 
 pub loop-opened-init : goal.loop-opened-init
@@ -104,24 +105,16 @@ read_then c =
     number_read c.places-on_stack.result.now c.loop-opened.opened 0 (record { 0 = 0 }) c.if-opened-on_stack-2.true
     ∙ ap (λ (l : List ℕ). get_or l c.loop-opened.opened 0) c.places-on_stack.ensures.places
 
-room_then : (c : goal.After-add_between-arg-1)
-    → c.loop-opened.count
-    + length (slots_between ((get_or c.places-on_stack.result.now c.loop-opened.opened (record { 0 = 0 })).0 * 4294967296) c.key_at-middle.result c.args.places.now)
-    + length (slots_between c.key_at-middle.result ((get_or c.places-on_stack.result.now c.loop-opened.opened (record { 0 = 0 })).0 * 4294967296 + 4294967296) c.args.places.now)
-    ≤ length c.args.places.now
-room_then c =
+pub add_between-at-requires-clause-room : goal.add_between-at-requires-clause-room
+add_between-at-requires-clause-room c =
     let before = (goal.at.add_between-at-requires-clause-room c).After-row_known-1 in
-    open_room c.args.plan.now c.args.slots.now c.args.stack.now c.requires.is_open c.args.places.now c.requires.stored
+    let room = open_room c.args.plan.now c.args.slots.now c.args.stack.now c.requires.is_open c.args.places.now c.requires.stored
     c.requires.sorted c.loop-opened.order c.loop-opened.count c.loop-opened.head c.loop-opened.opened c.loop-opened.at
     c.loop-opened.invariant (enough_then before) c.places-on_stack.result.now c.places-on_stack.ensures.places
     c.if-opened-on_stack-2.true c.if-head-at.true
     (get_or c.places-on_stack.result.now c.loop-opened.opened (record { 0 = 0 })).0 c.key_at-middle.result (read_then before)
-    c.key_at-middle.ensures.key c.key_at-middle.ensures.none
-
-pub add_between-at-requires-clause-room : goal.add_between-at-requires-clause-room
-add_between-at-requires-clause-room c =
-    let before = (goal.at.add_between-at-requires-clause-room c).After-row_known-1 in
-    omega (arith, room_then c, enough_then before)
+    c.key_at-middle.ensures.key c.key_at-middle.ensures.none in
+    omega (arith, enough_then before)
 
 pub overflow_add-from-then-head-at : goal.overflow_add-from-then-head-at
 overflow_add-from-then-head-at c =
@@ -130,8 +123,13 @@ overflow_add-from-then-head-at c =
 pub add_between-count-requires-clause-room : goal.add_between-count-requires-clause-room
 add_between-count-requires-clause-room c =
     let before = (goal.at.add_between-count-requires-clause-room c).After-row_known-1 in
-    let arg = (goal.at.add_between-count-requires-clause-room c).After-add_between-arg-1 in
-    omega (arith, room_then arg, enough_then before, c.add_between-at.ensures.count, c.add_between-at.ensures.long)
+    let room = open_room c.args.plan.now c.args.slots.now c.args.stack.now c.requires.is_open c.args.places.now c.requires.stored
+    c.requires.sorted c.loop-opened.order c.loop-opened.count c.loop-opened.head c.loop-opened.opened c.loop-opened.at
+    c.loop-opened.invariant (enough_then before) c.places-on_stack.result.now c.places-on_stack.ensures.places
+    c.if-opened-on_stack-2.true c.if-head-at.true
+    (get_or c.places-on_stack.result.now c.loop-opened.opened (record { 0 = 0 })).0 c.key_at-middle.result (read_then before)
+    c.key_at-middle.ensures.key c.key_at-middle.ensures.none in
+    omega (arith, enough_then before, c.add_between-at.ensures.count, c.add_between-at.ensures.long)
 
 pub loop-opened-preserved-then-head-at : goal.loop-opened-preserved-then-head-at
 loop-opened-preserved-then-head-at c =

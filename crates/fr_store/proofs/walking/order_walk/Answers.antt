@@ -1,7 +1,8 @@
 use Rattle.std.proofs.Common.{◌≡◌, ◌∙◌, List, ℕ, length, get_or, take, reverse, sym, ap, subst, arith}
-use Rattle.std.proofs.lemmas.List.{append-nil, take_all}
+use Rattle.std.proofs.lemmas.List.{take_at}
 use Rattle.fr_frame.specs.Heap.{heap_of}
 use Rattle.fr_store.specs.Numbers.{slot_of}
+use Rattle.fr_store.specs.Places.{IsSpread}
 use Rattle.fr_store.specs.Stands.{cursor_shown, kid_shown}
 use Rattle.fr_store.specs.Walks.{IsWalk}
 use Rattle.fr_store.proofs.PairLaws.{in_map}
@@ -29,4 +30,17 @@ spread-requires-clause-stored c =
     c.sort.ensures.same
 
 pub returns : goal.returns
-returns c = record { walk = ? }
+returns c =
+    let k = kid_shown (heap_of c.args.slots.now) c.args.stack.now in
+    let long : length c.sort.new.places ≡ length c.args.places.now
+    = omega (arith, c.note_all.auto.places, c.sort.auto.places) in
+    let spread : IsSpread k (take (length c.args.places.now) c.spread.new.order)
+    = subst (λ (n : ℕ). IsSpread k (take n c.spread.new.order)) long c.spread.ensures.spread in
+    let items : c.truncate.new.self.items ≡ take (length c.args.places.now) c.spread.new.order = c.truncate.ensures.items
+    ∙ ap (λ (l : List ℕ). take (length c.args.places.now) l)
+    (take_at c.spread.new.order _ _ (c.spread.ensures.long ∙ c.deref_mut.ensures.len)) in
+    record {
+      walk =
+          subst (IsWalk k) (sym (c.reverse.ensures.items ∙ ap (λ (l : List ℕ). reverse l) items))
+          (walk_of k (take (length c.args.places.now) c.spread.new.order) spread);
+    }
