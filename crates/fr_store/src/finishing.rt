@@ -199,7 +199,7 @@ impl FrameStore {
     }
 
     /// Completes every stored place, the longest path first, then step by step, and then the place on top of the stack, which stays
-    /// begun where it is. The first place that fails gives the refusal; all is released then.
+    /// begun where it is. The first place that fails gives the refusal; all is released then. Only templates want memory.
     pub fn finish<H: Hooks>(
         &mut self,
         slots: &mut Slots,

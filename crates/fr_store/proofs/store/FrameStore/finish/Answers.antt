@@ -5,6 +5,7 @@ use Rattle.fr_frame.specs.declared.places.Slot.{Slot}
 use Rattle.fr_frame.specs.Heap.{slots_occur, stored_in}
 use Rattle.fr_store.specs.MoveLaws.{slots_tokens}
 use Rattle.fr_store.specs.Moves.{cursor_in, tokens_in}
+use Rattle.fr_store.specs.Stored.{NothingStored}
 use Rattle.fr_store.proofs.OpenLaws.{open_stay}
 use Rattle.fr_store.proofs.store.FrameStore.finish.Given.{Over}
 use Rattle.fr_store.proofs.store.FrameStore.finish.Goals as goal
@@ -43,4 +44,5 @@ returns-in-Ok-clause-in_place g c =
     c.in-Ok.ensures.finished.stands.cursor
 
 pub returns-in-Err-clause-strict : goal.returns-in-Err-clause-strict
-returns-in-Err-clause-strict g c n = ap stored_in (c.new.ensures.free n)
+returns-in-Err-clause-strict g c =
+    subst NothingStored (sym c.replace-rest.ensures.after) (λ n. ap stored_in (c.new.ensures.free n))
