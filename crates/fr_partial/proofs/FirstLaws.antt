@@ -24,6 +24,7 @@ use Rattle.fr_frame.specs.Changes.{SameTokens, Shows}
 use Rattle.fr_frame.specs.Completing.{shape_of}
 use Rattle.fr_frame.specs.Heap.{Node, heap_of, slots_occur, entered_node, with_entered, depth_limit, stored_in}
 use Rattle.fr_frame.specs.Kids.{at, Plot, entered_plot, whole_plot, tree_in, body_in, plot_occurs}
+use Rattle.fr_store.specs.EnterLaws.{fresh_closed, fresh_plot, fresh_same, fresh_tokens, fresh_tree}
 use Rattle.fr_store.specs.MoveLaws.{open_at_from}
 use Rattle.fr_store.specs.Moves.{IsOpenAt}
 use Rattle.fr_store.specs.Stored.{IsKept, NothingStored}
@@ -39,41 +40,6 @@ pub shape_is : LookupPathsAgree → (table : Table) (root : ShapeId) (plan : Pla
 shape_is paths table root plan checked inside planned =
     ap (λ (found : Option ShapeId). (unwrap_or found (record { 0 = 0 })).0)
     (paths table root plan [] checked inside planned)
-
--- What is entered where nothing was.
-
-abbrev pub fresh_plot : Def → Plot
-fresh_plot def = if is_empty_struct def then whole_plot (product no_vals) else entered_plot
-
-fresh_put : (def : Def) → fresh_body def ≡ body_in (fresh_plot def)
-fresh_put def = go (is_empty_struct def)
-  where
-    go : (empty : Bool) → (if empty then whole_body (product no_vals) else entered_body)
-        ≡ body_in (if empty then whole_plot (product no_vals) else entered_plot)
-    go true = refl
-    go false = refl
-
-fresh_grown : (def : Def) → tree_in (fresh_plot def) ≡ fresh def
-fresh_grown def = go (is_empty_struct def)
-  where
-    go : (empty : Bool) → tree_in (if empty then whole_plot (product no_vals) else entered_plot)
-        ≡ (if empty then whole (product no_vals) else entered)
-    go true = refl
-    go false = refl
-
-fresh_alone : (def : Def) → IsClosed (body_in (fresh_plot def))
-fresh_alone def = go (is_empty_struct def)
-  where
-    go : (empty : Bool) → IsClosed (body_in (if empty then whole_plot (product no_vals) else entered_plot))
-    go true = tt
-    go false = tt
-
-fresh_bare : (def : Def) (t : ℕ) → plot_occurs (fresh_plot def) t ≡ 0
-fresh_bare def t = go (is_empty_struct def)
-  where
-    go : (empty : Bool) → plot_occurs (if empty then whole_plot (product no_vals) else entered_plot) t ≡ 0
-    go true = refl
-    go false = refl
 
 at_most_once : (same : Bool) → counts_if same ≤ 1
 at_most_once true = omega arith
@@ -125,7 +91,7 @@ first_open paths table root plan checked inside planned before after node n old 
     along =
     let def : Def = def_of table root.0 in
     let shape : shape_of plan plan.root ≡ root.0 = shape_is paths table root plan checked inside planned in
-    alone plan after stack n (fresh_plot def) (fresh def) (fresh_alone def)
+    alone plan after stack n (fresh_plot def) (fresh def) (fresh_closed def)
     (shows n
     ∙ slot_here (heap_of before) n
     (Some (entered_node (def_of table (shape_of plan node)) (heap_of before) node FrameOwner.Root))
@@ -134,12 +100,12 @@ first_open paths table root plan checked inside planned before after node n old 
     ∙ ap
     (λ (body : Body).
     Some (record { node = plan.root; owner = FrameOwner.Root; stored = false; depth = 0; body = body }))
-    (fresh_put def))
+    (sym (fresh_same def)))
     limit
-    (λ t. same t ∙ nothing t ∙ sym (fresh_bare def t))
+    (λ t. same t ∙ nothing t ∙ sym (fresh_tokens def t))
     (first_only (def_of table (shape_of plan node)) before after node n free shows)
     (along ∙ ap (λ (above : List ℕ). above ++ n ∷ []) none)
-    (fresh_grown def)
+    (fresh_tree def)
 
 -- it isn't stored, and nothing else is there
 pub first_unstored : (def : Def) (before after : List Slot) (node : NodeId) (n : ℕ) → ((m : ℕ) → heap_of before m ≡ None)

@@ -43,7 +43,7 @@ child_plot def gone = fresh_plot def
 child_plot def (there v) = whole_plot v
 child_plot def (at slot stored plot) = entered_plot
 
-fresh_same : (def : Def) → body_in (fresh_plot def) ≡ fresh_body def
+pub fresh_same : (def : Def) → body_in (fresh_plot def) ≡ fresh_body def
 fresh_same def = go (is_empty_struct def)
   where
     go : (b : Bool) → body_in (if b then whole_plot (product no_vals) else entered_plot)
@@ -51,7 +51,7 @@ fresh_same def = go (is_empty_struct def)
     go true = refl
     go false = refl
 
-fresh_tree : (def : Def) → tree_in (fresh_plot def) ≡ fresh def
+pub fresh_tree : (def : Def) → tree_in (fresh_plot def) ≡ fresh def
 fresh_tree def = go (is_empty_struct def)
   where
     go : (b : Bool) → tree_in (if b then whole_plot (product no_vals) else entered_plot)
@@ -59,7 +59,7 @@ fresh_tree def = go (is_empty_struct def)
     go true = refl
     go false = refl
 
-fresh_closed : (def : Def) → IsClosed (body_in (fresh_plot def))
+pub fresh_closed : (def : Def) → IsClosed (body_in (fresh_plot def))
 fresh_closed def = go (is_empty_struct def)
   where
     go : (b : Bool) → IsClosed (body_in (if b then whole_plot (product no_vals) else entered_plot))
@@ -81,7 +81,7 @@ child_closed def gone = fresh_closed def
 child_closed def (there v) = tt
 child_closed def (at slot stored plot) = tt
 
-fresh_tokens : (def : Def) (t : ℕ) → plot_occurs (fresh_plot def) t ≡ 0
+pub fresh_tokens : (def : Def) (t : ℕ) → plot_occurs (fresh_plot def) t ≡ 0
 fresh_tokens def t = go (is_empty_struct def)
   where
     go : (b : Bool) → plot_occurs (if b then whole_plot (product no_vals) else entered_plot) t ≡ 0
@@ -317,11 +317,6 @@ module _ (plan : Plan) (heap other : Heap) (stack : List ℕ) (place : Place) (k
 -- A child of an open builder's top that isn't stored is entered.
 module _ (plan : Plan) (before : List Slot) (stack : List ℕ) (open_now : IsOpen plan before stack) (p : ℕ)
     (last : IsLast stack p) where
-  pub owner_used : (owner : FrameOwner) (step : PathStep) → owner ≡ FrameOwner.Child (record { 0 = p }) step
-      → IsOwnerInUse before owner
-  owner_used owner step e =
-      subst (λ (o : FrameOwner). IsOwnerInUse before o) (sym e) (top_in_use plan before stack open_now p last)
-
   pub open_entered : (after : List Slot) (next : List ℕ) (form : Form) (i : ℕ) (def : Def) (n : ℕ) (node : NodeId)
       → HasChild form i (tree_here before stack) → node ≡ child_node plan (node_here plan before stack) form i
       → ((child : ℕ) → IsStoredChild (heap_of before) p (step_as form i) child → ⊥) → heap_of before n ≡ None

@@ -40,7 +40,7 @@ use Rattle.fr_store.specs.WayLaws.{leads_reach, same_or_other, tree_of_at, tree_
 
 -- Places none of whose children is in a slot.
 
-abbrev closed_plot : Body → Plot
+abbrev pub closed_plot : Body → Plot
 closed_plot body = plot_in (λ slot. gone) body
 
 cells_back : (cells : List Cell) → AreUnplaced cells → cells_in (kids_in (λ slot. gone) cells) ≡ cells
@@ -49,7 +49,7 @@ cells_back (absent ∷ cells) closed = ap (λ (cs : List Cell). absent ∷ cs) (
 cells_back (given v ∷ cells) closed = ap (λ (cs : List Cell). given v ∷ cs) (cells_back cells closed.1)
 cells_back (placed n ∷ cells) closed = absurd closed.0
 
-body_back : (body : Body) → IsClosed body → body_in (closed_plot body) ≡ body
+pub body_back : (body : Body) → IsClosed body → body_in (closed_plot body) ≡ body
 body_back entered_body closed = refl
 body_back (whole_body v) closed = refl
 body_back (begun_body form cells) closed = ap (begun_body form) (cells_back cells closed)
@@ -60,7 +60,7 @@ trees_back (absent ∷ cells) = ap (λ (ts : Trees). branch hole ts) (trees_back
 trees_back (given v ∷ cells) = ap (λ (ts : Trees). branch (whole v) ts) (trees_back cells)
 trees_back (placed n ∷ cells) = ap (λ (ts : Trees). branch hole ts) (trees_back cells)
 
-tree_back : (body : Body) → tree_in (closed_plot body) ≡ own_tree body
+pub tree_back : (body : Body) → tree_in (closed_plot body) ≡ own_tree body
 tree_back entered_body = refl
 tree_back (whole_body v) = refl
 tree_back (begun_body form cells) = ap (λ (ts : Trees). begun form ts) (trees_back cells)
