@@ -1,3 +1,4 @@
+pub mod ChainLaws
 pub mod EarlierLaws
 pub mod IndexLaws
 pub mod KeptLaws
