@@ -48,13 +48,13 @@ use Rattle.fr_store.specs.WayLaws.{counts_other, leads_reach, occurs_put_at, sam
 
 -- A place of a plan.
 
-shape_found : (plan : Plan) (node : NodeId) (s : ℕ) → IsOfShape plan node s → shape_of plan node ≡ s
+pub shape_found : (plan : Plan) (node : NodeId) (s : ℕ) → IsOfShape plan node s → shape_of plan node ≡ s
 shape_found plan node s is =
     ap
     (λ (found : Option TypePlanNode). (unwrap_or (option_map (λ (x : TypePlanNode). x.shape) found) (record { 0 = 0 })).0)
     is.there ∙ is.shape
 
-is_there : {A : Type 0} (xs : List A) (i : ℕ) (x : A) → slice_get xs i ≡ Some x → i < length xs
+pub is_there : {A : Type 0} (xs : List A) (i : ℕ) (x : A) → slice_get xs i ≡ Some x → i < length xs
 is_there [] i x e = cc
 is_there (y ∷ ys) zero x e = omega arith
 is_there (y ∷ ys) (suc i) x e = let rest = is_there ys i x e in omega arith
