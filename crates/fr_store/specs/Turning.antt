@@ -18,7 +18,7 @@ use Rattle.fr_frame.specs.declared.places.Slot.{Slot}
 use Rattle.fr_frame.specs.Bodies.{Body, entered_body, whole_body, begun_body, IsClosed}
 use Rattle.fr_frame.specs.Changes.{SameTokens}
 use Rattle.fr_frame.specs.Heap.{heap_of, marked}
-use Rattle.fr_frame.specs.Kids.{at, Plot, there, body_in}
+use Rattle.fr_frame.specs.Kids.{Kid, at, Plot, there, body_in}
 use Rattle.fr_store.specs.Moves.{IsOpenAt, cursor_in, tree_in_slots}
 pub use Rattle.fr_store.specs.Stands.{kid_here}
 use Rattle.fr_store.specs.Stands.{IsOpen}
