@@ -25,46 +25,22 @@ use Rattle.fr_frame.specs.Closed.{IsClosedAt}
 use Rattle.fr_frame.specs.Completing.{shape_of, takes_template, FillsAt, IsFull, IsOfValidator, IsPlanFor, MayComplete, WhyNot as WhyNotAt}
 use Rattle.fr_frame.specs.Heap.{Node, heap_of, with_slot}
 use Rattle.fr_frame.specs.Kids.{gone, Plot, tree_of, tree_in, trees_in, cells_in, body_in, kids_in, plot_in, plot_occurs}
+use Rattle.fr_store.specs.HereLaws.{body_back, closed_plot, tree_back}
 use Rattle.fr_store.specs.MoveLaws.{open_top, closed_open, same_last, top_changed}
 use Rattle.fr_store.specs.Moves.{cursor_in, tree_here, tree_in_slots, AtTop, IsOpenAt}
 use Rattle.fr_store.specs.Numbers.{IsLast}
 use Rattle.fr_store.specs.Stands.{IsOpen, kid_shown}
 use Rattle.fr_store.specs.Stored.{NothingStored}
-use Rattle.fr_store.specs.TopLaws.{closed_occur, closed_tree, keeps_closed, slot_here}
+use Rattle.fr_store.specs.TopLaws.{closed_occur, closed_tree, keeps_closed, loses_none, slot_here}
 use Rattle.fr_store.specs.WayLaws.{tree_of_at}
 use Rattle.fr_partial.specs.Ending.{IsEnded, WhyNot}
 use Rattle.fr_partial.specs.Filling.{fills_nothing, has_no_hole}
 use Rattle.fr_partial.specs.Underway.{shape_here, IsReady}
 use Rattle.fr_partial.proofs.FitLaws.{is_there}
 use Rattle.fr_partial.proofs.PlaceLaws.{node_here, here_found, here_along, held_is}
-use Rattle.fr_partial.proofs.ShapeLaws.{IsOfShape}
+use Rattle.fr_store.specs.ShapeLaws.{IsOfShape}
 
 -- A place none of whose children is in a slot.
-
-abbrev closed_plot : Body → Plot
-closed_plot body = plot_in (λ slot. gone) body
-
-cells_back : (cells : List Cell) → AreUnplaced cells → cells_in (kids_in (λ slot. gone) cells) ≡ cells
-cells_back [] closed = refl
-cells_back (absent ∷ cells) closed = ap (λ (cs : List Cell). absent ∷ cs) (cells_back cells closed.1)
-cells_back (given v ∷ cells) closed = ap (λ (cs : List Cell). given v ∷ cs) (cells_back cells closed.1)
-cells_back (placed n ∷ cells) closed = absurd closed.0
-
-body_back : (body : Body) → IsClosed body → body_in (closed_plot body) ≡ body
-body_back entered_body closed = refl
-body_back (whole_body v) closed = refl
-body_back (begun_body form cells) closed = ap (begun_body form) (cells_back cells closed)
-
-trees_back : (cells : List Cell) → trees_in (kids_in (λ slot. gone) cells) ≡ trees_of cells
-trees_back [] = refl
-trees_back (absent ∷ cells) = ap (λ (ts : Trees). branch hole ts) (trees_back cells)
-trees_back (given v ∷ cells) = ap (λ (ts : Trees). branch (whole v) ts) (trees_back cells)
-trees_back (placed n ∷ cells) = ap (λ (ts : Trees). branch hole ts) (trees_back cells)
-
-tree_back : (body : Body) → tree_in (closed_plot body) ≡ own_tree body
-tree_back entered_body = refl
-tree_back (whole_body v) = refl
-tree_back (begun_body form cells) = ap (λ (ts : Trees). begun form ts) (trees_back cells)
 
 count_of : (cells : List Cell) → count_trees (trees_of cells) ≡ length cells
 count_of [] = refl
@@ -213,6 +189,7 @@ module _ (plan : Plan) (before after : List Slot) (stack : List ℕ) (shown : Is
       (change_at (cursor_in before stack) (λ old. t) (tree_in_slots before stack)))
       (tree_back kept.body)
       (top_changed plan before after stack shown n last (λ old. kept.body) new is (keeps_closed top.plot new closed)
+      (loses_none top.plot new (closed_open plan before stack shown nothing))
       (λ m. kept.becomes m
       ∙ ap
       (λ (found : Option Node). with_slot (heap_of before) n

@@ -23,7 +23,7 @@ use Rattle.fr_store.specs.WayLaws.{tree_of_below}
 use Rattle.fr_plan.specs.declared.nodes.TypePlanNode.{TypePlanNode}
 use Rattle.fr_frame.specs.Completing.{shape_of}
 use Rattle.fr_partial.proofs.FitLaws.{both_true}
-use Rattle.fr_partial.proofs.ShapeLaws.{IsOfShape}
+use Rattle.fr_store.specs.ShapeLaws.{IsOfShape}
 
 -- Changes at a place of a tree.
 

@@ -15,7 +15,7 @@ use Rattle.fr_store.specs.Moves.{cursor_in, tree_in_slots}
 use Rattle.fr_store.specs.Turns.{root_shape, IsFinished, IsHeldUp}
 use Rattle.fr_partial.specs.Underway.{state_of, IsReady}
 use Rattle.fr_partial.proofs.EndingLaws.{shape_found}
-use Rattle.fr_partial.proofs.ShapeLaws.{root_shaped}
+use Rattle.fr_store.specs.ShapeLaws.{root_shaped}
 
 -- Where it begins.
 

@@ -1,6 +1,6 @@
 -- The first place: the root's, in a slot by itself.
-use Rattle.std.proofs.Common.{◌≡◌, ℕ, ◌<◌, ◌≤◌, Bool, true, false, List, [], ◌∷◌, ◌++◌, nat_eq, Option, Some, None, unwrap_or, refl, sym, ◌∙◌, ap, subst, arith}
-use Rattle.std.specs.Prelude.{if◌then◌else◌}
+use Rattle.std.proofs.Common.{◌≡◌, ◌≢◌, ◌⊎◌, ℕ, ◌<◌, ◌≤◌, Bool, true, false, List, [], ◌∷◌, ◌++◌, nat_eq, Option, Some, None, unwrap_or, inl, inr, refl, sym, ◌∙◌, ap, subst, arith}
+use Rattle.std.specs.Prelude.{IsSome, if◌then◌else◌}
 use Rattle.fr_shape.specs.declared.shape.Def.{Def}
 use Rattle.fr_shape.specs.declared.shape.ShapeId.{ShapeId}
 use Rattle.fr_shape.specs.Checked.{IsChecked}
@@ -22,13 +22,15 @@ use Rattle.fr_frame.specs.declared.places.Slot.{Slot}
 use Rattle.fr_frame.specs.Bodies.{Body, entered_body, whole_body, fresh_body, IsClosed}
 use Rattle.fr_frame.specs.Changes.{SameTokens, Shows}
 use Rattle.fr_frame.specs.Completing.{shape_of}
-use Rattle.fr_frame.specs.Heap.{heap_of, slots_occur, entered_node, with_entered, depth_limit, stored_in}
+use Rattle.fr_frame.specs.Heap.{Node, heap_of, slots_occur, entered_node, with_entered, depth_limit, stored_in}
 use Rattle.fr_frame.specs.Kids.{at, Plot, entered_plot, whole_plot, tree_in, body_in, plot_occurs}
+use Rattle.fr_store.specs.EnterLaws.{fresh_closed, fresh_plot, fresh_same, fresh_tokens, fresh_tree}
 use Rattle.fr_store.specs.MoveLaws.{open_at_from}
 use Rattle.fr_store.specs.Moves.{IsOpenAt}
 use Rattle.fr_store.specs.Stored.{IsKept, NothingStored}
-use Rattle.fr_store.specs.TopLaws.{slot_here, closed_uses, closed_holds, closed_marked}
+use Rattle.fr_store.specs.TopLaws.{free_unused, slot_here, slot_other, closed_uses, closed_holds, closed_marked}
 use Rattle.fr_store.specs.Ways.{counts_if, uses_in}
+use Rattle.fr_store.specs.WayLaws.{counts_same, same_or_other}
 use Rattle.fr_partial.specs.Underway.{state_of, IsUnderway}
 use Rattle.fr_partial.proofs.StateLaws.{kept_none, state_is}
 
@@ -39,41 +41,6 @@ shape_is paths table root plan checked inside planned =
     ap (λ (found : Option ShapeId). (unwrap_or found (record { 0 = 0 })).0)
     (paths table root plan [] checked inside planned)
 
--- What is entered where nothing was.
-
-abbrev pub fresh_plot : Def → Plot
-fresh_plot def = if is_empty_struct def then whole_plot (product no_vals) else entered_plot
-
-fresh_put : (def : Def) → fresh_body def ≡ body_in (fresh_plot def)
-fresh_put def = go (is_empty_struct def)
-  where
-    go : (empty : Bool) → (if empty then whole_body (product no_vals) else entered_body)
-        ≡ body_in (if empty then whole_plot (product no_vals) else entered_plot)
-    go true = refl
-    go false = refl
-
-fresh_grown : (def : Def) → tree_in (fresh_plot def) ≡ fresh def
-fresh_grown def = go (is_empty_struct def)
-  where
-    go : (empty : Bool) → tree_in (if empty then whole_plot (product no_vals) else entered_plot)
-        ≡ (if empty then whole (product no_vals) else entered)
-    go true = refl
-    go false = refl
-
-fresh_alone : (def : Def) → IsClosed (body_in (fresh_plot def))
-fresh_alone def = go (is_empty_struct def)
-  where
-    go : (empty : Bool) → IsClosed (body_in (if empty then whole_plot (product no_vals) else entered_plot))
-    go true = tt
-    go false = tt
-
-fresh_bare : (def : Def) (t : ℕ) → plot_occurs (fresh_plot def) t ≡ 0
-fresh_bare def t = go (is_empty_struct def)
-  where
-    go : (empty : Bool) → plot_occurs (if empty then whole_plot (product no_vals) else entered_plot) t ≡ 0
-    go true = refl
-    go false = refl
-
 at_most_once : (same : Bool) → counts_if same ≤ 1
 at_most_once true = omega arith
 at_most_once false = omega arith
@@ -82,9 +49,9 @@ at_most_once false = omega arith
 alone : (plan : Plan) (slots : List Slot) (stack : List ℕ) (n : ℕ) (plot : Plot) (tree : Tree) → IsClosed (body_in plot)
     → heap_of slots n
     ≡ Some (record { node = plan.root; owner = FrameOwner.Root; stored = false; depth = 0; body = body_in plot })
-    → 0 < depth_limit → ((t : ℕ) → slots_occur slots t ≡ plot_occurs plot t) → stack ≡ n ∷ [] → tree_in plot ≡ tree
-    → IsOpenAt plan slots stack [] tree
-alone plan slots stack n plot tree closed found limit tokens along is =
+    → 0 < depth_limit → ((t : ℕ) → slots_occur slots t ≡ plot_occurs plot t) → ((m : ℕ) → IsSome (heap_of slots m) → m ≡ n)
+    → stack ≡ n ∷ [] → tree_in plot ≡ tree → IsOpenAt plan slots stack [] tree
+alone plan slots stack n plot tree closed found limit tokens only along is =
     open_at_from plan slots stack [] (at n false plot) tree
     (record {
       holds = (found, limit, closed_holds plan (heap_of slots) plan.root n 1 plot closed);
@@ -94,19 +61,37 @@ alone plan slots stack n plot tree closed found limit tokens along is =
       leads = (refl, closed_marked true plot closed);
       along = along;
     })
-    tokens is
+    tokens
+    (λ m used.
+    let one : counts_if (nat_eq n m) ≡ 1 = ap (λ (x : ℕ). counts_if (nat_eq n x)) (only m used) ∙ counts_same n in
+    omega (arith, one))
+    is
+
+-- no slot is in use but the one that the root entered
+first_only : (def : Def) (before after : List Slot) (node : NodeId) (n : ℕ) → ((m : ℕ) → heap_of before m ≡ None)
+    → Shows after (with_entered def (heap_of before) node FrameOwner.Root n) → (m : ℕ) → IsSome (heap_of after m) → m ≡ n
+first_only def before after node n free shows m used = go (same_or_other m n)
+  where
+    go : (m ≡ n) ⊎ (m ≢ n) → m ≡ n
+    go (inl e) = e
+    go (inr ne) =
+        absurd
+        (free_unused (heap_of after) m
+        (shows m ∙ slot_other (heap_of before) n (Some (entered_node def (heap_of before) node FrameOwner.Root)) m ne ∙ free m)
+        used)
 
 -- the root is entered
 pub first_open : LookupPathsAgree → (table : Table) (root : ShapeId) (plan : Plan) → IsChecked table → IsIn table root.0
     → IsPlanOf table root plan → (before after : List Slot) (node : NodeId) (n : ℕ) (old stack : List ℕ)
-    → ((t : ℕ) → slots_occur before t ≡ 0) → node ≡ plan.root
+    → ((m : ℕ) → heap_of before m ≡ None) → ((t : ℕ) → slots_occur before t ≡ 0) → node ≡ plan.root
     → Shows after (with_entered (def_of table (shape_of plan node)) (heap_of before) node FrameOwner.Root n)
     → 0 < depth_limit → SameTokens before after → old ≡ [] → stack ≡ old ++ n ∷ []
     → IsOpenAt plan after stack [] (fresh (def_of table root.0))
-first_open paths table root plan checked inside planned before after node n old stack nothing is shows limit same none along =
+first_open paths table root plan checked inside planned before after node n old stack free nothing is shows limit same none
+    along =
     let def : Def = def_of table root.0 in
     let shape : shape_of plan plan.root ≡ root.0 = shape_is paths table root plan checked inside planned in
-    alone plan after stack n (fresh_plot def) (fresh def) (fresh_alone def)
+    alone plan after stack n (fresh_plot def) (fresh def) (fresh_closed def)
     (shows n
     ∙ slot_here (heap_of before) n
     (Some (entered_node (def_of table (shape_of plan node)) (heap_of before) node FrameOwner.Root))
@@ -115,11 +100,12 @@ first_open paths table root plan checked inside planned before after node n old 
     ∙ ap
     (λ (body : Body).
     Some (record { node = plan.root; owner = FrameOwner.Root; stored = false; depth = 0; body = body }))
-    (fresh_put def))
+    (sym (fresh_same def)))
     limit
-    (λ t. same t ∙ nothing t ∙ sym (fresh_bare def t))
+    (λ t. same t ∙ nothing t ∙ sym (fresh_tokens def t))
+    (first_only (def_of table (shape_of plan node)) before after node n free shows)
     (along ∙ ap (λ (above : List ℕ). above ++ n ∷ []) none)
-    (fresh_grown def)
+    (fresh_tree def)
 
 -- it isn't stored, and nothing else is there
 pub first_unstored : (def : Def) (before after : List Slot) (node : NodeId) (n : ℕ) → ((m : ℕ) → heap_of before m ≡ None)

@@ -10,7 +10,6 @@ pub mod PlaceLaws
 pub mod PutLaws
 pub mod ReachLaws
 pub mod RemovedLaws
-pub mod ShapeLaws
 pub mod StartLaws
 pub mod StateLaws
 pub mod TemplateLaws

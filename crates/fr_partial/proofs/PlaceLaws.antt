@@ -1,5 +1,6 @@
 -- The place on top of the stack: its shape, and what stands there.
-use Rattle.std.proofs.Common.{◌≡◌, ℕ, ◌<◌, false, List, [], length, append-nil, Some, None, refl, sym, ◌∙◌, ap, subst}
+use Rattle.std.proofs.Common.{◌≡◌, ℕ, ◌<◌, false, List, [], length, append-nil, Option, Some, None, refl, sym, ◌∙◌, ap, subst}
+use Rattle.std.specs.Prelude.{IsSome}
 use Rattle.fr_shape.specs.declared.shape.ShapeId.{ShapeId}
 use Rattle.fr_shape.specs.declared.shape.Def.{Def}
 use Rattle.fr_shape.specs.Look.{Table}
@@ -27,7 +28,7 @@ use Rattle.fr_store.specs.Ways.{Leads, node_along, owner_along}
 use Rattle.fr_store.specs.WayLaws.{leads_reach, tree_of_at, tree_tokens}
 use Rattle.fr_partial.specs.Underway.{shape_here, IsReady}
 use Rattle.fr_partial.proofs.FitLaws.{is_there}
-use Rattle.fr_partial.proofs.ShapeLaws.{IsOfShape, Along, along, root_shaped}
+use Rattle.fr_store.specs.ShapeLaws.{IsOfShape, Along, along, root_shaped}
 
 -- what is in the last slot of the stack
 abbrev pub node_here : (plan : Plan) (slots : List Slot) (stack : List ℕ) → IsOpen plan slots stack → Node
@@ -136,6 +137,7 @@ open_shown plan slots after stack shown same tokens =
       along = shown.stands.along;
     })
     (λ t. tokens t ∙ shown.tokens t)
+    (λ n used. shown.all n (subst (λ (o : Option Node). IsSome o) (same n) used))
 
 -- the plot on top stands there
 pub plot_here : (plan : Plan) (slots : List Slot) (stack : List ℕ) (shown : IsOpen plan slots stack)

@@ -1,9 +1,11 @@
 -- Lists of numbers and, under each number, where it stands in the list.
 use Rattle.std.proofs.Common.{◌≡◌, ◌≢◌, ◌⊎◌, ◌↔◌, ℕ, zero, suc, ◌+◌, ◌<◌, ◌≤◌, List, [], ◌∷◌, ◌++◌, length, set, get_or, slice_get, Some, Contains, length-set, inl, inr, refl, sym, ◌∙◌, ap, subst, arith}
 use Rattle.std.proofs.lemmas.List.{length-map, get_or_default, get_or_append_left, get_or_push, get_or-set_same, get_or-set_other, length_push, map_push, map-set}
-use Rattle.fr_frame.specs.declared.places.SlotId.{SlotId}
-use Rattle.fr_store.specs.Numbers.{number_of, numbers, IsIndexed}
+use Rattle.fr_store.specs.declared.turning.StoredPlace.{StoredPlace}
+use Rattle.fr_store.specs.Numbers.{slot_of, slots_of, IsIndexed}
+use Rattle.fr_store.specs.Places.{AreOnce}
 use Rattle.fr_store.specs.WayLaws.{same_or_other}
+use Rattle.fr_store.proofs.PairLaws.{room_below}
 
 -- Reading.
 
@@ -175,70 +177,75 @@ module _ (front positions : List ℕ) (last : ℕ) (indexed : IsIndexed (front +
               (found.0, within, sym (first found.0 n within) ∙ found.2)
 
 -- The same of slots, as the store has them: p is what stands under the number of the place that is taken out.
-module _ (slots front : List SlotId) (positions : List ℕ) (last place : SlotId) (p : ℕ) (items : slots ≡ front ++ last ∷ [])
-    (indexed : IsIndexed (numbers slots) positions) (found : Contains (numbers slots) place.0)
-    (is : p ≡ get_or positions place.0 p) where
-  all : numbers slots ≡ numbers front ++ last.0 ∷ []
-  all = ap numbers items ∙ map_push number_of front last
+module _ (slots front : List StoredPlace) (positions : List ℕ) (last : StoredPlace) (place : ℕ) (p : ℕ) (items : slots ≡ front ++ last ∷ [])
+    (indexed : IsIndexed (slots_of slots) positions) (found : Contains (slots_of slots) place)
+    (is : p ≡ get_or positions place p) where
+  all : slots_of slots ≡ slots_of front ++ slot_of last ∷ []
+  all = ap slots_of items ∙ map_push slot_of front last
 
-  indexed_so : IsIndexed (numbers front ++ last.0 ∷ []) positions
+  indexed_so : IsIndexed (slots_of front ++ slot_of last ∷ []) positions
   indexed_so = subst (λ (l : List ℕ). IsIndexed l positions) all indexed
 
-  found_so : Contains (numbers front ++ last.0 ∷ []) place.0
-  found_so = subst (λ (l : List ℕ). Contains l place.0) all found
+  found_so : Contains (slots_of front ++ slot_of last ∷ []) place
+  found_so = subst (λ (l : List ℕ). Contains l place) all found
 
   found_at : p ≡ found_so.0
   found_at =
-      read positions place.0 found_so.0 p
-      (stands_at (numbers front ++ last.0 ∷ []) positions place.0 indexed_so found_so) is
+      read positions place found_so.0 p
+      (stands_at (slots_of front ++ slot_of last ∷ []) positions place indexed_so found_so) is
 
-  long_so : length (numbers front ++ last.0 ∷ []) ≡ length (numbers front) + 1
-  long_so = length_push (numbers front) last.0
+  long_so : length (slots_of front ++ slot_of last ∷ []) ≡ length (slots_of front) + 1
+  long_so = length_push (slots_of front) (slot_of last)
 
-  count : length (numbers front) ≡ length front
-  count = length-map front number_of
+  count : length (slots_of front) ≡ length front
+  count = length-map front slot_of
 
-  pub slots_front : IsIndexed (numbers front) positions
-  slots_front = indexed_front (numbers front) positions last.0 indexed_so
+  pub slots_front : IsIndexed (slots_of front) positions
+  slots_front = indexed_front (slots_of front) positions (slot_of last) indexed_so
 
-  pub slots_rest_front : length front ≤ p → (n : ℕ) → Contains (numbers front) n ↔ (Contains (numbers slots) n × (n ≢ place.0))
+  pub slots_rest_front : length front ≤ p → (n : ℕ) → Contains (slots_of front) n ↔ (Contains (slots_of slots) n × (n ≢ place))
   slots_rest_front past n =
-      let held : last.0 ≡ place.0
-      = sym (get_or_push (numbers front) last.0 place.0 found_so.0 (omega (arith, count, long_so, found_at, found_so.1)))
+      let held : slot_of last ≡ place
+      = sym (get_or_push (slots_of front) (slot_of last) place found_so.0 (omega (arith, count, long_so, found_at, found_so.1)))
       ∙ found_so.2 in
       subst
-      (λ (m : ℕ). Contains (numbers front) n ↔ (Contains (numbers slots) n × (n ≢ m)))
+      (λ (m : ℕ). Contains (slots_of front) n ↔ (Contains (slots_of slots) n × (n ≢ m)))
       held
-      (subst (λ (l : List ℕ). Contains (numbers front) n ↔ (Contains l n × (n ≢ last.0))) (sym all)
-      (rest_front (numbers front) positions last.0 indexed_so n))
+      (subst (λ (l : List ℕ). Contains (slots_of front) n ↔ (Contains l n × (n ≢ slot_of last))) (sym all)
+      (rest_front (slots_of front) positions (slot_of last) indexed_so n))
 
-  pub slots_less : p < length front → IsIndexed (numbers (set front p last)) (set positions last.0 p)
+  pub slots_less : p < length front → IsIndexed (slots_of (set front p last)) (set positions (slot_of last) p)
   slots_less inside =
-      subst (λ (l : List ℕ). IsIndexed l (set positions last.0 p)) (sym (map-set number_of front p last))
-      (indexed_less (numbers front) positions last.0 indexed_so p (omega (arith, count)))
+      subst (λ (l : List ℕ). IsIndexed l (set positions (slot_of last) p)) (sym (map-set slot_of front p last))
+      (indexed_less (slots_of front) positions (slot_of last) indexed_so p (omega (arith, count)))
 
   pub slots_rest_less : p < length front
-      → (n : ℕ) → Contains (numbers (set front p last)) n ↔ (Contains (numbers slots) n × (n ≢ place.0))
+      → (n : ℕ) → Contains (slots_of (set front p last)) n ↔ (Contains (slots_of slots) n × (n ≢ place))
   slots_rest_less inside n =
-      let within : p < length (numbers front) = omega (arith, count) in
-      let held : get_or (numbers front) p 0 ≡ place.0
-      = ap (λ (k : ℕ). get_or (numbers front) k 0) found_at
-      ∙ get_or_default (numbers front) found_so.0 0 place.0 (omega (arith, count, found_at))
-      ∙ sym (get_or_append_left (numbers front) (last.0 ∷ []) place.0 found_so.0 (omega (arith, count, found_at)))
+      let within : p < length (slots_of front) = omega (arith, count) in
+      let held : get_or (slots_of front) p 0 ≡ place
+      = ap (λ (k : ℕ). get_or (slots_of front) k 0) found_at
+      ∙ get_or_default (slots_of front) found_so.0 0 place (omega (arith, count, found_at))
+      ∙ sym (get_or_append_left (slots_of front) (slot_of last ∷ []) place found_so.0 (omega (arith, count, found_at)))
       ∙ found_so.2 in
-      subst (λ (l : List ℕ). Contains l n ↔ (Contains (numbers slots) n × (n ≢ place.0))) (sym (map-set number_of front p last))
+      subst (λ (l : List ℕ). Contains l n ↔ (Contains (slots_of slots) n × (n ≢ place))) (sym (map-set slot_of front p last))
       (subst
-      (λ (l : List ℕ). Contains (set (numbers front) p last.0) n ↔ (Contains l n × (n ≢ place.0)))
+      (λ (l : List ℕ). Contains (set (slots_of front) p (slot_of last)) n ↔ (Contains l n × (n ≢ place)))
       (sym all)
-      (rest_less (numbers front) positions last.0 indexed_so p within place.0 held n))
+      (rest_less (slots_of front) positions (slot_of last) indexed_so p within place held n))
 
 -- The same of slots of which there is one more.
-pub slots_more : (slots after : List SlotId) (positions : List ℕ) (place : SlotId) (at : ℕ) → after ≡ slots ++ place ∷ []
-    → at ≡ length slots → IsIndexed (numbers slots) positions → ¬ Contains (numbers slots) place.0
-    → place.0 < length positions → IsIndexed (numbers after) (set positions place.0 at)
+pub slots_more : (slots after : List StoredPlace) (positions : List ℕ) (place : StoredPlace) (at : ℕ) → after ≡ slots ++ place ∷ []
+    → at ≡ length slots → IsIndexed (slots_of slots) positions → ¬ Contains (slots_of slots) (slot_of place)
+    → slot_of place < length positions → IsIndexed (slots_of after) (set positions (slot_of place) at)
 slots_more slots after positions place at items is indexed apart room =
-    let all : numbers after ≡ numbers slots ++ place.0 ∷ [] = ap numbers items ∙ map_push number_of slots place in
-    let count : length (numbers slots) ≡ at = length-map slots number_of ∙ sym is in
-    subst (λ (l : List ℕ). IsIndexed l (set positions place.0 at)) (sym all)
-    (subst (λ (k : ℕ). IsIndexed (numbers slots ++ place.0 ∷ []) (set positions place.0 k)) count
-    (indexed_more (numbers slots) positions place.0 indexed apart room))
+    let all : slots_of after ≡ slots_of slots ++ slot_of place ∷ [] = ap slots_of items ∙ map_push slot_of slots place in
+    let count : length (slots_of slots) ≡ at = length-map slots slot_of ∙ sym is in
+    subst (λ (l : List ℕ). IsIndexed l (set positions (slot_of place) at)) (sym all)
+    (subst (λ (k : ℕ). IsIndexed (slots_of slots ++ slot_of place ∷ []) (set positions (slot_of place) k)) count
+    (indexed_more (slots_of slots) positions (slot_of place) indexed apart room))
+
+-- Positions have an entry for each.
+pub room_indexed : (all positions : List ℕ) → AreOnce all → IsIndexed all positions → length all ≤ length positions
+room_indexed all positions once indexed =
+    room_below all (length positions) once (λ n at. there positions n at.0 (stands_at all positions n indexed at))

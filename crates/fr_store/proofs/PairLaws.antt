@@ -1,10 +1,8 @@
 -- Lists of which each element stands in some way to all that follow, and what filters and changes leave of them.
-use Rattle.std.proofs.Common.{◌≡◌, ◌≢◌, ◌⊎◌, ℕ, zero, suc, ◌+◌, ◌<◌, ◌≤◌, Bool, true, false, cond, List, [], ◌∷◌, ◌++◌, map, reverse, length, get_or, nat_eq, slice_get, slice_index, Option, Some, None, inl, inr, refl, sym, ap, ◌∙◌, subst, arith}
-use Rattle.std.specs.List.{All, Contains, cons_option, filter, filter_map, sum_by}
-use Rattle.std.specs.List.Sorted.{IsNonDecreasingBy}
+use Rattle.std.proofs.Common.{◌≡◌, ◌≢◌, ◌⊎◌, ℕ, zero, suc, ◌+◌, ◌<◌, ◌≤◌, Bool, true, false, cond, List, [], ◌∷◌, ◌++◌, map, reverse, length, length-append, get_or, nat_eq, slice_get, slice_index, Option, Some, None, inl, inr, refl, sym, ap, ◌∙◌, subst, arith}
+use Rattle.std.specs.List.{All, Contains, filter}
 use Rattle.std.proofs.lemmas.List.{reverse-append, map-append, get_or_default}
-use Rattle.std.proofs.lemmas.List.Elements.{All-nil, All-cons, All-head, All-tail, All-append, All-filter, All-map, All-weaker, Contains-append_left, Contains-append_right}
-use Rattle.std.proofs.lemmas.List.Sums.{sum_by-cons}
+use Rattle.std.proofs.lemmas.List.Elements.{All-nil, All-cons, All-head, All-tail, All-append, All-filter, All-map, All-weaker, Contains-append_cases, Contains-append_left, Contains-append_right}
 use Rattle.fr_store.specs.Places.{Pairs, counts_in, AreOnce}
 use Rattle.fr_store.specs.Ways.{counts_if}
 use Rattle.fr_store.specs.WayLaws.{counts_same, counts_other, same_or_other}
@@ -83,35 +81,6 @@ module _ {X Y : Type 0} where
           → (z : X) × Contains (x ∷ xs) z × (f z ≡ y)
       go (inl e) rest = (x, first_in x xs, e)
       go (inr at) rest = let found = rest at in (found.0, later_in x found.0 xs found.1, found.2)
-
-  pub in_filter_map : (f : X → Option Y) (xs : List X) (x : X) (y : Y) → Contains xs x → f x ≡ Some y
-      → Contains (filter_map f xs) y
-  in_filter_map f [] x y at is = absurd (none_in x at)
-  in_filter_map f (z ∷ xs) x y at is = go (f z) refl (in_cases z x xs at) (λ more. in_filter_map f xs x y more is)
-    where
-      go : (o : Option Y) → f z ≡ o → (z ≡ x) ⊎ Contains xs x → (Contains xs x → Contains (filter_map f xs) y)
-          → Contains (cons_option o (filter_map f xs)) y
-      go (Some w) e (inl same) rest = let both = ap f same in (0, omega arith, cc)
-      go None e (inl same) rest = let both = ap f same in absurd (cc)
-      go (Some w) e (inr at) rest = later_in w y (filter_map f xs) (rest at)
-      go None e (inr at) rest = rest at
-
-  pub of_filter_map : (f : X → Option Y) (xs : List X) (y : Y) → Contains (filter_map f xs) y
-      → (x : X) × Contains xs x × (f x ≡ Some y)
-  of_filter_map f [] y at = absurd (none_in y at)
-  of_filter_map f (x ∷ xs) y at = go (f x) refl at (of_filter_map f xs y)
-    where
-      first : (w : Y) → f x ≡ Some w → (w ≡ y) ⊎ Contains (filter_map f xs) y
-          → (Contains (filter_map f xs) y → (z : X) × Contains xs z × (f z ≡ Some y))
-          → (z : X) × Contains (x ∷ xs) z × (f z ≡ Some y)
-      first w e (inl same) rest = (x, first_in x xs, e ∙ ap (λ (v : Y). Some v) same)
-      first w e (inr at) rest = let found = rest at in (found.0, later_in x found.0 xs found.1, found.2)
-
-      go : (o : Option Y) → f x ≡ o → Contains (cons_option o (filter_map f xs)) y
-          → (Contains (filter_map f xs) y → (z : X) × Contains xs z × (f z ≡ Some y))
-          → (z : X) × Contains (x ∷ xs) z × (f z ≡ Some y)
-      go (Some w) e at rest = first w e (in_cases w y (filter_map f xs) at) rest
-      go None e at rest = let found = rest at in (found.0, later_in x found.0 xs found.1, found.2)
 
 module _ {X Y : Type 0} (f : X → Y) where
   pub map_reverse : (xs : List X) → map f (reverse xs) ≡ reverse (map f xs)
@@ -247,35 +216,72 @@ indexed_once (x ∷ xs) positions from at n =
         omega (arith, none_counted n xs (apart e))
     go (inr ne) rest = omega (arith, counts_other x n ne)
 
--- Keys.
+-- Lists that go into others.
 
--- how often a key is in a list
-abbrev pub keyed : {X : Type 0} → (X → ℕ) → (m : ℕ) → List X → ℕ
-keyed n m xs = sum_by (λ x. counts_if (nat_eq (n x) m)) xs
+part_at : (n : ℕ) (ys : List ℕ) → Contains ys n → (front : List ℕ) × (back : List ℕ) × (ys ≡ front ++ n ∷ back)
+part_at n [] at = absurd (none_in n at)
+part_at n (y ∷ ys) at = go (in_cases y n ys at) (part_at n ys)
+  where
+    go : (y ≡ n) ⊎ Contains ys n → (Contains ys n → (front : List ℕ) × (back : List ℕ) × (ys ≡ front ++ n ∷ back))
+        → (front : List ℕ) × (back : List ℕ) × (y ∷ ys ≡ front ++ n ∷ back)
+    go (inl e) rest = ([], ys, ap (λ (m : ℕ). m ∷ ys) e)
+    go (inr more) rest = let found = rest more in (y ∷ found.0, found.1, ap (λ (l : List ℕ). y ∷ l) found.2)
 
-module _ {X : Type 0} (n : X → ℕ) where
-  keyed_at_least : (m : ℕ) (xs : List X) (i : ℕ) (d : X) → i < length xs → n (get_or xs i d) ≡ m → 1 ≤ keyed n m xs
-  keyed_at_least m [] i d h e = absurd (omega arith)
-  keyed_at_least m (x ∷ xs) zero d h e =
-      let one : counts_if (nat_eq (n x) m) ≡ 1 = ap (λ (k : ℕ). counts_if (nat_eq k m)) e ∙ counts_same m in
-      omega (arith, sum_by-cons (λ y. counts_if (nat_eq (n y) m)) x xs)
-  keyed_at_least m (x ∷ xs) (suc i) d h e =
-      omega
-      (arith, sum_by-cons (λ y. counts_if (nat_eq (n y) m)) x xs, keyed_at_least m xs i d (omega arith) e)
+-- what is in it twice isn't needed
+pub fits : (xs ys : List ℕ) → AreOnce xs → ((n : ℕ) → Contains xs n → Contains ys n) → length xs ≤ length ys
+fits [] ys once inside = omega arith
+fits (x ∷ xs) ys once inside =
+    let parts = part_at x ys (inside x (first_in x xs)) in
+    let whole = ap (λ (l : List ℕ). length l) parts.2 in
+    let rest = fits xs (parts.0 ++ parts.1) (λ n. omega (arith, once n))
+    (λ n at. beside n parts.0 parts.1 at (subst (λ (l : List ℕ). Contains l n) parts.2 (inside n (later_in x n xs at)))) in
+    omega (arith, length-append parts.0 parts.1, length-append parts.0 (x ∷ parts.1))
+  where
+    beside : (n : ℕ) (front back : List ℕ) → Contains xs n → Contains (front ++ x ∷ back) n → Contains (front ++ back) n
+    beside n front back at found = go (Contains-append_cases front (x ∷ back) n found)
+      where
+        later : (x ≡ n) ⊎ Contains back n → Contains (front ++ back) n
+        later (inl e) =
+            let one : counts_if (nat_eq x n) ≡ 1 = ap (λ (m : ℕ). counts_if (nat_eq m n)) e ∙ counts_same n in
+            absurd (omega (arith, once n, in_counted n xs at))
+        later (inr more) = Contains-append_right front back n more
 
-  -- where no key is there twice, sorted keys rise
-  pub pairs_of_sorted : (xs : List X) → IsNonDecreasingBy n xs → ((m : ℕ) → keyed n m xs ≤ 1) → Pairs (λ x y. n x < n y) xs
-  pairs_of_sorted [] up once = tt
-  pairs_of_sorted (x ∷ xs) up once = (
-    λ i d h. go i d h (same_or_other (n x) (n (get_or xs i d))),
-    pairs_of_sorted xs (λ i j d le lt. up (suc i) (suc j) d (omega arith) (omega arith))
-        (λ m. omega (arith, once m, sum_by-cons (λ y. counts_if (nat_eq (n y) m)) x xs)),
-  )
-    where
-      go : (i : ℕ) (d : X) → i < length xs → (n x ≡ n (get_or xs i d)) ⊎ (n x ≢ n (get_or xs i d)) → n x < n (get_or xs i d)
-      go i d h (inl e) =
-          let sum = sum_by-cons (λ y. counts_if (nat_eq (n y) (n x))) x xs in
-          let same = counts_same (n x) in
-          let more = keyed_at_least (n x) xs i d h (sym e) in
-          absurd (omega (arith, once (n x)))
-      go i d h (inr ne) = let le : n x ≤ n (get_or xs i d) = up 0 (suc i) d (omega arith) (omega arith) in omega arith
+        go : Contains front n ⊎ Contains (x ∷ back) n → Contains (front ++ back) n
+        go (inl before) = Contains-append_left front back n before
+        go (inr after) = later (in_cases x n back after)
+
+-- the numbers below this one
+abbrev pub upto : ℕ → List ℕ
+upto zero = []
+upto (suc n) = n ∷ upto n
+
+upto_long : (n : ℕ) → length (upto n) ≡ n
+upto_long zero = refl
+upto_long (suc n) = ap suc (upto_long n)
+
+upto_has : (n m : ℕ) → m < n → Contains (upto n) m
+upto_has zero m h = absurd (omega arith)
+upto_has (suc n) m h = go (same_or_other n m) (λ less. upto_has n m less)
+  where
+    go : (n ≡ m) ⊎ (n ≢ m) → (m < n → Contains (upto n) m) → Contains (n ∷ upto n) m
+    go (inl e) rest = (0, omega arith, e)
+    go (inr ne) rest = later_in n m (upto n) (rest (omega arith))
+
+-- there is room for different numbers below this one
+pub room_below : (xs : List ℕ) (n : ℕ) → AreOnce xs → ((m : ℕ) → Contains xs m → m < n) → length xs ≤ n
+room_below xs n once low =
+    omega (arith, fits xs (upto n) once (λ m at. upto_has n m (low m at)), upto_long n)
+
+-- Lists of which all passes.
+pub filter_all : {X : Type 0} (p : X → Bool) (xs : List X) → All (λ x. p x ≡ true) xs → filter p xs ≡ xs
+filter_all p [] all = refl
+filter_all {X} p (x ∷ xs) all =
+    ap (λ (b : Bool). cond b (x ∷ filter p xs) (filter p xs)) (All-head (λ y. p y ≡ true) x xs all)
+    ∙ ap (λ (l : List X). x ∷ l) (filter_all p xs (All-tail (λ y. p y ≡ true) x xs all))
+
+-- or nothing
+pub filter_none : {X : Type 0} (p : X → Bool) (xs : List X) → All (λ x. p x ≡ false) xs → filter p xs ≡ []
+filter_none p [] all = refl
+filter_none p (x ∷ xs) all =
+    ap (λ (b : Bool). cond b (x ∷ filter p xs) (filter p xs)) (All-head (λ y. p y ≡ false) x xs all)
+    ∙ filter_none p xs (All-tail (λ y. p y ≡ false) x xs all)

@@ -1,18 +1,16 @@
 -- Places in slots, and the ways to them.
-use Rattle.std.proofs.Common.{◌≡◌, ◌≢◌, ◌⊎◌, ℕ, zero, suc, ◌+◌, ◌≤◌, Bool, true, false, List, [], ◌∷◌, ◌++◌, length, Contains, All, inl, inr, refl, sym, ◌∙◌, ap, subst, arith}
+use Rattle.std.proofs.Common.{◌≡◌, ◌≢◌, ◌⊎◌, ℕ, zero, suc, ◌+◌, ◌<◌, ◌≤◌, Bool, true, false, List, [], ◌∷◌, ◌++◌, length, length-append, get_or, inl, inr, refl, sym, ◌∙◌, ap, subst, arith}
 use Rattle.std.proofs.lemmas.List.{append-nil}
-use Rattle.std.proofs.lemmas.List.Elements.{All-nil, All-cons}
 use Rattle.fr_model.specs.Places.{Place}
 use Rattle.fr_plan.specs.declared.nodes.NodeId.{NodeId}
 use Rattle.fr_plan.specs.TypePlan.{Plan}
 use Rattle.fr_frame.specs.declared.places.FrameOwner.{FrameOwner}
 use Rattle.fr_frame.specs.Heap.{Heap, marked, stored_in}
-use Rattle.fr_frame.specs.Kids.{Kid, gone, there, at, entered_plot, whole_plot, begun_plot, Kids, no_kids, kid, Holds, child_node, child_owner}
+use Rattle.fr_frame.specs.Kids.{Kid, gone, there, at, Plot, entered_plot, whole_plot, begun_plot, Kids, no_kids, kid, Holds}
 use Rattle.fr_store.specs.HoldLaws.{holds_at}
-use Rattle.fr_store.specs.Places.{counts_in, IsHere, slot_here, stored_here, IsPlaced, slot_at}
-use Rattle.fr_store.specs.Ways.{kid_nth, kid_in_plot, kid_below, kid_at, slots_along, uses, uses_among, AllMarked, AllMarkedAmong, StoredBut, Leads, Reaches, node_along, owner_along}
-use Rattle.fr_store.specs.WayLaws.{counts_same, same_or_other, leads_reach, leads_at, uses_nth, uses_at, marked_at}
-use Rattle.fr_store.proofs.PairLaws.{later_in}
+use Rattle.fr_store.specs.Places.{IsHere, slot_here, stored_here, IsPlaced, IsStoredHere, slot_at}
+use Rattle.fr_store.specs.Ways.{count_kids, kid_nth, kid_in_plot, kid_below, kid_at, slots_along, slots_above, uses, uses_in, uses_among, AllMarked, AllMarkedAmong, StoredBut, Leads, Reaches, node_along, owner_along}
+use Rattle.fr_store.specs.WayLaws.{counts_same, counts_other, same_or_other, leads_reach, leads_at, along_at, uses_nth, uses_at, marked_at}
 
 -- Ways that go on.
 
@@ -159,9 +157,6 @@ leads_here (i ∷ place) gone leads = absurd leads
 leads_here (i ∷ place) (there v) leads = absurd leads
 leads_here (i ∷ place) (at slot stored plot) leads = tt
 
-pub root_first : (place : Place) (k : Kid) → Leads place k → (rest : List ℕ) × (slots_along place k ≡ slot_here k ∷ rest)
-root_first place k leads = first_along place k (leads_here place k leads)
-
 mark_of : (mark : Bool) (k : Kid) → AllMarked mark k → IsHere k → stored_here k ≡ mark
 mark_of mark gone all here = absurd here
 mark_of mark (there v) all here = absurd here
@@ -185,12 +180,10 @@ nth_cases (suc i) (suc j) Below (kid k ks) leads = go (nth_cases i j Below ks le
     go (inl way) = inl (ap suc way.0, way.1)
     go (inr all) = inr all
 
--- what lies in a slot is stored or on the stack
+-- what lies in a slot is stored or open
 pub stored_or_open : (cursor place : Place) (k : Kid) → Leads cursor k → Reaches place k → IsHere (kid_at place k)
-    → (stored_here (kid_at place k) ≡ true) ⊎ Contains (slots_along cursor k) (slot_at k place)
-stored_or_open cursor [] k leads reach here =
-    let first = first_along cursor k here in
-    inr (subst (λ (slots : List ℕ). Contains slots (slot_here k)) (sym first.1) (0, omega arith, refl))
+    → IsStoredHere k place ⊎ ((below : Place) × (cursor ≡ place ++ below))
+stored_or_open cursor [] k leads reach here = inr (cursor, refl)
 stored_or_open [] (j ∷ place) (at slot stored (begun_plot form kids)) leads reach here =
     inl (mark_of true (kid_at place (kid_nth j kids))
     (marked_at true place (kid_nth j kids) (marked_among true j kids leads.1)) here)
@@ -199,21 +192,15 @@ stored_or_open (i ∷ cursor) (j ∷ place) (at slot stored (begun_plot form kid
     (λ on. stored_or_open cursor place (kid_nth j kids) on reach.1 here)
   where
     more : (i ≡ j)
-        → (stored_here (kid_at place (kid_nth j kids)) ≡ true)
-        ⊎ Contains (slots_along cursor (kid_nth j kids)) (slot_at (kid_nth j kids) place)
-        → (stored_here (kid_at place (kid_nth j kids)) ≡ true)
-        ⊎ Contains (slot ∷ slots_along cursor (kid_nth i kids)) (slot_at (kid_nth j kids) place)
+        → (stored_here (kid_at place (kid_nth j kids)) ≡ true) ⊎ ((below : Place) × (cursor ≡ place ++ below))
+        → (stored_here (kid_at place (kid_nth j kids)) ≡ true) ⊎ ((below : Place) × (i ∷ cursor ≡ j ∷ place ++ below))
     more e (inl marked) = inl marked
-    more e (inr found) =
-        inr (later_in slot (slot_at (kid_nth j kids) place) (slots_along cursor (kid_nth i kids))
-        (subst (λ (m : ℕ). Contains (slots_along cursor (kid_nth m kids)) (slot_at (kid_nth j kids) place)) (sym e) found))
+    more e (inr on) = inr (on.0, ap (λ (n : ℕ). n ∷ cursor) e ∙ ap (λ (p : Place). j ∷ p) on.1)
 
     go : ((i ≡ j) × Leads cursor (kid_nth j kids)) ⊎ AllMarked true (kid_nth j kids)
         → (Leads cursor (kid_nth j kids)
-        → (stored_here (kid_at place (kid_nth j kids)) ≡ true)
-        ⊎ Contains (slots_along cursor (kid_nth j kids)) (slot_at (kid_nth j kids) place))
-        → (stored_here (kid_at place (kid_nth j kids)) ≡ true)
-        ⊎ Contains (slot ∷ slots_along cursor (kid_nth i kids)) (slot_at (kid_nth j kids) place)
+        → (stored_here (kid_at place (kid_nth j kids)) ≡ true) ⊎ ((below : Place) × (cursor ≡ place ++ below)))
+        → (stored_here (kid_at place (kid_nth j kids)) ≡ true) ⊎ ((below : Place) × (i ∷ cursor ≡ j ∷ place ++ below))
     go (inl way) rest = more way.0 (rest way.1)
     go (inr all) rest =
         inl (mark_of true (kid_at place (kid_nth j kids)) (marked_at true place (kid_nth j kids) all) here)
@@ -222,17 +209,61 @@ stored_or_open cursor (j ∷ place) (at slot stored (whole_plot v)) leads reach 
 stored_or_open cursor (j ∷ place) gone leads reach here = absurd reach
 stored_or_open cursor (j ∷ place) (there v) leads reach here = absurd reach
 
--- each slot on the stack serves in the tree
-pub along_uses : (place : Place) (k : Kid) (n : ℕ) → counts_in n (slots_along place k) ≤ uses k n
-along_uses [] gone n = omega arith
-along_uses [] (there v) n = omega arith
-along_uses [] (at slot stored plot) n = omega arith
-along_uses (i ∷ place) gone n = omega arith
-along_uses (i ∷ place) (there v) n = omega arith
-along_uses (i ∷ place) (at slot stored entered_plot) n = omega (arith, along_uses place gone n)
-along_uses (i ∷ place) (at slot stored (whole_plot v)) n = omega (arith, along_uses place gone n)
-along_uses (i ∷ place) (at slot stored (begun_plot form kids)) n =
-    omega (arith, along_uses place (kid_nth i kids) n, uses_nth i kids n)
+-- no open place is stored
+unstored_top : (below : Place) (k : Kid) → Leads below k → stored_here k ≡ false
+unstored_top below gone leads = refl
+unstored_top below (there v) leads = refl
+unstored_top [] (at slot stored plot) leads = leads.0
+unstored_top (i ∷ below) (at slot stored plot) leads = leads.0
+
+pub open_unstored : (above below : Place) (k : Kid) → Leads (above ++ below) k → stored_here (kid_at above k) ≡ false
+open_unstored above below k leads = unstored_top below (kid_at above k) (leads_at above below k leads)
+
+pub open_placed : (above below : Place) (k : Kid) → Leads (above ++ below) k → IsPlaced k above
+open_placed above below k leads = record {
+  reaches = leads_reach above below k leads;
+  here = leads_here below (kid_at above k) (leads_at above below k leads);
+}
+
+-- The stack is the slots of the open places.
+
+above_long : (place : Place) (k : Kid) → Reaches place k → length (slots_above place k) ≡ length place
+above_long [] k reach = refl
+above_long (i ∷ place) (at slot stored (begun_plot form kids)) reach = ap suc (above_long place (kid_nth i kids) reach.1)
+above_long (i ∷ place) (at slot stored entered_plot) reach = absurd reach
+above_long (i ∷ place) (at slot stored (whole_plot v)) reach = absurd reach
+above_long (i ∷ place) gone reach = absurd reach
+above_long (i ∷ place) (there v) reach = absurd reach
+
+pub along_long : (cursor : Place) (k : Kid) → Leads cursor k → length (slots_along cursor k) ≡ length cursor + 1
+along_long cursor k leads =
+    let on : Leads (cursor ++ []) k = subst (λ (p : Place). Leads p k) (sym (append-nil cursor)) leads in
+    let split : slots_along cursor k ≡ slots_above cursor k ++ slots_along [] (kid_at cursor k)
+    = ap (λ (p : Place). slots_along p k) (sym (append-nil cursor)) ∙ along_at cursor [] k (leads_reach cursor [] k on) in
+    let long = above_long cursor k (leads_reach cursor [] k on) in
+    let last = first_along [] (kid_at cursor k) (leads_here [] (kid_at cursor k) (leads_at cursor [] k on)) in
+    let one = last_alone (kid_at cursor k) (leads_here [] (kid_at cursor k) (leads_at cursor [] k on)) in
+    let whole = ap (λ (l : List ℕ). length l) split in
+    omega (arith, length-append (slots_above cursor k) (slots_along [] (kid_at cursor k)))
+  where
+    last_alone : (x : Kid) → IsHere x → length (slots_along [] x) ≡ 1
+    last_alone gone here = absurd here
+    last_alone (there v) here = absurd here
+    last_alone (at slot stored plot) here = refl
+
+pub behind : (xs : List ℕ) (y : ℕ) (ys : List ℕ) (i d : ℕ) → i ≡ length xs → get_or (xs ++ y ∷ ys) i d ≡ y
+behind [] y ys zero d e = refl
+behind [] y ys (suc i) d e = absurd (omega arith)
+behind (x ∷ xs) y ys zero d e = absurd (omega arith)
+behind (x ∷ xs) y ys (suc i) d e = behind xs y ys i d (omega arith)
+
+pub along_nth : (above below : Place) (k : Kid) (i d : ℕ) → Leads (above ++ below) k → i ≡ length above
+    → get_or (slots_along (above ++ below) k) i d ≡ slot_at k above
+along_nth above below k i d leads e =
+    let reach = leads_reach above below k leads in
+    let first = first_along below (kid_at above k) (leads_here below (kid_at above k) (leads_at above below k leads)) in
+    ap (λ (l : List ℕ). get_or l i d) (along_at above below k reach ∙ ap (λ (l : List ℕ). slots_above above k ++ l) first.1)
+    ∙ behind (slots_above above k) (slot_at k above) first.0 i d (e ∙ sym (above_long above k reach))
 
 -- what the heap says of a place's mark
 mark_told : (plan : Plan) (heap : Heap) (node : NodeId) (owner : FrameOwner) (depth : ℕ) (k : Kid)
@@ -247,20 +278,44 @@ mark_at plan heap node owner depth place k holds placed =
     mark_told plan heap (node_along plan node place k) (owner_along owner place k) (depth + length place) (kid_at place k)
     (holds_at plan heap node owner depth place k holds placed.reaches) placed.here
 
--- no place on the stack is stored
-pub along_unmarked : (plan : Plan) (heap : Heap) (node : NodeId) (owner : FrameOwner) (depth : ℕ) (place : Place) (k : Kid)
-    → Holds plan heap node owner depth k → Leads place k → All (λ n. marked heap n ≡ false) (slots_along place k)
-along_unmarked plan heap node owner depth [] (at slot stored plot) holds leads =
-    All-cons (λ n. marked heap n ≡ false) slot [] (ap stored_in holds.0 ∙ leads.0) (All-nil (λ n. marked heap n ≡ false))
-along_unmarked plan heap node owner depth [] gone holds leads = absurd leads
-along_unmarked plan heap node owner depth [] (there v) holds leads = absurd leads
-along_unmarked plan heap node owner depth (i ∷ place) (at slot stored (begun_plot form kids)) holds leads =
-    let whole : Kid = at slot stored (begun_plot form kids) in
-    All-cons (λ n. marked heap n ≡ false) slot (slots_along place (kid_nth i kids)) (ap stored_in holds.0 ∙ leads.0)
-    (along_unmarked plan heap (child_node plan node form i) (child_owner slot form i) (depth + 1) place (kid_nth i kids)
-    (holds_at plan heap node owner depth (i ∷ []) whole holds (leads_reach (i ∷ []) place whole leads))
-    (leads_at (i ∷ []) place whole leads))
-along_unmarked plan heap node owner depth (i ∷ place) (at slot stored entered_plot) holds leads = absurd leads.1
-along_unmarked plan heap node owner depth (i ∷ place) (at slot stored (whole_plot v)) holds leads = absurd leads.1
-along_unmarked plan heap node owner depth (i ∷ place) gone holds leads = absurd leads
-along_unmarked plan heap node owner depth (i ∷ place) (there v) holds leads = absurd leads
+-- Each slot that serves is that of a place.
+
+mutual
+  pub place_of : (k : Kid) (n : ℕ) → 0 < uses k n → (p : Place) × IsPlaced k p × (slot_at k p ≡ n)
+  place_of gone n h = absurd (omega arith)
+  place_of (there v) n h = absurd (omega arith)
+  place_of (at slot stored plot) n h =
+      go (same_or_other slot n) (λ more. place_in slot stored plot n more)
+    where
+      go : (slot ≡ n) ⊎ (slot ≢ n)
+          → (0 < uses_in plot n → (p : Place) × IsPlaced (at slot stored plot) p × (slot_at (at slot stored plot) p ≡ n))
+          → (p : Place) × IsPlaced (at slot stored plot) p × (slot_at (at slot stored plot) p ≡ n)
+      go (inl e) rest = ([], record { reaches = tt; here = tt }, e)
+      go (inr ne) rest = let other = counts_other slot n ne in rest (omega arith)
+
+  place_in : (slot : ℕ) (stored : Bool) (plot : Plot) (n : ℕ) → 0 < uses_in plot n
+      → (p : Place) × IsPlaced (at slot stored plot) p × (slot_at (at slot stored plot) p ≡ n)
+  place_in slot stored entered_plot n h = absurd (omega arith)
+  place_in slot stored (whole_plot v) n h = absurd (omega arith)
+  place_in slot stored (begun_plot form kids) n h =
+      let found = place_among kids n h in
+      (found.0 ∷ found.1, record { reaches = (found.2, found.3.reaches); here = found.3.here }, found.4)
+
+  place_among : (ks : Kids) (n : ℕ) → 0 < uses_among ks n
+      → (i : ℕ) × (p : Place) × (i < count_kids ks) × IsPlaced (kid_nth i ks) p × (slot_at (kid_nth i ks) p ≡ n)
+  place_among no_kids n h = absurd (omega arith)
+  place_among (kid k ks) n h =
+      go (uses k n) refl (λ here. place_of k n here) (λ later. place_among ks n later)
+    where
+      go : (count : ℕ) → uses k n ≡ count → (0 < uses k n → (p : Place) × IsPlaced k p × (slot_at k p ≡ n))
+          → (0 < uses_among ks n
+          → (i : ℕ) × (p : Place) × (i < count_kids ks) × IsPlaced (kid_nth i ks) p × (slot_at (kid_nth i ks) p ≡ n))
+          → (i : ℕ) × (p : Place) × (i < count_kids (kid k ks)) × IsPlaced (kid_nth i (kid k ks)) p
+          × (slot_at (kid_nth i (kid k ks)) p ≡ n)
+      go zero e here later =
+          let found = later (omega (arith, e)) in
+          let inside = found.2 in
+          (suc found.0, found.1, omega arith, found.3, found.4)
+      go (suc count) e here later =
+          let found = here (omega (arith, e)) in
+          (0, found.0, omega arith, found.1, found.2)

@@ -1,119 +1,116 @@
--- The run of one place's children in sorted turns, and steps of the loops over turns and places.
-use Rattle.std.proofs.Common.{◌≡◌, ◌≢◌, ℕ, zero, suc, ◌+◌, ◌-◌, ◌<◌, ◌≤◌, Bool, true, false, cond, List, [], ◌∷◌, ◌++◌, length, get_or, take, drop, nat_eq, ltb, Option, Some, None, append_assoc, refl, sym, ◌∙◌, ap, subst, arith}
-use Rattle.std.specs.List.{All, cons_option, filter, filter_map}
+-- The places of one range of keys among sorted ones.
+use Rattle.std.proofs.Common.{◌≡◌, ◌≢◌, ℕ, zero, suc, ◌+◌, ◌-◌, ◌<◌, ◌≤◌, Bool, true, false, cond, List, [], ◌∷◌, ◌++◌, length, get_or, take, drop, ltb, leb, refl, sym, ◌∙◌, ap, subst, arith}
+use Rattle.std.specs.List.{All, filter}
 use Rattle.std.specs.List.Sorted.{IsNonDecreasingBy, IsPartitionPoint}
 use borrow.Author.Tests.{ltb-true, ltb-false}
 use Rattle.std.proofs.lemmas.Bool.Decides.{nat_tests}
 use Rattle.std.proofs.lemmas.Grind.{common_steps}
-use Rattle.std.proofs.lemmas.List.{append-nil, take_more, take_rest, get_or_default, get_or-drop, length-drop}
-use Rattle.std.proofs.lemmas.List.Elements.{All-head, All-tail, filter_map-append}
-use Rattle.fr_frame.specs.declared.places.SlotId.{SlotId}
-use Rattle.fr_store.specs.declared.turning.Turn.{Turn}
-use Rattle.fr_store.specs.Numbers.{numbers}
-use Rattle.fr_store.specs.Places.{is_below, key_of}
+use Rattle.std.proofs.lemmas.List.{take_rest, get_or_default, get_or-drop, length-drop}
+use Rattle.fr_store.specs.declared.turning.StoredPlace.{StoredPlace}
+use Rattle.fr_store.specs.Places.{is_between, key_of}
+use Rattle.fr_store.proofs.PairLaws.{filter_none}
 
--- Runs.
+-- What the test says.
 
-pub parents_up : (turns : List Turn) → IsNonDecreasingBy key_of turns → IsNonDecreasingBy (λ (t : Turn). t.parent) turns
-parents_up turns up i j d le lt =
-    let keys : key_of (get_or turns i d) ≤ key_of (get_or turns j d) = up i j d le lt in
-    omega arith
+pub below_told : (m n : ℕ) → m < n → ltb m n ≡ true
+below_told m n h = grind (arith, common_steps, nat_tests)
 
-other : (m n : ℕ) → m ≢ n → nat_eq m n ≡ false
-other m n ne = grind (arith, common_steps, nat_tests)
+pub not_below : (m n : ℕ) → n ≤ m → ltb m n ≡ false
+not_below m n h = grind (arith, common_steps, nat_tests)
 
--- turns of lower places are no children
-pub run_from : (n : ℕ) (turns : List Turn) (start : ℕ)
-    → ((i : ℕ) (d : Turn) → i < start → i < length turns → (get_or turns i d).parent < n)
-    → filter (is_below n) (drop start turns) ≡ filter (is_below n) turns
-run_from n turns zero low = refl
-run_from n [] (suc start) low = refl
-run_from n (t ∷ turns) (suc start) low =
-    let less : t.parent < n = low 0 t (omega arith) (omega arith) in
-    run_from n turns start (λ i d h within. low (suc i) d (omega arith) (omega arith))
-    ∙ ap (λ (b : Bool). cond b (t ∷ filter (is_below n) turns) (filter (is_below n) turns)) (sym (other t.parent n (omega arith)))
+pub between_is : (from to : ℕ) (place : StoredPlace) → from ≤ key_of place → key_of place < to → is_between from to place ≡ true
+between_is from to place low high =
+    ap (λ (b : Bool). cond b false (ltb (key_of place) to)) (not_below (key_of place) from low)
+    ∙ below_told (key_of place) to high
 
-none_left : (n : ℕ) (turns : List Turn) → All (λ (t : Turn). n < t.parent) turns → filter (is_below n) turns ≡ []
-none_left n [] high = refl
-none_left n (t ∷ turns) high =
-    let more : n < t.parent = All-head (λ (u : Turn). n < u.parent) t turns high in
-    ap (λ (b : Bool). cond b (t ∷ filter (is_below n) turns) (filter (is_below n) turns)) (other t.parent n (omega arith))
-    ∙ none_left n turns (All-tail (λ (u : Turn). n < u.parent) t turns high)
+pub between_told : (from to : ℕ) (place : StoredPlace) → is_between from to place ≡ true
+    → (from ≤ key_of place) × (key_of place < to)
+between_told from to place is = go (ltb (key_of place) from) refl is
+  where
+    go : (b : Bool) → ltb (key_of place) from ≡ b → cond b false (ltb (key_of place) to) ≡ true
+        → (from ≤ key_of place) × (key_of place < to)
+    go true e h = absurd (cc)
+    go false e h = (ltb-false (key_of place) from e, ltb-true (key_of place) to h)
 
--- at the first turn of another place the run is over
-pub run_over : (n : ℕ) (turns : List Turn) (start i : ℕ) (e : Turn) → IsNonDecreasingBy (λ (t : Turn). t.parent) turns
-    → ((k : ℕ) (d : Turn) → start ≤ k → k < length turns → n ≤ (get_or turns k d).parent)
-    → i < length (drop start turns) → (get_or (drop start turns) i e).parent ≢ n
-    → filter (is_below n) (drop i (drop start turns)) ≡ []
-run_over n turns start i e up high within ne =
-    none_left n (drop i (drop start turns)) (λ j d h.
-    let long : length (drop i (drop start turns)) ≡ length turns - start - i
-    = omega (arith, length-drop i (drop start turns), length-drop start turns) in
-    let inside : start + (i + j) < length turns = omega (arith, length-drop start turns) in
-    let at_j : get_or (drop i (drop start turns)) j d ≡ get_or turns (start + (i + j)) d
-    = get_or-drop i (drop start turns) j d ∙ get_or-drop start turns (i + j) d in
-    let at_i : get_or (drop start turns) i e ≡ get_or turns (start + i) e = get_or-drop start turns i e in
-    let same : get_or turns (start + i) d ≡ get_or turns (start + i) e
-    = get_or_default turns (start + i) d e (omega arith) in
-    let here : n ≤ (get_or turns (start + i) e).parent = high (start + i) e (omega arith) (omega arith) in
-    let apart : (get_or turns (start + i) e).parent ≢ n = subst (λ (t : Turn). t.parent ≢ n) at_i ne in
-    let later : (get_or turns (start + i) d).parent ≤ (get_or turns (start + (i + j)) d).parent
+pub too_low : (from to : ℕ) (place : StoredPlace) → key_of place < from → is_between from to place ≡ false
+too_low from to place h = ap (λ (b : Bool). cond b false (ltb (key_of place) to)) (below_told (key_of place) from h)
+
+pub too_high : (from to : ℕ) (place : StoredPlace) → to ≤ key_of place → is_between from to place ≡ false
+too_high from to place h = go (ltb (key_of place) from)
+  where
+    go : (b : Bool) → cond b false (ltb (key_of place) to) ≡ false
+    go true = refl
+    go false = not_below (key_of place) to h
+
+-- nothing is in no range
+pub between_none : (from : ℕ) (places : List StoredPlace) → filter (is_between from from) places ≡ []
+between_none from places =
+    filter_none (is_between from from) places (λ i d h. go (get_or places i d) (ltb (key_of (get_or places i d)) from) refl)
+  where
+    go : (place : StoredPlace) (b : Bool) → ltb (key_of place) from ≡ b → is_between from from place ≡ false
+    go place true e = ap (λ (c : Bool). cond c false (ltb (key_of place) from)) e
+    go place false e = ap (λ (c : Bool). cond c false (ltb (key_of place) from)) e ∙ e
+
+-- The range in sorted places.
+
+-- what is lower comes before
+pub run_from : (from to : ℕ) (places : List StoredPlace) (start : ℕ)
+    → ((i : ℕ) (d : StoredPlace) → i < start → i < length places → key_of (get_or places i d) < from)
+    → filter (is_between from to) (drop start places) ≡ filter (is_between from to) places
+run_from from to places zero low = refl
+run_from from to [] (suc start) low = refl
+run_from from to (p ∷ places) (suc start) low =
+    run_from from to places start (λ i d h within. low (suc i) d (omega arith) (omega arith))
+    ∙ ap (λ (b : Bool). cond b (p ∷ filter (is_between from to) places) (filter (is_between from to) places))
+    (sym (too_low from to p (low 0 p (omega arith) (omega arith))))
+
+-- at the first one that is higher it is over
+pub run_over : (from to : ℕ) (places : List StoredPlace) (start i : ℕ) (e : StoredPlace) → IsNonDecreasingBy key_of places
+    → i < length (drop start places) → to ≤ key_of (get_or (drop start places) i e)
+    → filter (is_between from to) (drop i (drop start places)) ≡ []
+run_over from to places start i e up within high =
+    filter_none (is_between from to) (drop i (drop start places)) (λ j d h.
+    let long : length (drop i (drop start places)) ≡ length places - start - i
+    = omega (arith, length-drop i (drop start places), length-drop start places) in
+    let inside : start + (i + j) < length places = omega (arith, length-drop start places) in
+    let at_j : get_or (drop i (drop start places)) j d ≡ get_or places (start + (i + j)) d
+    = get_or-drop i (drop start places) j d ∙ get_or-drop start places (i + j) d in
+    let at_i : get_or (drop start places) i e ≡ get_or places (start + i) d
+    = get_or-drop start places i e ∙ get_or_default places (start + i) e d (omega arith) in
+    let here : to ≤ key_of (get_or places (start + i) d) = subst (λ (p : StoredPlace). to ≤ key_of p) at_i high in
+    let later : key_of (get_or places (start + i) d) ≤ key_of (get_or places (start + (i + j)) d)
     = up (start + i) (start + (i + j)) d (omega arith) inside in
-    let parents = ap (λ (t : Turn). t.parent) same in
-    let parents_j = ap (λ (t : Turn). t.parent) at_j in
-    omega arith)
+    let there : to ≤ key_of (get_or places (start + (i + j)) d) = omega arith in
+    too_high from to (get_or (drop i (drop start places)) j d)
+    (subst (λ (p : StoredPlace). to ≤ key_of p) (sym at_j) there))
 
--- the turns from the first one of a place that isn't lower
-module _ (n : ℕ) (turns : List Turn) (start : ℕ)
-    (point : IsPartitionPoint (λ (t : Turn). ltb t.parent n ≡ true) (λ (t : Turn). ltb t.parent n ≡ false) turns start) where
-  abbrev pub ahead : List Turn
-  ahead = take (length turns - start) (drop start turns)
+module _ (from to : ℕ) (places : List StoredPlace) (start : ℕ)
+    (point : IsPartitionPoint (λ (p : StoredPlace). ltb (key_of p) from ≡ true)
+    (λ (p : StoredPlace). ltb (key_of p) from ≡ false) places start) where
+  abbrev pub ahead : List StoredPlace
+  ahead = take (length places - start) (drop start places)
 
-  pub run_ahead : filter (is_below n) ahead ≡ filter (is_below n) turns
+  pub run_ahead : filter (is_between from to) ahead ≡ filter (is_between from to) places
   run_ahead =
-      ap (λ (l : List Turn). filter (is_below n) l) (take_rest turns start)
-      ∙ run_from n turns start (λ i d h within. ltb-true (get_or turns i d).parent n (point.0 i d (omega arith) h))
+      ap (λ (l : List StoredPlace). filter (is_between from to) l) (take_rest places start)
+      ∙ run_from from to places start (λ i d h within. ltb-true (key_of (get_or places i d)) from (point.0 i d (omega arith) h))
 
-  pub run_ends : (i : ℕ) (e : Turn) → IsNonDecreasingBy key_of turns → i < length ahead → (get_or ahead i e).parent ≢ n
-      → filter (is_below n) (drop i ahead) ≡ []
-  run_ends i e up within ne =
-      ap (λ (l : List Turn). filter (is_below n) (drop i l)) (take_rest turns start)
-      ∙ run_over n turns start i e (parents_up turns up)
-      (λ k d le h. ltb-false (get_or turns k d).parent n (point.1 k d le h))
-      (subst (λ (l : List Turn). i < length l) (take_rest turns start) within)
-      (subst (λ (l : List Turn). (get_or l i e).parent ≢ n) (take_rest turns start) ne)
+  pub run_ends : (i : ℕ) (e : StoredPlace) → IsNonDecreasingBy key_of places → i < length ahead
+      → to ≤ key_of (get_or ahead i e) → filter (is_between from to) (drop i ahead) ≡ []
+  run_ends i e up within high =
+      ap (λ (l : List StoredPlace). filter (is_between from to) (drop i l)) (take_rest places start)
+      ∙ run_over from to places start i e up
+      (subst (λ (l : List StoredPlace). i < length l) (take_rest places start) within)
+      (subst (λ (l : List StoredPlace). to ≤ key_of (get_or l i e)) (take_rest places start) high)
 
--- Gathering.
-
-module _ {X Y : Type 0} (f : X → Option Y) (xs : List X) (i : ℕ) (d : X) (within : i < length xs) where
-  one_more : filter_map f (take (i + 1) xs) ≡ filter_map f (take i xs) ++ cons_option (f (get_or xs i d)) []
-  one_more = ap (filter_map f) (take_more xs i d within) ∙ filter_map-append f (take i xs) (get_or xs i d ∷ [])
-
-  pub add_found : (before now next : List Y) (y : Y) → f (get_or xs i d) ≡ Some y
-      → now ≡ before ++ filter_map f (take i xs) → next ≡ now ++ y ∷ [] → next ≡ before ++ filter_map f (take (i + 1) xs)
-  add_found before now next y found now_is next_is =
-      next_is ∙ ap (λ (l : List Y). l ++ y ∷ []) now_is ∙ append_assoc before (filter_map f (take i xs)) (y ∷ [])
-      ∙ ap (λ (o : Option Y). before ++ (filter_map f (take i xs) ++ cons_option o [])) (sym found)
-      ∙ ap (λ (l : List Y). before ++ l) (sym one_more)
-
-  pub add_none : (before now : List Y) → f (get_or xs i d) ≡ None → now ≡ before ++ filter_map f (take i xs)
-      → now ≡ before ++ filter_map f (take (i + 1) xs)
-  add_none before now found now_is =
-      now_is ∙ ap (λ (l : List Y). before ++ l) (sym (append-nil (filter_map f (take i xs))))
-      ∙ ap (λ (o : Option Y). before ++ (filter_map f (take i xs) ++ cons_option o [])) (sym found)
-      ∙ ap (λ (l : List Y). before ++ l) (sym one_more)
-
--- Numbers.
-
-pub number_first : (places : List SlotId) (root : SlotId) (n : ℕ) (rest : List ℕ) → root ≡ get_or places 0 root
-    → 0 < length places → numbers places ≡ n ∷ rest → root.0 ≡ n
-number_first [] root n rest read some is = absurd (omega arith)
-number_first (place ∷ places) root n rest read some is =
-    let heads : place.0 ≡ n = cc in
-    ap (λ (slot : SlotId). slot.0) read ∙ heads
-
-pub number_at : (places : List SlotId) (i : ℕ) (place : SlotId) (d : ℕ) → i < length places → place ≡ get_or places i place
-    → place.0 ≡ get_or (numbers places) i d
-number_at [] i place d within read = absurd (omega arith)
-number_at (p ∷ places) zero place d within read = ap (λ (slot : SlotId). slot.0) read
-number_at (p ∷ places) (suc i) place d within read = number_at places i place d (omega arith) read
+  -- until then each is in it
+  pub run_on : (i : ℕ) (e : StoredPlace) → i < length ahead → key_of (get_or ahead i e) < to
+      → is_between from to (get_or ahead i e) ≡ true
+  run_on i e within less =
+      let inside : i < length (drop start places) = subst (λ (l : List StoredPlace). i < length l) (take_rest places start) within in
+      let at : get_or ahead i e ≡ get_or places (start + i) e
+      = ap (λ (l : List StoredPlace). get_or l i e) (take_rest places start) ∙ get_or-drop start places i e in
+      let low : from ≤ key_of (get_or places (start + i) e)
+      = ltb-false (key_of (get_or places (start + i) e)) from
+      (point.1 (start + i) e (omega arith) (omega (arith, length-drop start places))) in
+      between_is from to (get_or ahead i e) (subst (λ (p : StoredPlace). from ≤ key_of p) (sym at) low) less

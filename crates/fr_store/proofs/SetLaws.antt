@@ -1,6 +1,6 @@
 -- A whole value at the top, after all that is stored beneath it was released.
-use Rattle.std.proofs.Common.{◌≡◌, ◌≢◌, ◌⊎◌, ℕ, suc, ◌+◌, ◌≤◌, false, List, [], ◌∷◌, ◌++◌, append-nil, length, nat_eq, Option, Some, inl, inr, refl, sym, ◌∙◌, ap, subst, arith}
-use Rattle.std.specs.Prelude.{is_some, IsSomeAnd}
+use Rattle.std.proofs.Common.{◌≡◌, ◌≢◌, ◌⊎◌, ℕ, zero, suc, ◌<◌, ◌+◌, ◌≤◌, false, List, [], ◌∷◌, ◌++◌, append-nil, length, nat_eq, Option, Some, inl, inr, refl, sym, ◌∙◌, ap, subst, arith}
+use Rattle.std.specs.Prelude.{is_some, IsSome, IsSomeAnd}
 use Rattle.fr_shape.specs.Released.{Room, RoseBy}
 use Rattle.fr_shape.specs.TokenLaws.{both, Room_same, Room_fewer, Room_risen, RoseBy_same, RoseBy_both}
 use Rattle.fr_shape.specs.Tokens.{occurs}
@@ -14,17 +14,19 @@ use Rattle.fr_frame.specs.Changes.{IfInUse, IsInUse, Shows}
 use Rattle.fr_frame.specs.Heap.{Node, with_body, heap_of, slots_occur, marked, stored_in}
 use Rattle.fr_frame.specs.Kids.{Kid, at, Kids, whole_plot, cell_of, tree_of, body_in, kid_occurs, Holds, HoldsIn}
 use Rattle.fr_store.specs.HoldLaws.{AgreeBeside, Replaces}
-use Rattle.fr_store.specs.MoveLaws.{open_top, top_slot, top_node, top_found, open_at_from}
+use Rattle.fr_store.specs.MoveLaws.{open_reach, open_top, top_slot, top_node, top_found, open_at_from}
 use Rattle.fr_store.specs.Moves.{IsOpenAt, cursor_in, tree_in_slots, tokens_here}
 use Rattle.fr_store.specs.Numbers.{IsLast}
 use Rattle.fr_store.specs.PruneLaws.{beneath_is, plot_tokens, pruned_tokens}
 use Rattle.fr_store.specs.Prunes.{beneath, IsRooted, slotted_occur, pruned, IsPruned}
-use Rattle.fr_store.specs.StandLaws.{stands_change}
-use Rattle.fr_store.specs.Stands.{Stands, IsOpen, kid_shown}
+use Rattle.fr_store.specs.StandLaws.{all_changed, kid_is, stands_change, AllServe}
+use Rattle.fr_store.specs.Stands.{Stands, IsOpen, kid_here, kid_shown}
+use Rattle.fr_store.specs.StayLaws.{stay_but_beneath}
+use Rattle.fr_store.specs.Staying.{StayPutButBeneath}
 use Rattle.fr_store.specs.Stored.{IsKept, StoresNoMore}
-use Rattle.fr_store.specs.TopLaws.{body_here, body_other, top_uses, not_beside, top_held}
-use Rattle.fr_store.specs.Ways.{kid_at, put_at, slots_above, counts_if, uses, uses_in, Leads, Reaches, node_along}
-use Rattle.fr_store.specs.WayLaws.{same_or_other, leads_reach, uses_at, occurs_put_at, tree_put_at, tree_of_at, tree_tokens}
+use Rattle.fr_store.specs.TopLaws.{body_here, body_other, free_unused, top_uses, not_beside, top_held}
+use Rattle.fr_store.specs.Ways.{kid_at, put_at, slots_above, counts_if, uses, uses_in, uses_among, Leads, Reaches, node_along}
+use Rattle.fr_store.specs.WayLaws.{counts_same, same_or_other, leads_reach, uses_at, occurs_put_at, tree_put_at, tree_of_at, tree_tokens}
 use Rattle.fr_store.proofs.PruneSteps.{beneath_uses}
 
 module _ (plan : Plan) (slots : List Slot) (stack : List ℕ) (open_now : IsOpen plan slots stack) (n : ℕ)
@@ -189,6 +191,63 @@ module _ (plan : Plan) (slots : List Slot) (stack : List ℕ) (open_now : IsOpen
           (sym (ap cell_of top.is ∙ ap (λ (x : ℕ). cell_of (at x false top.plot)) same)) agree replaces once (refl, tt)
           (top.last ∙ ap (λ (x : ℕ). slots_above place k ++ x ∷ []) same))
 
+      -- no place leaves its slot but those beneath
+      pub set_stay : StayPutButBeneath (cursor_in slots stack) (kid_here slots stack) (kid_here after stack)
+      set_stay =
+          let place : Place = cursor_in slots stack in
+          let k : Kid = kid_here slots stack in
+          let top = open_top plan slots stack open_now in
+          subst (λ (x : Kid). StayPutButBeneath place k x)
+          (sym (kid_is plan (heap_of after) stack place (put_at place (at n false (whole_plot v)) k) set_stands))
+          (stay_but_beneath place (at n false (whole_plot v)) k n false false top.plot (whole_plot v)
+          (open_reach plan slots stack open_now)
+          (top.is ∙ ap (λ (x : ℕ). at x false top.plot) (top_slot plan slots stack open_now n last)) refl)
+
+      -- each slot in use is that of a place
+      set_all : AllServe (heap_of after)
+          (put_at (cursor_in slots stack) (at n false (whole_plot v)) (kid_shown (heap_of slots) stack))
+      unfolding top_node top_rooted
+      set_all =
+          let place : Place = cursor_in slots stack in
+          let k : Kid = kid_shown (heap_of slots) stack in
+          let reach : Reaches place k
+          = leads_reach place [] k (subst (λ (p : Place). Leads p k) (sym (append-nil place)) open_now.stands.leads) in
+          all_changed (heap_of slots) (heap_of after) place (at n false (whole_plot v)) k reach open_now.all from
+        where
+          part : (m : ℕ) → uses (kid_at (cursor_in slots stack) (kid_shown (heap_of slots) stack)) m
+              ≡ counts_if (nat_eq n m) + uses_among (beneath (heap_of slots) n) m
+          part m =
+              let top = open_top plan slots stack open_now in
+              let here : counts_if (nat_eq top.slot m) ≡ counts_if (nat_eq n m)
+              = ap (λ (x : ℕ). counts_if (nat_eq x m)) (top_slot plan slots stack open_now n last) in
+              omega
+              (arith, here, top_uses plan (heap_of slots) stack (cursor_in slots stack) (kid_shown (heap_of slots) stack) open_now.stands top m, beneath_uses (heap_of slots) n top_rooted m)
+
+          still : (m : ℕ) → m ≢ n → IsSome (heap_of mid m) → (count : ℕ)
+              → uses_among (beneath (heap_of slots) n) m ≡ count
+              → IsSome (heap_of slots m) × (uses_among (beneath (heap_of slots) n) m ≡ 0)
+          still m ne used zero e = (subst (λ (o : Option Node). IsSome o) (is.rest m ne e) used, e)
+          still m ne used (suc count) e =
+              absurd (free_unused (heap_of mid) m (is.free m (omega (arith, e))) used)
+
+          from : (m : ℕ) → IsSome (heap_of after m)
+              → (0 < uses (at n false (whole_plot v)) m)
+              ⊎ (IsSome (heap_of slots m)
+              × (uses (kid_at (cursor_in slots stack) (kid_shown (heap_of slots) stack)) m ≤ uses (at n false (whole_plot v)) m))
+          from m used = go (same_or_other m n)
+            where
+              go : (m ≡ n) ⊎ (m ≢ n) → (0 < uses (at n false (whole_plot v)) m)
+                  ⊎ (IsSome (heap_of slots m)
+                  × (uses (kid_at (cursor_in slots stack) (kid_shown (heap_of slots) stack)) m
+                  ≤ uses (at n false (whole_plot v)) m))
+              go (inl e) =
+                  let one : counts_if (nat_eq n m) ≡ 1 = ap (λ (y : ℕ). counts_if (nat_eq n y)) e ∙ counts_same n in
+                  inl (omega (arith, one))
+              go (inr ne) =
+                  let was = still m ne (subst (λ (o : Option Node). IsSome o) (set_other m ne) used)
+                  (uses_among (beneath (heap_of slots) n) m) refl in
+                  inr (was.0, omega (arith, part m, was.1))
+
       pub set_open : ((t : ℕ) → slots_occur slots t ≡ slots_occur mid t + slotted_occur (beneath (heap_of slots) n) t)
           → IfInUse mid n (λ (found : Node). (t : ℕ) → slots_occur mid t + occurs v t
           ≡ slots_occur after t + body_occurs found.body t)
@@ -211,4 +270,4 @@ module _ (plan : Plan) (slots : List Slot) (stack : List ℕ) (open_now : IsOpen
           (λ t.
           omega
           (arith, occurs_put_at place (at n false (whole_plot v)) k t reach, open_now.tokens t, fell t, so t, here t, tokens_both t, pruned_tokens (top_node plan slots stack open_now n last).body t))
-          (tree_put_at place (at n false (whole_plot v)) k)
+          set_all (tree_put_at place (at n false (whole_plot v)) k)

@@ -1,5 +1,6 @@
 -- Laws of entering again, for proofs: a child of the top that was stored is on top then, as it is.
-use Rattle.std.proofs.Common.{◌≡◌, ◌≢◌, ℕ, suc, ◌+◌, ◌<◌, ◌≤◌, true, false, List, [], ◌∷◌, ◌++◌, append-nil, append_assoc, length, nat_eq, option_map, Some, refl, sym, ◌∙◌, ap, subst, arith}
+use Rattle.std.proofs.Common.{◌≡◌, ◌≢◌, ℕ, suc, ◌+◌, ◌<◌, ◌≤◌, true, false, List, [], ◌∷◌, ◌++◌, append-nil, append_assoc, length, nat_eq, option_map, Option, Some, refl, sym, ◌∙◌, ap, subst, arith}
+use Rattle.std.specs.Prelude.{IsSome}
 use Rattle.fr_shape.specs.declared.shape.Def.{Def}
 use Rattle.fr_model.specs.Paths.{step_as}
 use Rattle.fr_model.specs.Places.{Place}
@@ -18,10 +19,12 @@ use Rattle.fr_store.specs.HoldLaws.{AgreeBeside, Replaces, cells_put_nth, holds_
 use Rattle.fr_store.specs.MoveLaws.{open_at_from, open_top, tokens_kept, top_slot}
 use Rattle.fr_store.specs.Moves.{HasChild, IsOpenAt, cursor_in, tree_here, tree_in_slots}
 use Rattle.fr_store.specs.Numbers.{IsLast}
-use Rattle.fr_store.specs.StandLaws.{stands_change}
-use Rattle.fr_store.specs.Stands.{Stands, IsOpen, kid_shown}
+use Rattle.fr_store.specs.StandLaws.{all_kept, stands_change, AllServe}
+use Rattle.fr_store.specs.Stands.{Stands, IsOpen, kid_here, kid_shown}
+use Rattle.fr_store.specs.StayLaws.{stay_all, stay_marked, stay_shown}
+use Rattle.fr_store.specs.Staying.{AllStayPut}
 use Rattle.fr_store.specs.Stored.{IsStoredChild}
-use Rattle.fr_store.specs.TopLaws.{slot_here, slot_other, top_held, Top}
+use Rattle.fr_store.specs.TopLaws.{slot_here, slot_other, top_held, used_mapped, Top}
 use Rattle.fr_store.specs.Ways.{count_kids, kid_nth, kid_at, put_nth, put_at, slots_along, slots_above, counts_if, uses, uses_in, uses_among, AllMarked, Leads, Reaches, node_along, owner_along}
 use Rattle.fr_store.specs.WayLaws.{counts_same, nth_put, uses_at, uses_nth, uses_put_nth, occurs_put_nth, occurs_put_at, leads_reach, marked_nth, stored_but, tree_change_at, tree_put_nth, tree_of_nth, tree_of_at}
 
@@ -125,6 +128,27 @@ module _ (plan : Plan) (heap other : Heap) (stack : List ℕ) (place : Place) (k
   once : (m : ℕ) → uses k m + uses again_kid m ≤ 1 + uses (kid_at place k) m
   once m = omega (arith, uses_put_nth i (at child false plot) kids m within, child_uses m, part m, stands.once m)
 
+  -- each slot in use is that of a place
+  pub all_again : AllServe heap k → AllServe other (put_at place again_kid k)
+  all_again all =
+      let reach : Reaches place k
+      = leads_reach place [] k (subst (λ (p : Place). Leads p k) (sym (append-nil place)) stands.leads) in
+      all_kept heap other place again_kid k reach all
+      (λ m used.
+      used_mapped heap child (λ (x : Node). record x { stored = false }) m
+      (subst (λ (o : Option Node). IsSome o) (shows m) used))
+      (λ m. omega (arith, uses_put_nth i (at child false plot) kids m within, child_uses m, part m))
+
+  -- no place leaves its slot
+  pub stay_again : AllStayPut k (put_at place again_kid k)
+  stay_again =
+      let reach : Reaches place k
+      = leads_reach place [] k (subst (λ (p : Place). Leads p k) (sym (append-nil place)) stands.leads) in
+      stay_all place again_kid k reach
+      (subst (λ (x : Kid). AllStayPut x again_kid) (sym (top.is ∙ ap (λ (p : Plot). at top.slot false p) begun_now))
+      (stay_all (i ∷ []) (at child false plot) (at top.slot false (begun_plot form kids)) (within, tt)
+      (stay_marked (kid_nth i kids) (at child false plot) child true false plot is refl)))
+
   child_leads : Leads [] (at child false plot)
   child_leads =
       let marks : AllMarked true (at child true plot)
@@ -173,6 +197,7 @@ pub open_again : (plan : Plan) (before after : List Slot) (stack next : List ℕ
     → SameTokens before after → next ≡ stack ++ child ∷ []
     → IsOpenAt plan after next (cursor_in before stack ++ i ∷ [])
     (change_at (cursor_in before stack) (change_child i (enter def)) (tree_in_slots before stack))
+    × AllStayPut (kid_here before stack) (kid_here after next)
 open_again plan before after stack next open_now p last form i def child has stored shows tokens along =
     let place : Place = cursor_in before stack in
     let k : Kid = kid_shown (heap_of before) stack in
@@ -194,12 +219,20 @@ open_again plan before after stack next open_now p last form i def child has sto
     let same_tokens : (t : ℕ) → kid_occurs now t ≡ kid_occurs k t
     = tokens_again plan (heap_of before) (heap_of after) stack place k open_now.stands top form found.0 found.1 i
     found.2 child placed.0 placed.1 shows in
+    let all : AllServe (heap_of after) now
+    = all_again plan (heap_of before) (heap_of after) stack place k open_now.stands top form found.0 found.1 i
+    found.2 child placed.0 placed.1 shows open_now.all in
     let tree : tree_of now ≡ change_at place (change_child i (enter def)) (tree_of k)
     = tree_again plan (heap_of before) (heap_of after) stack place k open_now.stands top form found.0 found.1 i
     found.2 child placed.0 placed.1 shows def in
+    let stay : AllStayPut k now
+    = stay_again plan (heap_of before) (heap_of after) stack place k open_now.stands top form found.0 found.1 i
+    found.2 child placed.0 placed.1 shows in
     subst
     (λ (s : List ℕ). IsOpenAt plan after s (place ++ i ∷ [])
-    (change_at place (change_child i (enter def)) (tree_of k))) (sym along)
-    (open_at_from plan after (stack ++ child ∷ []) (place ++ i ∷ []) now
-    (change_at place (change_child i (enter def)) (tree_of k)) stands
-    (tokens_kept before after k now tokens open_now.tokens same_tokens) tree)
+    (change_at place (change_child i (enter def)) (tree_of k)) × AllStayPut k (kid_here after s)) (sym along) (
+      open_at_from plan after (stack ++ child ∷ []) (place ++ i ∷ []) now
+          (change_at place (change_child i (enter def)) (tree_of k)) stands
+          (tokens_kept before after k now tokens open_now.tokens same_tokens) all tree,
+      stay_shown plan after (stack ++ child ∷ []) (place ++ i ∷ []) now k stands stay,
+    )

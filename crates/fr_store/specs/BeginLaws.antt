@@ -1,5 +1,5 @@
 -- Laws of beginning the top, for proofs.
-use Rattle.std.proofs.Common.{◌≡◌, ℕ, zero, suc, ◌+◌, List, ◌∷◌, replicate, false, Option, Some, None, refl, sym, ◌∙◌, ap, subst, arith}
+use Rattle.std.proofs.Common.{◌≡◌, ℕ, zero, suc, ◌+◌, List, [], ◌∷◌, replicate, false, Option, Some, None, refl, sym, ◌∙◌, ap, subst, arith}
 use Rattle.fr_shape.specs.Tokens.{occurs, vals_occur}
 use Rattle.fr_shape.specs.Val.{Val, Vals, no_vals, first, product}
 use Rattle.fr_model.specs.Places.{Place, parts_of}
@@ -12,11 +12,14 @@ use Rattle.fr_frame.specs.Cells.{Cell, absent, given}
 use Rattle.fr_frame.specs.Changes.{SameTokens, Shows}
 use Rattle.fr_frame.specs.Heap.{with_body, heap_of}
 use Rattle.fr_frame.specs.Kids.{Kid, gone, there, at, Plot, entered_plot, whole_plot, begun_plot, Kids, no_kids, kid, tree_of, tree_in, trees_in, cells_in, body_in, plot_occurs, kids_occur}
-use Rattle.fr_store.specs.MoveLaws.{open_top, top_changed}
+use Rattle.fr_store.specs.MoveLaws.{open_reach, open_top, top_changed, top_stands}
 use Rattle.fr_store.specs.Moves.{IsOpenAt, cursor_in, tree_in_slots}
 use Rattle.fr_store.specs.Numbers.{IsLast}
-use Rattle.fr_store.specs.Stands.{IsOpen, kid_shown}
-use Rattle.fr_store.specs.TopLaws.{keeps_closed, keeps_same, KeepsChildren}
+use Rattle.fr_store.specs.Stands.{IsOpen, kid_here, kid_shown}
+use Rattle.fr_store.specs.StayLaws.{stay_all, stay_shown}
+use Rattle.fr_store.specs.Staying.{AllStayPut}
+use Rattle.fr_store.specs.TopLaws.{keeps_closed, keeps_same, KeepsChildren, LosesNone}
+use Rattle.fr_store.specs.Ways.{put_at}
 use Rattle.fr_store.specs.WayLaws.{tree_put_at, tree_change_at, tree_of_at}
 
 abbrev pub gones : ℕ → Kids
@@ -88,6 +91,11 @@ opened_keeps form count (whole_plot v) =
     go None = tt
 opened_keeps form count (begun_plot made kids) = keeps_same (begun_plot made kids)
 
+opened_loses : (form : Form) (count : ℕ) (plot : Plot) → LosesNone plot (opened_plot form count plot)
+opened_loses form count entered_plot n = omega arith
+opened_loses form count (whole_plot v) n = omega arith
+opened_loses form count (begun_plot made kids) n = omega arith
+
 gones_tokens : (count t : ℕ) → kids_occur (gones count) t ≡ 0
 gones_tokens zero t = refl
 gones_tokens (suc count) t = omega (arith, gones_tokens count t)
@@ -104,6 +112,14 @@ opened_tokens : (form : Form) (count : ℕ) (plot : Plot) (t : ℕ) → plot_occ
 opened_tokens form count entered_plot t = gones_tokens count t
 opened_tokens form count (whole_plot v) t = whole_tokens form v t
 opened_tokens form count (begun_plot made kids) t = refl
+
+-- its children stay in their slots
+opened_stay : (slot : ℕ) (form : Form) (count : ℕ) (plot : Plot)
+    → AllStayPut (at slot false plot) (at slot false (opened_plot form count plot))
+opened_stay slot form count plot [] placed = (record { reaches = tt; here = tt }, refl)
+opened_stay slot form count entered_plot (i ∷ place) placed = absurd placed.reaches
+opened_stay slot form count (whole_plot v) (i ∷ place) placed = absurd placed.reaches
+opened_stay slot form count (begun_plot made kids) (i ∷ place) placed = (placed, refl)
 
 -- the top is begun
 pub open_begun : (plan : Plan) (before after : List Slot) (stack : List ℕ) (open_now : IsOpen plan before stack) (n : ℕ)
@@ -123,5 +139,20 @@ open_begun plan before after stack open_now n last form count shows tokens =
     ∙ ap (opened_as form count) (ap tree_of (sym top.is) ∙ tree_of_at place k)) in
     subst (λ (t : Tree). IsOpenAt plan after stack place t) same
     (top_changed plan before after stack open_now n last (opened form count) new (opened_body form count top.plot)
-    (opened_keeps form count top.plot) shows
+    (opened_keeps form count top.plot) (opened_loses form count top.plot) shows
     (λ t. omega (arith, tokens t, opened_tokens form count top.plot t)))
+
+-- no place leaves its slot
+pub stay_begun : (plan : Plan) (before after : List Slot) (stack : List ℕ) (open_now : IsOpen plan before stack) (n : ℕ)
+    → IsLast stack n → (form : Form) (count : ℕ) → Shows after (with_body (heap_of before) n (opened form count))
+    → AllStayPut (kid_here before stack) (kid_here after stack)
+stay_begun plan before after stack open_now n last form count shows =
+    let place : Place = cursor_in before stack in
+    let k : Kid = kid_here before stack in
+    let top = open_top plan before stack open_now in
+    let new : Plot = opened_plot form count top.plot in
+    stay_shown plan after stack place (put_at place (at top.slot false new) k) k
+    (top_stands plan before after stack open_now n last (opened form count) new (opened_body form count top.plot)
+    (opened_keeps form count top.plot) shows)
+    (stay_all place (at top.slot false new) k (open_reach plan before stack open_now)
+    (subst (λ (x : Kid). AllStayPut x (at top.slot false new)) (sym top.is) (opened_stay top.slot form count top.plot)))

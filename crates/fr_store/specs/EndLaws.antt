@@ -1,6 +1,6 @@
 -- Laws of ending, for proofs: the top is left, and its value goes to the place above.
-use Rattle.std.proofs.Common.{◌≡◌, ◌≢◌, ℕ, zero, suc, ◌+◌, ◌<◌, false, List, [], ◌∷◌, ◌++◌, append-nil, length, Option, Some, None, refl, sym, ◌∙◌, ap, subst, arith}
-use Rattle.std.specs.Prelude.{is_some, IsSomeAnd}
+use Rattle.std.proofs.Common.{◌≡◌, ◌≢◌, ℕ, zero, suc, ◌+◌, ◌<◌, ◌≤◌, false, List, [], ◌∷◌, ◌++◌, append-nil, length, nat_eq, Option, Some, None, refl, sym, ◌∙◌, ap, subst, arith}
+use Rattle.std.specs.Prelude.{is_some, IsSome, IsSomeAnd}
 use Rattle.fr_shape.specs.Tokens.{occurs, vals_occur}
 use Rattle.fr_shape.specs.Val.{Val, Vals, no_vals, first, product}
 use Rattle.fr_path.specs.declared.path_steps.PathStep.{PathStep}
@@ -18,13 +18,16 @@ use Rattle.fr_frame.specs.Heap.{Node, with_body, without, heap_of, marked, store
 use Rattle.fr_frame.specs.Kids.{Kid, gone, there, at, Plot, begun_plot, Kids, no_kids, kid, tree_of, cell_of, cells_in, body_in, kid_occurs, plot_occurs, child_owner}
 use Rattle.fr_store.specs.LeaveLaws.{Above, above_of, gone_above, gone_is, left_top, owner_append, put_append, above_append, up_append, cell_of_child, with_child}
 use Rattle.fr_store.specs.MoveLaws.{same_last, same_front, open_at_from, open_strict}
-use Rattle.fr_store.specs.Moves.{IsOpenAt, IsStepTo, IsNumbered, cursor_in, tree_in_slots}
+use Rattle.fr_store.specs.Moves.{IsOpenAt, IsStepTo, OwnerIsNumbered, cursor_in, tree_in_slots}
 use Rattle.fr_store.specs.Numbers.{IsLast}
-use Rattle.fr_store.specs.Stands.{Stands, IsOpen, kid_shown}
+use Rattle.fr_store.specs.StandLaws.{all_kept_but, kid_is, AllServe}
+use Rattle.fr_store.specs.Stands.{Stands, IsOpen, kid_here, kid_shown}
+use Rattle.fr_store.specs.StayLaws.{stay_but}
+use Rattle.fr_store.specs.Staying.{StayPutBut}
 use Rattle.fr_store.specs.Stored.{NothingStored}
-use Rattle.fr_store.specs.TopLaws.{Top, top_of, closed_top, keeps_closed, top_replaced, body_here, body_other, closed_occur, marked_body, unmarked_without}
-use Rattle.fr_store.specs.Ways.{kid_at, put_nth, put_below, put_at, slots_above, NoneStored, Leads, Reaches, node_along, owner_along, owner_below}
-use Rattle.fr_store.specs.WayLaws.{nth_put, count_put, leads_reach, occurs_put_at, tree_put_at, kid_put_at, put_at_twice, put_below_twice}
+use Rattle.fr_store.specs.TopLaws.{Top, top_of, closed_top, keeps_closed, top_replaced, body_here, body_other, closed_occur, closed_uses, marked_body, unmarked_without, used_mapped, used_without}
+use Rattle.fr_store.specs.Ways.{kid_at, put_nth, put_below, put_at, slots_above, counts_if, uses, uses_in, NoneStored, Leads, Reaches, node_along, owner_along, owner_below}
+use Rattle.fr_store.specs.WayLaws.{counts_other, nth_put, count_put, leads_reach, occurs_put_at, tree_put_at, kid_put_at, put_at_twice, put_below_twice}
 
 -- The value that a place comes to has its tokens.
 
@@ -149,13 +152,13 @@ module _ (plan : Plan) (slots : List Slot) (stack : List ℕ) (open_now : IsOpen
       = subst (λ (o : Option Node). IsSomeAnd o (λ (x : Node). IsStepTo step x.owner)) found told in
       subst (λ (o : FrameOwner). IsStepTo step o) owner_now so
 
-  pub numbered_now : (n : ℕ) → top_now.slot ≡ n → IfInUse slots n (λ (found : Node). IsNumbered found.owner)
+  pub numbered_now : (n : ℕ) → top_now.slot ≡ n → IfInUse slots n (λ (found : Node). OwnerIsNumbered found.owner)
   numbered_now n same =
       let found = ap (heap_of slots) (sym same) ∙ top_now.here in
-      subst (λ (o : Option Node). IsSomeAnd o (λ (x : Node). IsNumbered x.owner)) (sym found)
-      (subst (λ (o : FrameOwner). IsNumbered o) (sym owner_now) (go above_now.form))
+      subst (λ (o : Option Node). IsSomeAnd o (λ (x : Node). OwnerIsNumbered x.owner)) (sym found)
+      (subst (λ (o : FrameOwner). OwnerIsNumbered o) (sym owner_now) (go above_now.form))
     where
-      go : (form : Form) → IsNumbered (child_owner above_now.slot form i)
+      go : (form : Form) → OwnerIsNumbered (child_owner above_now.slot form i)
       go as_struct = tt
       go as_array = tt
 
@@ -265,6 +268,32 @@ module _ (plan : Plan) (slots : List Slot) (stack : List ℕ) (open_now : IsOpen
         ∙ ap (λ (x : Kid). put_at above x kid_now) (sym one ∙ two) ∙ sym (put_append above (i ∷ []) (there v) kid_now))
         ended
 
+    -- each slot in use is that of a place
+    all_ended : (after : List Slot) (m : ℕ) (change : Body → Body) (v : Val) → Shows after (with_body (heap_of mid) m change)
+        → AllServe (heap_of after) (put_at (above ++ i ∷ []) (there v) kid_now)
+    unfolding kid_now
+    all_ended after m change v puts =
+        all_kept_but (heap_of slots) (heap_of after) (above ++ i ∷ []) (there v) kid_now reach_now open_now.all from
+      where
+        part : (x : ℕ) → uses (kid_at (above ++ i ∷ []) kid_now) x ≡ counts_if (nat_eq top_now.slot x) + uses_in top_now.plot x
+        part x = ap (λ (k : Kid). uses k x) top_now.is
+
+        was : (found : Option Node) → IsSomeAnd found (λ (at : Node). Shows mid (without (heap_of slots) n at.owner))
+            → (x : ℕ) → IsSome (heap_of mid x) → (x ≢ n) × IsSome (heap_of slots x)
+        was (Some found) so x used =
+            used_without (heap_of slots) n found.owner x (subst (λ (o : Option Node). IsSome o) (so x) used)
+        was None so x used = absurd so
+
+        from : (x : ℕ) → IsSome (heap_of after x)
+            → IsSome (heap_of slots x) × (uses (kid_at (above ++ i ∷ []) kid_now) x ≤ uses (there v) x)
+        from x used =
+            let still = was (heap_of slots n) shows x
+            (used_mapped (heap_of mid) m (λ (at : Node). record at { body = change at.body }) x
+            (subst (λ (o : Option Node). IsSome o) (puts x) used)) in
+            let other : counts_if (nat_eq top_now.slot x) ≡ 0
+            = counts_other top_now.slot x (λ e. still.0 (sym e ∙ slot_now next n last)) in
+            (still.1, omega (arith, part x, other, closed_uses top_now.plot x closed_now))
+
     -- nothing is stored
     pub strict_ended : (after : List Slot) (m : ℕ) (change : Body → Body) → Shows after (with_body (heap_of mid) m change)
         → NothingStored after
@@ -305,7 +334,7 @@ module _ (plan : Plan) (slots : List Slot) (stack : List ℕ) (open_now : IsOpen
         let worth : body_occurs (body_in top_now.plot) t ≡ occurs v t = value_tokens (body_in top_now.plot) v t value in
         let own : plot_occurs top_now.plot t ≡ body_occurs (body_in top_now.plot) t = closed_occur top_now.plot t closed_now in
         omega (arith, occurs_put_at (above ++ i ∷ []) (there v) kid_now t reach_now, own, worth, taken t, put t))
-        (tree_put_at (above ++ i ∷ []) (there v) kid_now) in
+        (all_ended after m (λ old. with_cell old step (given v)) v puts) (tree_put_at (above ++ i ∷ []) (there v) kid_now) in
         subst
         (λ (p : Place). IsOpenAt plan after next (up p) (change_at p (λ old. whole v) (tree_in_slots slots stack)))
         (sym is_below)
@@ -313,6 +342,19 @@ module _ (plan : Plan) (slots : List Slot) (stack : List ℕ) (open_now : IsOpen
         (λ (p : Place). IsOpenAt plan after next p
         (change_at (above ++ i ∷ []) (λ old. whole v) (tree_in_slots slots stack)))
         (sym (up_append above i)) ended)
+
+    -- no place but the top leaves its slot
+    pub stay_ended : (after : List Slot) (m : ℕ) (step : PathStep) (v : Val) → IsLast next m
+        → IfInUse slots n (λ (found : Node). IsStepTo step found.owner)
+        → Shows after (with_body (heap_of mid) m (λ old. with_cell old step (given v)))
+        → StayPutBut (cursor_in slots stack) (kid_here slots stack) (kid_here after next)
+    unfolding kid_now
+    stay_ended after m step v ends told puts =
+        let stands = stands_ended after m step v ends (step_now n step (slot_now next n last) told) puts in
+        subst (λ (p : Place). StayPutBut p (kid_here slots stack) (kid_here after next)) (sym is_below)
+        (subst (λ (x : Kid). StayPutBut (above ++ i ∷ []) (kid_here slots stack) x)
+        (sym (kid_is plan (heap_of after) next above (put_at (above ++ i ∷ []) (there v) kid_now) stands))
+        (stay_but (above ++ i ∷ []) (there v) kid_now top_now.slot false top_now.plot reach_now top_now.is closed_now))
 
     -- what ending owes, of whatever value the top comes to
     pub ended_so : (after : List Slot) (m : ℕ) (step : PathStep) (w : Val) → IsLast next m

@@ -1,6 +1,6 @@
 -- Laws of entering, for proofs: a child of the top gets a slot, and is on top then.
-use Rattle.std.proofs.Common.{◌≡◌, ◌≢◌, ◌⊎◌, ℕ, suc, ◌+◌, ◌<◌, ◌≤◌, Bool, true, false, List, [], ◌∷◌, ◌++◌, append-nil, append_assoc, length, nat_eq, Some, None, inl, inr, refl, sym, ◌∙◌, ap, subst, arith}
-use Rattle.std.specs.Prelude.{if◌then◌else◌}
+use Rattle.std.proofs.Common.{◌≡◌, ◌≢◌, ◌⊎◌, ℕ, suc, ◌+◌, ◌<◌, ◌≤◌, Bool, true, false, List, [], ◌∷◌, ◌++◌, append-nil, append_assoc, length, nat_eq, Option, Some, None, inl, inr, refl, sym, ◌∙◌, ap, subst, arith}
+use Rattle.std.specs.Prelude.{IsSome, if◌then◌else◌}
 use Rattle.fr_shape.specs.declared.shape.Def.{Def}
 use Rattle.fr_shape.specs.Fills.{is_empty_struct}
 use Rattle.fr_shape.specs.Val.{product, no_vals}
@@ -10,25 +10,26 @@ use Rattle.fr_model.specs.Step.{enter}
 use Rattle.fr_model.specs.Tree.{Form, Tree, Trees, whole, entered, begun, fresh, change_child, tree_at, change_at}
 use Rattle.fr_plan.specs.declared.nodes.NodeId.{NodeId}
 use Rattle.fr_plan.specs.TypePlan.{Plan}
-use Rattle.fr_path.specs.declared.path_steps.PathStep.{PathStep}
 use Rattle.fr_frame.specs.declared.places.FrameOwner.{FrameOwner}
 use Rattle.fr_frame.specs.declared.places.Slot.{Slot}
-use Rattle.fr_frame.specs.Changes.{IsOwnerInUse, SameTokens, Shows}
+use Rattle.fr_frame.specs.Changes.{SameTokens, Shows}
 use Rattle.fr_frame.specs.Bodies.{Body, entered_body, whole_body, begun_body, fresh_body, taken_over, linked, linked_by, IsUnplaced, IsClosed}
 use Rattle.fr_frame.specs.Heap.{heap_of, marked, stored_in, Node, Heap, with_entered, entered_node, links, held_by, depth_below, depth_above, depth_limit}
 use Rattle.fr_frame.specs.Kids.{Kid, gone, there, at, Plot, entered_plot, whole_plot, begun_plot, Kids, tree_of, tree_in, cell_of, cells_in, body_in, trees_in, kid_occurs, plot_occurs, kids_occur, child_node, child_owner, Holds}
 use Rattle.fr_store.specs.ChildLaws.{child_cell, kids_held, kids_stored, not_parent, parent_is, part_uses, plot_has, unplaced_child}
 use Rattle.fr_store.specs.HoldLaws.{Replaces, holds_put_nth, unused}
 use Rattle.fr_store.specs.LeaveLaws.{cell_of_child, with_child}
-use Rattle.fr_store.specs.MoveLaws.{open_at_from, open_top, tokens_kept, top_in_use, top_slot}
+use Rattle.fr_store.specs.MoveLaws.{open_at_from, open_top, tokens_kept, top_slot}
 use Rattle.fr_store.specs.Moves.{HasChild, IsOpenAt, cursor_in, node_here, tree_here, tree_in_slots}
 use Rattle.fr_store.specs.Numbers.{IsLast}
-use Rattle.fr_store.specs.StandLaws.{stands_change}
-use Rattle.fr_store.specs.Stands.{Stands, IsOpen, kid_shown}
+use Rattle.fr_store.specs.StandLaws.{all_changed, stands_change, AllServe}
+use Rattle.fr_store.specs.Stands.{Stands, IsOpen, kid_here, kid_shown}
+use Rattle.fr_store.specs.StayLaws.{stay_all, stay_shown, stay_unplaced}
+use Rattle.fr_store.specs.Staying.{AllStayPut}
 use Rattle.fr_store.specs.Stored.{IsKept, IsStoredChild}
-use Rattle.fr_store.specs.TopLaws.{slot_here, slot_other, body_here, body_other, closed_marked, closed_holds, closed_uses, marked_entered, not_beside, top_held, Top}
-use Rattle.fr_store.specs.Ways.{count_kids, kid_nth, kid_at, put_nth, put_at, slots_along, slots_above, counts_if, uses, uses_among, Leads, Reaches, node_along, owner_along}
-use Rattle.fr_store.specs.WayLaws.{counts_same, counts_other, same_or_other, nth_put, uses_at, uses_put_nth, occurs_put_nth, occurs_put_at, leads_reach, stored_but, tree_change_at, tree_put_nth, tree_of_nth, tree_of_at}
+use Rattle.fr_store.specs.TopLaws.{slot_here, slot_other, body_here, body_other, closed_marked, closed_holds, closed_uses, marked_entered, not_beside, top_held, used_entered, Top}
+use Rattle.fr_store.specs.Ways.{count_kids, kid_nth, kid_at, put_nth, put_at, slots_along, slots_above, counts_if, uses, uses_in, uses_among, Leads, Reaches, node_along, owner_along}
+use Rattle.fr_store.specs.WayLaws.{counts_same, counts_other, same_or_other, nth_put, uses_at, uses_nth, uses_put_nth, occurs_put_nth, occurs_put_at, leads_reach, stored_but, tree_change_at, tree_put_nth, tree_of_nth, tree_of_at}
 
 -- A child that is entered: what it held, or fresh.
 
@@ -41,7 +42,7 @@ child_plot def gone = fresh_plot def
 child_plot def (there v) = whole_plot v
 child_plot def (at slot stored plot) = entered_plot
 
-fresh_same : (def : Def) → body_in (fresh_plot def) ≡ fresh_body def
+pub fresh_same : (def : Def) → body_in (fresh_plot def) ≡ fresh_body def
 fresh_same def = go (is_empty_struct def)
   where
     go : (b : Bool) → body_in (if b then whole_plot (product no_vals) else entered_plot)
@@ -49,7 +50,7 @@ fresh_same def = go (is_empty_struct def)
     go true = refl
     go false = refl
 
-fresh_tree : (def : Def) → tree_in (fresh_plot def) ≡ fresh def
+pub fresh_tree : (def : Def) → tree_in (fresh_plot def) ≡ fresh def
 fresh_tree def = go (is_empty_struct def)
   where
     go : (b : Bool) → tree_in (if b then whole_plot (product no_vals) else entered_plot)
@@ -57,7 +58,7 @@ fresh_tree def = go (is_empty_struct def)
     go true = refl
     go false = refl
 
-fresh_closed : (def : Def) → IsClosed (body_in (fresh_plot def))
+pub fresh_closed : (def : Def) → IsClosed (body_in (fresh_plot def))
 fresh_closed def = go (is_empty_struct def)
   where
     go : (b : Bool) → IsClosed (body_in (if b then whole_plot (product no_vals) else entered_plot))
@@ -79,7 +80,7 @@ child_closed def gone = fresh_closed def
 child_closed def (there v) = tt
 child_closed def (at slot stored plot) = tt
 
-fresh_tokens : (def : Def) (t : ℕ) → plot_occurs (fresh_plot def) t ≡ 0
+pub fresh_tokens : (def : Def) (t : ℕ) → plot_occurs (fresh_plot def) t ≡ 0
 fresh_tokens def t = go (is_empty_struct def)
   where
     go : (b : Bool) → plot_occurs (if b then whole_plot (product no_vals) else entered_plot) t ≡ 0
@@ -103,6 +104,11 @@ linked_child form i n ks plot h unplaced =
     go gone u = with_child form i (at n false plot) ks
     go (there v) u = with_child form i (at n false plot) ks
     go (at slot stored other) u = absurd u
+
+unplaced_kid : (k : Kid) (n : ℕ) → IsUnplaced (cell_of k) → uses k n ≡ 0
+unplaced_kid gone n u = refl
+unplaced_kid (there v) n u = refl
+unplaced_kid (at slot stored plot) n u = absurd u
 
 -- Child i of the top, which is in no slot, is entered into slot n, which was free.
 module _ (plan : Plan) (heap other : Heap) (stack : List ℕ) (place : Place) (k : Kid)
@@ -233,6 +239,43 @@ module _ (plan : Plan) (heap other : Heap) (stack : List ℕ) (place : Place) (k
             (kids_held plan heap stack place k stands top form kids begun_now i within) child,
       )
 
+  -- each slot in use is that of a place
+  pub all_entered : AllServe heap k → AllServe other (put_at place entered_kid k)
+  all_entered all =
+      let reach : Reaches place k
+      = leads_reach place [] k (subst (λ (p : Place). Leads p k) (sym (append-nil place)) stands.leads) in
+      all_changed heap other place entered_kid k reach all from
+    where
+      added : (m : ℕ) → uses_among entered_kids m + uses (kid_nth i kids) m
+          ≡ uses_among kids m + (counts_if (nat_eq n m) + uses_in (child_plot def (kid_nth i kids)) m)
+      added m = uses_put_nth i (at n false (child_plot def (kid_nth i kids))) kids m within
+
+      go : (m : ℕ) → (m ≡ n) ⊎ IsSome (heap m)
+          → (0 < uses entered_kid m) ⊎ (IsSome (heap m) × (uses (kid_at place k) m ≤ uses entered_kid m))
+      go m (inl e) =
+          let one : counts_if (nat_eq n m) ≡ 1 = ap (λ (y : ℕ). counts_if (nat_eq n y)) e ∙ counts_same n in
+          inl (omega (arith, added m, uses_nth i kids m))
+      go m (inr used) =
+          inr (used, omega (arith, added m, part m, unplaced_kid (kid_nth i kids) m unplaced))
+
+      from : (m : ℕ) → IsSome (other m)
+          → (0 < uses entered_kid m) ⊎ (IsSome (heap m) × (uses (kid_at place k) m ≤ uses entered_kid m))
+      from m used =
+          go m
+          (used_entered def heap (child_node plan (node_along plan plan.root place k) form i) (record { 0 = top.slot })
+          (step_as form i) n m (subst (λ (o : Option Node). IsSome o) (shows m) used))
+
+  -- no place leaves its slot
+  pub stay_entered : AllStayPut k (put_at place entered_kid k)
+  stay_entered =
+      let reach : Reaches place k
+      = leads_reach place [] k (subst (λ (p : Place). Leads p k) (sym (append-nil place)) stands.leads) in
+      stay_all place entered_kid k reach
+      (subst (λ (x : Kid). AllStayPut x entered_kid)
+      (sym (top.is ∙ ap (λ (p : Plot). at top.slot false p) begun_now))
+      (stay_all (i ∷ []) (at n false (child_plot def (kid_nth i kids))) (at top.slot false (begun_plot form kids)) (within, tt)
+      (stay_unplaced (kid_nth i kids) (at n false (child_plot def (kid_nth i kids))) unplaced)))
+
   pub stands_entered : Stands plan other (stack ++ n ∷ []) (place ++ i ∷ []) (put_at place entered_kid k)
   stands_entered =
       let longer : Stands plan heap stack (place ++ []) k
@@ -273,11 +316,6 @@ module _ (plan : Plan) (heap other : Heap) (stack : List ℕ) (place : Place) (k
 -- A child of an open builder's top that isn't stored is entered.
 module _ (plan : Plan) (before : List Slot) (stack : List ℕ) (open_now : IsOpen plan before stack) (p : ℕ)
     (last : IsLast stack p) where
-  pub owner_used : (owner : FrameOwner) (step : PathStep) → owner ≡ FrameOwner.Child (record { 0 = p }) step
-      → IsOwnerInUse before owner
-  owner_used owner step e =
-      subst (λ (o : FrameOwner). IsOwnerInUse before o) (sym e) (top_in_use plan before stack open_now p last)
-
   pub open_entered : (after : List Slot) (next : List ℕ) (form : Form) (i : ℕ) (def : Def) (n : ℕ) (node : NodeId)
       → HasChild form i (tree_here before stack) → node ≡ child_node plan (node_here plan before stack) form i
       → ((child : ℕ) → IsStoredChild (heap_of before) p (step_as form i) child → ⊥) → heap_of before n ≡ None
@@ -286,6 +324,7 @@ module _ (plan : Plan) (before : List Slot) (stack : List ℕ) (open_now : IsOpe
       → next ≡ stack ++ n ∷ []
       → IsOpenAt plan after next (cursor_in before stack ++ i ∷ [])
       (change_at (cursor_in before stack) (change_child i (enter def)) (tree_in_slots before stack))
+      × AllStayPut (kid_here before stack) (kid_here after next)
   open_entered after next form i def n node has is none free shows limit tokens along =
       let place : Place = cursor_in before stack in
       let k : Kid = kid_shown (heap_of before) stack in
@@ -315,15 +354,38 @@ module _ (plan : Plan) (before : List Slot) (stack : List ℕ) (open_now : IsOpe
       let same_tokens : (t : ℕ) → kid_occurs now t ≡ kid_occurs k t
       = tokens_entered plan (heap_of before) (heap_of after) stack place k open_now.stands top form found.0 found.1 i
       found.2 unplaced def n free shown deep in
+      let all : AllServe (heap_of after) now
+      = all_entered plan (heap_of before) (heap_of after) stack place k open_now.stands top form found.0 found.1 i
+      found.2 unplaced def n free shown deep open_now.all in
       let tree : tree_of now ≡ change_at place (change_child i (enter def)) (tree_of k)
       = tree_entered plan (heap_of before) (heap_of after) stack place k open_now.stands top form found.0 found.1 i
       found.2 unplaced def n free shown deep in
+      let stay : AllStayPut k now
+      = stay_entered plan (heap_of before) (heap_of after) stack place k open_now.stands top form found.0 found.1 i
+      found.2 unplaced def n free shown deep in
       subst
       (λ (s : List ℕ). IsOpenAt plan after s (place ++ i ∷ [])
-      (change_at place (change_child i (enter def)) (tree_of k))) (sym along)
-      (open_at_from plan after (stack ++ n ∷ []) (place ++ i ∷ []) now
-      (change_at place (change_child i (enter def)) (tree_of k)) stands
-      (tokens_kept before after k now tokens open_now.tokens same_tokens) tree)
+      (change_at place (change_child i (enter def)) (tree_of k)) × AllStayPut k (kid_here after s)) (sym along) (
+        open_at_from plan after (stack ++ n ∷ []) (place ++ i ∷ []) now
+            (change_at place (change_child i (enter def)) (tree_of k)) stands
+            (tokens_kept before after k now tokens open_now.tokens same_tokens) all tree,
+        stay_shown plan after (stack ++ n ∷ []) (place ++ i ∷ []) now k stands stay,
+      )
+
+  -- the same, of slots that are those
+  pub open_entered_from : (mid after : List Slot) (next : List ℕ) (form : Form) (i : ℕ) (def : Def) (n : ℕ) (node : NodeId)
+      → mid ≡ before → HasChild form i (tree_here before stack) → node ≡ child_node plan (node_here plan before stack) form i
+      → ((child : ℕ) → IsStoredChild (heap_of before) p (step_as form i) child → ⊥) → heap_of mid n ≡ None
+      → Shows after (with_entered def (heap_of mid) node (child_owner p form i) n)
+      → depth_below (heap_of mid) (child_owner p form i) < depth_limit → SameTokens mid after → next ≡ stack ++ n ∷ []
+      → IsOpenAt plan after next (cursor_in before stack ++ i ∷ [])
+      (change_at (cursor_in before stack) (change_child i (enter def)) (tree_in_slots before stack))
+      × AllStayPut (kid_here before stack) (kid_here after next)
+  open_entered_from mid after next form i def n node same has is none free shows limit tokens along =
+      open_entered after next form i def n node has is none (subst (λ (s : List Slot). heap_of s n ≡ None) same free)
+      (subst (λ (s : List Slot). Shows after (with_entered def (heap_of s) node (child_owner p form i) n)) same shows)
+      (subst (λ (s : List Slot). depth_below (heap_of s) (child_owner p form i) < depth_limit) same limit)
+      (subst (λ (s : List Slot). SameTokens s after) same tokens) along
 
 -- no place is stored that wasn't
 pub kept_entered : (store : List ℕ) (before after : List Slot) (def : Def) (node : NodeId) (owner : FrameOwner) (n : ℕ)

@@ -1,6 +1,7 @@
 -- Laws of the end of deferred mode, for proofs: all stored places had their turn, nothing is stored, and the place at which the
 -- builder works is finished.
-use Rattle.std.proofs.Common.{◌≡◌, ◌≢◌, ◌⊎◌, ℕ, zero, suc, ◌<◌, false, List, [], ◌∷◌, ◌++◌, append-nil, nat_eq, option_map, Some, inl, inr, refl, sym, ◌∙◌, ap, subst, arith}
+use Rattle.std.proofs.Common.{◌≡◌, ◌≢◌, ◌⊎◌, ℕ, zero, suc, ◌<◌, false, List, [], ◌∷◌, ◌++◌, append-nil, nat_eq, option_map, Option, Some, None, inl, inr, refl, sym, ◌∙◌, ap, subst, arith}
+use Rattle.std.specs.Prelude.{is_some}
 use Rattle.std.specs.List.{Contains}
 use Rattle.fr_shape.specs.declared.error.ReflectErrorKind.{ReflectErrorKind}
 use Rattle.fr_shape.specs.Hooks.{Meanings}
@@ -18,19 +19,17 @@ use Rattle.fr_plan.specs.declared.nodes.NodeId.{NodeId}
 use Rattle.fr_plan.specs.TypePlan.{Plan}
 use Rattle.fr_frame.specs.declared.places.FrameOwner.{FrameOwner}
 use Rattle.fr_frame.specs.declared.places.Slot.{Slot}
-use Rattle.fr_frame.specs.Changes.{SameTokens}
-use Rattle.fr_frame.specs.Heap.{Heap, heap_of, marked, stored_in}
+use Rattle.fr_frame.specs.Heap.{Node, Heap, heap_of, marked, stored_in}
 use Rattle.fr_frame.specs.Kids.{Kid, gone, there, at, Plot, entered_plot, whole_plot, begun_plot, Kids, no_kids, kid, tree_of, child_node, child_owner, Holds, HoldsIn, HoldsAll}
 use Rattle.fr_store.specs.FailLaws.{fails_itself, none_here, same_lack}
-use Rattle.fr_store.specs.HeadLaws.{contains_cases}
 use Rattle.fr_store.specs.HeldLaws.{held_by_last, leads_deferred, leads_strict, no_marks}
-use Rattle.fr_store.specs.HoldLaws.{holds_frame}
 use Rattle.fr_store.specs.Moves.{IsOpenAt, cursor_in, tree_in_slots}
 use Rattle.fr_store.specs.OffLaws.{reach_place}
-use Rattle.fr_store.specs.Stands.{IsOpen, Stands}
-use Rattle.fr_store.specs.TurnedLaws.{open_shown}
-use Rattle.fr_store.specs.Turning.{CameByTurns, FinishedHere, LacksHere, Walked, kid_here}
-use Rattle.fr_store.specs.Turns.{IsFinished, IsHeldUp, root_shape}
+use Rattle.fr_store.specs.Stands.{IsOpen}
+use Rattle.fr_store.specs.Stored.{NothingStored}
+use Rattle.fr_store.specs.Turning.{CameByTurns, FinishedHere, LacksHere, StoppedByTurns, Walked, kid_here, next_place}
+use Rattle.fr_store.specs.Turns.{IsFinished, IsHeldUp, KeepThoseLeft, root_shape}
+use Rattle.fr_store.specs.WalkedLaws.{stored_among}
 use Rattle.fr_store.specs.Walks.{IsStoredAt, AreInWalkOrder, AreStoredAt}
 use Rattle.fr_store.specs.Ways.{kid_at, counts_if, uses, uses_in, uses_among, AllMarkedIn, AllMarkedAmong, Leads, NoneStored}
 use Rattle.fr_store.specs.WayLaws.{counts_other, leads_at, leads_reach, same_or_other, tree_of_at}
@@ -40,19 +39,6 @@ use Rattle.fr_store.specs.WayLaws.{counts_other, leads_at, leads_reach, same_or_
 no_places : (k : Kid) (places : List Place) → AreStoredAt k [] places → places ≡ []
 no_places k [] stored = refl
 no_places k (place ∷ places) stored = absurd stored
-
-stored_among : (k : Kid) (slots : List ℕ) (places : List Place) (place : Place) → AreStoredAt k slots places
-    → Contains places place → (slot : ℕ) × IsStoredAt k slot place
-stored_among k [] [] place stored found = absurd (omega (arith, found.1))
-stored_among k [] (first ∷ places) place stored found = absurd stored
-stored_among k (slot ∷ slots) [] place stored found = absurd stored
-stored_among k (slot ∷ slots) (first ∷ places) place stored found =
-    go (contains_cases first places place found) (λ later. stored_among k slots places place stored.1 later)
-  where
-    go : (first ≡ place) ⊎ Contains places place → (Contains places place → (slot : ℕ) × IsStoredAt k slot place)
-        → (slot : ℕ) × IsStoredAt k slot place
-    go (inl e) rest = (slot, subst (IsStoredAt k slot) e stored.0)
-    go (inr later) rest = rest later
 
 -- Where no place is stored, no slot that serves is marked.
 
@@ -104,10 +90,9 @@ leads_there place k leads e =
     go (at slot stored (whole_plot v)) l is = cc
     go (at slot stored (begun_plot form kids)) l is = cc
 
--- All had their turn, and what is marked still isn't any more.
+-- All had their turn.
 module _ (means : Meanings) (table : Table) (plan : Plan) (before : List Slot) (stack : List ℕ) (now : List Slot) (walk : List ℕ)
-    (walked : Walked means table plan before stack now walk []) (mid : List Slot)
-    (others : (n : ℕ) → marked (heap_of now) n ≡ false → heap_of mid n ≡ heap_of now n) (tokens : SameTokens now mid) where
+    (walked : Walked means table plan before stack now walk []) where
   none_left : walked.left.places ≡ []
   none_left = no_places (kid_here now stack) walked.left.places walked.left.stored
 
@@ -119,33 +104,16 @@ module _ (means : Meanings) (table : Table) (plan : Plan) (before : List Slot) (
       = subst (λ (ps : List Place). Contains ps place) none_left (walked.left.all slot place stored) in
       absurd (omega (arith, found.1)))
 
-  stands_mid : Stands plan (heap_of mid) stack (cursor_in now stack) (kid_here now stack)
-  stands_mid = record {
-    holds =
-        holds_frame plan (heap_of now) (heap_of mid) plan.root FrameOwner.Root 0 (kid_here now stack)
-        walked.still.stands.holds
-        (λ n h.
-        others n
-        (unmarked plan (heap_of now) plan.root FrameOwner.Root 0 (kid_here now stack) n walked.still.stands.holds none_stored
-        h));
-    once = walked.still.stands.once;
-    leads = walked.still.stands.leads;
-    along = walked.still.stands.along;
-  }
-
-  open_mid : IsOpenAt plan mid stack (cursor_in now stack) (tree_in_slots now stack)
-  open_mid =
-      open_shown plan mid stack (cursor_in now stack) (kid_here now stack) (tree_in_slots now stack) stands_mid
-      (λ t. tokens t ∙ walked.still.tokens t) refl
-
-  pub still_open : IsOpen plan mid stack
-  still_open = open_mid.open_still
-
-  pub still_suits : Suits table (root_shape plan) (tree_in_slots mid stack)
-  still_suits = subst (Suits table (root_shape plan)) (sym open_mid.built) walked.suits
-
-  cursor_mid : cursor_in mid stack ≡ cursor_in before stack
-  cursor_mid = open_mid.cursor ∙ walked.cursor
+  -- nothing is marked any more
+  pub nothing_left : NothingStored now
+  nothing_left n = go (heap_of now n) refl
+    where
+      go : (x : Option Node) → heap_of now n ≡ x → stored_in x ≡ false
+      go None e = refl
+      go (Some found) e =
+          ap stored_in (sym e)
+          ∙ unmarked plan (heap_of now) plan.root FrameOwner.Root 0 (kid_here now stack) n walked.still.stands.holds none_stored
+          (walked.still.all n (ap is_some e))
 
   leads_now : Leads (cursor_in before stack) (kid_here now stack)
   leads_now = subst (λ (p : Place). Leads p (kid_here now stack)) walked.cursor walked.still.stands.leads
@@ -153,14 +121,12 @@ module _ (means : Meanings) (table : Table) (plan : Plan) (before : List Slot) (
   strict_now : LeadsIn strict (cursor_in before stack) (tree_in_slots now stack)
   strict_now = leads_strict (cursor_in before stack) (kid_here now stack) leads_now none_stored
 
-  -- said of the slots then, it is of the tree after all turns
+  -- said of the place at which the builder works now, it is of the one at which it worked
   module _ (So : Place → Tree → Type 0) where
-    said_now : So (cursor_in mid stack) (tree_in_slots mid stack) → So (cursor_in before stack) (tree_in_slots now stack)
-    said_now so =
-        subst (λ (t : Tree). So (cursor_in before stack) t) open_mid.built
-        (subst (λ (p : Place). So p (tree_in_slots mid stack)) cursor_mid so)
+    said_now : So (cursor_in now stack) (tree_in_slots now stack) → So (cursor_in before stack) (tree_in_slots now stack)
+    said_now so = subst (λ (p : Place). So p (tree_in_slots now stack)) walked.cursor so
 
-  module _ (after : List Slot) (ends : FinishedHere means table plan mid stack after) where
+  module _ (after : List Slot) (ends : FinishedHere means table plan now stack after) where
     meant_now : finished_here means table
         (shape_in table (root_shape plan) (cursor_in before stack) (tree_in_slots now stack))
         (tree_at (cursor_in before stack) (tree_in_slots now stack))
@@ -202,6 +168,11 @@ module _ (means : Meanings) (table : Table) (plan : Plan) (before : List Slot) (
           (subst (λ (ps : List Place). Contains ps place) (sym all_done) found);
       tree = tree_in_slots now stack;
       turned = walked.turned;
+      kept =
+          subst
+          (λ (l : List Place). KeepThoseLeft means table (root_shape plan) (tree_in_slots before stack)
+          (tree_in_slots before stack) walked.done l)
+          none_left walked.kept;
       here = ends.tree;
       finishes = meant_now;
       last = stands_now.built;
@@ -209,7 +180,7 @@ module _ (means : Meanings) (table : Table) (plan : Plan) (before : List Slot) (
 
   -- the place at which the builder works lacks something
   module _ (refuses : FinishesOrRefuses) (nothing : NothingFailsOfDone) (open_first : IsOpen plan before stack)
-      (kind : ReflectErrorKind) (lacks : LacksHere means table plan mid stack kind) where
+      (kind : ReflectErrorKind) (lacks : LacksHere means table plan now stack kind) where
     to : List PathStep
     to = [] ++ steps_in (cursor_in before stack) (tree_in_slots before stack)
 
@@ -265,3 +236,24 @@ module _ (means : Meanings) (table : Table) (plan : Plan) (before : List Slot) (
         (leads_deferred 0 (cursor_in before stack) (kid_here before stack) open_first.stands.leads) (none_before [])
         lacks_before in
         record { unfinished = held.0; cause = held.1 }
+
+    -- there it stopped
+    pub stopped_here : StoppedByTurns means table plan before stack kind
+    stopped_here = record {
+      done = walked.done;
+      left = walked.left.places;
+      order = subst (AreInWalkOrder (tree_in_slots before stack)) walked.split walked.first.order;
+      all = λ slot place stored.
+          subst (λ (l : List Place). Contains l place) walked.split (walked.first.all slot place stored);
+      each = λ place found.
+          stored_among (kid_here before stack) walk walked.first.places place walked.first.stored
+          (subst (λ (l : List Place). Contains l place) (sym walked.split) found);
+      tree = tree_in_slots now stack;
+      turned = walked.turned;
+      kept = walked.kept;
+      lacks =
+          subst
+          (λ (p : Place). own_lack means table (shape_in table (root_shape plan) p (tree_in_slots now stack))
+          (tree_at p (tree_in_slots now stack)) ≡ Some kind)
+          (sym (ap (λ (l : List Place). next_place l (cursor_in before stack)) none_left)) lacks_now;
+    }

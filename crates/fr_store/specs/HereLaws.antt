@@ -31,7 +31,7 @@ use Rattle.fr_store.specs.Numbers.{IsLast}
 use Rattle.fr_store.specs.ShapeLaws.{Along}
 use Rattle.fr_store.specs.Stands.{IsOpen}
 use Rattle.fr_store.specs.Stored.{NothingStored}
-use Rattle.fr_store.specs.TopLaws.{closed_occur, closed_tree, keeps_closed, slot_here, slot_other}
+use Rattle.fr_store.specs.TopLaws.{closed_occur, closed_tree, keeps_closed, loses_none, slot_here, slot_other}
 use Rattle.fr_store.specs.TurnedLaws.{along_open, may_complete, shape_along}
 use Rattle.fr_store.specs.Turning.{FinishedHere, LacksHere, is_entered, kid_here}
 use Rattle.fr_store.specs.Turns.{root_shape}
@@ -40,7 +40,7 @@ use Rattle.fr_store.specs.WayLaws.{leads_reach, same_or_other, tree_of_at, tree_
 
 -- Places none of whose children is in a slot.
 
-abbrev closed_plot : Body → Plot
+abbrev pub closed_plot : Body → Plot
 closed_plot body = plot_in (λ slot. gone) body
 
 cells_back : (cells : List Cell) → AreUnplaced cells → cells_in (kids_in (λ slot. gone) cells) ≡ cells
@@ -49,7 +49,7 @@ cells_back (absent ∷ cells) closed = ap (λ (cs : List Cell). absent ∷ cs) (
 cells_back (given v ∷ cells) closed = ap (λ (cs : List Cell). given v ∷ cs) (cells_back cells closed.1)
 cells_back (placed n ∷ cells) closed = absurd closed.0
 
-body_back : (body : Body) → IsClosed body → body_in (closed_plot body) ≡ body
+pub body_back : (body : Body) → IsClosed body → body_in (closed_plot body) ≡ body
 body_back entered_body closed = refl
 body_back (whole_body v) closed = refl
 body_back (begun_body form cells) closed = ap (begun_body form) (cells_back cells closed)
@@ -60,7 +60,7 @@ trees_back (absent ∷ cells) = ap (λ (ts : Trees). branch hole ts) (trees_back
 trees_back (given v ∷ cells) = ap (λ (ts : Trees). branch (whole v) ts) (trees_back cells)
 trees_back (placed n ∷ cells) = ap (λ (ts : Trees). branch hole ts) (trees_back cells)
 
-tree_back : (body : Body) → tree_in (closed_plot body) ≡ own_tree body
+pub tree_back : (body : Body) → tree_in (closed_plot body) ≡ own_tree body
 tree_back entered_body = refl
 tree_back (whole_body v) = refl
 tree_back (begun_body form cells) = ap (λ (ts : Trees). begun form ts) (trees_back cells)
@@ -282,7 +282,7 @@ module _ (plan : Plan) (before : List Slot) (stack : List ℕ) (open_now : IsOpe
               (keeps_closed (open_top plan before stack open_now).plot (closed_plot body)
               (subst IsClosed (sym (body_back body (value_closed body fills.filled.value valued)))
               (value_closed body fills.filled.value valued)))
-              changed tokens_there);
+              (loses_none (open_top plan before stack open_now).plot (closed_plot body) closed) changed tokens_there);
         }
 
         nothing_now : NothingStored after

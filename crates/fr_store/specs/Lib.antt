@@ -1,5 +1,6 @@
 pub mod AgainLaws
 pub mod BeginLaws
+pub mod Chains
 pub mod ChildLaws
 pub mod ClosingLaws
 pub mod EndLaws
@@ -21,6 +22,8 @@ pub mod Prunes
 pub mod ShapeLaws
 pub mod StandLaws
 pub mod Stands
+pub mod StayLaws
+pub mod Staying
 pub mod StoreLaws
 pub mod Stored
 pub mod TopLaws

@@ -1,6 +1,6 @@
 -- Laws of moves, for proofs: putting something else at the top, and leaving it.
 use Rattle.std.proofs.Common.{◌≡◌, ◌≢◌, ℕ, ◌+◌, false, List, [], ◌∷◌, ◌++◌, append-nil, length, Option, Some, refl, sym, ◌∙◌, ap, subst, arith}
-use Rattle.std.specs.Prelude.{is_some, IsSomeAnd}
+use Rattle.std.specs.Prelude.{is_some, IsSome, IsSomeAnd}
 use Rattle.fr_shape.specs.Released.{Room, RoseBy}
 use Rattle.fr_shape.specs.TokenLaws.{Room_same, RoseBy_same}
 use Rattle.fr_shape.specs.Tokens.{occurs}
@@ -17,10 +17,10 @@ use Rattle.fr_frame.specs.Kids.{Kid, at, Plot, whole_plot, tree_of, tree_in, bod
 use Rattle.fr_store.specs.Moves.{IsOpenAt, cursor_in, tree_in_slots, tree_here, tokens_here}
 use Rattle.fr_store.specs.Numbers.{IsLast}
 use Rattle.fr_store.specs.HoldLaws.{none_stored}
-use Rattle.fr_store.specs.StandLaws.{open_from, cursor_is, tree_is}
-use Rattle.fr_store.specs.Stands.{Stands, IsOpen, kid_shown}
+use Rattle.fr_store.specs.StandLaws.{all_kept, open_from, cursor_is, tree_is, AllServe}
+use Rattle.fr_store.specs.Stands.{Stands, IsOpen, kid_here, kid_shown}
 use Rattle.fr_store.specs.Stored.{NothingStored}
-use Rattle.fr_store.specs.TopLaws.{body_here, body_other, closed_occur, closed_top, keeps_closed, KeepsChildren, Top, top_of, top_replaced}
+use Rattle.fr_store.specs.TopLaws.{body_here, body_other, closed_occur, closed_top, keeps_closed, loses_none, top_uses, used_mapped, KeepsChildren, LosesNone, Top, top_of, top_replaced}
 use Rattle.fr_store.specs.Ways.{kid_at, put_at, slots_above, NoneStored, Leads, Reaches, node_along, owner_along}
 use Rattle.fr_store.specs.WayLaws.{leads_reach, occurs_put_at, tree_put_at, tree_of_at, tree_tokens}
 
@@ -59,6 +59,13 @@ pub open_top : (plan : Plan) (slots : List Slot) (stack : List ℕ) (open_now : 
     → Top plan (heap_of slots) stack (cursor_in slots stack) (kid_shown (heap_of slots) stack)
 open_top plan slots stack open_now =
     top_of plan (heap_of slots) stack (cursor_in slots stack) (kid_shown (heap_of slots) stack) open_now.stands
+
+-- the way leads to it
+pub open_reach : (plan : Plan) (slots : List Slot) (stack : List ℕ) → IsOpen plan slots stack
+    → Reaches (cursor_in slots stack) (kid_here slots stack)
+open_reach plan slots stack open_now =
+    leads_reach (cursor_in slots stack) [] (kid_here slots stack)
+    (subst (λ (p : Place). Leads p (kid_here slots stack)) (sym (append-nil (cursor_in slots stack))) open_now.stands.leads)
 
 -- where nothing is stored no place of it is, and the top has no child in a slot
 pub open_strict : (plan : Plan) (slots : List Slot) (stack : List ℕ) → IsOpen plan slots stack → NothingStored slots
@@ -118,9 +125,9 @@ module _ (plan : Plan) (slots : List Slot) (stack : List ℕ) (open_now : IsOpen
 -- An open builder, from what stands.
 pub open_at_from : (plan : Plan) (slots : List Slot) (stack : List ℕ) (place : Place) (k : Kid) (tree : Tree)
     → Stands plan (heap_of slots) stack place k → ((t : ℕ) → slots_occur slots t ≡ kid_occurs k t)
-    → tree_of k ≡ tree → IsOpenAt plan slots stack place tree
-open_at_from plan slots stack place k tree stands tokens is = record {
-  open_still = open_from plan slots stack place k stands tokens;
+    → AllServe (heap_of slots) k → tree_of k ≡ tree → IsOpenAt plan slots stack place tree
+open_at_from plan slots stack place k tree stands tokens all is = record {
+  open_still = open_from plan slots stack place k stands tokens all;
   cursor = cursor_is plan (heap_of slots) stack place k stands;
   built = tree_is plan (heap_of slots) stack place k stands ∙ is;
 }
@@ -137,16 +144,14 @@ pub tokens_kept : (before after : List Slot) (k now : Kid) → SameTokens before
 tokens_kept before after k now tokens was same t = tokens t ∙ was t ∙ sym (same t)
 
 -- Something else is put at the top: of its children those that are in slots were there before, and stay as they are.
-pub top_changed : (plan : Plan) (before after : List Slot) (stack : List ℕ) (open_now : IsOpen plan before stack) (n : ℕ)
+pub top_stands : (plan : Plan) (before after : List Slot) (stack : List ℕ) (open_now : IsOpen plan before stack) (n : ℕ)
     → IsLast stack n → (change : Body → Body) (new : Plot)
     → body_in new ≡ change (body_in (open_top plan before stack open_now).plot)
     → KeepsChildren (open_top plan before stack open_now).plot new
     → Shows after (with_body (heap_of before) n change)
-    → ((t : ℕ) → slots_occur after t + plot_occurs (open_top plan before stack open_now).plot t
-    ≡ slots_occur before t + plot_occurs new t)
-    → IsOpenAt plan after stack (cursor_in before stack)
-    (change_at (cursor_in before stack) (λ old. tree_in new) (tree_in_slots before stack))
-top_changed plan before after stack open_now n last change new is keeps shows tokens =
+    → Stands plan (heap_of after) stack (cursor_in before stack)
+    (put_at (cursor_in before stack) (at (open_top plan before stack open_now).slot false new) (kid_here before stack))
+top_stands plan before after stack open_now n last change new is keeps shows =
     let k : Kid = kid_shown (heap_of before) stack in
     let place : Place = cursor_in before stack in
     let top = open_top plan before stack open_now in
@@ -176,14 +181,35 @@ top_changed plan before after stack open_now n last change new is keeps shows to
     let beside : (m : ℕ) → m ≢ top.slot → heap_of after m ≡ heap_of before m
     = λ m ne. shows m ∙ ap (λ (x : ℕ). with_body (heap_of before) x change m) (sym same)
     ∙ body_other (heap_of before) top.slot change m ne in
-    let stands = top_replaced plan (heap_of before) (heap_of after) stack place k new open_now.stands top keeps here beside in
-    let reach : Reaches place k
-    = leads_reach place [] k (subst (λ (p : Place). Leads p k) (sym (append-nil place)) open_now.stands.leads) in
+    top_replaced plan (heap_of before) (heap_of after) stack place k new open_now.stands top keeps here beside
+
+-- the builder is open then, where no child that was in a slot is lost
+pub top_changed : (plan : Plan) (before after : List Slot) (stack : List ℕ) (open_now : IsOpen plan before stack) (n : ℕ)
+    → IsLast stack n → (change : Body → Body) (new : Plot)
+    → body_in new ≡ change (body_in (open_top plan before stack open_now).plot)
+    → KeepsChildren (open_top plan before stack open_now).plot new
+    → LosesNone (open_top plan before stack open_now).plot new
+    → Shows after (with_body (heap_of before) n change)
+    → ((t : ℕ) → slots_occur after t + plot_occurs (open_top plan before stack open_now).plot t
+    ≡ slots_occur before t + plot_occurs new t)
+    → IsOpenAt plan after stack (cursor_in before stack)
+    (change_at (cursor_in before stack) (λ old. tree_in new) (tree_in_slots before stack))
+top_changed plan before after stack open_now n last change new is keeps loses shows tokens =
+    let k : Kid = kid_shown (heap_of before) stack in
+    let place : Place = cursor_in before stack in
+    let top = open_top plan before stack open_now in
+    let reach = open_reach plan before stack open_now in
     open_at_from plan after stack place (put_at place (at top.slot false new) k)
-    (change_at place (λ old. tree_in new) (tree_of k)) stands
+    (change_at place (λ old. tree_in new) (tree_of k))
+    (top_stands plan before after stack open_now n last change new is keeps shows)
     (λ t.
     let was : kid_occurs (kid_at place k) t ≡ plot_occurs top.plot t = ap (λ (x : Kid). kid_occurs x t) top.is in
     omega (arith, occurs_put_at place (at top.slot false new) k t reach, open_now.tokens t, tokens t))
+    (all_kept (heap_of before) (heap_of after) place (at top.slot false new) k reach open_now.all
+    (λ m used.
+    used_mapped (heap_of before) n (λ (x : Node). record x { body = change x.body }) m
+    (subst (λ (o : Option Node). IsSome o) (shows m) used))
+    (λ m. omega (arith, top_uses plan (heap_of before) stack place k open_now.stands top m, loses m)))
     (tree_put_at place (at top.slot false new) k)
 
 -- Where none of the top's children is in a slot.
@@ -219,5 +245,5 @@ module _ (plan : Plan) (before : List Slot) (stack : List ℕ) (open_now : IsOpe
       (λ (found : Node). (t : ℕ) → slots_occur before t + occurs v t
       ≡ slots_occur after t + body_occurs found.body t) tokens in
       top_changed plan before after stack open_now n last (λ old. whole_body v) (whole_plot v) refl
-      (keeps_closed top.plot (whole_plot v) tt) shows
+      (keeps_closed top.plot (whole_plot v) tt) (loses_none top.plot (whole_plot v) closed) shows
       (λ t. omega (arith, so t, closed_occur top.plot t closed))

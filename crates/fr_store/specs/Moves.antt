@@ -2,7 +2,7 @@
 use Rattle.std.specs.Prelude.{◌≡◌, ℕ, ◌<◌, List}
 use Rattle.fr_path.specs.declared.path_steps.PathStep.{PathStep}
 use Rattle.fr_model.specs.Places.{Place}
-use Rattle.fr_model.specs.Tree.{Form, Tree, hole, entered, whole, begun, count_trees, tree_at, tree_occurs}
+use Rattle.fr_model.specs.Tree.{Form, Tree, hole, entered, whole, begun, count_trees, change_at, tree_at, tree_occurs}
 use Rattle.fr_plan.specs.declared.nodes.NodeId.{NodeId}
 use Rattle.fr_plan.specs.TypePlan.{Plan}
 use Rattle.fr_frame.specs.declared.places.FrameOwner.{FrameOwner}
@@ -31,6 +31,10 @@ tree_in_slots slots stack = tree_shown (heap_of slots) stack
 abbrev pub tree_here : List Slot → List ℕ → Tree
 tree_here slots stack = tree_at (cursor_in slots stack) (tree_in_slots slots stack)
 
+-- what was built so far, changed so at the place at which it works
+abbrev pub changed_here : (Tree → Tree) → List Slot → List ℕ → Tree
+changed_here change slots stack = change_at (cursor_in slots stack) change (tree_in_slots slots stack)
+
 -- how often a token stands there
 abbrev pub tokens_here : List Slot → List ℕ → ℕ → ℕ
 tokens_here slots stack t = tree_occurs (tree_here slots stack) t
@@ -49,9 +53,9 @@ IsStepTo step FrameOwner.Root = ⊥
 IsStepTo step (FrameOwner.Child parent to) = step ≡ to
 
 -- the place above one of this owner is in this slot
-abbrev pub IsAbove : ℕ → FrameOwner → Type 0
-IsAbove n FrameOwner.Root = ⊥
-IsAbove n (FrameOwner.Child parent step) = n ≡ parent.0
+abbrev pub OwnerIsIn : ℕ → FrameOwner → Type 0
+OwnerIsIn n FrameOwner.Root = ⊥
+OwnerIsIn n (FrameOwner.Child parent step) = n ≡ parent.0
 
 abbrev pub IsNumberedStep : PathStep → Type 0
 IsNumberedStep (PathStep.Field i) = Unit {0}
@@ -68,9 +72,9 @@ IsNumberedStep PathStep.SetItem = ⊥
 IsNumberedStep (PathStep.Entry key) = ⊥
 
 -- a place of this owner is a field or an element of the one above
-abbrev pub IsNumbered : FrameOwner → Type 0
-IsNumbered FrameOwner.Root = ⊥
-IsNumbered (FrameOwner.Child parent step) = IsNumberedStep step
+abbrev pub OwnerIsNumbered : FrameOwner → Type 0
+OwnerIsNumbered FrameOwner.Root = ⊥
+OwnerIsNumbered (FrameOwner.Child parent step) = IsNumberedStep step
 
 -- the place is begun so, and has a child of this number
 abbrev pub HasChild : Form → ℕ → Tree → Type 0

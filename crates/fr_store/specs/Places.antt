@@ -1,15 +1,13 @@
 -- Places in slots, listed by their paths: what the order of the walk is made of.
-use Rattle.std.specs.Prelude.{◌≡◌, ◌⊎◌, ℕ, ◌+◌, ◌-◌, ◌*◌, ◌<◌, ◌≤◌, Bool, false, List, [], ◌∷◌, ◌++◌, length, map, nat_eq, Option, Some, None, if◌then◌else◌}
+use Rattle.std.specs.Prelude.{◌≡◌, ◌⊎◌, ℕ, ◌+◌, ◌-◌, ◌*◌, ◌<◌, ◌≤◌, Bool, true, false, cond, List, [], ◌∷◌, ◌++◌, filter, length, ltb, map, nat_eq, IsSomeAnd}
 use Rattle.std.specs.List.{All, Contains}
-use Rattle.std.specs.Option.{option_and_then}
 use Rattle.fr_path.specs.Order.{number}
 use Rattle.fr_model.specs.Places.{Place}
 use Rattle.fr_frame.specs.declared.places.FrameOwner.{FrameOwner}
-use Rattle.fr_frame.specs.declared.places.SlotId.{SlotId}
 use Rattle.fr_frame.specs.Heap.{Node, Heap}
 use Rattle.fr_frame.specs.Kids.{Kid, gone, there, at}
-use Rattle.fr_store.specs.declared.turning.Turn.{Turn}
-use Rattle.fr_store.specs.Stored.{child_slot}
+use Rattle.fr_store.specs.declared.turning.StoredPlace.{StoredPlace}
+use Rattle.fr_store.specs.Numbers.{slot_of, slots_of}
 use Rattle.fr_store.specs.Ways.{counts_if, kid_at, Reaches}
 
 -- Lists.
@@ -64,56 +62,68 @@ IsAbove (i ∷ first) (j ∷ second) = (j < i) ⊎ ((i ≡ j) × IsAbove first s
 abbrev pub ComesEarlier : (first second : Place) → Type 0
 ComesEarlier first second = (length first < length second) ⊎ ((length first ≡ length second) × IsAbove first second)
 
--- These are the slots of all places, in this order.
+-- a place that is stored lies there
+abbrev pub IsStoredHere : Kid → Place → Type 0
+IsStoredHere k place = stored_here (kid_at place k) ≡ true
+
+-- These are the slots of all stored places, in this order.
 pub record IsSpread (k : Kid) (slots : List ℕ) : Type 0 where
   pub places : List Place
   pub placed : All (IsPlaced k) places
+  pub stored : All (IsStoredHere k) places
   pub slots_are : slots ≡ map (slot_at k) places
   pub order : Pairs ComesEarlier places
-  pub all : (place : Place) → IsPlaced k place → Contains places place
+  pub all : (place : Place) → IsPlaced k place → IsStoredHere k place → Contains places place
 
--- Turns.
+-- What is noted of a stored place: where the place above lies, and the step from there.
 
-abbrev pub is_slot : Option ℕ → ℕ → Bool
-is_slot (Some m) n = nat_eq m n
-is_slot None n = false
+abbrev pub IsNarrow : StoredPlace → Type 0
+IsNarrow place = place.step < 4294967296
 
-abbrev pub turn_under : Heap → SlotId → FrameOwner → Option Turn
-turn_under heap slot FrameOwner.Root = None
-turn_under heap slot (FrameOwner.Child parent step) =
-    if is_slot (child_slot heap parent.0 step) slot.0
-    then Some (record { parent = parent.0; step = number step; slot = slot })
-    else None
+-- a place of this owner belongs there
+abbrev pub BelongsTo : StoredPlace → FrameOwner → Type 0
+BelongsTo place FrameOwner.Root = ⊥
+BelongsTo place (FrameOwner.Child parent step) = (place.parent ≡ parent.0) × (place.step ≡ number step)
 
--- the turn of the place in a slot, where the place above has it there
-abbrev pub turn_at : Heap → SlotId → Option Turn
-turn_at heap slot = option_and_then (λ (at : Node). turn_under heap slot at.owner) (heap slot.0)
+-- so the place in its slot does
+abbrev pub IsNoted : Heap → StoredPlace → Type 0
+IsNoted heap place = IsSomeAnd (heap (slot_of place)) (λ (at : Node). BelongsTo place at.owner)
 
-abbrev pub IsNarrow : Turn → Type 0
-IsNarrow turn = turn.step < 4294967296
+-- where it lies, the place above lying there
+abbrev pub child_of : Place → StoredPlace → Place
+child_of above place = above ++ place.step ∷ []
 
--- by what turns are sorted
-abbrev pub key_of : Turn → ℕ
-key_of turn = turn.parent * 4294967296 + (4294967295 - turn.step)
+-- it is a stored child of a place
+pub record IsStoredChildOf (k : Kid) (place : StoredPlace) (above : Place) : Type 0 where
+  pub parent : place.parent ≡ slot_at k above
+  pub placed : IsPlaced k (child_of above place)
+  pub stored : IsStoredHere k (child_of above place)
+  pub slot : slot_of place ≡ slot_at k (child_of above place)
 
--- the turn is that of a child of the place in this slot
-abbrev pub is_below : ℕ → Turn → Bool
-is_below n turn = nat_eq turn.parent n
+-- These are all stored places, each but once.
+pub record AreAllStored (k : Kid) (places : List StoredPlace) : Type 0 where
+  pub each : All (λ (place : StoredPlace). (above : Place) × IsStoredChildOf k place above) places
+  pub narrow : All IsNarrow places
+  pub once : AreOnce (slots_of places)
+  pub all : (place : Place) → IsPlaced k place → IsStoredHere k place → Contains (slots_of places) (slot_at k place)
 
-abbrev pub number_in : Turn → ℕ
-number_in turn = turn.slot.0
+-- Keys, by which stored places are sorted: the children of one place are together, the last one first.
 
--- where a child lies, the place above lying there
-abbrev pub child_of : Place → Turn → Place
-child_of place turn = place ++ turn.step ∷ []
+abbrev pub first_key : (parent : ℕ) → ℕ
+first_key parent = parent * 4294967296
 
--- The turns are those of all places but the root, which is first on the stack.
-pub record MaySpread (k : Kid) (stack : List ℕ) (turns : List Turn) : Type 0 where
-  pub root : (rest : List ℕ) × (stack ≡ slot_here k ∷ rest)
-  pub here : IsHere k
-  pub once : (first second : Place) → IsPlaced k first → IsPlaced k second → slot_at k first ≡ slot_at k second → first ≡ second
-  pub below : (turn : Turn) (place : Place) → Contains turns turn → IsPlaced k place → turn.parent ≡ slot_at k place
-      → IsPlaced k (child_of place turn) × (slot_at k (child_of place turn) ≡ number_in turn)
-  pub all : (place : Place) (i : ℕ) → IsPlaced k place → IsPlaced k (place ++ i ∷ [])
-      → (turn : Turn) × Contains turns turn × (turn.parent ≡ slot_at k place) × (turn.step ≡ i)
-  pub order : Pairs (λ (first second : Turn). first.parent ≡ second.parent → second.step < first.step) turns
+abbrev pub key_of : StoredPlace → ℕ
+key_of place = first_key place.parent + (4294967295 - place.step)
+
+-- the key is one of these, the last one not counted
+abbrev pub is_between : (from to : ℕ) → StoredPlace → Bool
+is_between from to place = cond (ltb (key_of place) from) false (ltb (key_of place) to)
+
+-- the slots of the places whose keys are these
+abbrev pub slots_between : (from to : ℕ) → List StoredPlace → List ℕ
+slots_between from to places = slots_of (filter (is_between from to) places)
+
+-- The key that a place of this owner would have.
+abbrev pub IsKeyOf : ℕ → FrameOwner → Type 0
+IsKeyOf key FrameOwner.Root = ⊥
+IsKeyOf key (FrameOwner.Child parent step) = key ≡ first_key parent.0 + (4294967295 - number step)

@@ -1,5 +1,6 @@
 -- Laws of slots and stacks that stand for a tree, for proofs.
-use Rattle.std.proofs.Common.{◌≡◌, ℕ, ◌+◌, ◌≤◌, List, [], ◌∷◌, ◌++◌, map, refl, sym, ◌∙◌, ap, subst, arith}
+use Rattle.std.proofs.Common.{◌≡◌, ◌⊎◌, ℕ, ◌+◌, ◌<◌, ◌≤◌, List, [], ◌∷◌, ◌++◌, map, inl, inr, refl, sym, ◌∙◌, ap, subst, arith}
+use Rattle.std.specs.Prelude.{IsSome}
 use Rattle.fr_path.specs.Order.{number}
 use Rattle.fr_model.specs.Paths.{steps_in}
 use Rattle.fr_model.specs.Places.{Place}
@@ -10,8 +11,8 @@ use Rattle.fr_frame.specs.Heap.{Heap, depth_limit, heap_of, slots_occur}
 use Rattle.fr_frame.specs.Kids.{Kid, gone, there, at, tree_of, cell_of, kid_in, kid_from, kid_occurs}
 use Rattle.fr_store.specs.HoldLaws.{AgreeBeside, Replaces, replaces_at, read_back, steps_read}
 use Rattle.fr_store.specs.Stands.{Stands, kid_shown, tree_shown, steps_to, cursor_shown, IsOpen}
-use Rattle.fr_store.specs.Ways.{kid_at, put_at, slots_along, slots_above, uses, Leads}
-use Rattle.fr_store.specs.WayLaws.{leads_reach, leads_put_at, along_put_at, uses_put_at, numbers_in}
+use Rattle.fr_store.specs.Ways.{kid_at, put_at, slots_along, slots_above, uses, Leads, Reaches}
+use Rattle.fr_store.specs.WayLaws.{leads_reach, leads_put_at, along_put_at, uses_at, uses_put_at, numbers_in}
 
 -- One change. What lies at a place on the way is replaced: it stays in its slot, all beside it is as it was, the new is held where
 -- the old was, uses no slot twice and none that serves beside it, and the way goes on in it.
@@ -28,6 +29,36 @@ stands_change plan heap other stack next place old below new k stands same agree
       leads = leads_put_at place old below new k stands.leads leads;
       along = along ∙ sym (along_put_at place below new k reach);
     }
+
+-- Slots in use.
+
+-- each of the heap serves in it
+abbrev pub AllServe : Heap → Kid → Type 0
+AllServe heap k = (n : ℕ) → IsSome (heap n) → 0 < uses k n
+
+-- What lies at a place is replaced: each slot in use then serves in the new, or was in use before and didn't serve in the old.
+pub all_changed : (heap other : Heap) (place : Place) (new k : Kid) → Reaches place k → AllServe heap k
+    → ((n : ℕ) → IsSome (other n) → (0 < uses new n) ⊎ (IsSome (heap n) × (uses (kid_at place k) n ≤ uses new n)))
+    → AllServe other (put_at place new k)
+all_changed heap other place new k reach all from n used = go (from n used)
+  where
+    go : (0 < uses new n) ⊎ (IsSome (heap n) × (uses (kid_at place k) n ≤ uses new n)) → 0 < uses (put_at place new k) n
+    go (inl here) = omega (arith, uses_put_at place new k n reach, uses_at place k n)
+    go (inr still) = omega (arith, uses_put_at place new k n reach, uses_at place k n, all n still.0, still.1)
+
+-- no slot comes into use, and each that still is and serves in the old serves in the new
+pub all_kept_but : (heap other : Heap) (place : Place) (new k : Kid) → Reaches place k → AllServe heap k
+    → ((n : ℕ) → IsSome (other n) → IsSome (heap n) × (uses (kid_at place k) n ≤ uses new n))
+    → AllServe other (put_at place new k)
+all_kept_but heap other place new k reach all from =
+    all_changed heap other place new k reach all (λ n used. inr (from n used))
+
+-- no slot comes into use, and each that serves in the old serves in the new
+pub all_kept : (heap other : Heap) (place : Place) (new k : Kid) → Reaches place k → AllServe heap k
+    → ((n : ℕ) → IsSome (other n) → IsSome (heap n)) → ((n : ℕ) → uses (kid_at place k) n ≤ uses new n)
+    → AllServe other (put_at place new k)
+all_kept heap other place new k reach all from serve =
+    all_kept_but heap other place new k reach all (λ n used. (from n used, serve n))
 
 -- What stands is what is read off slots and stack.
 
@@ -68,10 +99,12 @@ stands_shown plan heap stack place k stands =
 
 -- a builder is open where its slots and its stack stand for something
 pub open_from : (plan : Plan) (slots : List Slot) (stack : List ℕ) (place : Place) (k : Kid)
-    → Stands plan (heap_of slots) stack place k → ((t : ℕ) → slots_occur slots t ≡ kid_occurs k t) → IsOpen plan slots stack
-open_from plan slots stack place k stands tokens =
+    → Stands plan (heap_of slots) stack place k → ((t : ℕ) → slots_occur slots t ≡ kid_occurs k t) → AllServe (heap_of slots) k
+    → IsOpen plan slots stack
+open_from plan slots stack place k stands tokens all =
     let is = kid_is plan (heap_of slots) stack place k stands in
     record {
       stands = stands_shown plan (heap_of slots) stack place k stands;
       tokens = λ t. tokens t ∙ ap (λ (x : Kid). kid_occurs x t) (sym is);
+      all = λ n used. subst (λ (x : Kid). 0 < uses x n) (sym is) (all n used);
     }

@@ -1,5 +1,5 @@
 -- How slots and a stack of them stand for one tree and the place at which a builder works.
-use Rattle.std.specs.Prelude.{◌≡◌, ℕ, ◌≤◌, List, [], ◌∷◌, ◌++◌, map, Option, Some, None}
+use Rattle.std.specs.Prelude.{◌≡◌, ℕ, ◌<◌, ◌≤◌, List, [], ◌∷◌, ◌++◌, map, Option, Some, None, IsSome}
 use Rattle.fr_path.specs.declared.path_steps.PathStep.{PathStep}
 use Rattle.fr_path.specs.Order.{number}
 use Rattle.fr_model.specs.Places.{Place}
@@ -26,6 +26,10 @@ abbrev pub kid_shown : Heap → List ℕ → Kid
 kid_shown heap [] = gone
 kid_shown heap (slot ∷ slots) = kid_of heap slot
 
+-- what lies in the slots of an open builder
+abbrev pub kid_here : List Slot → List ℕ → Kid
+kid_here slots stack = kid_shown (heap_of slots) stack
+
 abbrev pub tree_shown : Heap → List ℕ → Tree
 tree_shown heap stack = tree_of (kid_shown heap stack)
 
@@ -46,8 +50,10 @@ steps_to heap (slot ∷ slots) = step_to (heap slot) ++ steps_to heap slots
 abbrev pub cursor_shown : Heap → List ℕ → Place
 cursor_shown heap stack = map number (steps_to heap stack)
 
--- Builders that are open, in either mode: slots and stack stand for what they show, and the slots hold just the tokens of the
--- tree.
+-- Builders that are open, in either mode: slots and stack stand for what they show, the slots hold just the tokens of the tree,
+-- and no slot is in use but for a place of it.
 pub record IsOpen (plan : Plan) (slots : List Slot) (stack : List ℕ) : Type 0 where
   pub stands : Stands plan (heap_of slots) stack (cursor_shown (heap_of slots) stack) (kid_shown (heap_of slots) stack)
   pub tokens : (t : ℕ) → slots_occur slots t ≡ kid_occurs (kid_shown (heap_of slots) stack) t
+  -- each slot in use is that of a place of the tree
+  pub all : (n : ℕ) → IsSome (heap_of slots n) → 0 < uses (kid_shown (heap_of slots) stack) n

@@ -1,5 +1,6 @@
 -- Laws of leaving the top half done, for proofs: it is stored as it is, and the place above is on top.
 use Rattle.std.proofs.Common.{◌≡◌, ◌≢◌, ◌↔◌, ℕ, zero, suc, ◌+◌, ◌<◌, ◌≤◌, Bool, true, false, List, [], ◌∷◌, ◌++◌, append-nil, nat_eq, option_map, Option, Some, None, IfSome, IsNone, refl, sym, ◌∙◌, ap, subst, arith}
+use Rattle.std.specs.Prelude.{IsSome}
 use Rattle.fr_model.specs.Places.{Place, is_root, up}
 use Rattle.fr_model.specs.Tree.{Form, Tree, Trees, begun, branch}
 use Rattle.fr_plan.specs.TypePlan.{Plan}
@@ -13,9 +14,11 @@ use Rattle.fr_store.specs.LeaveLaws.{above_append, below_root, kid_at_append, pu
 use Rattle.fr_store.specs.MoveLaws.{open_at_from, same_front, same_last, top_found, top_node}
 use Rattle.fr_store.specs.Moves.{IsOpenAt, cursor_in, tree_in_slots}
 use Rattle.fr_store.specs.Numbers.{IsLast}
-use Rattle.fr_store.specs.StandLaws.{stands_change}
-use Rattle.fr_store.specs.Stands.{Stands, IsOpen, kid_shown}
-use Rattle.fr_store.specs.TopLaws.{slot_here, slot_other, Top, top_of}
+use Rattle.fr_store.specs.StandLaws.{all_kept, stands_change, AllServe}
+use Rattle.fr_store.specs.Stands.{Stands, IsOpen, kid_here, kid_shown}
+use Rattle.fr_store.specs.StayLaws.{stay_all, stay_marked, stay_shown}
+use Rattle.fr_store.specs.Staying.{AllStayPut}
+use Rattle.fr_store.specs.TopLaws.{slot_here, slot_other, top_uses, used_mapped, Top, top_of}
 use Rattle.fr_store.specs.Ways.{count_kids, kid_nth, kid_at, put_nth, put_at, slots_above, counts_if, uses, uses_in, uses_among, AllMarked, AllMarkedAmong, StoredBut, Leads, Reaches}
 use Rattle.fr_store.specs.WayLaws.{counts_same, leads_reach, leads_at, occurs_put_at, uses_at, uses_nth, uses_put_nth}
 
@@ -150,6 +153,27 @@ module _ (plan : Plan) (heap other : Heap) (stack next : List ℕ) (above : Plac
       (refl, all_stored i (λ below. Leads [] below) stored_top found.kids found.others (refl, top.stored))
       (along ∙ above_append above i k stands.leads found.slot false (begun_plot found.form found.kids) found.is)))
 
+  -- each slot in use is that of a place
+  pub all_left : AllServe heap k → AllServe other (put_at (above ++ i ∷ []) stored_top k)
+  all_left all =
+      let reach : Reaches (above ++ i ∷ []) k
+      = leads_reach (above ++ i ∷ []) [] k
+      (subst (λ (p : Place). Leads p k) (sym (append-nil (above ++ i ∷ []))) stands.leads) in
+      all_kept heap other (above ++ i ∷ []) stored_top k reach all
+      (λ m used.
+      used_mapped heap top.slot (λ (x : Node). record x { stored = true }) m
+      (subst (λ (o : Option Node). IsSome o) (shows m) used))
+      (λ m. omega (arith, top_uses plan heap stack (above ++ i ∷ []) k stands top m))
+
+  -- no place leaves its slot
+  pub stay_left : AllStayPut k (put_at (above ++ i ∷ []) stored_top k)
+  stay_left =
+      let reach : Reaches (above ++ i ∷ []) k
+      = leads_reach (above ++ i ∷ []) [] k
+      (subst (λ (p : Place). Leads p k) (sym (append-nil (above ++ i ∷ []))) stands.leads) in
+      stay_all (above ++ i ∷ []) stored_top k reach
+      (stay_marked (kid_at (above ++ i ∷ []) k) stored_top top.slot false true top.plot top.is refl)
+
   pub tree_left : tree_of (put_at (above ++ i ∷ []) stored_top k) ≡ tree_of k
   tree_left = tree_kept (above ++ i ∷ []) stored_top k (ap tree_of (sym top.is))
 
@@ -184,6 +208,7 @@ pub open_left : (plan : Plan) (before after : List Slot) (stack next : List ℕ)
     → is_root (cursor_in before stack) ≡ false → (n : ℕ) → stack ≡ next ++ n ∷ []
     → Shows after (with_mark (heap_of before) n true) → SameTokens before after
     → IsOpenAt plan after next (up (cursor_in before stack)) (tree_in_slots before stack)
+    × AllStayPut (kid_here before stack) (kid_here after next)
 open_left plan before after stack next open_now below n taken shows tokens =
     let k : Kid = kid_shown (heap_of before) stack in
     let way = below_root (cursor_in before stack) below in
@@ -196,11 +221,16 @@ open_left plan before after stack next open_now below n taken shows tokens =
     let stored : (m : ℕ) → heap_of after m ≡ with_mark (heap_of before) top.slot true m
     = λ m. shows m ∙ ap (λ (x : ℕ). with_mark (heap_of before) x true m) (sym same) in
     let found = parent_of way.0 way.1 k stands.leads in
+    let after_it : Stands plan (heap_of after) next way.0 (put_at place (at top.slot true top.plot) k)
+    = stands_left plan (heap_of before) (heap_of after) stack next way.0 way.1 k stands top stored found
+    (sym (same_front (slots_above place k) next top.slot n both)) in
     let left : IsOpenAt plan after next way.0 (tree_of k)
-    = open_at_from plan after next way.0 (put_at place (at top.slot true top.plot) k) (tree_of k)
-    (stands_left plan (heap_of before) (heap_of after) stack next way.0 way.1 k stands top stored found
-    (sym (same_front (slots_above place k) next top.slot n both)))
+    = open_at_from plan after next way.0 (put_at place (at top.slot true top.plot) k) (tree_of k) after_it
     (λ t. tokens t ∙ open_now.tokens t
     ∙ sym (tokens_left plan (heap_of before) (heap_of after) stack next way.0 way.1 k stands top stored found t))
-    (tree_left plan (heap_of before) (heap_of after) stack next way.0 way.1 k stands top stored found) in
-    subst (λ (p : Place). IsOpenAt plan after next p (tree_of k)) (sym (ap up way.2 ∙ up_append way.0 way.1)) left
+    (all_left plan (heap_of before) (heap_of after) stack next way.0 way.1 k stands top stored found open_now.all)
+    (tree_left plan (heap_of before) (heap_of after) stack next way.0 way.1 k stands top stored found) in (
+      subst (λ (p : Place). IsOpenAt plan after next p (tree_of k)) (sym (ap up way.2 ∙ up_append way.0 way.1)) left,
+      stay_shown plan after next way.0 (put_at place (at top.slot true top.plot) k) k after_it
+          (stay_left plan (heap_of before) (heap_of after) stack next way.0 way.1 k stands top stored found),
+    )

@@ -1,6 +1,6 @@
 -- Laws of the place on top of the stack, for proofs: what it is, and what a change of it does.
 use Rattle.std.proofs.Common.{◌≡◌, ◌≢◌, ◌⊎◌, ℕ, suc, ◌+◌, ◌<◌, ◌≤◌, Bool, true, false, List, [], ◌∷◌, ◌++◌, append-nil, length, nat_eq, option_map, Option, Some, None, inl, inr, refl, sym, ◌∙◌, ap, subst, arith}
-use Rattle.std.specs.Prelude.{if◌then◌else◌}
+use Rattle.std.specs.Prelude.{IsSome, is_some, if◌then◌else◌}
 use Rattle.std.proofs.lemmas.Grind.{common_steps}
 use Rattle.std.proofs.lemmas.Bool.Decides.{nat_tests}
 use Rattle.fr_shape.specs.declared.shape.Def.{Def}
@@ -8,7 +8,9 @@ use Rattle.fr_model.specs.Places.{Place}
 use Rattle.fr_model.specs.Tree.{Form, Trees, begun, branch}
 use Rattle.fr_plan.specs.declared.nodes.NodeId.{NodeId}
 use Rattle.fr_plan.specs.TypePlan.{Plan}
+use Rattle.fr_path.specs.declared.path_steps.PathStep.{PathStep}
 use Rattle.fr_frame.specs.declared.places.FrameOwner.{FrameOwner}
+use Rattle.fr_frame.specs.declared.places.SlotId.{SlotId}
 use Rattle.fr_frame.specs.Bodies.{Body, body_occurs, linked, unlinked, IsClosed, AreUnplaced, own_tree, trees_of}
 use Rattle.fr_frame.specs.Cells.{cells_occur}
 use Rattle.fr_frame.specs.Heap.{Node, Heap, with_slot, with_body, without, with_entered, entered_node, links, marked, stored_in, depth_limit}
@@ -39,6 +41,62 @@ body_here heap n change found is =
 
 pub body_other : (heap : Heap) (n : ℕ) (change : Body → Body) (m : ℕ) → m ≢ n → with_body heap n change m ≡ heap m
 body_other heap n change m ne = slot_other heap n (option_map (λ (x : Node). record x { body = change x.body }) (heap n)) m ne
+
+-- a free slot isn't in use
+pub free_unused : (heap : Heap) (n : ℕ) → heap n ≡ None → IsSome (heap n) → ⊥
+free_unused heap n free used = let wrong : false ≡ true = sym (ap is_some free) ∙ used in cc
+
+-- where what stands in a slot was changed, the slots in use are those that were
+pub used_mapped : (heap : Heap) (n : ℕ) (change : Node → Node) (m : ℕ)
+    → IsSome (with_slot heap n (option_map change (heap n)) m) → IsSome (heap m)
+used_mapped heap n change m used = go (same_or_other m n)
+  where
+    was : (found : Option Node) → IsSome (option_map change found) → IsSome found
+    was (Some found) h = refl
+    was None h = h
+
+    go : (m ≡ n) ⊎ (m ≢ n) → IsSome (heap m)
+    go (inl e) =
+        subst (λ (x : ℕ). IsSome (heap x)) (sym e)
+        (was (heap n)
+        (subst (λ (o : Option Node). IsSome o) (slot_here heap n (option_map change (heap n)))
+        (subst (λ (x : ℕ). IsSome (with_slot heap n (option_map change (heap n)) x)) e used)))
+    go (inr ne) = subst (λ (o : Option Node). IsSome o) (slot_other heap n (option_map change (heap n)) m ne) used
+
+-- where a child of the place in slot p entered slot n, that slot alone came into use
+pub used_entered : (def : Def) (heap : Heap) (node : NodeId) (p : SlotId) (step : PathStep) (n m : ℕ)
+    → IsSome (with_entered def heap node (FrameOwner.Child p step) n m) → (m ≡ n) ⊎ IsSome (heap m)
+used_entered def heap node p step n m used = go (same_or_other m n)
+  where
+    owner : FrameOwner
+    owner = FrameOwner.Child p step
+
+    go : (m ≡ n) ⊎ (m ≢ n) → (m ≡ n) ⊎ IsSome (heap m)
+    go (inl e) = inl e
+    go (inr ne) =
+        inr
+        (used_mapped heap p.0 (λ (x : Node). record x { body = linked n step x.body }) m
+        (subst (λ (o : Option Node). IsSome o)
+        (slot_other (links owner n heap) n (Some (entered_node def heap node owner)) m ne) used))
+
+-- a slot that was freed isn't in use, and no other came into use
+pub used_without : (heap : Heap) (n : ℕ) (owner : FrameOwner) (m : ℕ) → IsSome (without heap n owner m)
+    → (m ≢ n) × IsSome (heap m)
+used_without heap n owner m used = go owner used
+  where
+    freed : IsSome (with_slot heap n None m) → (m ≢ n) × IsSome (heap m)
+    freed h = (apart, subst (λ (o : Option Node). IsSome o) (slot_other heap n None m apart) h)
+      where
+        apart : m ≢ n
+        apart e =
+            free_unused (with_slot heap n None) m
+            (ap (λ (x : ℕ). with_slot heap n None x) e ∙ slot_here heap n None) h
+
+    go : (owner : FrameOwner) → IsSome (without heap n owner m) → (m ≢ n) × IsSome (heap m)
+    go FrameOwner.Root h = freed h
+    go (FrameOwner.Child parent step) h =
+        freed
+        (used_mapped (with_slot heap n None) parent.0 (λ (x : Node). record x { body = unlinked n step x.body }) m h)
 
 -- Marks.
 
@@ -248,6 +306,14 @@ keeps_closed old new closed = record {
   once = λ n. omega (arith, closed_uses new n closed);
   holds = λ plan heap node slot depth h. closed_holds plan heap node slot depth new closed;
 }
+
+-- each child that was in a slot is in it still
+abbrev pub LosesNone : (old new : Plot) → Type 0
+LosesNone old new = (n : ℕ) → uses_in old n ≤ uses_in new n
+
+-- none was in one
+pub loses_none : (old new : Plot) → IsClosed (body_in old) → LosesNone old new
+loses_none old new closed n = omega (arith, closed_uses old n closed)
 
 pub keeps_same : (plot : Plot) → KeepsChildren plot plot
 keeps_same plot = record {

@@ -1,6 +1,6 @@
 -- Laws of a turn in slots, for proofs: from what its calls say to what it owes.
-use Rattle.std.proofs.Common.{◌≡◌, ◌≢◌, ◌⊎◌, ℕ, zero, suc, ◌+◌, ◌<◌, List, [], ◌∷◌, append-nil, length, slice_get, Option, Some, None, option_map, unwrap_or, inl, inr, refl, sym, ◌∙◌, ap, subst, arith}
-use Rattle.std.specs.Prelude.{is_some, IsSomeAnd}
+use Rattle.std.proofs.Common.{◌≡◌, ◌≢◌, ◌⊎◌, ℕ, zero, suc, ◌+◌, ◌<◌, true, false, List, [], ◌∷◌, append-nil, length, slice_get, Option, Some, None, option_map, unwrap_or, inl, inr, refl, sym, ◌∙◌, ap, subst, arith}
+use Rattle.std.specs.Prelude.{is_some, IsSome, IsSomeAnd}
 use Rattle.fr_shape.specs.declared.error.ReflectErrorKind.{ReflectErrorKind}
 use Rattle.fr_shape.specs.Checked.{IsChecked}
 use Rattle.fr_shape.specs.Hooks.{Meanings}
@@ -33,28 +33,28 @@ use Rattle.fr_frame.specs.Defaults.{WhyNotDefault}
 use Rattle.fr_frame.specs.Heap.{Node, heap_of, slots_occur, with_body, without}
 use Rattle.fr_frame.specs.Kids.{Kid, gone, there, tree_of, cell_of, cells_in, kid_occurs, child_owner}
 use Rattle.fr_store.specs.ClosingLaws.{completes_still}
-use Rattle.fr_store.specs.Moves.{IsAbove, IsNumbered, IsOpenAt, IsStepTo, cursor_in, tree_in_slots}
+use Rattle.fr_store.specs.Moves.{OwnerIsIn, OwnerIsNumbered, IsOpenAt, IsStepTo, cursor_in, tree_in_slots}
 use Rattle.fr_store.specs.OffLaws.{reach_place}
 use Rattle.fr_store.specs.ShapeLaws.{IsOfShape, Along, along, root_shaped}
 use Rattle.fr_store.specs.StandLaws.{cursor_is, kid_is, stands_shown, tree_is}
 use Rattle.fr_store.specs.Stands.{IsOpen, Stands}
-use Rattle.fr_store.specs.TopLaws.{closed_tree, slot_here}
+use Rattle.fr_store.specs.TopLaws.{closed_tree, closed_uses, slot_here}
 use Rattle.fr_store.specs.TurnLaws.{Over, due_apart, due_found, due_node, due_off, due_over, in_use_last, last_here, last_other, last_over, marked_last, mid_absent, mid_over, over_found, over_node, stands_turned}
 use Rattle.fr_store.specs.Turning.{HasTurned, IsLackingAt, KeepsTheRest, MayTurn, kid_here}
 use Rattle.fr_store.specs.Turns.{CompletesAsBefore, root_shape}
 use Rattle.fr_store.specs.Walks.{IsStoredAt}
-use Rattle.fr_store.specs.Ways.{kid_at, kid_nth, put_at, put_nth, Leads, Reaches, node_along}
-use Rattle.fr_store.specs.WayLaws.{leads_reach, occurs_put_at, tree_of_at, tree_put_at, tree_tokens}
+use Rattle.fr_store.specs.Ways.{kid_at, kid_nth, put_at, put_nth, uses, Leads, Reaches, node_along}
+use Rattle.fr_store.specs.WayLaws.{counts_other, leads_reach, occurs_put_at, same_or_other, tree_of_at, tree_put_at, tree_tokens, uses_put_at}
 
 -- A place of a plan.
 
-shape_found : (plan : Plan) (node : NodeId) (s : ℕ) → IsOfShape plan node s → shape_of plan node ≡ s
+pub shape_found : (plan : Plan) (node : NodeId) (s : ℕ) → IsOfShape plan node s → shape_of plan node ≡ s
 shape_found plan node s is =
     ap
     (λ (found : Option TypePlanNode). (unwrap_or (option_map (λ (x : TypePlanNode). x.shape) found) (record { 0 = 0 })).0)
     is.there ∙ is.shape
 
-is_there : {A : Type 0} (xs : List A) (i : ℕ) (x : A) → slice_get xs i ≡ Some x → i < length xs
+pub is_there : {A : Type 0} (xs : List A) (i : ℕ) (x : A) → slice_get xs i ≡ Some x → i < length xs
 is_there [] i x e = cc
 is_there (y ∷ ys) zero x e = omega arith
 is_there (y ∷ ys) (suc i) x e = let rest = is_there ys i x e in omega arith
@@ -98,13 +98,14 @@ shape_along table plan node s tree shaped = shape_found plan node s shaped.node_
 
 -- A builder that is open, from what stands.
 pub open_shown : (plan : Plan) (slots : List Slot) (stack : List ℕ) (place : Place) (k : Kid) (tree : Tree)
-    → Stands plan (heap_of slots) stack place k → ((t : ℕ) → slots_occur slots t ≡ kid_occurs k t) → tree_of k ≡ tree
-    → IsOpenAt plan slots stack place tree
-open_shown plan slots stack place k tree stands tokens is = record {
+    → Stands plan (heap_of slots) stack place k → ((t : ℕ) → slots_occur slots t ≡ kid_occurs k t)
+    → ((n : ℕ) → IsSome (heap_of slots n) → 0 < uses k n) → tree_of k ≡ tree → IsOpenAt plan slots stack place tree
+open_shown plan slots stack place k tree stands tokens all is = record {
   open_still = record {
     stands = stands_shown plan (heap_of slots) stack place k stands;
     tokens = λ t.
         tokens t ∙ ap (λ (x : Kid). kid_occurs x t) (sym (kid_is plan (heap_of slots) stack place k stands));
+    all = λ n used. subst (λ (x : Kid). 0 < uses x n) (sym (kid_is plan (heap_of slots) stack place k stands)) (all n used);
   };
   cursor = cursor_is plan (heap_of slots) stack place k stands;
   built = tree_is plan (heap_of slots) stack place k stands ∙ is;
@@ -137,12 +138,12 @@ module _ (plan : Plan) (before : List Slot) (stack : List ℕ) (n : ℕ) (open_n
   unfolding below
   owner = over.owner
 
-  pub numbered : IfInUse before n (λ (x : Node). IsNumbered x.owner)
+  pub numbered : IfInUse before n (λ (x : Node). OwnerIsNumbered x.owner)
   numbered =
-      so_said (λ (x : Node). IsNumbered x.owner)
-      (subst (λ (o : FrameOwner). IsNumbered o) (sym owner) (go over.form))
+      so_said (λ (x : Node). OwnerIsNumbered x.owner)
+      (subst (λ (o : FrameOwner). OwnerIsNumbered o) (sym owner) (go over.form))
     where
-      go : (form : Form) → IsNumbered (child_owner over.slot form over.i)
+      go : (form : Form) → OwnerIsNumbered (child_owner over.slot form over.i)
       go as_struct = tt
       go as_array = tt
 
@@ -151,8 +152,8 @@ module _ (plan : Plan) (before : List Slot) (stack : List ℕ) (n : ℕ) (open_n
   step_is step told =
       subst (λ (o : FrameOwner). IsStepTo step o) owner (said (λ (x : Node). IsStepTo step x.owner) told)
 
-  pub slot_is : (m : ℕ) → IfInUse before n (λ (x : Node). IsAbove m x.owner) → m ≡ over.slot
-  slot_is m told = subst (λ (o : FrameOwner). IsAbove m o) owner (said (λ (x : Node). IsAbove m x.owner) told)
+  pub slot_is : (m : ℕ) → IfInUse before n (λ (x : Node). OwnerIsIn m x.owner) → m ≡ over.slot
+  slot_is m told = subst (λ (o : FrameOwner). OwnerIsIn m o) owner (said (λ (x : Node). OwnerIsIn m x.owner) told)
 
   own : own_tree below.body ≡ tree_at due.place (tree_in_slots before stack)
   unfolding below
@@ -210,7 +211,7 @@ module _ (plan : Plan) (before : List Slot) (stack : List ℕ) (n : ℕ) (open_n
     module _ (means : Meanings) (keeps_tokens : CompletingKeepsTokens) (first mid last : List Slot) (parent : ℕ)
         (step : PathStep) (v : Val)
         (to : IfInUse before n (λ (x : Node). IsStepTo step x.owner))
-        (from : IfInUse before n (λ (x : Node). IsAbove parent x.owner))
+        (from : IfInUse before n (λ (x : Node). OwnerIsIn parent x.owner))
         (filled : IfInUse before n (FillsAt deferred_column means table plan before first n))
         (worth : IfInUse first n (λ (x : Node). value_of x.body ≡ Some v))
         (left : IfInUse first n (λ (x : Node). Shows mid (without (heap_of first) n x.owner))) where
@@ -322,6 +323,33 @@ module _ (plan : Plan) (before : List Slot) (stack : List ℕ) (n : ℕ) (open_n
             omega
             (arith, same_tokens t, open_now.tokens t, value, part, occurs_put_at due.place (there v) (kid_here before stack) t due.reaches)
 
+        -- each slot in use is that of a place
+        all_after : (m : ℕ) → IsSome (heap_of last m) → 0 < uses kid_after m
+        unfolding kid_after
+        all_after m used = go (same_or_other m n)
+          where
+            free : heap_of last n ≡ None
+            free =
+                last_here (heap_of before) (heap_of first) (heap_of mid) (heap_of last) n over.slot over.i below above fills.body
+                over.form over.kids v apart found above_found above_begun over.within child owner fills.becomes leaves ends
+
+            as_before : m ≢ n → is_some (heap_of last m) ≡ is_some (heap_of before m)
+            as_before =
+                in_use_last (heap_of before) (heap_of first) (heap_of mid) (heap_of last) n over.slot over.i below above
+                fills.body over.form over.kids v apart found above_found above_begun over.within child owner fills.becomes
+                leaves ends m
+
+            go : (m ≡ n) ⊎ (m ≢ n) → 0 < uses (put_at due.place (there v) (kid_here before stack)) m
+            go (inl e) =
+                let none : false ≡ true = sym (ap (λ (x : ℕ). is_some (heap_of last x)) e ∙ ap is_some free) ∙ used in
+                absurd (cc)
+            go (inr ne) =
+                let served = open_now.all m (sym (as_before ne) ∙ used) in
+                let replaced = uses_put_at due.place (there v) (kid_here before stack) m due.reaches in
+                let is = ap (λ (x : Kid). uses x m) due.is in
+                let other = counts_other n m (λ e. ne (sym e)) in
+                omega (arith, closed_uses due.plot m due.closed)
+
         tree_after : tree_of kid_after ≡ closed_at due.place v (tree_in_slots before stack)
         unfolding kid_after
         tree_after = tree_put_at due.place (there v) (kid_here before stack)
@@ -333,9 +361,8 @@ module _ (plan : Plan) (before : List Slot) (stack : List ℕ) (n : ℕ) (open_n
         open_after : IsOpenAt plan last stack (cursor_in before stack) (closed_at due.place v (tree_in_slots before stack))
         open_after =
             open_shown plan last stack (cursor_in before stack) kid_after
-            (closed_at due.place v (tree_in_slots before stack)) stands_after tokens_after tree_after
+            (closed_at due.place v (tree_in_slots before stack)) stands_after tokens_after all_after tree_after
 
-        -- first
         pub has_turned : HasTurned means table plan before stack last n
         has_turned = record {
           place = due.place;
@@ -369,7 +396,6 @@ module _ (plan : Plan) (before : List Slot) (stack : List ℕ) (n : ℕ) (open_n
           makes = makes;
         }
 
-        -- second
         pub keeps_the_rest : ClosingKeepsCompletion → ClosingKeepsFailures → ClosingKeepsFinish → ClosingKeepsFailuresOff
             → KeepsTheRest means table plan before stack last
         keeps_the_rest completion failing finish failing_off = record {

@@ -1,5 +1,5 @@
--- One turn of the walk over stored places: what it asks for, and the three things that it owes.
-use Rattle.std.specs.Prelude.{◌≡◌, ◌≢◌, ℕ, Bool, true, false, List, ◌++◌, is_some, Some, None}
+-- One turn of the walk over stored places: what it asks for and what it owes. And all turns of it, one after another.
+use Rattle.std.specs.Prelude.{◌≡◌, ◌≢◌, ℕ, Bool, true, false, List, [], ◌∷◌, ◌++◌, is_some, Some, None}
 use Rattle.std.specs.List.{Contains}
 use Rattle.fr_shape.specs.declared.error.ReflectErrorKind.{ReflectErrorKind}
 use Rattle.fr_shape.specs.Hooks.{Meanings}
@@ -20,8 +20,10 @@ use Rattle.fr_frame.specs.Changes.{SameTokens}
 use Rattle.fr_frame.specs.Heap.{heap_of, marked}
 use Rattle.fr_frame.specs.Kids.{Kid, at, Plot, there, body_in}
 use Rattle.fr_store.specs.Moves.{IsOpenAt, cursor_in, tree_in_slots}
-use Rattle.fr_store.specs.Stands.{kid_shown, IsOpen}
-use Rattle.fr_store.specs.Turns.{root_shape, CompletesAsBefore, Turned}
+pub use Rattle.fr_store.specs.Stands.{kid_here}
+use Rattle.fr_store.specs.Stands.{IsOpen}
+use Rattle.fr_store.specs.Staying.{StaysPut}
+use Rattle.fr_store.specs.Turns.{root_shape, CompletesAsBefore, KeepThoseLeft, Turned}
 use Rattle.fr_store.specs.Walks.{IsStoredAt, AreInWalkOrder, IsWalk}
 use Rattle.fr_store.specs.Ways.{kid_at, put_at, Reaches}
 
@@ -31,10 +33,6 @@ is_entered entered_body = true
 is_entered (whole_body v) = false
 is_entered (begun_body form cells) = false
 
--- what lies in the slots of an open builder
-abbrev pub kid_here : List Slot → List ℕ → Kid
-kid_here slots stack = kid_shown (heap_of slots) stack
-
 -- it is a place's turn: the place in this slot is stored, and nothing beneath it is in a slot
 pub record MayTurn (slots : List Slot) (stack : List ℕ) (slot : ℕ) : Type 0 where
   pub place : Place
@@ -43,8 +41,8 @@ pub record MayTurn (slots : List Slot) (stack : List ℕ) (slot : ℕ) : Type 0 
   pub is : kid_at place (kid_here slots stack) ≡ at slot true plot
   pub closed : IsClosed (body_in plot)
 
--- First: at its own turn the place in this slot made a value by the rules of the end of deferred mode, and became whole with it in
--- the place above. The tree changed at that place alone, the builder works where it did, and one slot fewer is in use.
+-- At its own turn the place in this slot made a value by the rules of the end of deferred mode, and became whole with it in the
+-- place above. The tree changed at that place alone, the builder works where it did, and one slot fewer is in use.
 pub record HasTurned (means : Meanings) (table : Table) (plan : Plan) (before : List Slot) (stack : List ℕ) (after : List Slot) (slot : ℕ) : Type 0 where
   pub place : Place
   pub stored : IsStoredAt (kid_here before stack) slot place
@@ -61,8 +59,8 @@ pub record HasTurned (means : Meanings) (table : Table) (plan : Plan) (before : 
   pub others : (n : ℕ) → n ≢ slot → is_some (heap_of after n) ≡ is_some (heap_of before n)
   pub marks : (n : ℕ) → marked (heap_of after) n ≡ true → marked (heap_of before) n ≡ true
 
--- Second: each place that is stored still completes as before, so does the one at which the builder works, and so does the whole
--- along the way there.
+-- A turn leaves the rest as it was: each place that is stored still completes as before, so does the one at which the builder
+-- works, and so does the whole along the way there.
 pub record KeepsTheRest (means : Meanings) (table : Table) (plan : Plan) (before : List Slot) (stack : List ℕ) (after : List Slot) : Type 0 where
   pub still : (slot : ℕ) (place : Place) → IsStoredAt (kid_here after stack) slot place
       → CompletesAsBefore means table (root_shape plan) (tree_in_slots before stack) (tree_in_slots after stack) place
@@ -76,7 +74,7 @@ pub record KeepsTheRest (means : Meanings) (table : Table) (plan : Plan) (before
       → failures_off means table (root_shape plan) path (cursor_in before stack) (tree_in_slots after stack)
       ≡ failures_off means table (root_shape plan) path (cursor_in before stack) (tree_in_slots before stack)
 
--- Third: the place in this slot makes no value, and the refusal is of what it lacks by itself.
+-- The place in this slot makes no value, and the refusal is of what it lacks by itself.
 pub record IsLackingAt (means : Meanings) (table : Table) (plan : Plan) (slots : List Slot) (stack : List ℕ) (slot : ℕ) (kind : ReflectErrorKind) : Type 0 where
   pub place : Place
   pub stored : IsStoredAt (kid_here slots stack) slot place
@@ -100,6 +98,8 @@ pub record Walked (means : Meanings) (table : Table) (plan : Plan) (before : Lis
   pub done : List Place
   pub split : first.places ≡ done ++ left.places
   pub turned : Turned means table (root_shape plan) (tree_in_slots before stack) done (tree_in_slots now stack)
+  pub kept :
+      KeepThoseLeft means table (root_shape plan) (tree_in_slots before stack) (tree_in_slots before stack) done left.places
   pub here :
       CompletesAsBefore means table (root_shape plan) (tree_in_slots before stack) (tree_in_slots now stack)
       (cursor_in before stack)
@@ -133,8 +133,8 @@ LacksHere means table plan slots stack kind =
     (tree_at (cursor_in slots stack) (tree_in_slots slots stack))
     ≡ Some kind
 
--- The end of deferred mode came about turn by turn: just the places that were stored had their turn, in the order of the walk, and
--- then the place at which the builder works was finished.
+-- The end of deferred mode came about turn by turn: just the places that were stored had their turn, in the order of the walk, at
+-- every turn those still to come completed as at the start, and then the place at which the builder works was finished.
 pub record CameByTurns (means : Meanings) (table : Table) (plan : Plan) (before : List Slot) (stack : List ℕ) (after : List Slot) (stack_after : List ℕ) : Type 0 where
   pub done : List Place
   pub order : AreInWalkOrder (tree_in_slots before stack) done
@@ -142,9 +142,35 @@ pub record CameByTurns (means : Meanings) (table : Table) (plan : Plan) (before 
   pub each : (place : Place) → Contains done place → (slot : ℕ) × IsStoredAt (kid_here before stack) slot place
   pub tree : Tree
   pub turned : Turned means table (root_shape plan) (tree_in_slots before stack) done tree
+  pub kept : KeepThoseLeft means table (root_shape plan) (tree_in_slots before stack) (tree_in_slots before stack) done []
   pub here : Tree
   pub finishes :
       finished_here means table (shape_in table (root_shape plan) (cursor_in before stack) tree)
       (tree_at (cursor_in before stack) tree)
       ≡ Some here
   pub last : tree_in_slots after stack_after ≡ change_at (cursor_in before stack) (λ old. here) tree
+
+-- the first of the places that are left; the one at which the builder works if none is
+abbrev pub next_place : (left : List Place) → (cursor : Place) → Place
+next_place [] cursor = cursor
+next_place (place ∷ places) cursor = place
+
+-- The end of deferred mode stopped at a place: of the stored places, in the order of the walk, those before it had their turn, at
+-- every turn those still to come completed as at the start, and that place then lacks this by itself.
+pub record StoppedByTurns (means : Meanings) (table : Table) (plan : Plan) (before : List Slot) (stack : List ℕ) (kind : ReflectErrorKind) : Type 0 where
+  pub done : List Place
+  pub left : List Place
+  pub order : AreInWalkOrder (tree_in_slots before stack) (done ++ left)
+  pub all : (slot : ℕ) (place : Place) → IsStoredAt (kid_here before stack) slot place → Contains (done ++ left) place
+  pub each : (place : Place) → Contains (done ++ left) place → (slot : ℕ) × IsStoredAt (kid_here before stack) slot place
+  pub tree : Tree
+  pub turned : Turned means table (root_shape plan) (tree_in_slots before stack) done tree
+  pub kept : KeepThoseLeft means table (root_shape plan) (tree_in_slots before stack) (tree_in_slots before stack) done left
+  pub lacks :
+      own_lack means table (shape_in table (root_shape plan) (next_place left (cursor_in before stack)) tree)
+      (tree_at (next_place left (cursor_in before stack)) tree)
+      ≡ Some kind
+
+-- each place on the way to the one at which the builder works stays in its slot
+abbrev pub OpenStayPut : (before after : Kid) → (cursor : Place) → Type 0
+OpenStayPut before after cursor = (place below : Place) → cursor ≡ place ++ below → StaysPut before after place

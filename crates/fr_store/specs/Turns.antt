@@ -1,5 +1,6 @@
 -- The walk over stored places at the end of deferred mode, turn by turn, and what comes of it.
-use Rattle.std.specs.Prelude.{◌≡◌, ℕ, List, [], ◌∷◌, Some, None}
+use Rattle.std.specs.Prelude.{◌≡◌, ℕ, List, [], ◌∷◌, ◌++◌, Some, None}
+use Rattle.std.specs.List.{All}
 use Rattle.fr_shape.specs.declared.error.ReflectErrorKind.{ReflectErrorKind}
 use Rattle.fr_shape.specs.Hooks.{Meanings}
 use Rattle.fr_shape.specs.Look.{Table}
@@ -31,6 +32,14 @@ pub record CompletesAsBefore (means : Meanings) (table : Table) (s : ℕ) (befor
   pub failing : (path : List PathStep)
       → failures means table (shape_in table s place after) path (tree_at place after)
       ≡ failures means table (shape_in table s place before) path (tree_at place before)
+
+-- Of the places whose turn is still to come each completes as at the start: at every one of these turns, and after the last of them.
+abbrev pub KeepThoseLeft : Meanings → Table → ℕ → (start before : Tree) → (done left : List Place) → Type 0
+KeepThoseLeft means table s start before [] left = All (CompletesAsBefore means table s start before) left
+KeepThoseLeft means table s start before (place ∷ places) left =
+    All (CompletesAsBefore means table s start before) (place ∷ places ++ left)
+    × ((v : Val) → complete deferred_column means table (shape_in table s place before) (tree_at place before) ≡ Some v
+    → KeepThoseLeft means table s start (change_at place (λ old. whole v) before) places left)
 
 -- the root's shape, by the plan
 abbrev pub root_shape : Plan → ℕ

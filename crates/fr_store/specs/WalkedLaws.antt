@@ -1,5 +1,7 @@
 -- Laws of a walk, for proofs: it begins, goes on by a turn, is refused, or comes to its end.
-use Rattle.std.proofs.Common.{◌≡◌, ℕ, true, List, [], ◌∷◌, ◌++◌, append-nil, append_assoc, Some, None, refl, sym, ◌∙◌, ap, subst}
+use Rattle.std.proofs.Common.{◌≡◌, ◌⊎◌, ℕ, true, List, [], ◌∷◌, ◌++◌, append-nil, append_assoc, get_or, Some, None, inl, inr, refl, sym, ◌∙◌, ap, subst, arith}
+use Rattle.std.specs.List.{All, Contains}
+use Rattle.std.proofs.lemmas.List.Elements.{All-tail, Contains-get_or}
 use Rattle.fr_shape.specs.declared.error.ReflectErrorKind.{ReflectErrorKind}
 use Rattle.fr_shape.specs.Checked.{IsChecked}
 use Rattle.fr_shape.specs.Hooks.{Meanings}
@@ -21,14 +23,14 @@ use Rattle.fr_frame.specs.declared.places.Slot.{Slot}
 use Rattle.fr_frame.specs.Changes.{SameTokens}
 use Rattle.fr_frame.specs.Kids.{Kid, there}
 use Rattle.fr_store.specs.ClosingLaws.{steps_kept, suits_at, suits_change}
-use Rattle.fr_store.specs.HeadLaws.{Head, head_closed, head_of, one_place, walk_on}
+use Rattle.fr_store.specs.HeadLaws.{Head, contains_cases, head_closed, head_of, one_place, walk_on}
 use Rattle.fr_store.specs.HeldLaws.{first_fails, held_by_first, leads_deferred}
 use Rattle.fr_store.specs.Moves.{cursor_in, tree_in_slots}
 use Rattle.fr_store.specs.OffLaws.{reach_place}
 use Rattle.fr_store.specs.Stands.{IsOpen}
-use Rattle.fr_store.specs.Turning.{HasTurned, IsLackingAt, KeepsTheRest, MayTurn, Walked, kid_here}
-use Rattle.fr_store.specs.Turns.{CompletesAsBefore, IsHeldUp, Turned, root_shape}
-use Rattle.fr_store.specs.Walks.{IsStoredAt, IsWalk}
+use Rattle.fr_store.specs.Turning.{HasTurned, IsLackingAt, KeepsTheRest, MayTurn, StoppedByTurns, Walked, kid_here, next_place}
+use Rattle.fr_store.specs.Turns.{CompletesAsBefore, IsHeldUp, KeepThoseLeft, Turned, root_shape}
+use Rattle.fr_store.specs.Walks.{AreInWalkOrder, AreStoredAt, IsStoredAt, IsWalk}
 use Rattle.fr_store.specs.Ways.{put_at, Leads}
 use Rattle.fr_store.specs.WayLaws.{leads_reach}
 
@@ -59,6 +61,61 @@ as_before_again means table s before now next place first second = record {
   failing = λ path. second.failing path ∙ first.failing path;
 }
 
+-- of the places that are left each completes as at the start
+kept_now : (means : Meanings) (table : Table) (s : ℕ) (start before : Tree) (done left : List Place) (now : Tree)
+    → KeepThoseLeft means table s start before done left → Turned means table s before done now
+    → All (CompletesAsBefore means table s start now) left
+kept_now means table s start before [] left now kept turned =
+    subst (λ (t : Tree). All (CompletesAsBefore means table s start t) left) (sym turned) kept
+kept_now means table s start before (first ∷ done) left now kept turned =
+    kept_now means table s start (change_at first (λ old. whole turned.0) before) done left now (kept.1 turned.0 turned.1) turned.2
+
+-- so it is after one turn more
+kept_more : (means : Meanings) (table : Table) (s : ℕ) (start before : Tree) (done left : List Place) (now : Tree)
+    (place : Place) (v : Val) (next : Tree) → KeepThoseLeft means table s start before done (place ∷ left)
+    → Turned means table s before done now
+    → complete deferred_column means table (shape_in table s place now) (tree_at place now) ≡ Some v
+    → next ≡ change_at place (λ old. whole v) now → All (CompletesAsBefore means table s start next) left
+    → KeepThoseLeft means table s start before (done ++ place ∷ []) left
+kept_more means table s start before [] left now place v next kept turned makes is after = (
+  kept,
+  λ w same.
+      let both : Some w ≡ Some v
+      = sym same ∙ ap (λ (t : Tree). complete deferred_column means table (shape_in table s place t) (tree_at place t)) (sym turned)
+      ∙ makes in
+      let value : w ≡ v = cc in
+      subst (λ (t : Tree). All (CompletesAsBefore means table s start t) left)
+      (is ∙ ap (λ (x : Val). change_at place (λ old. whole x) now) (sym value)
+      ∙ ap (λ (t : Tree). change_at place (λ old. whole w) t) turned)
+      after,
+)
+kept_more means table s start before (first ∷ done) left now place v next kept turned makes is after = (
+  subst (λ (l : List Place). All (CompletesAsBefore means table s start before) (first ∷ l))
+      (sym (append_assoc done (place ∷ []) left)) kept.0,
+  λ w same.
+      let both : Some turned.0 ≡ Some w = sym turned.1 ∙ same in
+      let value : turned.0 ≡ w = cc in
+      subst
+      (λ (x : Val). KeepThoseLeft means table s start (change_at first (λ old. whole x) before) (done ++ place ∷ []) left)
+      value
+      (kept_more means table s start (change_at first (λ old. whole turned.0) before) done left now place v next
+      (kept.1 turned.0 turned.1) turned.2 makes is after),
+)
+
+-- each place of a walk is stored
+pub stored_among : (k : Kid) (slots : List ℕ) (places : List Place) (place : Place) → AreStoredAt k slots places
+    → Contains places place → (slot : ℕ) × IsStoredAt k slot place
+stored_among k [] [] place stored found = absurd (omega (arith, found.1))
+stored_among k [] (first ∷ places) place stored found = absurd stored
+stored_among k (slot ∷ slots) [] place stored found = absurd stored
+stored_among k (slot ∷ slots) (first ∷ places) place stored found =
+    go (contains_cases first places place found) (λ later. stored_among k slots places place stored.1 later)
+  where
+    go : (first ≡ place) ⊎ Contains places place → (Contains places place → (slot : ℕ) × IsStoredAt k slot place)
+        → (slot : ℕ) × IsStoredAt k slot place
+    go (inl e) rest = (slot, subst (IsStoredAt k slot) e stored.0)
+    go (inr later) rest = rest later
+
 module _ (means : Meanings) (table : Table) (plan : Plan) (before : List Slot) (stack : List ℕ) where
   -- the walk begins
   pub walk_begins : (walk : List ℕ) → IsOpen plan before stack → Suits table (root_shape plan) (tree_in_slots before stack)
@@ -72,6 +129,7 @@ module _ (means : Meanings) (table : Table) (plan : Plan) (before : List Slot) (
     done = [];
     split = refl;
     turned = refl;
+    kept = λ i d h. record { value = refl; failing = λ path. refl };
     here = record { value = refl; failing = λ path. refl };
     path = refl;
     finish = refl;
@@ -118,12 +176,15 @@ module _ (means : Meanings) (table : Table) (plan : Plan) (before : List Slot) (
       turned =
           turned_more means table (root_shape plan) (tree_in_slots before stack) walked.done (tree_in_slots now stack)
           head.place turned.value (tree_in_slots next stack) walked.turned
-          (subst
-          (λ (p : Place). complete deferred_column means table (shape_in table (root_shape plan) p (tree_in_slots now stack))
-          (tree_at p (tree_in_slots now stack)) ≡ Some turned.value)
-          same turned.meant)
-          (turned.stands.built
-          ∙ ap (λ (p : Place). change_at p (λ old. whole turned.value) (tree_in_slots now stack)) same);
+          makes next_is;
+      kept =
+          subst
+          (λ (l : List Place). KeepThoseLeft means table (root_shape plan) (tree_in_slots before stack)
+          (tree_in_slots before stack) (walked.done ++ head.place ∷ []) l)
+          (sym on.1)
+          (kept_more means table (root_shape plan) (tree_in_slots before stack) (tree_in_slots before stack) walked.done
+          head.places (tree_in_slots now stack) head.place turned.value (tree_in_slots next stack) kept_head walked.turned
+          makes next_is as_before);
       here =
           as_before_again means table (root_shape plan) (tree_in_slots before stack) (tree_in_slots now stack)
           (tree_in_slots next stack) (cursor_in before stack) walked.here
@@ -157,6 +218,45 @@ module _ (means : Meanings) (table : Table) (plan : Plan) (before : List Slot) (
             (sym (turned.here ∙ ap (λ (p : Place). put_at p (there turned.value) (kid_here now stack)) same))
             (walk_on (kid_here now stack) n rest walked.left head (cursor_in now stack) walked.still.stands.leads
             walked.still.stands.once turned.value)
+
+        makes : complete deferred_column means table (shape_in table (root_shape plan) head.place (tree_in_slots now stack))
+            (tree_at head.place (tree_in_slots now stack))
+            ≡ Some turned.value
+        makes =
+            subst
+            (λ (p : Place). complete deferred_column means table (shape_in table (root_shape plan) p (tree_in_slots now stack))
+            (tree_at p (tree_in_slots now stack)) ≡ Some turned.value)
+            same turned.meant
+
+        next_is : tree_in_slots next stack ≡ change_at head.place (λ old. whole turned.value) (tree_in_slots now stack)
+        next_is =
+            turned.stands.built
+            ∙ ap (λ (p : Place). change_at p (λ old. whole turned.value) (tree_in_slots now stack)) same
+
+        kept_head : KeepThoseLeft means table (root_shape plan) (tree_in_slots before stack) (tree_in_slots before stack)
+            walked.done (head.place ∷ head.places)
+        kept_head =
+            subst
+            (λ (l : List Place). KeepThoseLeft means table (root_shape plan) (tree_in_slots before stack)
+            (tree_in_slots before stack) walked.done l)
+            head.is walked.kept
+
+        -- those that are still left complete as before this turn, and so as at the start
+        as_before : All
+            (CompletesAsBefore means table (root_shape plan) (tree_in_slots before stack) (tree_in_slots next stack))
+            head.places
+        as_before i d h =
+            let place : Place = get_or head.places i d in
+            let first = All-tail
+            (CompletesAsBefore means table (root_shape plan) (tree_in_slots before stack) (tree_in_slots now stack)) head.place
+            head.places
+            (kept_now means table (root_shape plan) (tree_in_slots before stack) (tree_in_slots before stack) walked.done
+            (head.place ∷ head.places) (tree_in_slots now stack) kept_head walked.turned) in
+            let lies = stored_among (kid_here next stack) rest head.places place
+            (subst (λ (l : List Place). AreStoredAt (kid_here next stack) rest l) on.1 on.0.stored)
+            (Contains-get_or head.places i d h) in
+            as_before_again means table (root_shape plan) (tree_in_slots before stack) (tree_in_slots now stack)
+            (tree_in_slots next stack) place (first i d h) (keeps.still lies.0 place lies.1)
 
         has : HasPlace turned.place (tree_in_slots now stack)
         has = reach_place turned.place (kid_here now stack) turned.stored.reaches
@@ -217,3 +317,27 @@ module _ (means : Meanings) (table : Table) (plan : Plan) (before : List Slot) (
             held_by_first refuses means table (root_shape plan) (cursor_in before stack) (tree_in_slots before stack) kind
             (leads_deferred 0 (cursor_in before stack) (kid_here before stack) open_first.stands.leads)
             (ap (λ (fs : List Failure). kind_of (first_by_walk fs)) (sym as_at_first) ∙ fails)
+
+    -- there it stopped
+    pub walk_stopped : (kind : ReflectErrorKind) → IsLackingAt means table plan now stack n kind
+        → StoppedByTurns means table plan before stack kind
+    walk_stopped kind lacks = record {
+      done = walked.done;
+      left = walked.left.places;
+      order = subst (AreInWalkOrder (tree_in_slots before stack)) walked.split walked.first.order;
+      all = λ slot place stored.
+          subst (λ (l : List Place). Contains l place) walked.split (walked.first.all slot place stored);
+      each = λ place found.
+          stored_among (kid_here before stack) walk walked.first.places place walked.first.stored
+          (subst (λ (l : List Place). Contains l place) (sym walked.split) found);
+      tree = tree_in_slots now stack;
+      turned = walked.turned;
+      kept = walked.kept;
+      lacks =
+          subst
+          (λ (p : Place). own_lack means table (shape_in table (root_shape plan) p (tree_in_slots now stack))
+          (tree_at p (tree_in_slots now stack)) ≡ Some kind)
+          (same_place lacks.place lacks.stored
+          ∙ sym (ap (λ (l : List Place). next_place l (cursor_in before stack)) head.is))
+          lacks.lacks;
+    }

@@ -2,11 +2,12 @@
 ghost use Rattle.std.specs.Prelude.{◌≡◌, IsSome, OnErr, OnOk, Some, false};
 ghost use Rattle.fr_shape.specs.Val.{Val};
 ghost use Rattle.fr_model.specs.Places.{is_root, up};
-ghost use Rattle.fr_model.specs.Tree.{change_at, whole};
+ghost use Rattle.fr_model.specs.Tree.{whole};
 ghost use Rattle.fr_frame.specs.Bodies.{value_of};
 ghost use Rattle.fr_frame.specs.Changes.{IfInUse, SameTokens};
-ghost use Rattle.fr_store.specs.Moves.{cursor_in, tree_in_slots, AtTop, IsNumbered, IsOpenAt, IsStepTo};
-ghost use Rattle.fr_store.specs.Stands.{IsOpen};
+ghost use Rattle.fr_store.specs.Moves.{changed_here, cursor_in, tree_in_slots, AtTop, OwnerIsNumbered, IsOpenAt, IsStepTo};
+ghost use Rattle.fr_store.specs.Stands.{kid_here, IsOpen};
+ghost use Rattle.fr_store.specs.Staying.{AllStayPut, StayPutBut};
 ghost use Rattle.fr_store.specs.Stored.{IsKept, NothingStored};
 
 use crate::{FrameStore, Stack};
@@ -17,7 +18,7 @@ use fr_shape::{Ledger, OutOfMemory};
 
 /// The step to a field or an element.
 pub(crate) fn step_to(slots: &Slots, place: SlotId) -> PathStep
-    requires { IfInUse slots.now place.0 (λ at. IsNumbered at.owner) }
+    requires { IfInUse slots.now place.0 (λ at. OwnerIsNumbered at.owner) }
     ensures { IfInUse slots.now place.0 (λ at. IsStepTo result at.owner) }
 {
     let Some(found) = slots.place(place) else {
@@ -53,8 +54,9 @@ impl Stack {
         ensures ended { AtTop slots.old self.old (λ at.
             (v : Val) → value_of at.body ≡ Some v
             → IsOpenAt plan.now slots.new self.new (up (cursor_in slots.old self.old))
-            (change_at (cursor_in slots.old self.old) (λ old. whole v)
-            (tree_in_slots slots.old self.old))) }
+            (changed_here (λ old. whole v) slots.old self.old)) }
+        ensures places { StayPutBut (cursor_in slots.old self.old)
+            (kid_here slots.old self.old) (kid_here slots.new self.new) }
         ensures ledger { ledger.new ≡ ledger.old }
         ensures strict { NothingStored slots.new }
     {
@@ -71,6 +73,7 @@ impl Stack {
         };
         above.put_child(slots, &step, value);
     }
+
     /// Deferred mode: the place on top is stored as it is, and the builder works at the place above.
     pub fn leave(
         &mut self,
@@ -83,6 +86,7 @@ impl Stack {
         requires below { is_root (cursor_in slots.old self.old) ≡ false }
         ensures left { OnOk result (IsOpenAt plan.now slots.new self.new
             (up (cursor_in slots.old self.old)) (tree_in_slots slots.old self.old)) }
+        ensures places { AllStayPut (kid_here slots.old self.old) (kid_here slots.new self.new) }
         ensures kept { IsKept store.new slots.new }
         ensures tokens { SameTokens slots.old slots.new }
         ensures slots_kept { OnErr result (slots.new ≡ slots.old) }

@@ -3,14 +3,15 @@ ghost use Rattle.std.specs.Prelude.{◌≡◌, ◌∷◌, ◌++◌, [], ◌<◌,
 ghost use Rattle.fr_shape.specs.Look.{def_of};
 ghost use Rattle.fr_model.specs.Paths.{step_as};
 ghost use Rattle.fr_model.specs.Step.{enter, opened_as};
-ghost use Rattle.fr_model.specs.Tree.{change_at, change_child};
+ghost use Rattle.fr_model.specs.Tree.{change_child};
 ghost use Rattle.fr_frame.specs.Bodies.{MayOpen};
 ghost use Rattle.fr_frame.specs.Changes.{SameMarks, SameTokens, Shows};
 ghost use Rattle.fr_frame.specs.Completing.{shape_of};
 ghost use Rattle.fr_frame.specs.Heap.{as_form, heap_of};
 ghost use Rattle.fr_frame.specs.Kids.{child_node};
-ghost use Rattle.fr_store.specs.Moves.{cursor_in, node_here, tree_here, tree_in_slots, AtTop, HasChild, IsOpenAt};
-ghost use Rattle.fr_store.specs.Stands.{IsOpen};
+ghost use Rattle.fr_store.specs.Moves.{changed_here, cursor_in, node_here, tree_here, AtTop, HasChild, IsOpenAt};
+ghost use Rattle.fr_store.specs.Stands.{kid_here, IsOpen};
+ghost use Rattle.fr_store.specs.Staying.{AllStayPut};
 ghost use Rattle.fr_store.specs.Stored.{IsKept, StoresNoMore};
 
 use crate::{FrameStore, Stack};
@@ -20,7 +21,7 @@ use fr_plan::{NodeId, TypePlanCore};
 use fr_shape::{OutOfMemory, ShapeTable};
 
 /// The step to a child of a place that is begun so.
-fn step_of(form: Form, i: u32) -> PathStep
+fn child_step(form: Form, i: u32) -> PathStep
     ensures { result ≡ step_as (as_form form) i }
 {
     match form {
@@ -43,8 +44,8 @@ impl Stack {
         requires may_open { AtTop slots.old self.now (λ at. MayOpen at.body) }
         ensures begun { OnOk result (IsOpenAt plan.now slots.new self.now
             (cursor_in slots.old self.now)
-            (change_at (cursor_in slots.old self.now) (opened_as (as_form form) count)
-            (tree_in_slots slots.old self.now))) }
+            (changed_here (opened_as (as_form form) count) slots.old self.now)) }
+        ensures places { AllStayPut (kid_here slots.old self.now) (kid_here slots.new self.now) }
         ensures refused { OnErr result (Shows slots.new (heap_of slots.old)) }
         ensures tokens { SameTokens slots.old slots.new }
         ensures marks { SameMarks slots.old slots.new }
@@ -76,9 +77,9 @@ impl Stack {
         requires planned { node.0 < length plan.now.nodes }
         ensures entered { OnOk result (IsOpenAt plan.now slots.new self.new
             (cursor_in slots.old self.old ++ i ∷ [])
-            (change_at (cursor_in slots.old self.old)
-            (change_child i (enter (def_of table.now (shape_of plan.now node))))
-            (tree_in_slots slots.old self.old))) }
+            (changed_here (change_child i (enter (def_of table.now (shape_of plan.now node))))
+            slots.old self.old)) }
+        ensures places { AllStayPut (kid_here slots.old self.old) (kid_here slots.new self.new) }
         ensures tokens { SameTokens slots.old slots.new }
         ensures kept { IsKept store.new slots.new }
         ensures marks { StoresNoMore slots.old slots.new }
@@ -90,11 +91,8 @@ impl Stack {
             unreachable!()
         };
         self.push(above)?;
-        let step = step_of(form, i);
-        if store.contains(slots, above, &step) {
-            let Some(child) = store.take(slots, above, &step) else {
-                unreachable!()
-            };
+        let step = child_step(form, i);
+        if let Some(child) = store.take(slots, above, &step) {
             self.put_top(child);
             return Ok(());
         }

@@ -1,18 +1,16 @@
 //! The end of deferred mode: all that was left is completed, the deepest places first.
-ghost use Rattle.std.specs.Prelude.{◌≡◌, ◌⊎◌, ℕ, [], false, true, IfErr, OnErr, OnOk};
-ghost use Rattle.std.specs.List.{Contains};
+ghost use Rattle.std.specs.Prelude.{◌≡◌, ◌⊎◌, ℕ, [], IfErr, OnErr, OnOk};
 ghost use Rattle.fr_shape.specs.Checked.{IsChecked};
 ghost use Rattle.fr_shape.specs.Released.{Room, RoseBy};
 ghost use Rattle.fr_shape.specs.declared.error.ReflectErrorKind.{ReflectErrorKind as Kind};
 ghost use Rattle.fr_model.specs.Well.{Suits};
 ghost use Rattle.fr_frame.specs.Changes.{IfInUse, IsInUse, SameTokens};
 ghost use Rattle.fr_frame.specs.Completing.{IsPlanFor};
-ghost use Rattle.fr_frame.specs.Heap.{heap_of, marked};
-ghost use Rattle.fr_store.specs.Moves.{tokens_in, tree_in_slots, IsAbove, IsNumbered};
-ghost use Rattle.fr_store.specs.Numbers.{numbers};
+ghost use Rattle.fr_frame.specs.Heap.{slots_occur};
+ghost use Rattle.fr_store.specs.Moves.{cursor_in, tokens_in, tree_in_slots, OwnerIsIn, OwnerIsNumbered};
 ghost use Rattle.fr_store.specs.Stands.{IsOpen};
 ghost use Rattle.fr_store.specs.Stored.{IsKept, NothingStored};
-ghost use Rattle.fr_store.specs.Turning.{is_entered, kid_here, CameByTurns, FinishedHere, HasTurned, IsLackingAt, KeepsTheRest, LacksHere, MayTurn, Walked};
+ghost use Rattle.fr_store.specs.Turning.{is_entered, kid_here, CameByTurns, FinishedHere, HasTurned, IsLackingAt, KeepsTheRest, LacksHere, MayTurn, OpenStayPut, StoppedByTurns, Walked};
 ghost use Rattle.fr_store.specs.Turns.{root_shape, IsFinished, IsHeldUp};
 ghost use Rattle.fr_store.specs.Walks.{IsWalk};
 
@@ -25,8 +23,8 @@ use fr_shape::{Hooks, Ledger, ReflectErrorKind, ShapeTable};
 
 /// The slot of the place above.
 fn above(slots: &Slots, place: SlotId) -> SlotId
-    requires { IfInUse slots.now place.0 (λ at. IsNumbered at.owner) }
-    ensures { IfInUse slots.now place.0 (λ at. IsAbove result.0 at.owner) }
+    requires { IfInUse slots.now place.0 (λ at. OwnerIsNumbered at.owner) }
+    ensures { IfInUse slots.now place.0 (λ at. OwnerIsIn result.0 at.owner) }
 {
     let Some(found) = slots.place(place) else {
         unreachable!()
@@ -80,7 +78,7 @@ pub(crate) fn turn<H: Hooks>(
 fn take_turns<H: Hooks>(
     slots: &mut Slots,
     stack: &Stack,
-    walk: &[SlotId],
+    walk: &[u32],
     table: &ShapeTable,
     plan: &TypePlanCore,
     hooks: &H,
@@ -90,39 +88,25 @@ fn take_turns<H: Hooks>(
     requires plan { IsPlanFor table.now plan.now }
     requires is_open { IsOpen plan.now slots.old stack.now }
     requires suits { Suits table.now (root_shape plan.now) (tree_in_slots slots.old stack.now) }
-    requires walk { IsWalk (kid_here slots.old stack.now) (numbers walk.now) }
+    requires walk { IsWalk (kid_here slots.old stack.now) walk.now }
     ensures walked { OnOk result (Walked (H.means hooks.now) table.now plan.now
-        slots.old stack.now slots.new (numbers walk.now) []) }
+        slots.old stack.now slots.new walk.now []) }
     ensures why { IfErr result (λ kind. (kind ≡ Kind.OutOfMemory)
         ⊎ IsHeldUp (H.means hooks.now) table.now plan.now slots.old stack.now kind) }
+    ensures stopped { IfErr result (λ kind. (kind ≡ Kind.OutOfMemory)
+        ⊎ StoppedByTurns (H.means hooks.now) table.now plan.now slots.old stack.now kind) }
     ensures tokens { SameTokens slots.old slots.new }
     ensures ledger { ledger.new ≡ ledger.old }
 {
     law_completes();
     law_failing();
     for place in walk {
-        match turn(slots, stack, *place, table, plan, hooks, ledger) {
+        match turn(slots, stack, SlotId(*place), table, plan, hooks, ledger) {
             Ok(()) => {}
             Err(kind) => return Err(kind),
         }
     }
     Ok(())
-}
-
-/// Lets no place be stored. These are all that still are.
-fn unmark(slots: &mut Slots, places: &[SlotId])
-    requires kept { (n : ℕ) → marked (heap_of slots.old) n ≡ true
-        → Contains (numbers places.now) n }
-    ensures nothing { NothingStored slots.new }
-    ensures others { (n : ℕ) → marked (heap_of slots.old) n ≡ false
-        → heap_of slots.new n ≡ heap_of slots.old n }
-    ensures tokens { SameTokens slots.old slots.new }
-{
-    for place in places {
-        if place.is_stored(slots) {
-            place.mark(slots, false);
-        }
-    }
 }
 
 /// Whether the place was only entered.
@@ -175,7 +159,7 @@ fn complete_top<H: Hooks>(
 impl FrameStore {
     /// Completes every stored place, and then the place on top of the stack. Where it can't be, the tokens are still there.
     fn complete_all<H: Hooks>(
-        &self,
+        &mut self,
         slots: &mut Slots,
         stack: &Stack,
         table: &ShapeTable,
@@ -186,7 +170,7 @@ impl FrameStore {
         requires checked { IsChecked table.now }
         requires plan { IsPlanFor table.now plan.now }
         requires is_open { IsOpen plan.now slots.old stack.now }
-        requires kept { IsKept self.now slots.old }
+        requires kept { IsKept self.old slots.old }
         requires suits { Suits table.now (root_shape plan.now)
             (tree_in_slots slots.old stack.now) }
         ensures finished { OnOk result (IsFinished (H.means hooks.now) table.now plan.now
@@ -196,18 +180,18 @@ impl FrameStore {
         ensures strict { OnOk result (NothingStored slots.new) }
         ensures why { IfErr result (λ kind. (kind ≡ Kind.OutOfMemory)
             ⊎ IsHeldUp (H.means hooks.now) table.now plan.now slots.old stack.now kind) }
+        ensures stopped { IfErr result (λ kind. (kind ≡ Kind.OutOfMemory)
+            ⊎ StoppedByTurns (H.means hooks.now) table.now plan.now slots.old stack.now kind) }
+        ensures empty { self.new ≡ [] }
         ensures tokens { SameTokens slots.old slots.new }
         ensures ledger { ledger.new ≡ ledger.old }
     {
         law_failing();
-        let Ok(walk) = self.walk(slots, stack, plan) else {
-            return Err(ReflectErrorKind::OutOfMemory);
-        };
+        let walk = self.take_walk(slots, stack, plan);
         match take_turns(slots, stack, &walk, table, plan, hooks, ledger) {
             Ok(()) => {}
             Err(kind) => return Err(kind),
         }
-        unmark(slots, self.places());
         match complete_top(slots, stack, table, plan, hooks) {
             Ok(()) => Ok(()),
             Err(kind) => Err(kind),
@@ -215,7 +199,7 @@ impl FrameStore {
     }
 
     /// Completes every stored place, the longest path first, then step by step, and then the place on top of the stack, which stays
-    /// begun where it is. The first place that fails gives the refusal; all is released then.
+    /// begun where it is. The first place that fails gives the refusal; all is released then. Only templates want memory.
     pub fn finish<H: Hooks>(
         &mut self,
         slots: &mut Slots,
@@ -235,16 +219,21 @@ impl FrameStore {
             slots.old stack.old slots.new stack.new) }
         ensures turns { OnOk result (CameByTurns (H.means hooks.now) table.now plan.now
             slots.old stack.old slots.new stack.new) }
-        ensures strict { OnOk result (NothingStored slots.new) }
+        ensures strict { NothingStored slots.new }
         ensures empty { self.new ≡ [] }
         ensures kept { OnOk result (ledger.new ≡ ledger.old) }
         ensures why { IfErr result (λ kind. (kind ≡ Kind.OutOfMemory)
             ⊎ IsHeldUp (H.means hooks.now) table.now plan.now slots.old stack.old kind) }
+        ensures stopped { IfErr result (λ kind. (kind ≡ Kind.OutOfMemory)
+            ⊎ StoppedByTurns (H.means hooks.now) table.now plan.now slots.old stack.old kind) }
+        ensures stack { stack.new ≡ stack.old }
+        ensures in_place { OnOk result (OpenStayPut (kid_here slots.old stack.old)
+            (kid_here slots.new stack.new) (cursor_in slots.old stack.old)) }
+        ensures emptied { OnErr result ((t : ℕ) → slots_occur slots.new t ≡ 0) }
         ensures released { OnErr result
             (RoseBy (tokens_in slots.old stack.old) ledger.old ledger.new) }
     {
         let result = self.complete_all(slots, stack, table, plan, hooks, ledger);
-        self.clear();
         match result {
             Ok(()) => Ok(()),
             Err(kind) => {

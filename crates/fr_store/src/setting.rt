@@ -1,9 +1,10 @@
 //! A whole value at the place at which a builder works.
 ghost use Rattle.fr_shape.specs.Released.{Room, RoseBy};
 ghost use Rattle.fr_shape.specs.View.{view};
-ghost use Rattle.fr_model.specs.Tree.{change_at, whole};
-ghost use Rattle.fr_store.specs.Moves.{cursor_in, tokens_here, tree_in_slots, IsOpenAt};
-ghost use Rattle.fr_store.specs.Stands.{IsOpen};
+ghost use Rattle.fr_model.specs.Tree.{whole};
+ghost use Rattle.fr_store.specs.Moves.{changed_here, cursor_in, tokens_here, IsOpenAt};
+ghost use Rattle.fr_store.specs.Stands.{kid_here, IsOpen};
+ghost use Rattle.fr_store.specs.Staying.{StayPutButBeneath};
 ghost use Rattle.fr_store.specs.Stored.{IsKept, StoresNoMore};
 
 use crate::{FrameStore, Stack};
@@ -26,8 +27,9 @@ impl Stack {
         requires kept { IsKept store.old slots.old }
         requires room { Room (tokens_here slots.old self.now) ledger.old }
         ensures set { IsOpenAt plan.now slots.new self.now (cursor_in slots.old self.now)
-            (change_at (cursor_in slots.old self.now) (λ old. whole (view value))
-            (tree_in_slots slots.old self.now)) }
+            (changed_here (λ old. whole (view value)) slots.old self.now) }
+        ensures places { StayPutButBeneath (cursor_in slots.old self.now)
+            (kid_here slots.old self.now) (kid_here slots.new self.now) }
         ensures released { RoseBy (tokens_here slots.old self.now) ledger.old ledger.new }
         ensures kept { IsKept store.new slots.new }
         ensures marks { StoresNoMore slots.old slots.new }

@@ -3,37 +3,41 @@ ghost use Rattle.std.specs.Prelude.{◌≡◌, ◌≢◌, ◌↔◌, ℕ, ◌<�
 ghost use Rattle.std.specs.List.{Contains};
 ghost use Rattle.fr_frame.specs.Changes.{IsInUse, SameTokens, Shows};
 ghost use Rattle.fr_frame.specs.Heap.{heap_of, marked, with_mark};
-ghost use Rattle.fr_store.specs.Numbers.{numbers};
-ghost use Rattle.fr_store.specs.Places.{AreOnce};
+ghost use Rattle.fr_store.specs.Stands.{kid_shown, IsOpen};
 ghost use Rattle.fr_store.specs.Stored.{child_slot, IsKept, IsStoredChild};
+ghost use Rattle.fr_store.specs.Walks.{IsWalk};
 
+use crate::Stack;
+use crate::turning::StoredPlace;
+use crate::walking::order_walk;
 use fr_frame::{SlotId, Slots};
 use fr_path::PathStep;
+use fr_plan::TypePlanCore;
 use fr_shape::OutOfMemory;
 use std::alloc::Global;
 use std::marker::Model;
 
-/// The slots of the places that are stored. `positions` has, under the number of each such slot, where it stands in `places`, so
-/// that a place is taken out without a search. Contracts see the list of the slots' numbers.
+/// The places that are stored. `positions` has, under the number of each one's slot, where it stands in `places`, so that a place is
+/// taken out without a search. Contracts see the list of the slots' numbers.
 #[derive(Drop)]
 pub struct FrameStore {
     alloc: Global,
-    places: Vec<SlotId>,
+    places: Vec<StoredPlace>,
     positions: Vec<u32>,
 }
 
 impl Model for FrameStore {
     ghost use Rattle.std.specs.Prelude.{List, ℕ};
     ghost use Rattle.std.specs.Coded.{coded_list, coded_ℕ};
-    ghost use Rattle.fr_store.specs.Numbers.{numbers, IsIndexed};
+    ghost use Rattle.fr_store.specs.Numbers.{slots_of, IsIndexed};
 
     ghost Value = { List ℕ };
 
     ghost coded = { coded_list coded_ℕ };
 
-    ghost view = { λ store. numbers store.places.items };
+    ghost view = { λ store. slots_of store.places.items };
 
-    ghost invariant = { λ store. IsIndexed (numbers store.places.items) store.positions.items };
+    ghost invariant = { λ store. IsIndexed (slots_of store.places.items) store.positions.items };
 }
 
 /// Grows the positions until there is one under this number.
@@ -66,14 +70,6 @@ impl FrameStore {
         self.alloc
     }
 
-    /// All places, in any order.
-    pub(crate) fn places(&self) -> &[SlotId]
-        ensures places { numbers result.now ≡ self.now }
-        ensures once { AreOnce self.now }
-    {
-        self.places.as_slice()
-    }
-
     /// How many places there are.
     pub fn len(&self) -> usize
         ensures count { result ≡ length self.now }
@@ -99,7 +95,11 @@ impl FrameStore {
             return Err(OutOfMemory);
         }
         reach(&mut self.positions, place.0)?;
-        self.places.push(place)?;
+        self.places.push(StoredPlace {
+            slot: place,
+            parent: 0,
+            step: 0,
+        })?;
         self.positions[place.0 as usize] = at as u32;
         Ok(())
     }
@@ -115,15 +115,26 @@ impl FrameStore {
         };
         if at < self.places.len() {
             self.places[at] = last;
-            self.positions[last.0 as usize] = at as u32;
+            self.positions[last.slot.0 as usize] = at as u32;
         }
     }
 
-    /// Takes all places out of the list. Takes no memory.
-    pub(crate) fn clear(&mut self)
+    /// Takes all places out: the numbers of their slots come in the order of the walk. Takes no memory.
+    pub(crate) fn take_walk(
+        &mut self,
+        slots: &Slots,
+        stack: &Stack,
+        plan: &TypePlanCore,
+    ) -> Vec<u32>
+        requires is_open { IsOpen plan.now slots.now stack.now }
+        requires kept { IsKept self.old slots.now }
+        ensures walk { IsWalk (kid_shown (heap_of slots.now) stack.now) result.items }
         ensures empty { self.new ≡ [] }
     {
-        self.places.clear();
+        let mut places = std::mem::replace(&mut self.places, Vec::new(self.alloc));
+        let mut order = std::mem::replace(&mut self.positions, Vec::new(self.alloc));
+        order_walk(&mut places, &mut order, slots, stack, plan);
+        order
     }
 
     /// Stores a place. Where there is no memory all is as it was.
@@ -154,6 +165,7 @@ impl FrameStore {
             → child_slot (heap_of slots.old) parent.0 step.now ≡ Some child
             → marked (heap_of slots.old) child ≡ false }
         ensures slots_kept { IsNone result → slots.new ≡ slots.old }
+        ensures store_kept { IsNone result → self.new ≡ self.old }
         ensures kept { IsKept self.new slots.new }
         ensures tokens { SameTokens slots.old slots.new }
     {

@@ -1,21 +1,23 @@
-//! Which places have a turn, and where it comes among the children of the place above.
-ghost use Rattle.std.specs.Prelude.{◌≡◌, ◌++◌, All, IfSome, IsPermutation, OnOk};
-ghost use Rattle.std.specs.List.{filter_map};
+//! Where stored places belong, and where they come among the children of the place above.
+ghost use Rattle.std.specs.Prelude.{◌≡◌, All, IfOk, IsPermutation};
 ghost use Rattle.std.specs.List.Sorted.{IsNonDecreasingBy};
 ghost use Rattle.fr_path.specs.Order.{number};
+ghost use Rattle.fr_frame.specs.Changes.{IfInUse};
 ghost use Rattle.fr_frame.specs.Heap.{heap_of};
-ghost use Rattle.fr_store.specs.Places.{key_of, turn_at, IsNarrow};
+ghost use Rattle.fr_store.specs.Moves.{OwnerIsNumbered};
+ghost use Rattle.fr_store.specs.Numbers.{slots_of};
+ghost use Rattle.fr_store.specs.Places.{key_of, BelongsTo, IsNarrow, IsNoted};
 
 use fr_frame::{FrameOwner, SlotId, Slots};
 use fr_path::PathStep;
-use fr_shape::OutOfMemory;
 
-/// A place that is the child of another: the slot of that one, the number of the step from there, and its own slot.
+/// A place that is stored, by its slot. For the walk alone there is beside it the number of the slot of the place above, and that
+/// of the step from there.
 #[derive(Clone, Copy)]
-pub(crate) struct Turn {
+pub(crate) struct StoredPlace {
+    pub slot: SlotId,
     pub parent: u32,
     pub step: u32,
-    pub slot: SlotId,
 }
 
 /// A step's number; 0 where it has none.
@@ -30,53 +32,50 @@ fn number_of(step: &PathStep) -> u32
     }
 }
 
-/// The turn of the place in a slot. There is none where the place above hasn't it there.
-fn turn_of(slots: &Slots, slot: SlotId) -> Option<Turn>
-    ensures turn { result ≡ turn_at (heap_of slots.now) slot }
-    ensures narrow { IfSome result IsNarrow }
+/// The place in a slot, with where it belongs.
+pub(crate) fn noted(slots: &Slots, slot: SlotId) -> StoredPlace
+    requires numbered { IfInUse slots.now slot.0 (λ at. OwnerIsNumbered at.owner) }
+    ensures belongs { IfInUse slots.now slot.0 (λ at. BelongsTo result at.owner) }
+    ensures slot { result.slot ≡ slot }
+    ensures narrow { IsNarrow result }
 {
-    let place = slots.place(slot)?;
+    let Some(place) = slots.place(slot) else {
+        unreachable!()
+    };
     match &place.owner {
-        FrameOwner::Root => None,
-        FrameOwner::Child(parent, step) => {
-            let child = parent.child(slots, step)?;
-            if child.0 != slot.0 {
-                return None;
-            }
-            Some(Turn {
-                parent: parent.0,
-                step: number_of(step),
-                slot,
-            })
-        }
+        FrameOwner::Child(parent, step) => StoredPlace {
+            slot,
+            parent: parent.0,
+            step: number_of(step),
+        },
+        FrameOwner::Root => unreachable!(),
     }
 }
 
-/// Adds the turns of all these places.
-pub(crate) fn gather(
-    slots: &Slots,
-    places: &[SlotId],
-    turns: &mut Vec<Turn>,
-) -> Result<(), OutOfMemory>
-    requires narrow { All IsNarrow turns.old.items }
-    ensures turns { OnOk result (turns.new.items
-        ≡ turns.old.items ++ filter_map (turn_at (heap_of slots.now)) places.now) }
-    ensures narrow { All IsNarrow turns.new.items }
+/// Notes where each of these places belongs.
+pub(crate) fn note_all(slots: &Slots, places: &mut [StoredPlace])
+    requires numbered { All (λ place. IfInUse slots.now place.slot.0 (λ at. OwnerIsNumbered at.owner))
+        places.old }
+    ensures slots { slots_of places.new ≡ slots_of places.old }
+    ensures noted { All (IsNoted (heap_of slots.now)) places.new }
+    ensures narrow { All IsNarrow places.new }
 {
-    for place in places {
-        if let Some(turn) = turn_of(slots, *place) {
-            turns.push(turn)?;
-        }
+    for i in 0..places.len() {
+        places[i] = noted(slots, places[i].slot);
     }
-    Ok(())
 }
 
-/// Sorts turns by the place above; of one place the last child comes first.
-pub(crate) fn sort(turns: &mut Vec<Turn>)
-    ensures same { IsPermutation turns.old.items turns.new.items }
-    ensures sorted { IsNonDecreasingBy key_of turns.new.items }
+/// By what stored places are sorted: those of one place above are together, the last child first.
+pub(crate) fn key(place: &StoredPlace) -> u64
+    ensures { result ≡ key_of place.now }
 {
-    turns.sort_unstable_by_key(|turn| {
-        turn.parent as u64 * 4294967296 + (u32::MAX - turn.step) as u64
-    });
+    place.parent as u64 * 4294967296 + (u32::MAX - place.step) as u64
+}
+
+/// Sorts stored places by the place above; of one place the last child comes first.
+pub(crate) fn sort(places: &mut [StoredPlace])
+    ensures same { IsPermutation places.old places.new }
+    ensures sorted { IsNonDecreasingBy key_of places.new }
+{
+    places.sort_unstable_by_key(|place| key(place));
 }

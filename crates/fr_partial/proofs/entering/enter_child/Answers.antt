@@ -25,7 +25,7 @@ use Rattle.fr_partial.proofs.EnterLaws.{may_open, has_child, changed_at, entered
 use Rattle.fr_partial.proofs.FitLaws.{is_there}
 use Rattle.fr_partial.proofs.PlaceLaws.{here_found, here_along, held_is, open_shown, plot_here}
 use Rattle.fr_partial.proofs.ReachLaws.{tree_leads}
-use Rattle.fr_partial.proofs.ShapeLaws.{IsOfShape, child_shaped}
+use Rattle.fr_store.specs.ShapeLaws.{IsOfShape, child_shaped}
 use Rattle.fr_partial.proofs.entering.enter_child.Goals as goal
 
 -- the tokens are the same where the slots' are

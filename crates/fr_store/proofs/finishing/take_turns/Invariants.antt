@@ -1,12 +1,11 @@
 use Rattle.std.proofs.Common.{◌≡◌, drop}
-use Rattle.fr_store.specs.Numbers.{numbers}
 use Rattle.fr_store.specs.Turning.{Walked}
 use Rattle.fr_store.proofs.finishing.take_turns.Given as goal
 
 abbrev pub invariant-loop-place : goal.invariant-loop-place
 invariant-loop-place g l = record {
   walked :
-      Walked (g.H.Hooks.means l.hooks) l.table l.plan l.initial.slots l.stack l.slots (numbers l.walk)
-      (numbers (drop l.place-index l.walk));
+      Walked (g.H.Hooks.means l.hooks) l.table l.plan l.initial.slots l.stack l.slots l.walk
+      (drop l.place-index l.walk);
   ledger : l.ledger ≡ l.initial.ledger;
 }

@@ -1,45 +1,153 @@
-use Rattle.std.proofs.Common.{◌≡◌, ◌++◌, ◌∙◌, sym, ap, subst, ℕ, ◌+◌, List, [], ◌∷◌, arith}
+use Rattle.std.proofs.Common.{rules, ◌≡◌, ◌≢◌, ◌⊎◌, ◌+◌, ◌-◌, ◌*◌, ◌<◌, ◌≤◌, ◌∙◌, Fits, w32, ℕ, List, ap, get_or, inl, inr, length, sym, refl, arith}
+use Rattle.std.specs.Int.{w128}
 use Rattle.std.proofs.lemmas.List.{length-map}
-use Rattle.fr_frame.specs.declared.places.SlotId.{SlotId}
-use Rattle.fr_frame.specs.Heap.{heap_of}
-use Rattle.fr_store.specs.Numbers.{numbers, number_of}
-use Rattle.fr_store.specs.Stands.{kid_shown}
-use Rattle.fr_store.proofs.RunLaws.{number_first, number_at}
-use Rattle.fr_store.proofs.SpreadLaws.{IsSpreading, few_places, spreads_root, spreads_next, spread_all}
+use Rattle.fr_store.specs.Numbers.{number_of}
+use Rattle.fr_store.specs.Places.{slots_between}
+use Rattle.fr_store.proofs.SpreadSteps.{number_read, open_numbered, open_room, open_step, spread_ends, spread_starts, stored_room, stored_step, stored_waits}
 use Rattle.fr_store.proofs.spreading.spread.Goals as goal
+use Rattle.fr_store.proofs.spreading.spread.Goals.{then-opened-on_stack, else-opened-on_stack+then-head-count, else-opened-on_stack-2-via-then-opened-on_stack-2+else-head-at, else-opened-on_stack-2-via-else-opened-on_stack-2, Joined-else-opened-on_stack-2, After-row_known-1}
 
-pub loop-i-init : goal.loop-i-init
-loop-i-init c =
-    let root = c.requires.spread.root in
-    let items : c.push.new.self.items ≡ c.in-Some.root.now ∷ []
-    = c.in_ok-push.ensures.items ∙ ap (λ (l : List SlotId). l ++ c.in-Some.root.now ∷ []) c.new-order.ensures.items in
-    let first = number_first c.places.result.now c.in-Some.root.now _ root.0 c.in-Some.ensures.item.1
-    c.in-Some.ensures.item.3.0 (c.places.ensures.places ∙ root.1) in
-    subst (λ (l : List ℕ). IsSpreading (kid_shown (heap_of c.args.slots.now) c.args.stack.now) c.args.turns.now l 0)
-    (sym (ap numbers items ∙ ap (λ (n : ℕ). n ∷ []) first))
-    (spreads_root (kid_shown (heap_of c.args.slots.now) c.args.stack.now) c.args.turns.now c.requires.spread.here)
+fits_key : (n : ℕ) → Fits w32 n → Fits w128 (n * 4294967296 + 4294967296)
+fits_key n fits = record { fits = let small = fits.fits in omega arith }
 
-pub loop-i-smaller : goal.loop-i-smaller
-loop-i-smaller c =
-    let few = few_places (kid_shown (heap_of c.args.slots.now) c.args.stack.now) c.args.stack.now c.args.turns.now
-    (numbers c.loop-i.order.items) c.loop-i.i c.requires.spread c.loop-i.invariant in
-    let long = length-map c.loop-i.order.items number_of in
+pub loop-opened-init : goal.loop-opened-init
+loop-opened-init c =
+    spread_starts c.args.plan.now c.args.slots.now c.args.stack.now c.requires.is_open c.args.places.now c.requires.stored
+    c.requires.sorted c.args.order.now
+
+-- A stored place.
+
+long : (c : Joined-else-opened-on_stack-2) → length c.places-on_stack.result.now ≡ length c.args.stack.now
+long c = sym (length-map c.places-on_stack.result.now number_of) ∙ ap (λ (l : List ℕ). length l) c.places-on_stack.ensures.places
+
+waits : (c : Joined-else-opened-on_stack-2) → (c.loop-opened.opened < length c.args.stack.now) ⊎ (c.loop-opened.head < c.loop-opened.count)
+waits c =
+    elim c.if-opened-on_stack.branch [
+      | then-opened-on_stack w ↦ inl (omega (arith, w.if-opened-on_stack.true, long c))
+      | else-opened-on_stack+then-head-count w ↦ inr (w.if-head-count.true)
+    ]
+
+apart : (c : Joined-else-opened-on_stack-2) → c.loop-opened.opened < length c.args.stack.now → c.loop-opened.head ≢ c.loop-opened.at
+apart c still =
+    elim c.else-opened-on_stack-2.branch [
+      | else-opened-on_stack-2-via-then-opened-on_stack-2+else-head-at w ↦ w.if-head-at.false
+      | else-opened-on_stack-2-via-else-opened-on_stack-2 w ↦ absurd (omega (arith, w.if-opened-on_stack-2.false, long c))
+    ]
+
+enough : (c : Joined-else-opened-on_stack-2) → length c.args.places.now ≤ length c.loop-opened.order
+enough c = omega (arith, c.requires.room, c.loop-opened.auto.order)
+
+less : (c : Joined-else-opened-on_stack-2) → c.loop-opened.head < c.loop-opened.count
+less c =
+    stored_waits c.args.plan.now c.args.slots.now c.args.stack.now c.requires.is_open c.args.places.now c.requires.stored
+    c.requires.sorted c.loop-opened.order c.loop-opened.count c.loop-opened.head c.loop-opened.opened c.loop-opened.at
+    c.loop-opened.invariant (enough c) (waits c) (apart c)
+
+within : (c : Joined-else-opened-on_stack-2) → c.loop-opened.head < length c.loop-opened.order
+within c = omega (arith, less c, c.loop-opened.invariant.room, enough c)
+
+pub offset_bounds-order-head : goal.offset_bounds-order-head
+offset_bounds-order-head c = let inside = within c in search rules
+
+pub bounds-order-head : goal.bounds-order-head
+bounds-order-head c = within (goal.at.bounds-order-head c).Joined-else-opened-on_stack-2
+
+pub overflow_add-from-else-opened-on_stack-2 : goal.overflow_add-from-else-opened-on_stack-2
+overflow_add-from-else-opened-on_stack-2 c = fits_key (get_or c.loop-opened.order c.loop-opened.head 0) (c.type_inv.order c.loop-opened.head)
+
+pub add_between-count-requires-else-opened-on_stack-2-clause-room :
+    goal.add_between-count-requires-else-opened-on_stack-2-clause-room
+add_between-count-requires-else-opened-on_stack-2-clause-room c =
+    let j = (goal.at.add_between-count-requires-else-opened-on_stack-2-clause-room c).Joined-else-opened-on_stack-2 in
+    omega
+    (arith, enough j, stored_room c.args.plan.now c.args.slots.now c.args.stack.now c.requires.is_open c.args.places.now c.requires.stored c.requires.sorted c.loop-opened.order c.loop-opened.count c.loop-opened.head c.loop-opened.opened c.loop-opened.at c.loop-opened.invariant (enough j) (get_or c.loop-opened.order c.loop-opened.head 0) (less j) (apart j) refl)
+
+pub overflow_add-head : goal.overflow_add-head
+overflow_add-head c =
+    let inside = within (goal.at.overflow_add-head c).Joined-else-opened-on_stack-2 in
+    search rules
+
+pub loop-opened-smaller : goal.loop-opened-smaller
+loop-opened-smaller c =
+    let inside = less (goal.at.loop-opened-smaller c).Joined-else-opened-on_stack-2 in
+    let room = c.loop-opened.invariant.room in
     omega arith
 
-pub loop-i-preserved : goal.loop-i-preserved
-loop-i-preserved c =
-    let long = length-map c.loop-i.order.items number_of in
-    subst (λ (l : List ℕ). IsSpreading (kid_shown (heap_of c.args.slots.now) c.args.stack.now) c.args.turns.now l
-    (c.loop-i.i + 1))
-    (sym c.in_ok-add_children.ensures.added)
-    (spreads_next (kid_shown (heap_of c.args.slots.now) c.args.stack.now) c.args.stack.now c.args.turns.now
-    (numbers c.loop-i.order.items) c.loop-i.i c.index-place.result.now.0 0 c.requires.spread c.loop-i.invariant (omega arith)
-    (number_at c.loop-i.order.items c.loop-i.i c.index-place.result.now 0 (omega arith) c.index-place.ensures))
+pub loop-opened-preserved : goal.loop-opened-preserved
+loop-opened-preserved c =
+    let j = (goal.at.loop-opened-preserved c).Joined-else-opened-on_stack-2 in
+    stored_step c.args.plan.now c.args.slots.now c.args.stack.now c.requires.is_open c.args.places.now c.requires.stored
+    c.requires.sorted c.loop-opened.order c.loop-opened.count c.loop-opened.head c.loop-opened.opened c.loop-opened.at
+    c.loop-opened.invariant (enough j) (get_or c.loop-opened.order c.loop-opened.head 0) (less j) (apart j) refl
+    c.add_between-count-else-opened-on_stack-2.new.order c.add_between-count-else-opened-on_stack-2.result
+    c.add_between-count-else-opened-on_stack-2.ensures.count c.add_between-count-else-opened-on_stack-2.ensures.added
 
-pub returns : goal.returns
-returns c =
-    let long = length-map c.loop-i.order.items number_of in
-    record {
-      spread = spread_all (kid_shown (heap_of c.args.slots.now) c.args.stack.now) c.args.turns.now (numbers c.loop-i.order.items)
-          c.loop-i.i c.loop-i.invariant (omega arith);
-    }
+-- An open place.
+
+pub overflow_add-from : goal.overflow_add-from
+overflow_add-from c = fits_key (get_or c.places-on_stack.result.now c.loop-opened.opened (record { 0 = 0 })).0 c.if-head-at.element_fits
+
+enough_then : (c : After-row_known-1) → length c.args.places.now ≤ length c.loop-opened.order
+enough_then c = omega (arith, c.requires.room, c.loop-opened.auto.order)
+
+pub key_at-middle-requires : goal.key_at-middle-requires
+key_at-middle-requires c = record {
+  numbered =
+      open_numbered c.args.plan.now c.args.slots.now c.args.stack.now c.requires.is_open c.args.places.now c.requires.stored
+      c.requires.sorted c.loop-opened.order c.loop-opened.count c.loop-opened.head c.loop-opened.opened c.loop-opened.at
+      c.loop-opened.invariant (enough_then c) c.places-on_stack.result.now c.places-on_stack.ensures.places
+      c.if-opened-on_stack-2.true c.if-head-at.true;
+}
+
+read_then : (c : After-row_known-1)
+    → (get_or c.places-on_stack.result.now c.loop-opened.opened (record { 0 = 0 })).0 ≡ get_or c.args.stack.now c.loop-opened.opened 0
+read_then c =
+    number_read c.places-on_stack.result.now c.loop-opened.opened 0 (record { 0 = 0 }) c.if-opened-on_stack-2.true
+    ∙ ap (λ (l : List ℕ). get_or l c.loop-opened.opened 0) c.places-on_stack.ensures.places
+
+pub add_between-at-requires-clause-room : goal.add_between-at-requires-clause-room
+add_between-at-requires-clause-room c =
+    let before = (goal.at.add_between-at-requires-clause-room c).After-row_known-1 in
+    let room = open_room c.args.plan.now c.args.slots.now c.args.stack.now c.requires.is_open c.args.places.now c.requires.stored
+    c.requires.sorted c.loop-opened.order c.loop-opened.count c.loop-opened.head c.loop-opened.opened c.loop-opened.at
+    c.loop-opened.invariant (enough_then before) c.places-on_stack.result.now c.places-on_stack.ensures.places
+    c.if-opened-on_stack-2.true c.if-head-at.true
+    (get_or c.places-on_stack.result.now c.loop-opened.opened (record { 0 = 0 })).0 c.key_at-middle.result (read_then before)
+    c.key_at-middle.ensures.key c.key_at-middle.ensures.none in
+    omega (arith, enough_then before)
+
+pub overflow_add-from-then-head-at : goal.overflow_add-from-then-head-at
+overflow_add-from-then-head-at c =
+    fits_key (get_or c.places-on_stack.result.now c.loop-opened.opened (record { 0 = 0 })).0 c.if-head-at.element_fits
+
+pub add_between-count-requires-clause-room : goal.add_between-count-requires-clause-room
+add_between-count-requires-clause-room c =
+    let before = (goal.at.add_between-count-requires-clause-room c).After-row_known-1 in
+    let room = open_room c.args.plan.now c.args.slots.now c.args.stack.now c.requires.is_open c.args.places.now c.requires.stored
+    c.requires.sorted c.loop-opened.order c.loop-opened.count c.loop-opened.head c.loop-opened.opened c.loop-opened.at
+    c.loop-opened.invariant (enough_then before) c.places-on_stack.result.now c.places-on_stack.ensures.places
+    c.if-opened-on_stack-2.true c.if-head-at.true
+    (get_or c.places-on_stack.result.now c.loop-opened.opened (record { 0 = 0 })).0 c.key_at-middle.result (read_then before)
+    c.key_at-middle.ensures.key c.key_at-middle.ensures.none in
+    omega (arith, enough_then before, c.add_between-at.ensures.count, c.add_between-at.ensures.long)
+
+pub loop-opened-preserved-then-head-at : goal.loop-opened-preserved-then-head-at
+loop-opened-preserved-then-head-at c =
+    let before = (goal.at.loop-opened-preserved-then-head-at c).After-row_known-1 in
+    open_step c.args.plan.now c.args.slots.now c.args.stack.now c.requires.is_open c.args.places.now c.requires.stored
+    c.requires.sorted c.loop-opened.order c.loop-opened.count c.loop-opened.head c.loop-opened.opened c.loop-opened.at
+    c.loop-opened.invariant (enough_then before) c.places-on_stack.result.now c.places-on_stack.ensures.places
+    c.if-opened-on_stack-2.true c.if-head-at.true
+    (get_or c.places-on_stack.result.now c.loop-opened.opened (record { 0 = 0 })).0 c.key_at-middle.result (read_then before)
+    c.key_at-middle.ensures.key c.key_at-middle.ensures.none c.add_between-at.new.order c.add_between-count.new.order
+    c.add_between-at.result c.add_between-count.result c.add_between-at.ensures.count c.add_between-at.ensures.added
+    c.add_between-count.ensures.count c.add_between-count.ensures.added
+
+-- All are written down.
+pub returns-clause-spread : goal.returns-clause-spread
+returns-clause-spread c =
+    let same = sym (length-map c.places-on_stack.result.now number_of) ∙ ap (λ (l : List ℕ). length l) c.places-on_stack.ensures.places in
+    spread_ends c.args.plan.now c.args.slots.now c.args.stack.now c.requires.is_open c.args.places.now c.requires.stored
+    c.requires.sorted c.loop-opened.order c.loop-opened.count c.loop-opened.head c.loop-opened.opened c.loop-opened.at
+    c.loop-opened.invariant (omega (arith, c.requires.room, c.loop-opened.auto.order))
+    (omega (arith, c.if-opened-on_stack.false, same)) (omega (arith, c.if-head-count.false))

@@ -3,7 +3,7 @@ use Rattle.fr_store.proofs.stack.Stack.end.Goals as goal
 use Rattle.fr_shape.specs.View.{view}
 use Rattle.fr_frame.specs.Bodies.{with_cell}
 use Rattle.fr_frame.specs.Cells.{given}
-use Rattle.fr_store.specs.EndLaws.{absent_left, ended_so, in_use_left, numbered_now, slot_now, step_now, strict_ended}
+use Rattle.fr_store.specs.EndLaws.{absent_left, ended_so, in_use_left, numbered_now, slot_now, stay_ended, step_now, strict_ended}
 use Rattle.fr_store.specs.LeaveLaws.{below_root}
 
 pub step_to-step-requires : goal.step_to-step-requires
@@ -39,6 +39,14 @@ returns-clause-ended c =
     c.into_value.new.slots c.pop.new.self c.in-Some.place.0 c.in-Some.ensures.last c.into_value.ensures.left
     c.put_child.new.slots c.in-Some-top.above.0 c.step_to-step.result (view c.in-Ok.value) c.in-Some-top.ensures.last
     c.step_to-step.ensures c.put_child.ensures.put c.in-Ok.ensures.tokens c.put_child.ensures.tokens c.in-Ok.ensures.value
+
+pub returns-clause-places : goal.returns-clause-places
+returns-clause-places c =
+    let way = below_root (cursor_in c.args.slots.now c.args.self.now) c.requires.below in
+    stay_ended c.args.plan.now c.args.slots.now c.args.self.now c.requires.is_open c.requires.strict way.0 way.1 way.2
+    c.into_value.new.slots c.pop.new.self c.in-Some.place.0 c.in-Some.ensures.last c.into_value.ensures.left
+    c.put_child.new.slots c.in-Some-top.above.0 c.step_to-step.result (view c.in-Ok.value) c.in-Some-top.ensures.last
+    c.step_to-step.ensures c.put_child.ensures.put
 
 pub returns-clause-strict : goal.returns-clause-strict
 returns-clause-strict c =

@@ -1,5 +1,5 @@
 use Rattle.fr_shape.specs.View.{view}
-use Rattle.fr_store.proofs.SetLaws.{top_rooted, prune_room, pruned_in_use, put_room, set_rose, set_kept, set_marks, set_open}
+use Rattle.fr_store.proofs.SetLaws.{top_rooted, prune_room, pruned_in_use, put_room, set_rose, set_kept, set_marks, set_open, set_stay}
 use Rattle.fr_store.proofs.stack.Stack.set.Goals as goal
 
 pub prune-requires-clause-rooted : goal.prune-requires-clause-rooted
@@ -26,6 +26,11 @@ returns-clause-set c =
     set_open c.args.plan.now c.args.slots.now c.args.self.now c.requires.is_open c.in-Some.place.0 c.in-Some.ensures.last
     c.prune.new.slots c.prune.ensures.pruned c.put.new.slots (view c.args.value) c.put.ensures.put c.prune.ensures.tokens
     c.put.ensures.tokens
+
+pub returns-clause-places : goal.returns-clause-places
+returns-clause-places c =
+    set_stay c.args.plan.now c.args.slots.now c.args.self.now c.requires.is_open c.in-Some.place.0 c.in-Some.ensures.last
+    c.prune.new.slots c.prune.ensures.pruned c.put.new.slots (view c.args.value) c.put.ensures.put
 
 pub returns-clause-released : goal.returns-clause-released
 returns-clause-released c =

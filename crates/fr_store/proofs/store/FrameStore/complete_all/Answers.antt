@@ -1,42 +1,33 @@
 use Rattle.std.proofs.Common.{◌≡◌, ◌⊎◌, inl, inr}
 use Rattle.fr_shape.specs.declared.error.ReflectErrorKind.{ReflectErrorKind}
-use Rattle.fr_store.specs.FinishedLaws.{came_by_turns, held_here, is_finished, still_open, still_suits}
-use Rattle.fr_store.specs.Numbers.{numbers}
-use Rattle.fr_store.specs.Turning.{LacksHere}
+use Rattle.fr_store.specs.FinishedLaws.{came_by_turns, held_here, is_finished, nothing_left, stopped_here}
+use Rattle.fr_store.specs.Turning.{LacksHere, StoppedByTurns}
 use Rattle.fr_store.specs.Turns.{IsHeldUp}
 use Rattle.fr_store.proofs.store.FrameStore.complete_all.Goals as goal
 
-pub complete_top-requires-clause-is_open : goal.complete_top-requires-clause-is_open
-complete_top-requires-clause-is_open g c =
-    still_open (g.H.Hooks.means c.args.hooks.now) c.args.table.now c.args.plan.now c.args.slots.now c.args.stack.now
-    c.take_turns.new.slots (numbers c.deref.result.now) c.in-Ok-take_turns.ensures.walked c.unmark.new.slots
-    c.unmark.ensures.others c.unmark.ensures.tokens
-
-pub complete_top-requires-clause-suits : goal.complete_top-requires-clause-suits
-complete_top-requires-clause-suits g c =
-    still_suits (g.H.Hooks.means c.args.hooks.now) c.args.table.now c.args.plan.now c.args.slots.now c.args.stack.now
-    c.take_turns.new.slots (numbers c.deref.result.now) c.in-Ok-take_turns.ensures.walked c.unmark.new.slots
-    c.unmark.ensures.others c.unmark.ensures.tokens
+pub complete_top-requires-clause-strict : goal.complete_top-requires-clause-strict
+complete_top-requires-clause-strict g c =
+    nothing_left (g.H.Hooks.means c.args.hooks.now) c.args.table.now c.args.plan.now c.args.slots.now c.args.stack.now
+    c.take_turns.new.slots c.deref.result.now c.in-Ok.ensures.walked
 
 pub returns-in-Ok-complete_top-clause-finished : goal.returns-in-Ok-complete_top-clause-finished
 returns-in-Ok-complete_top-clause-finished g c =
     is_finished (g.H.Hooks.means c.args.hooks.now) c.args.table.now c.args.plan.now c.args.slots.now c.args.stack.now
-    c.take_turns.new.slots (numbers c.deref.result.now) c.in-Ok-take_turns.ensures.walked c.unmark.new.slots
-    c.unmark.ensures.others c.unmark.ensures.tokens c.complete_top.new.slots c.in-Ok-complete_top.ensures.finished
-    c.law_failing.ensures.done
+    c.take_turns.new.slots c.deref.result.now c.in-Ok.ensures.walked c.complete_top.new.slots
+    c.in-Ok-complete_top.ensures.finished c.law_failing.ensures.done
 
 pub returns-in-Ok-complete_top-clause-turns : goal.returns-in-Ok-complete_top-clause-turns
 returns-in-Ok-complete_top-clause-turns g c =
     came_by_turns (g.H.Hooks.means c.args.hooks.now) c.args.table.now c.args.plan.now c.args.slots.now c.args.stack.now
-    c.take_turns.new.slots (numbers c.deref.result.now) c.in-Ok-take_turns.ensures.walked c.unmark.new.slots
-    c.unmark.ensures.others c.unmark.ensures.tokens c.complete_top.new.slots c.in-Ok-complete_top.ensures.finished
+    c.take_turns.new.slots c.deref.result.now c.in-Ok.ensures.walked c.complete_top.new.slots
+    c.in-Ok-complete_top.ensures.finished
 
 pub returns-clause-why : goal.returns-clause-why
 returns-clause-why g c = go c.in-Err-complete_top.ensures.why
   where
     go : (c.in-Err-complete_top.kind ≡ ReflectErrorKind.OutOfMemory)
-        ⊎ LacksHere (g.H.Hooks.means c.args.hooks.now) c.args.table.now c.args.plan.now c.unmark.new.slots c.args.stack.now
-        c.in-Err-complete_top.kind
+        ⊎ LacksHere (g.H.Hooks.means c.args.hooks.now) c.args.table.now c.args.plan.now c.take_turns.new.slots
+        c.args.stack.now c.in-Err-complete_top.kind
         → (c.in-Err-complete_top.kind ≡ ReflectErrorKind.OutOfMemory)
         ⊎ IsHeldUp (g.H.Hooks.means c.args.hooks.now) c.args.table.now c.args.plan.now c.args.slots.now c.args.stack.now
         c.in-Err-complete_top.kind
@@ -44,6 +35,21 @@ returns-clause-why g c = go c.in-Err-complete_top.ensures.why
     go (inr lacks) =
         inr
         (held_here (g.H.Hooks.means c.args.hooks.now) c.args.table.now c.args.plan.now c.args.slots.now c.args.stack.now
-        c.take_turns.new.slots (numbers c.deref.result.now) c.in-Ok-take_turns.ensures.walked c.unmark.new.slots
-        c.unmark.ensures.others c.unmark.ensures.tokens c.law_failing.ensures.refuses c.law_failing.ensures.nothing
-        c.requires.is_open c.in-Err-complete_top.kind lacks)
+        c.take_turns.new.slots c.deref.result.now c.in-Ok.ensures.walked c.law_failing.ensures.refuses
+        c.law_failing.ensures.nothing c.requires.is_open c.in-Err-complete_top.kind lacks)
+
+pub returns-clause-stopped : goal.returns-clause-stopped
+returns-clause-stopped g c = go c.in-Err-complete_top.ensures.why
+  where
+    go : (c.in-Err-complete_top.kind ≡ ReflectErrorKind.OutOfMemory)
+        ⊎ LacksHere (g.H.Hooks.means c.args.hooks.now) c.args.table.now c.args.plan.now c.take_turns.new.slots
+        c.args.stack.now c.in-Err-complete_top.kind
+        → (c.in-Err-complete_top.kind ≡ ReflectErrorKind.OutOfMemory)
+        ⊎ StoppedByTurns (g.H.Hooks.means c.args.hooks.now) c.args.table.now c.args.plan.now c.args.slots.now
+        c.args.stack.now c.in-Err-complete_top.kind
+    go (inl memory) = inl memory
+    go (inr lacks) =
+        inr
+        (stopped_here (g.H.Hooks.means c.args.hooks.now) c.args.table.now c.args.plan.now c.args.slots.now c.args.stack.now
+        c.take_turns.new.slots c.deref.result.now c.in-Ok.ensures.walked c.law_failing.ensures.refuses
+        c.law_failing.ensures.nothing c.requires.is_open c.in-Err-complete_top.kind lacks)

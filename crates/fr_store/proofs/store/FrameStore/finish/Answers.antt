@@ -1,10 +1,12 @@
-use Rattle.std.proofs.Common.{◌≡◌, ℕ, List, sym, ap, subst, ◌∙◌}
+use Rattle.std.proofs.Common.{◌≡◌, ℕ, List, refl, sym, ap, subst, ◌∙◌}
 use Rattle.fr_shape.specs.Released.{Room, RoseBy}
 use Rattle.fr_shape.specs.TokenLaws.{Room_same, RoseBy_same}
 use Rattle.fr_frame.specs.declared.places.Slot.{Slot}
-use Rattle.fr_frame.specs.Heap.{slots_occur}
+use Rattle.fr_frame.specs.Heap.{slots_occur, stored_in}
 use Rattle.fr_store.specs.MoveLaws.{slots_tokens}
-use Rattle.fr_store.specs.Moves.{tokens_in}
+use Rattle.fr_store.specs.Moves.{cursor_in, tokens_in}
+use Rattle.fr_store.specs.Stored.{NothingStored}
+use Rattle.fr_store.proofs.OpenLaws.{open_stay}
 use Rattle.fr_store.proofs.store.FrameStore.finish.Given.{Over}
 use Rattle.fr_store.proofs.store.FrameStore.finish.Goals as goal
 use Rattle.fr_store.proofs.store.FrameStore.finish.Goals.{After-replace-rest}
@@ -33,3 +35,14 @@ returns-in-Err-clause-released g c =
     (RoseBy_same (slots_occur c.replace-rest.result) (tokens_in c.args.slots.now c.args.stack.now)
     c.complete_all-result.new.ledger c.release.new.ledger
     (held g (goal.at.returns-in-Err-clause-released g c).After-replace-rest) c.release.ensures.released)
+
+-- the places on the way to the one at which the builder works lie in the slots of the stack, before and after
+pub returns-in-Ok-clause-in_place : goal.returns-in-Ok-clause-in_place
+returns-in-Ok-clause-in_place g c =
+    open_stay c.args.plan.now c.args.slots.now c.args.stack.now c.requires.is_open c.complete_all-result.new.slots
+    (cursor_in c.args.slots.now c.args.stack.now) refl c.in-Ok.ensures.finished.stands.open_still
+    c.in-Ok.ensures.finished.stands.cursor
+
+pub returns-in-Err-clause-strict : goal.returns-in-Err-clause-strict
+returns-in-Err-clause-strict g c =
+    subst NothingStored (sym c.replace-rest.ensures.after) (λ n. ap stored_in (c.new.ensures.free n))

@@ -1,0 +1,190 @@
+-- What the slots say of stored places: where they belong.
+use Rattle.std.proofs.Common.{◌≡◌, ◌≢◌, ◌⊎◌, ◌↔◌, ℕ, zero, suc, ◌+◌, ◌-◌, ◌*◌, ◌<◌, ◌≤◌, Bool, true, false, List, [], ◌∷◌, ◌++◌, length, get_or, nat_eq, Some, None, Option, IsSome, inl, inr, refl, sym, ◌∙◌, ap, subst, arith}
+use Rattle.std.specs.List.{All, Contains, sum_by}
+use Rattle.std.specs.List.Sorted.{IsPermutation}
+use Rattle.std.specs.Prelude.{IsSomeAnd}
+use Rattle.std.proofs.lemmas.List.Elements.{Contains-get_or}
+use Rattle.std.proofs.lemmas.List.Sorted.{All-permutation, Contains-permutation, IsPermutation-map, sum_by-IsPermutation}
+use Rattle.std.proofs.lemmas.List.Sums.{sum_by-cons}
+use Rattle.fr_path.specs.Order.{number}
+use Rattle.fr_model.specs.Paths.{step_as}
+use Rattle.fr_model.specs.Places.{Place}
+use Rattle.fr_model.specs.Tree.{Form, as_struct, as_array}
+use Rattle.fr_plan.specs.declared.nodes.NodeId.{NodeId}
+use Rattle.fr_plan.specs.TypePlan.{Plan}
+use Rattle.fr_frame.specs.declared.places.FrameOwner.{FrameOwner}
+use Rattle.fr_frame.specs.Heap.{Node, Heap, marked, stored_in}
+use Rattle.fr_frame.specs.Kids.{Kid, gone, there, at, entered_plot, whole_plot, begun_plot, Holds, child_owner}
+use Rattle.fr_store.specs.declared.turning.StoredPlace.{StoredPlace}
+use Rattle.fr_store.specs.HoldLaws.{holds_at}
+use Rattle.fr_store.specs.LeaveLaws.{below_root, owner_append}
+use Rattle.fr_store.specs.Moves.{OwnerIsNumbered}
+use Rattle.fr_store.specs.Numbers.{slot_of, slots_of}
+use Rattle.fr_store.specs.Places.{counts_in, AreOnce, AreAllStored, BelongsTo, IsHere, IsKeyOf, IsNarrow, IsNoted, IsPlaced, IsStoredChildOf, IsStoredHere, first_key, slot_at, slot_here, stored_here}
+use Rattle.fr_store.specs.Stands.{Stands}
+use Rattle.fr_store.specs.Ways.{counts_if, kid_at, node_along, owner_along, owner_below, uses, Reaches}
+use Rattle.fr_store.proofs.PairLaws.{in_map}
+use Rattle.fr_store.proofs.PlaceLaws.{mark_at, open_unstored, place_of, placed_child}
+
+number_as : (form : Form) (i : ℕ) → number (step_as form i) ≡ i
+number_as as_struct i = refl
+number_as as_array i = refl
+
+-- The owner of a child.
+
+owner_over : (owner : FrameOwner) (i : ℕ) (k : Kid) → Reaches (i ∷ []) k
+    → (form : Form) × (owner_below owner i k ≡ child_owner (slot_here k) form i)
+owner_over owner i gone reach = absurd reach
+owner_over owner i (there v) reach = absurd reach
+owner_over owner i (at slot stored entered_plot) reach = absurd reach
+owner_over owner i (at slot stored (whole_plot v)) reach = absurd reach
+owner_over owner i (at slot stored (begun_plot form kids)) reach = (form, refl)
+
+found_in : (plan : Plan) (heap : Heap) (node : NodeId) (owner : FrameOwner) (depth : ℕ) (k : Kid)
+    → Holds plan heap node owner depth k → IsHere k
+    → (found : Node) × (heap (slot_here k) ≡ Some found) × (found.owner ≡ owner)
+found_in plan heap node owner depth gone holds here = absurd here
+found_in plan heap node owner depth (there v) holds here = absurd here
+found_in plan heap node owner depth (at slot stored plot) holds here = (
+  record { node = node; owner = owner; stored = stored; depth = depth; body = _ },
+  holds.0,
+  refl,
+)
+
+module _ (plan : Plan) (heap : Heap) (stack : List ℕ) (cursor : Place) (k : Kid) (stands : Stands plan heap stack cursor k) where
+  -- what is found in the slot of a child
+  pub child_found : (above : Place) (i : ℕ) → IsPlaced k (above ++ i ∷ [])
+      → (found : Node) × (form : Form) × (heap (slot_at k (above ++ i ∷ [])) ≡ Some found)
+      × (found.owner ≡ child_owner (slot_at k above) form i)
+  child_found above i placed =
+      let place : Place = above ++ i ∷ [] in
+      let found = found_in plan heap (node_along plan plan.root place k) (owner_along FrameOwner.Root place k)
+      (0 + length place) (kid_at place k) (holds_at plan heap plan.root FrameOwner.Root 0 place k stands.holds placed.reaches)
+      placed.here in
+      let over = owner_over (owner_along FrameOwner.Root above k) i (kid_at above k) (placed_child above i k placed).reaches in
+      (found.0, over.0, found.1, found.2 ∙ owner_append FrameOwner.Root above i k ∙ over.1)
+
+  numbered_by : (slot : ℕ) (form : Form) (i : ℕ) (owner : FrameOwner) → owner ≡ child_owner slot form i → OwnerIsNumbered owner
+  numbered_by slot form i owner e = subst OwnerIsNumbered (sym e) (go form)
+    where
+      go : (form : Form) → OwnerIsNumbered (child_owner slot form i)
+      go as_struct = tt
+      go as_array = tt
+
+  -- it is a field or an element
+  pub child_numbered : (above : Place) (i : ℕ) → IsPlaced k (above ++ i ∷ [])
+      → IsSomeAnd (heap (slot_at k (above ++ i ∷ []))) (λ (found : Node). OwnerIsNumbered found.owner)
+  child_numbered above i placed =
+      let told = child_found above i placed in
+      subst (λ (x : Option Node). IsSomeAnd x (λ (found : Node). OwnerIsNumbered found.owner)) (sym told.2)
+      (numbered_by (slot_at k above) told.1 i told.0.owner told.3)
+
+  -- its key
+  pub child_key : (above : Place) (i key : ℕ) → IsPlaced k (above ++ i ∷ [])
+      → IsSomeAnd (heap (slot_at k (above ++ i ∷ []))) (λ (found : Node). IsKeyOf key found.owner)
+      → key ≡ first_key (slot_at k above) + (4294967295 - i)
+  child_key above i key placed is =
+      let told = child_found above i placed in
+      let here : IsKeyOf key told.0.owner
+      = subst (λ (x : Option Node). IsSomeAnd x (λ (found : Node). IsKeyOf key found.owner)) told.2 is in
+      let by : IsKeyOf key (child_owner (slot_at k above) told.1 i) = subst (λ (o : FrameOwner). IsKeyOf key o) told.3 here in
+      by ∙ ap (λ (n : ℕ). first_key (slot_at k above) + (4294967295 - n)) (number_as told.1 i)
+
+  -- where it belongs
+  child_belongs : (above : Place) (i : ℕ) (place : StoredPlace) → IsPlaced k (above ++ i ∷ [])
+      → slot_of place ≡ slot_at k (above ++ i ∷ []) → IsNoted heap place
+      → (place.parent ≡ slot_at k above) × (place.step ≡ i)
+  child_belongs above i place placed same noted =
+      let told = child_found above i placed in
+      let here : BelongsTo place told.0.owner
+      = subst (λ (x : Option Node). IsSomeAnd x (λ (found : Node). BelongsTo place found.owner)) (ap heap same ∙ told.2) noted in
+      let by : BelongsTo place (child_owner (slot_at k above) told.1 i)
+      = subst (λ (o : FrameOwner). BelongsTo place o) told.3 here in
+      (by.0, by.1 ∙ number_as told.1 i)
+
+  module _ (all : (n : ℕ) → IsSome (heap n) → 0 < uses k n) where
+    marked_found : (x : Option Node) → stored_in x ≡ true → IsSome x
+    marked_found (Some found) h = refl
+    marked_found None h = absurd (cc)
+
+    -- where a stored place lies
+    pub stored_place : (n : ℕ) → marked heap n ≡ true
+        → (above : Place) × (i : ℕ) × IsPlaced k (above ++ i ∷ []) × IsStoredHere k (above ++ i ∷ [])
+        × (slot_at k (above ++ i ∷ []) ≡ n)
+    stored_place n is =
+        let lies = place_of k n (all n (marked_found (heap n) is)) in
+        go lies.0 lies.1 lies.2
+        (sym (mark_at plan heap plan.root FrameOwner.Root 0 lies.0 k stands.holds lies.1) ∙ ap (marked heap) lies.2 ∙ is)
+      where
+        go : (p : Place) → IsPlaced k p → slot_at k p ≡ n → IsStoredHere k p
+            → (above : Place) × (i : ℕ) × IsPlaced k (above ++ i ∷ []) × IsStoredHere k (above ++ i ∷ [])
+            × (slot_at k (above ++ i ∷ []) ≡ n)
+        go [] placed slot stored =
+            let no : false ≡ true = sym (open_unstored [] cursor k stands.leads) ∙ stored in
+            absurd (cc)
+        go (j ∷ p) placed slot stored =
+            let parts = below_root (j ∷ p) refl in
+            let e : j ∷ p ≡ parts.0 ++ parts.1 ∷ [] = parts.2 in (
+              parts.0,
+              parts.1,
+              subst (IsPlaced k) e placed,
+              subst (IsStoredHere k) e stored,
+              sym (ap (slot_at k) e) ∙ slot,
+            )
+
+    pub stored_numbered : (n : ℕ) → marked heap n ≡ true
+        → IsSomeAnd (heap n) (λ (found : Node). OwnerIsNumbered found.owner)
+    stored_numbered n is =
+        let lies = stored_place n is in
+        subst (λ (m : ℕ). IsSomeAnd (heap m) (λ (found : Node). OwnerIsNumbered found.owner)) lies.4
+        (child_numbered lies.0 lies.1 lies.2)
+
+    -- what is noted of it is so
+    noted_child : (place : StoredPlace) → marked heap (slot_of place) ≡ true → IsNoted heap place
+        → (above : Place) × IsStoredChildOf k place above
+    noted_child place is noted =
+        let lies = stored_place (slot_of place) is in
+        let belongs = child_belongs lies.0 lies.1 place lies.2 (sym lies.4) noted in
+        let e : lies.0 ++ lies.1 ∷ [] ≡ lies.0 ++ place.step ∷ []
+        = ap (λ (i : ℕ). lies.0 ++ i ∷ []) (sym belongs.1) in (
+          lies.0,
+          record {
+            parent = belongs.0;
+            placed = subst (IsPlaced k) e lies.2;
+            stored = subst (IsStoredHere k) e lies.3;
+            slot = sym lies.4 ∙ ap (slot_at k) e;
+          },
+        )
+
+    counted_by : (m : ℕ) (places : List StoredPlace)
+        → counts_in m (slots_of places) ≡ sum_by (λ (p : StoredPlace). counts_if (nat_eq (slot_of p) m)) places
+    counted_by m [] = refl
+    counted_by m (p ∷ places) =
+        omega (arith, counted_by m places, sum_by-cons (λ (q : StoredPlace). counts_if (nat_eq (slot_of q) m)) p places)
+
+    -- noted and sorted, they are all
+    module _ (listed noted sorted : List StoredPlace) (same : slots_of noted ≡ slots_of listed)
+        (kept : (n : ℕ) → (marked heap n ≡ true) ↔ Contains (slots_of listed) n) (once : AreOnce (slots_of listed))
+        (notes : All (IsNoted heap) noted) (narrow : All IsNarrow noted) (moved : IsPermutation noted sorted) where
+      is_marked : (place : StoredPlace) → Contains noted place → marked heap (slot_of place) ≡ true
+      is_marked place among =
+          (kept (slot_of place)).1
+          (subst (λ (l : List ℕ). Contains l (slot_of place)) same (in_map slot_of noted place among))
+
+      pub are_all_stored : AreAllStored k sorted
+      are_all_stored = record {
+        each =
+            All-permutation (λ (place : StoredPlace). (above : Place) × IsStoredChildOf k place above) noted sorted moved
+            (λ i d h. noted_child (get_or noted i d) (is_marked (get_or noted i d) (Contains-get_or noted i d h)) (notes i d h));
+        narrow = All-permutation IsNarrow noted sorted moved narrow;
+        once = λ n.
+            let before : counts_in n (slots_of noted) ≤ 1 = subst (λ (l : List ℕ). counts_in n l ≤ 1) (sym same) (once n) in
+            omega
+            (arith, counted_by n noted, counted_by n sorted, sum_by-IsPermutation (λ (p : StoredPlace). counts_if (nat_eq (slot_of p) n)) noted sorted moved);
+        all = λ place placed stored.
+            Contains-permutation (slots_of noted) (slots_of sorted) (slot_at k place)
+            (IsPermutation-map slot_of noted sorted moved)
+            (subst (λ (l : List ℕ). Contains l (slot_at k place)) (sym same)
+            ((kept (slot_at k place)).0
+            (mark_at plan heap plan.root FrameOwner.Root 0 place k stands.holds placed ∙ stored)));
+      }

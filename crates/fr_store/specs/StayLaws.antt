@@ -1,0 +1,174 @@
+-- Laws of places that stay in their slots, for proofs: where what lies at one place is replaced, all beside it stays.
+use Rattle.std.proofs.Common.{◌≡◌, ◌≢◌, ◌⊎◌, ℕ, zero, suc, ◌<◌, Bool, List, [], ◌∷◌, ◌++◌, append-nil, inl, inr, refl, sym, ◌∙◌, ap, subst}
+use Rattle.fr_model.specs.Places.{Place}
+use Rattle.fr_plan.specs.TypePlan.{Plan}
+use Rattle.fr_frame.specs.declared.places.FrameOwner.{FrameOwner}
+use Rattle.fr_frame.specs.declared.places.Slot.{Slot}
+use Rattle.fr_frame.specs.Bodies.{IsClosed, IsUnplaced, AreUnplaced}
+use Rattle.fr_frame.specs.Changes.{Shows}
+use Rattle.fr_frame.specs.Heap.{heap_of}
+use Rattle.fr_frame.specs.Kids.{Kid, gone, there, at, Plot, entered_plot, whole_plot, begun_plot, Kids, no_kids, kid, cell_of, cells_in, body_in}
+use Rattle.fr_store.specs.HoldLaws.{holds_frame}
+use Rattle.fr_store.specs.OffLaws.{nth_other}
+use Rattle.fr_store.specs.Places.{slot_at, slot_here, IsHere, IsPlaced}
+use Rattle.fr_store.specs.StandLaws.{kid_is}
+use Rattle.fr_store.specs.Stands.{Stands, IsOpen, cursor_shown, kid_here}
+use Rattle.fr_store.specs.Staying.{StaysPut, AllStayPut, StayPutBut, StayPutButBeneath}
+use Rattle.fr_store.specs.Ways.{kid_nth, kid_at, put_nth, put_at, Reaches}
+use Rattle.fr_store.specs.WayLaws.{count_put, nth_put, same_or_other}
+
+pub stay_same : (k : Kid) → AllStayPut k k
+stay_same k place placed = (placed, refl)
+
+-- what is the same stays
+pub stay_is : (before after : Kid) → after ≡ before → AllStayPut before after
+stay_is before after e = subst (λ (x : Kid). AllStayPut before x) (sym e) (stay_same before)
+
+-- Where what lies at one place is replaced, a place stays where it does within the new.
+pub stay_at : (part : Place) (new k : Kid) → Reaches part k → (place : Place)
+    → ((rest : Place) → place ≡ part ++ rest → StaysPut (kid_at part k) new rest) → StaysPut k (put_at part new k) place
+stay_at [] new k reach place within = within place refl
+stay_at (i ∷ part) new gone reach place within = absurd reach
+stay_at (i ∷ part) new (there v) reach place within = absurd reach
+stay_at (i ∷ part) new (at slot stored entered_plot) reach place within = absurd reach
+stay_at (i ∷ part) new (at slot stored (whole_plot v)) reach place within = absurd reach
+stay_at (i ∷ part) new (at slot stored (begun_plot form kids)) reach [] within =
+    λ placed. (record { reaches = tt; here = tt }, refl)
+stay_at (i ∷ part) new (at slot stored (begun_plot form kids)) reach (j ∷ place) within =
+    λ placed. go placed (same_or_other i j) (λ e. stay_at part new (kid_nth i kids) reach.1 place (beneath e))
+  where
+    child : Kid
+    child = put_at part new (kid_nth i kids)
+
+    beneath : i ≡ j → (rest : Place) → place ≡ part ++ rest → StaysPut (kid_at part (kid_nth i kids)) new rest
+    beneath e rest is = within rest (ap (λ (m : ℕ). m ∷ place) (sym e) ∙ ap (λ (p : Place). i ∷ p) is)
+
+    -- what is there of child j
+    from : (x : Kid) → kid_nth j (put_nth i child kids) ≡ x
+        → IsPlaced (at slot stored (begun_plot form kids)) (j ∷ place)
+        → IsPlaced x place × (slot_at x place ≡ slot_at (kid_nth j kids) place)
+        → IsPlaced (at slot stored (begun_plot form (put_nth i child kids))) (j ∷ place)
+        × (slot_at (at slot stored (begun_plot form (put_nth i child kids))) (j ∷ place)
+        ≡ slot_at (at slot stored (begun_plot form kids)) (j ∷ place))
+    from x is placed stays = (
+      record {
+        reaches = (
+          subst (λ (count : ℕ). j < count) (sym (count_put i child kids)) placed.reaches.0,
+          subst (λ (y : Kid). Reaches place y) (sym is) stays.0.reaches,
+        );
+        here = subst (λ (y : Kid). IsHere (kid_at place y)) (sym is) stays.0.here;
+      },
+      ap (λ (y : Kid). slot_here (kid_at place y)) is ∙ stays.1,
+    )
+
+    go : IsPlaced (at slot stored (begun_plot form kids)) (j ∷ place) → (i ≡ j) ⊎ (i ≢ j)
+        → (i ≡ j → StaysPut (kid_nth i kids) child place)
+        → IsPlaced (at slot stored (begun_plot form (put_nth i child kids))) (j ∷ place)
+        × (slot_at (at slot stored (begun_plot form (put_nth i child kids))) (j ∷ place)
+        ≡ slot_at (at slot stored (begun_plot form kids)) (j ∷ place))
+    go placed (inl e) rest =
+        let below : IsPlaced (kid_nth i kids) place
+        = subst (λ (m : ℕ). IsPlaced (kid_nth m kids) place) (sym e)
+        (record { reaches = placed.reaches.1; here = placed.here }) in
+        let stays = rest e below in
+        let now : kid_nth j (put_nth i child kids) ≡ child
+        = ap (λ (m : ℕ). kid_nth m (put_nth i child kids)) (sym e) ∙ nth_put i child kids reach.0 in
+        from child now placed (stays.0, stays.1 ∙ ap (λ (m : ℕ). slot_at (kid_nth m kids) place) e)
+    go placed (inr ne) rest =
+        from (kid_nth j kids) (nth_other i j child kids ne) placed
+        (record { reaches = placed.reaches.1; here = placed.here }, refl)
+
+-- Where each place within it stays, all stay.
+pub stay_all : (part : Place) (new k : Kid) → Reaches part k → AllStayPut (kid_at part k) new → AllStayPut k (put_at part new k)
+stay_all part new k reach within place = stay_at part new k reach place (λ rest e. within rest)
+
+-- Within one place.
+
+-- it is marked anew
+pub stay_marked : (old new : Kid) (slot : ℕ) (was mark : Bool) (plot : Plot) → old ≡ at slot was plot
+    → new ≡ at slot mark plot → AllStayPut old new
+stay_marked old new slot was mark plot e f =
+    subst (λ (x : Kid). AllStayPut x new) (sym e) (subst (λ (x : Kid). AllStayPut (at slot was plot) x) (sym f) go)
+  where
+    go : AllStayPut (at slot was plot) (at slot mark plot)
+    go [] placed = (record { reaches = tt; here = tt }, refl)
+    go (i ∷ place) placed = (record { reaches = placed.reaches; here = placed.here }, refl)
+
+-- nothing lay in a slot there
+pub stay_unplaced : (old new : Kid) → IsUnplaced (cell_of old) → AllStayPut old new
+stay_unplaced gone new unplaced [] placed = absurd placed.here
+stay_unplaced gone new unplaced (i ∷ place) placed = absurd placed.reaches
+stay_unplaced (there v) new unplaced [] placed = absurd placed.here
+stay_unplaced (there v) new unplaced (i ∷ place) placed = absurd placed.reaches
+stay_unplaced (at slot stored plot) new unplaced place placed = absurd unplaced
+
+-- none of its children lay in a slot
+none_below : (i : ℕ) (ks : Kids) (place : Place) → AreUnplaced (cells_in ks) → IsPlaced (kid_nth i ks) place → ⊥
+none_below i no_kids [] closed placed = placed.here
+none_below i no_kids (j ∷ place) closed placed = placed.reaches
+none_below zero (kid gone ks) [] closed placed = placed.here
+none_below zero (kid gone ks) (j ∷ place) closed placed = placed.reaches
+none_below zero (kid (there v) ks) [] closed placed = placed.here
+none_below zero (kid (there v) ks) (j ∷ place) closed placed = placed.reaches
+none_below zero (kid (at slot stored plot) ks) place closed placed = closed.0
+none_below (suc i) (kid gone ks) place closed placed = none_below i ks place closed.1 placed
+none_below (suc i) (kid (there v) ks) place closed placed = none_below i ks place closed.1 placed
+none_below (suc i) (kid (at slot stored plot) ks) place closed placed = absurd closed.0
+
+pub closed_below : (old : Kid) (slot : ℕ) (stored : Bool) (plot : Plot) → old ≡ at slot stored plot → IsClosed (body_in plot)
+    → (i : ℕ) (place : Place) → IsPlaced old (i ∷ place) → ⊥
+closed_below old slot stored plot e closed i place placed =
+    go plot closed (subst (λ (x : Kid). IsPlaced x (i ∷ place)) e placed)
+  where
+    go : (plot : Plot) → IsClosed (body_in plot) → IsPlaced (at slot stored plot) (i ∷ place) → ⊥
+    go entered_plot closed placed = placed.reaches
+    go (whole_plot v) closed placed = placed.reaches
+    go (begun_plot form kids) closed placed =
+        none_below i kids place closed (record { reaches = placed.reaches.1; here = placed.here })
+
+-- Something else at one place.
+
+-- that was none of whose children lay in a slot, and is in none itself: each place but it stays
+pub stay_but : (part : Place) (new k : Kid) (slot : ℕ) (stored : Bool) (plot : Plot) → Reaches part k
+    → kid_at part k ≡ at slot stored plot → IsClosed (body_in plot) → StayPutBut part k (put_at part new k)
+stay_but part new k slot stored plot reach is closed place ne =
+    stay_at part new k reach place (λ rest e. go rest e)
+  where
+    go : (rest : Place) → place ≡ part ++ rest → StaysPut (kid_at part k) new rest
+    go [] e placed = absurd (ne (e ∙ append-nil part))
+    go (i ∷ rest) e placed = absurd (closed_below (kid_at part k) slot stored plot is closed i rest placed)
+
+-- in the same slot: each place that isn't strictly beneath it stays
+pub stay_but_beneath : (part : Place) (new k : Kid) (slot : ℕ) (was mark : Bool) (old plot : Plot) → Reaches part k
+    → kid_at part k ≡ at slot was old → new ≡ at slot mark plot → StayPutButBeneath part k (put_at part new k)
+stay_but_beneath part new k slot was mark old plot reach is now place beside =
+    stay_at part new k reach place (λ rest e. go rest e)
+  where
+    go : (rest : Place) → place ≡ part ++ rest → StaysPut (kid_at part k) new rest
+    go [] e placed =
+        subst (λ (x : Kid). IsPlaced x [] × (slot_at x [] ≡ slot_at (kid_at part k) [])) (sym now)
+        (record { reaches = tt; here = tt }, sym (ap slot_here is))
+    go (i ∷ rest) e placed = absurd (beside (record { step = i; rest = rest; way = e }))
+
+-- Open builders.
+
+-- what stands is what is shown
+pub stay_shown : (plan : Plan) (slots : List Slot) (stack : List ℕ) (place : Place) (k before : Kid)
+    → Stands plan (heap_of slots) stack place k → AllStayPut before k → AllStayPut before (kid_here slots stack)
+stay_shown plan slots stack place k before stands stay =
+    subst (λ (x : Kid). AllStayPut before x) (sym (kid_is plan (heap_of slots) stack place k stands)) stay
+
+-- slots that show the same
+pub stay_refused : (plan : Plan) (before after : List Slot) (stack : List ℕ) → IsOpen plan before stack
+    → Shows after (heap_of before) → AllStayPut (kid_here before stack) (kid_here after stack)
+stay_refused plan before after stack open_now shows =
+    stay_shown plan after stack (cursor_shown (heap_of before) stack) (kid_here before stack) (kid_here before stack)
+    (record {
+      holds =
+          holds_frame plan (heap_of before) (heap_of after) plan.root FrameOwner.Root 0 (kid_here before stack)
+          open_now.stands.holds (λ n h. shows n);
+      once = open_now.stands.once;
+      leads = open_now.stands.leads;
+      along = open_now.stands.along;
+    })
+    (stay_same (kid_here before stack))
