@@ -1,17 +1,28 @@
 -- What a place comes to, and its tokens.
-use Rattle.std.proofs.Common.{◌≡◌, ℕ, zero, suc, ◌+◌, replicate, Option, Some, None, refl, sym, ◌∙◌, ap, arith}
+use Rattle.std.proofs.Common.{◌≡◌, ℕ, zero, suc, ◌+◌, List, replicate, option_map, Option, Some, None, IsSome, refl, sym, ◌∙◌, ap, subst, arith}
 use Rattle.fr_shape.specs.Tokens.{occurs, vals_occur}
 use Rattle.fr_shape.specs.Val.{Val, Vals, product, no_vals, first}
 use Rattle.fr_model.specs.Complete.{made}
 use Rattle.fr_model.specs.Places.{parts_of, product_of}
 use Rattle.fr_model.specs.Tree.{Form, as_struct, as_array}
-use Rattle.fr_frame.specs.Bodies.{Body, entered_body, whole_body, begun_body, body_occurs, opened, opened_by, value_of, cells_of_vals}
-use Rattle.fr_frame.specs.Cells.{absent, cells_occur, values_of}
+use Rattle.fr_frame.specs.Bodies.{Body, entered_body, whole_body, begun_body, body_occurs, opened, opened_by, value_of, cells_of_vals, HasAllChildren}
+use Rattle.fr_frame.specs.Cells.{Cell, absent, cells_occur, values_of}
 use Rattle.fr_frame.proofs.CellLaws.{values_occur}
 
 pub product_of_struct : (form : Form) (values : Option Vals) → made form values ≡ product_of values
 product_of_struct as_struct values = refl
 product_of_struct as_array values = refl
+
+-- a place with a value lacks no child
+pub value_has_all : (body : Body) → IsSome (value_of body) → HasAllChildren body
+value_has_all entered_body h = tt
+value_has_all (whole_body v) h = tt
+value_has_all (begun_body form cells) h =
+    go (values_of cells) (subst (λ (o : Option Val). IsSome o) (product_of_struct form (values_of cells)) h)
+  where
+    go : (values : Option Vals) → IsSome (product_of values) → IsSome values
+    go (Some vs) h = refl
+    go None h = absurd (cc)
 
 pub value_occurs_same : (body : Body) (v : Val) (t : ℕ) → value_of body ≡ Some v → body_occurs body t ≡ occurs v t
 value_occurs_same entered_body v t e = cc
@@ -28,6 +39,17 @@ value_occurs_same (begun_body form cells) v t e = go (values_of cells) refl (sym
 vals_cells : (vs : Vals) (t : ℕ) → cells_occur (cells_of_vals vs) t ≡ vals_occur vs t
 vals_cells no_vals t = refl
 vals_cells (first v vs) t = ap (λ (n : ℕ). occurs v t + n) (vals_cells vs t)
+
+pub whole_as_meant : (v w : Val) → Some v ≡ Some w → whole_body v ≡ whole_body w
+whole_as_meant v w e = let same : v ≡ w = cc in ap whole_body same
+
+-- a value's parts have its tokens
+pub parts_occur : (v : Val) (cells : List Cell) (t : ℕ) → option_map cells_of_vals (parts_of v) ≡ Some cells
+    → cells_occur cells t ≡ occurs v t
+parts_occur (product vs) cells t e =
+    let same : cells_of_vals vs ≡ cells = cc in
+    ap (λ (cs : List Cell). cells_occur cs t) (sym same) ∙ vals_cells vs t
+parts_occur _ cells t e = let no : None ≡ Some cells = e in cc
 
 pub none_occur : (count t : ℕ) → cells_occur (replicate count absent) t ≡ 0
 none_occur zero t = refl

@@ -1,8 +1,8 @@
 -- What a place lacks and what it makes, by what each of its children lacks and makes.
-use Rattle.std.proofs.Common.{◌≡◌, ℕ, zero, suc, ◌+◌, ◌-◌, ◌<◌, Bool, List, [], ◌∷◌, length, map, drop, replicate, Option, Some, None, IsSome, slice_get, get_or, inl, inr, refl, sym, ◌∙◌, ap, subst, arith}
+use Rattle.std.proofs.Common.{◌≡◌, ℕ, zero, suc, ◌+◌, ◌-◌, ◌<◌, Bool, true, false, ◌||◌, not, List, [], ◌∷◌, length, map, drop, replicate, Option, Some, None, IsSome, slice_get, get_or, inl, inr, refl, sym, ◌∙◌, ap, subst, arith}
+use Rattle.std.specs.List.{list_any}
 use Rattle.std.specs.Option.{option_or}
-use Rattle.std.specs.Prelude.{◌≤◌, Result, Ok, Err, IfErr, take, slice_index_or, if◌then◌else◌}
-use Rattle.fr_arena.specs.Ranges.{Range}
+use Rattle.std.specs.Prelude.{Result, Ok, Err, IfErr, slice_index_or, if◌then◌else◌}
 use Rattle.fr_shape.specs.declared.error.ReflectErrorKind.{ReflectErrorKind}
 use Rattle.fr_shape.specs.declared.shape.Def.{Def}
 use Rattle.fr_shape.specs.declared.shape.Field.{Field}
@@ -11,7 +11,8 @@ use Rattle.fr_shape.specs.declared.shape.ScalarKind.{ScalarKind}
 use Rattle.fr_shape.specs.declared.shape.ValidatorDef.{ValidatorDef}
 use Rattle.fr_shape.specs.Fills.{preset_of}
 use Rattle.fr_shape.specs.Hooks.{Meanings}
-use Rattle.fr_shape.specs.Look.{Table, def_of}
+use Rattle.fr_shape.specs.Lists.{is_nil}
+use Rattle.fr_shape.specs.Look.{Table, def_of, field_in}
 use Rattle.fr_shape.specs.Val.{Val, Vals}
 use Rattle.fr_shape.specs.Validators.{passes, passes_at, message, kind_of}
 use Rattle.fr_rules.specs.declared.validators.PrecomputedValidator.{PrecomputedValidator}
@@ -22,11 +23,12 @@ use Rattle.fr_model.specs.Complete.{complete, complete_all, made, made_by, made_
 use Rattle.fr_model.specs.Places.{Column, strict_column, child_count, fill_at, one_more, each_child}
 use Rattle.fr_model.specs.Tree.{Form, as_struct, as_array}
 use Rattle.fr_plan.specs.declared.plans.FieldPlan.{FieldPlan}
+use Rattle.fr_plan.specs.Fields.{has_validator, has_validators, own_fields}
 use Rattle.fr_plan.specs.Plans.{precomputed, with_kind, kind_of as kind_in_plan}
 use Rattle.fr_plan.specs.TypePlan.{Plan}
 use Rattle.fr_frame.specs.Bodies.{Body, entered_body, whole_body, begun_body, own_tree, trees_of}
 use Rattle.fr_frame.specs.Cells.{Cell, absent, given, placed, value_of_cell, value_at, values_of}
-use Rattle.fr_frame.specs.Filling.{IsTold, IsToldAt, AreTold, child_value, filled, filled_body, lack_of_child, first_refused, IsCauseOf, HaveNoValidators}
+use Rattle.fr_frame.specs.Filling.{IsTold, IsToldAt, AreTold, child_value, filled, filled_body, lack_of_child, first_refused, IsCauseOf}
 
 -- What fails.
 
@@ -332,40 +334,50 @@ index_is [] k d x e = absurd (cc)
 index_is (y ∷ xs) zero d x e = cc
 index_is (y ∷ xs) (suc k) d x e = index_is xs k d x e
 
-none_of : {X : Type 0} (xs : List X) (range : Range) → range.len ≡ 0 → part_of xs range ≡ []
-none_of xs range e =
-    let nothing : (range.start + range.len) - range.start ≡ 0 = omega arith in
-    ap (λ (n : ℕ). take n (drop range.start xs)) nothing
+own_field : (def : Def) (i : ℕ) (field : Field) → field_in def None i ≡ Some field → slice_get (own_fields def) i ≡ Some field
+own_field (Def.Struct struct) i field e = e
+own_field def i field e = let no : None ≡ Some field = e in absurd (cc)
 
-module _ (means : Meanings) (table : Table) (plan : Plan) (s : ℕ) (told : List FieldPlan) (are : AreTold table plan s told)
-    (no_validators : HaveNoValidators told) where
-  pub passes_all : (i : ℕ) (v : Val) → i < length told → failing_child means table s as_struct i (Some v) ≡ None
-  passes_all i v h =
-      let one : (x : FieldPlan) × (slice_get told i ≡ Some x) = item_at told i h in
-      let is : IsTold table plan s i one.0 = told_here table plan s i told one.0 are one.1 in
-      let none : one.0.validators.len ≡ 0
-      = ap (λ (x : FieldPlan). x.validators.len) (sym (index_is told i one.0 one.0 one.1)) ∙ no_validators i one.0 h in
-      sym (field_fails means table plan s i one.0 is v)
-      ∙ ap (λ (validators : List PrecomputedValidator). first_refused means one.0.field validators v)
-      (none_of plan.lists.validators one.0.validators none)
+nil_not : {X : Type 0} (xs : List X) → not (is_nil xs) ≡ false → xs ≡ []
+nil_not [] h = refl
+nil_not (x ∷ xs) h = absurd (cc)
 
-  lack_nothing : (j : ℕ) (cs : List Cell) → j + length cs ≤ length told → IsSome (values_of cs)
+neither : (a b : Bool) → (a || b) ≡ false → (a ≡ false) × (b ≡ false)
+neither true b h = absurd (cc)
+neither false b h = (refl, h)
+
+none_in : (fields : List Field) (i : ℕ) (field : Field) → list_any has_validator fields ≡ false → slice_get fields i ≡ Some field
+    → has_validator field ≡ false
+none_in [] i field h e = absurd (cc)
+none_in (f ∷ fields) zero field h e =
+    let same : f ≡ field = cc in
+    ap has_validator (sym same) ∙ (neither (has_validator f) (list_any has_validator fields) h).0
+none_in (f ∷ fields) (suc i) field h e = none_in fields i field (neither (has_validator f) (list_any has_validator fields) h).1 e
+
+module _ (means : Meanings) (table : Table) (s : ℕ) (none : has_validators (def_of table s) None ≡ false) where
+  pub passes_all : (i : ℕ) (v : Val) → failing_child means table s as_struct i (Some v) ≡ None
+  passes_all i v = go (field_in (def_of table s) None i) refl
+    where
+      go : (found : Option Field) → field_in (def_of table s) None i ≡ found → failing_field means table s i found (Some v) ≡ None
+      go None e = refl
+      go (Some field) e =
+          let nil : field.validators ≡ []
+          = nil_not field.validators (none_in (own_fields (def_of table s)) i field none (own_field (def_of table s) i field e)) in
+          ap (λ (validators : List ValidatorDef). first_failing means (def_of table field.shape.0) s i validators v) nil
+
+  pub no_validator_lacks : (j : ℕ) (cs : List Cell) → IsSome (values_of cs)
       → lack_among means table s as_struct j (trees_of cs) ≡ None
-  lack_nothing j [] h there = refl
-  lack_nothing j (absent ∷ cs) h there = absurd (cc)
-  lack_nothing j (placed n ∷ cs) h there = absurd (cc)
-  lack_nothing j (given v ∷ cs) h there =
+  no_validator_lacks j [] there = refl
+  no_validator_lacks j (absent ∷ cs) there = absurd (cc)
+  no_validator_lacks j (placed n ∷ cs) there = absurd (cc)
+  no_validator_lacks j (given v ∷ cs) there =
       ap (λ (o : Option ReflectErrorKind). option_or o (lack_among means table s as_struct (suc j) (trees_of cs)))
-      (passes_all j v (omega arith))
-      ∙ lack_nothing (suc j) cs (omega arith) (go (values_of cs) there)
+      (passes_all j v)
+      ∙ no_validator_lacks (suc j) cs (go (values_of cs) there)
     where
       go : (vs : Option Vals) → IsSome (one_more (Some v) vs) → IsSome vs
       go (Some vs) h = refl
       go None h = absurd (cc)
-
-  pub no_validator_lacks : (cs : List Cell) → length cs ≡ length told → IsSome (values_of cs)
-      → lack_among means table s as_struct 0 (trees_of cs) ≡ None
-  no_validator_lacks cs h there = lack_nothing 0 cs (omega arith) there
 
 -- an array lacks its value where an element isn't there, and else nothing
 

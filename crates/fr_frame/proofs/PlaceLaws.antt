@@ -1,10 +1,10 @@
 -- A place that is changed in its slot.
-use Rattle.std.proofs.Common.{◌≡◌, ◌≢◌, ◌⊎◌, ℕ, zero, suc, ◌+◌, List, [], ◌∷◌, Option, Some, IsSomeAnd, slice_get, set, option_map, inl, inr, refl, sym, ◌∙◌, ap, subst}
+use Rattle.std.proofs.Common.{◌≡◌, ◌≢◌, ◌⊎◌, ℕ, zero, suc, ◌+◌, Bool, List, [], ◌∷◌, Option, Some, IsSomeAnd, slice_get, set, option_map, inl, inr, refl, sym, ◌∙◌, ap, subst}
 use Rattle.fr_frame.specs.declared.places.Piece.{Piece}
 use Rattle.fr_frame.specs.declared.places.Place.{Place}
 use Rattle.fr_frame.specs.declared.places.Slot.{Slot}
 use Rattle.fr_frame.specs.Bodies.{Body, body_occurs}
-use Rattle.fr_frame.specs.Heap.{Node, body_of, node_of, node_in, heap_of, slots_occur, with_slot, with_body}
+use Rattle.fr_frame.specs.Heap.{Node, body_of, node_of, node_in, heap_of, slots_occur, with_slot, with_body, with_mark}
 use Rattle.fr_frame.specs.Changes.{Shows, IfInUse, Becomes}
 use Rattle.fr_frame.proofs.HeapLaws.{with_here, with_other, number_cases, occur_set, free_there}
 
@@ -20,6 +20,12 @@ set_other (s ∷ slots) zero now (suc m) ne = refl
 set_other (s ∷ slots) (suc n) now zero ne = refl
 set_other (s ∷ slots) (suc n) now (suc m) ne = set_other slots n now m (λ (e : m ≡ n). ne (ap (λ (k : ℕ). suc k) e))
 
+-- a slot that is given what it had
+pub set_as_was : (slots : List Slot) (n : ℕ) (slot : Slot) → slice_get slots n ≡ Some slot → set slots n slot ≡ slots
+set_as_was [] n slot e = refl
+set_as_was (s ∷ slots) zero slot e = let same : slot ≡ s = cc in ap (λ (x : Slot). x ∷ slots) same
+set_as_was (s ∷ slots) (suc n) slot e = ap (λ (l : List Slot). s ∷ l) (set_as_was slots n slot e)
+
 -- the place with another piece
 abbrev pub repieced : Place → Piece → Place
 repieced at piece = record at { piece = piece }
@@ -31,21 +37,29 @@ module _ (slots : List Slot) (n : ℕ) (at : Place) (was : slice_get slots n ≡
   pub of_place : (So : Node → Type 0) → So (node_of at) → IfInUse slots n So
   of_place So so = of_node (heap_of slots n) (node_of at) So (free_there slots n (Slot.Used at) was) so
 
-  pub becomes : (piece : Piece) → Becomes slots (set slots n (Slot.Used (repieced at piece))) n (node_of at) (body_of piece)
-  becomes piece m = go (number_cases m n)
+  pub changes : (now : Place) → Shows (set slots n (Slot.Used now)) (with_slot (heap_of slots) n (Some (node_of now)))
+  changes now m = go (number_cases m n)
     where
       after : List Slot
-      after = set slots n (Slot.Used (repieced at piece))
+      after = set slots n (Slot.Used now)
 
-      changed : Option Node
-      changed = Some (node_of (repieced at piece))
-
-      go : (m ≡ n) ⊎ (m ≢ n) → heap_of after m ≡ with_slot (heap_of slots) n changed m
+      go : (m ≡ n) ⊎ (m ≢ n) → heap_of after m ≡ with_slot (heap_of slots) n (Some (node_of now)) m
       go (inl same) =
-          ap (heap_of after) same ∙ set_here slots n (Slot.Used at) (Slot.Used (repieced at piece)) was
-          ∙ sym (with_here (heap_of slots) n changed) ∙ sym (ap (with_slot (heap_of slots) n changed) same)
-      go (inr ne) =
-          set_other slots n (Slot.Used (repieced at piece)) m ne ∙ sym (with_other (heap_of slots) n changed m ne)
+          ap (heap_of after) same ∙ set_here slots n (Slot.Used at) (Slot.Used now) was
+          ∙ sym (with_here (heap_of slots) n (Some (node_of now))) ∙ sym (ap (with_slot (heap_of slots) n (Some (node_of now))) same)
+      go (inr ne) = set_other slots n (Slot.Used now) m ne ∙ sym (with_other (heap_of slots) n (Some (node_of now)) m ne)
+
+  pub becomes : (piece : Piece) → Becomes slots (set slots n (Slot.Used (repieced at piece))) n (node_of at) (body_of piece)
+  becomes piece = changes (repieced at piece)
+
+  pub marks : (stored : Bool)
+      → Shows (set slots n (Slot.Used (record at { stored = stored }))) (with_mark (heap_of slots) n stored)
+  marks stored m = changes (record at { stored = stored }) m ∙ ap (λ (x : Option Node). with_slot (heap_of slots) n x m) value
+    where
+      value : Some (node_of (record at { stored = stored }))
+          ≡ option_map (λ (x : Node). record x { stored = stored }) (heap_of slots n)
+      value =
+          sym (ap (option_map (λ (x : Node). record x { stored = stored })) (free_there slots n (Slot.Used at) was))
 
   pub shows : (piece : Piece) (change : Body → Body) → body_of piece ≡ change (body_of at.piece)
       → Shows (set slots n (Slot.Used (repieced at piece))) (with_body (heap_of slots) n change)

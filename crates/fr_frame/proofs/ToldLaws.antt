@@ -12,6 +12,7 @@ use Rattle.fr_shape.specs.declared.shape.FieldRef.{FieldRef}
 use Rattle.fr_shape.specs.declared.shape.StructDef.{StructDef}
 use Rattle.fr_shape.specs.Checked.{IsChecked}
 use Rattle.fr_shape.specs.Look.{Table, def_of, def_or_other, field_in}
+use Rattle.fr_shape.specs.Plannable.{Reached}
 use Rattle.fr_rules.specs.FillRules.{fill_told}
 use Rattle.fr_rules.specs.FillLaws.{told_is_fill}
 use Rattle.fr_rules.specs.Pools.{part_of}
@@ -31,6 +32,7 @@ use Rattle.fr_plan.specs.Build.{Placed, fields_from}
 use Rattle.fr_plan.specs.LookupLaws.{StandsFor, BackReferencesResolve, shape_of as shape_of_node}
 use Rattle.fr_plan.specs.Lookups.{node_at, resolved, resolved_id, struct_plan_at, by_id}
 use Rattle.fr_plan.specs.Nodes.{struct_plan_of, enum_plan_of, is_built_from, IsKindBy, IsOwnKind, IsKindOf, IsNode}
+use Rattle.fr_plan.specs.PlanLaws.{IsComplete, PlansAreComplete}
 use Rattle.fr_plan.specs.Plans.{IsStructPlan, IsEnumPlan, IsFieldPlan}
 use Rattle.fr_plan.specs.TypePlan.{Plan}
 use Rattle.fr_frame.specs.Completing.{shape_of, IsPlanFor}
@@ -205,6 +207,17 @@ module _ (resolve : BackReferencesResolve) (table : Table) (plan : Plan) (checke
       FoundFor table plan (unwrap_or (option_map shape_of_node node) (record { 0 = 0 })).0
       (option_and_then (struct_plan_at plan) node))
       (sym here.1) (found_at here.0 here.1)
+
+-- a node is of a shape that the plan's root reaches
+pub node_reached : PlansAreComplete → (table : Table) (plan : Plan) → IsChecked table → (planned : IsPlanFor table plan)
+    → (id : NodeId) (node : TypePlanNode) → node_at plan id ≡ Some node → Reached table planned.root.0 node.shape.0
+node_reached complete table plan checked planned id node at =
+    let pair : Paired (IsNode table plan.lists) plan.walk.nodes id.0 node
+    = zip_there (IsNode table plan.lists) plan.walk.nodes plan.nodes planned.planned.told id.0 node at in
+    let made : IsComplete table planned.root (record { walk = plan.walk; node = plan.root })
+    = complete table planned.root (record { walk = plan.walk; node = plan.root }) checked planned.inside planned.planned.built in
+    subst (λ (shape : ShapeId). Reached table planned.root.0 shape.0) (sym pair.so.shape)
+    (made.nodes id.0 pair.other pair.there).reached
 
 -- What the plan of a struct says of its fields.
 

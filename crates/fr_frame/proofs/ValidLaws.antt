@@ -1,19 +1,20 @@
 -- Validators of children that are all there, by what a plan says of their fields.
-use Rattle.std.proofs.Common.{◌≡◌, ℕ, zero, suc, ◌+◌, ◌<◌, ◌≤◌, List, [], ◌∷◌, length, drop, Option, Some, None, IsSome, slice_get, refl, sym, ◌∙◌, ap, subst, arith}
+use Rattle.std.proofs.Common.{◌≡◌, ℕ, zero, suc, ◌+◌, ◌<◌, List, [], ◌∷◌, false, length, drop, Option, Some, None, IsSome, slice_get, refl, sym, ◌∙◌, ap, subst, arith}
 use Rattle.std.specs.Option.{option_or}
 use Rattle.fr_shape.specs.declared.error.ReflectErrorKind.{ReflectErrorKind}
 use Rattle.fr_shape.specs.Hooks.{Meanings}
-use Rattle.fr_shape.specs.Look.{Table}
+use Rattle.fr_shape.specs.Look.{Table, def_of}
 use Rattle.fr_shape.specs.Val.{Val}
 use Rattle.fr_model.specs.Complete.{failing_child}
 use Rattle.fr_model.specs.Failing.{first_invalid}
 use Rattle.fr_model.specs.Tree.{Form, as_struct, as_array}
 use Rattle.fr_plan.specs.declared.plans.FieldPlan.{FieldPlan}
+use Rattle.fr_plan.specs.Fields.{has_validators}
 use Rattle.fr_plan.specs.TypePlan.{Plan}
 use Rattle.fr_frame.specs.Bodies.{trees_of}
 use Rattle.fr_frame.specs.Cells.{Cell, absent, given, placed, value_at, values_of}
 use Rattle.fr_frame.specs.FieldDefaults.{refused_of}
-use Rattle.fr_frame.specs.Filling.{AreTold, HaveNoValidators, IsCauseOf, IsTold}
+use Rattle.fr_frame.specs.Filling.{AreTold, IsCauseOf, IsTold}
 use Rattle.fr_frame.proofs.LackLaws.{cause_first, field_fails, first_none, item_at, passes_all, told_here}
 use Rattle.fr_frame.proofs.DefaultLaws.{later_there}
 
@@ -91,15 +92,13 @@ module _ (means : Meanings) (table : Table) (plan : Plan) (s : ℕ) (told : List
       (first_invalid means table s as_struct (suc i) (trees_of (drop (suc i) cs))) kind
       (subst (λ (o : Option ReflectErrorKind). IsCauseOf o kind) here cause))
 
-module _ (means : Meanings) (table : Table) (plan : Plan) (s : ℕ) (told : List FieldPlan) (are : AreTold table plan s told)
-    (no_validators : HaveNoValidators told) where
+module _ (means : Meanings) (table : Table) (s : ℕ) (none : has_validators (def_of table s) None ≡ false) where
   -- where no field has a validator none fails
-  pub all_valid : (j : ℕ) (cs : List Cell) → j + length cs ≤ length told → IsSome (values_of cs)
-      → first_invalid means table s as_struct j (trees_of cs) ≡ None
-  all_valid j [] h there = refl
-  all_valid j (absent ∷ cs) h there = absurd (cc)
-  all_valid j (placed n ∷ cs) h there = absurd (cc)
-  all_valid j (given v ∷ cs) h there =
+  pub all_valid : (j : ℕ) (cs : List Cell) → IsSome (values_of cs) → first_invalid means table s as_struct j (trees_of cs) ≡ None
+  all_valid j [] there = refl
+  all_valid j (absent ∷ cs) there = absurd (cc)
+  all_valid j (placed n ∷ cs) there = absurd (cc)
+  all_valid j (given v ∷ cs) there =
       ap (λ (o : Option ReflectErrorKind). option_or o (first_invalid means table s as_struct (suc j) (trees_of cs)))
-      (passes_all means table plan s told are no_validators j v (omega arith))
-      ∙ all_valid (suc j) cs (omega arith) (later_there v cs there)
+      (passes_all means table s none j v)
+      ∙ all_valid (suc j) cs (later_there v cs there)

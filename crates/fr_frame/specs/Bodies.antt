@@ -32,9 +32,19 @@ fresh_body def = if is_empty_struct def then whole_body (product no_vals) else e
 -- array's element
 abbrev pub child_number : Form → PathStep → Option ℕ
 child_number as_struct (PathStep.Field i) = Some i
-child_number as_struct _ = None
+child_number as_array (PathStep.Field i) = None
+child_number as_struct (PathStep.Index i) = None
 child_number as_array (PathStep.Index i) = Some i
-child_number as_array _ = None
+child_number form PathStep.Deref = None
+child_number form PathStep.Inner = None
+child_number form PathStep.OptionSome = None
+child_number form PathStep.Proxy = None
+child_number form (PathStep.MapKey i) = None
+child_number form (PathStep.MapValue i) = None
+child_number form PathStep.ResultOk = None
+child_number form PathStep.ResultErr = None
+child_number form PathStep.SetItem = None
+child_number form (PathStep.Entry key) = None
 
 -- the child at a step, where the place is begun and has it
 abbrev pub cell_at : Body → PathStep → Option Cell
@@ -111,6 +121,13 @@ abbrev pub value_of : Body → Option Val
 value_of entered_body = None
 value_of (whole_body v) = Some v
 value_of (begun_body form cells) = made form (values_of cells)
+
+-- of the children of a begun place none is missing: the value of each is there. A place that is entered or whole has no
+-- children that could be missing.
+abbrev pub HasAllChildren : Body → Type 0
+HasAllChildren entered_body = Unit {0}
+HasAllChildren (whole_body v) = Unit {0}
+HasAllChildren (begun_body form cells) = IsSome (values_of cells)
 
 -- a child in a slot of its own isn't told here
 abbrev pub tree_of_cell : Cell → Tree

@@ -20,7 +20,23 @@ pub data Cell : Type 0 where
 -- what stands for a child without a value of its own: a token has the number of its slot
 abbrev pub in_slot : Val → Cell
 in_slot (token n) = placed n
-in_slot _ = absent
+in_slot unit = absent
+in_slot (bool b) = absent
+in_slot (char c) = absent
+in_slot (int i) = absent
+in_slot (nat n) = absent
+in_slot (text codes) = absent
+in_slot (product vs) = absent
+in_slot (variant index vs) = absent
+in_slot none = absent
+in_slot (some v) = absent
+in_slot (ok v) = absent
+in_slot (err v) = absent
+in_slot (list_of vs) = absent
+in_slot (map_of es) = absent
+in_slot (set_of vs) = absent
+in_slot (ptr v) = absent
+in_slot (dyn value) = absent
 
 abbrev pub cell : (is_given : Bool) → Val → Cell
 cell true v = given v

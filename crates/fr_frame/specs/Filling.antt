@@ -1,6 +1,5 @@
 -- Completing a begun place child by child: what each child makes or lacks, by its own value where it is there.
 use Rattle.std.specs.Prelude.{◌≡◌, ◌⊎◌, ℕ, suc, List, [], ◌∷◌, replicate, slice_get, Option, Some, None, IsSomeAnd, if◌then◌else◌}
-use Rattle.std.specs.List.{All}
 use Rattle.std.specs.Option.{option_or}
 use Rattle.fr_shape.specs.declared.error.ReflectErrorKind.{ReflectErrorKind}
 use Rattle.fr_shape.specs.declared.shape.Field.{Field}
@@ -93,7 +92,3 @@ first_refused means field (validator ∷ validators) v =
 abbrev pub IsCauseOf : (lacking : Option ReflectErrorKind) → ReflectErrorKind → Type 0
 IsCauseOf lacking kind =
     (lacking ≡ Some kind) ⊎ ((kind ≡ ReflectErrorKind.OutOfMemory) × IsSomeAnd lacking IsOfValidator)
-
--- none of these fields has a validator
-abbrev pub HaveNoValidators : List FieldPlan → Type 0
-HaveNoValidators fields = All (λ (told : FieldPlan). told.validators.len ≡ 0) fields

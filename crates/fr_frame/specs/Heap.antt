@@ -3,6 +3,7 @@ use Rattle.std.specs.Prelude.{ℕ, suc, ◌+◌, Bool, false, List, [], ◌∷�
 use Rattle.std.specs.Option.{option_map, option_and_then}
 use Rattle.fr_shape.specs.declared.shape.Def.{Def}
 use Rattle.fr_shape.specs.View.{view}
+use Rattle.fr_path.specs.declared.path_steps.PathStep.{PathStep}
 use Rattle.fr_model.specs.Tree.{Form as TreeForm, as_struct, as_array}
 use Rattle.fr_plan.specs.declared.nodes.NodeId.{NodeId}
 use Rattle.fr_frame.specs.declared.places.Form.{Form}
@@ -10,7 +11,7 @@ use Rattle.fr_frame.specs.declared.places.FrameOwner.{FrameOwner}
 use Rattle.fr_frame.specs.declared.places.Piece.{Piece}
 use Rattle.fr_frame.specs.declared.places.Place.{Place}
 use Rattle.fr_frame.specs.declared.places.Slot.{Slot}
-use Rattle.fr_frame.specs.Cells.{Cell}
+use Rattle.fr_frame.specs.Cells.{Cell, slot_of_cell}
 use Rattle.fr_frame.specs.Bodies.{Body, entered_body, whole_body, begun_body, body_occurs, cell_at, taken_over, linked, unlinked}
 
 -- the place in a slot: the plan's node that it is built by, the place that it belongs to, whether it is stored, how deep it
@@ -73,6 +74,10 @@ with_slot heap n found m = if nat_eq m n then found else heap m
 -- one place with something else put at it
 abbrev pub with_body : Heap → ℕ → (Body → Body) → Heap
 with_body heap n change = with_slot heap n (option_map (λ (at : Node). record at { body = change at.body }) (heap n))
+
+-- the slot of the child at a step of the place in this slot, where that has the child in one
+abbrev pub child_slot : Heap → ℕ → PathStep → Option ℕ
+child_slot heap n step = option_and_then slot_of_cell (option_and_then (λ (at : Node). cell_at at.body step) (heap n))
 
 -- what the owner of a place holds at its step
 abbrev pub held_by : Heap → FrameOwner → Option Cell

@@ -53,7 +53,8 @@ fn placeholders(alloc: Global, count: usize) -> Result<Vec<Value>, OutOfMemory>
 
 /// The slot for which a value stands.
 fn slot_in(value: &Value) -> Option<SlotId>
-    ensures { option_map (λ (slot : Number). slot.0) result ≡ slot_of_cell (in_slot (view value.now)) }
+    ensures { option_map (λ (slot : Number). slot.0) result
+        ≡ slot_of_cell (in_slot (view value.now)) }
 {
     match value {
         Value::Token(slot) => Some(SlotId(*slot)),
@@ -107,7 +108,7 @@ impl Children {
 
     /// How many children the place has.
     pub fn len(&self) -> usize
-        ensures { result ≡ length self.now }
+        ensures count { result ≡ length self.now }
     {
         self.values.len()
     }
@@ -126,8 +127,8 @@ impl Children {
 
     /// The slot that a child is in, where it is in one.
     pub fn slot(&self, i: usize) -> Option<SlotId>
-        requires { i < length self.now }
-        ensures { option_map (λ (slot : Number). slot.0) result ≡ slot_at self.now i }
+        requires inside { i < length self.now }
+        ensures slot { option_map (λ (slot : Number). slot.0) result ≡ slot_at self.now i }
     {
         if self.given.get(i) {
             return None;

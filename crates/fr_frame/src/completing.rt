@@ -34,8 +34,8 @@ pub(crate) fn fill_piece<H: Hooks>(
     requires inside { node.0 < length plan.now.nodes }
     requires full { IsFull table.now (shape_of plan.now node) (body_of piece.old) }
     requires closed { IsClosed (body_of piece.old) }
-    ensures filled { OnOk result (IsFilled strict_column (H.means hooks.now) table.now (shape_of plan.now node)
-        (body_of piece.old) (body_of piece.new)) }
+    ensures filled { OnOk result (IsFilled strict_column (H.means hooks.now) table.now
+        (shape_of plan.now node) (body_of piece.old) (body_of piece.new)) }
     ensures why { IfErr result (WhyNot (H.means hooks.now) table.now (shape_of plan.now node)
         (body_of piece.old)) }
     ensures kept { IfErr result (λ kind. (kind ≡ Kind.OutOfMemory)
@@ -67,8 +67,8 @@ impl SlotId {
         requires checked { IsChecked table.now }
         requires plan { IsPlanFor table.now plan.now }
         requires place { IfInUse slots.old self.0 (MayComplete table.now plan.now) }
-        ensures filled { OnOk result (IfInUse slots.old self.0 (FillsAt strict_column (H.means hooks.now)
-            table.now plan.now slots.old slots.new self.0)) }
+        ensures filled { OnOk result (IfInUse slots.old self.0 (FillsAt strict_column
+            (H.means hooks.now) table.now plan.now slots.old slots.new self.0)) }
         ensures why { IfErr result (λ kind. IfInUse slots.old self.0 (λ at.
             WhyNot (H.means hooks.now) table.now (shape_of plan.now at.node) at.body kind)) }
         ensures unchanged { IfErr result (λ kind. (kind ≡ Kind.OutOfMemory)

@@ -1,12 +1,12 @@
 //! Completing one place by the rules of the end of deferred mode: its holes take their fills, then none may be left, then its
 //! fields' validators run.
-ghost use Rattle.std.specs.Prelude.{◌≡◌, ◌≢◌, ◌⊎◌, ℕ, None, Some, true, IfErr, IsSome, OnOk};
+ghost use Rattle.std.specs.Prelude.{◌≡◌, ◌≢◌, ◌⊎◌, ℕ, None, Some, true, IfErr, OnOk};
 ghost use Rattle.fr_shape.specs.Checked.{IsChecked};
 ghost use Rattle.fr_shape.specs.Hooks.{Meanings};
 ghost use Rattle.fr_shape.specs.Look.{Table};
 ghost use Rattle.fr_shape.specs.declared.error.ReflectErrorKind.{ReflectErrorKind as Kind};
 ghost use Rattle.fr_model.specs.Places.{deferred_column};
-ghost use Rattle.fr_frame.specs.Bodies.{value_of};
+ghost use Rattle.fr_frame.specs.Bodies.{HasAllChildren};
 ghost use Rattle.fr_frame.specs.Changes.{Becomes, IfInUse, IsInUse, SameTokens, Shows};
 ghost use Rattle.fr_frame.specs.Closed.{IsClosedAt};
 ghost use Rattle.fr_frame.specs.Completing.{shape_of, takes_template, FillsAt, IsPlanFor, MayComplete};
@@ -53,10 +53,8 @@ impl SlotId {
     {
         let _hooks = hooks;
         let alloc = slots.alloc();
-        let mut place = slots.lift_out(self);
-        let result = default_piece(alloc, table, plan, place.node, &mut place.piece);
-        slots.lower(self, place);
-        result
+        let place = slots.place_mut(self);
+        default_piece(alloc, table, plan, place.node, &mut place.piece)
     }
 
     /// Tests that nothing of the place is left out: that it isn't just entered, and that each child is there. Takes no memory.
@@ -84,8 +82,8 @@ impl SlotId {
         }
     }
 
-    /// Runs the validators of the fields of a place whose children are all there, in index order. At a whole place, and at any
-    /// other than a begun struct, there is none to run. Only what is said of a value that fails takes memory.
+    /// Runs the validators of the fields of a begun struct whose children are all there, in index order. Any other place, be it
+    /// entered, whole or an array, has none to run, and passes. Only what is said of a value that fails takes memory.
     pub fn run_validators<H: Hooks>(
         self,
         slots: &Slots,
@@ -93,7 +91,7 @@ impl SlotId {
         hooks: &H,
     ) -> Result<(), ReflectErrorKind>
         requires planned { IfInUse slots.now self.0 (λ at. IsPlanned plan.now at.node) }
-        requires full { IfInUse slots.now self.0 (λ at. IsSome (value_of at.body)) }
+        requires full { IfInUse slots.now self.0 (λ at. HasAllChildren at.body) }
         ensures passing { OnOk result (IfInUse slots.now self.0 (λ at.
             (table : Table) → IsChecked table → IsPlanFor table plan.now
             → MayComplete table plan.now at

@@ -1,13 +1,15 @@
 //! What a plan says of the fields of a struct: what each takes where it is a hole, and its validators.
-ghost use Rattle.std.specs.Prelude.{◌≡◌, ◌<◌, length, Some, IfOk};
+ghost use Rattle.std.specs.Prelude.{◌≡◌, ◌<◌, length, None, Some, IfOk};
 ghost use Rattle.std.specs.Option.{option_copied};
 ghost use Rattle.fr_shape.specs.Checked.{IsChecked};
+ghost use Rattle.fr_shape.specs.Look.{Table, def_of};
 ghost use Rattle.fr_shape.specs.View.{view};
+ghost use Rattle.fr_plan.specs.Fields.{has_validators};
 ghost use Rattle.fr_rules.specs.FillRules.{fill_told};
 ghost use Rattle.fr_frame.specs.Completing.{shape_of, IsPlanFor};
 ghost use Rattle.fr_frame.specs.Filling.{AreTold, IsLightFill};
 
-use fr_plan::{FieldPlan, NodeId, TypePlanCore, law_plan_lookups};
+use fr_plan::{FieldPlan, NodeId, TypePlanCore, law_plan_complete, law_plan_lookups};
 use fr_rules::FillRule;
 use fr_shape::{OutOfMemory, ShapeTable, Template, Value, clone_template};
 use std::alloc::Global;
@@ -28,6 +30,16 @@ pub(crate) fn plans_of_fields<'a>(
         Some(described) => plan.fields(described.fields),
         None => &[],
     }
+}
+
+/// Whether a field of the struct that a node builds has a validator. No field is looked at.
+pub(crate) fn has_validators(plan: &TypePlanCore, node: NodeId) -> bool
+    requires { node.0 < length plan.now.nodes }
+    ensures { (table : Table) → IsChecked table → IsPlanFor table plan.now
+        → result ≡ has_validators (def_of table (shape_of plan.now node)) None }
+{
+    law_plan_complete();
+    plan.has_validators(plan.node(node).shape, None)
 }
 
 /// The template that a hole takes by its field's rule, if any.

@@ -78,12 +78,15 @@ fn made_of_entered(
             fill_holes(alloc, table, plan, node, &mut children)?;
             Ok(Piece::Begun(Form::Struct, children))
         }
-        _ => unreachable!(),
+        (Def::Option(_), None) => unreachable!(),
+        (Def::Scalar(_) | Def::Str | Def::Opaque | Def::Dynamic, _) => unreachable!(),
+        (Def::Undefined | Def::Other | Def::Enum(_) | Def::Result(..), _) => unreachable!(),
+        (Def::List(_) | Def::Map(..) | Def::Set(_) | Def::Array(..), _) => unreachable!(),
+        (Def::Slice(_) | Def::Pointer(_), _) => unreachable!(),
     }
 }
 
-/// Lets a place hold what it makes. One that is whole, or all of whose children are there, stays as it
-/// is.
+/// Lets a place hold what it makes. One that is whole, or all of whose children are there, stays as it is.
 pub(crate) fn fill(
     alloc: Global,
     table: &ShapeTable,

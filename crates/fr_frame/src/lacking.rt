@@ -1,6 +1,6 @@
 //! What a place lacks whose children are given or not there. Only what is said of a value that fails
 //! takes memory.
-ghost use Rattle.std.specs.Prelude.{◌≡◌, ◌<◌, None, true, length, IfErr, IsSome, OnErr, OnOk};
+ghost use Rattle.std.specs.Prelude.{◌≡◌, ◌<◌, None, length, IfErr, IsSome, OnErr, OnOk};
 ghost use Rattle.std.specs.Option.{option_map, option_copied, option_or};
 ghost use Rattle.fr_shape.specs.Checked.{IsChecked};
 ghost use Rattle.fr_shape.specs.Look.{def_of};
@@ -13,11 +13,11 @@ ghost use Rattle.fr_model.specs.Well.{IsFullAs};
 ghost use Rattle.fr_frame.specs.Bodies.{own_tree, trees_of};
 ghost use Rattle.fr_frame.specs.Cells.{values_of};
 ghost use Rattle.fr_frame.specs.Completing.{shape_of, IsFull, IsPlanFor};
-ghost use Rattle.fr_frame.specs.Filling.{first_refused, lack_of_child, HaveNoValidators, IsCauseOf, IsTold};
+ghost use Rattle.fr_frame.specs.Filling.{first_refused, lack_of_child, IsCauseOf, IsTold};
 ghost use Rattle.fr_frame.specs.Heap.{body_of};
 
 use crate::children::Children;
-use crate::field_plans::{fill_of, plans_of_fields};
+use crate::field_plans::{fill_of, has_validators, plans_of_fields};
 use crate::places::{Form, Piece};
 use fr_plan::{FieldPlan, NodeId, TypePlanCore};
 use fr_rules::PrecomputedValidator;
@@ -139,26 +139,14 @@ fn test_fields<H: Hooks>(
         (lack_among (H.means hooks.now) table.now (shape_of plan.now node) as_struct 0
         (trees_of children.now))) }
 {
-    let told = plans_of_fields(table, plan, node);
-    if children.are_all_there() && has_no_validators(told) {
+    if children.are_all_there() && !has_validators(plan, node) {
         return Ok(());
     }
+    let told = plans_of_fields(table, plan, node);
     for i in 0..told.len() {
         test_field(alloc, table, plan, hooks, &told[i], children.value(i))?;
     }
     Ok(())
-}
-
-/// Whether no field has a validator.
-pub(crate) fn has_no_validators(told: &[FieldPlan]) -> bool
-    ensures { result ≡ true → HaveNoValidators told.now }
-{
-    for field in told {
-        if field.validators.len() > 0 {
-            return false;
-        }
-    }
-    true
 }
 
 /// Tests a place that was only entered.

@@ -2,13 +2,13 @@
 ghost use Rattle.std.specs.Prelude.{◌≡◌, ℕ, ◌+◌, ◌<◌, length, IfSome};
 ghost use Rattle.std.specs.Option.{option_map, option_and_then};
 ghost use Rattle.fr_shape.specs.View.{view};
-ghost use Rattle.fr_frame.specs.Bodies.{cell_at, linked, unlinked};
+ghost use Rattle.fr_frame.specs.Bodies.{cell_at, linked};
 ghost use Rattle.fr_frame.specs.Cells.{held_value, value_occurs};
 ghost use Rattle.fr_frame.specs.Changes.{IsInUse, IsOwnerInUse, SameTokens, Shows};
 ghost use Rattle.fr_frame.specs.Heap.{Node, depth_below, depth_limit, heap_of, held_by, links, slots_occur, unlinks, with_body};
 
 use crate::pieces::{link, unlink};
-use crate::places::{FrameOwner, SlotId};
+use crate::places::{FrameOwner, Slot, SlotId};
 use crate::slots::Slots;
 use fr_path::PathStep;
 use fr_shape::Value;
@@ -45,9 +45,10 @@ impl Slots {
 
     fn link_child(&mut self, parent: SlotId, step: &PathStep, id: SlotId) -> Option<Value>
         requires { IsInUse self.old parent.0 }
-        ensures rest { Shows self.new (with_body (heap_of self.old) parent.0 (linked id.0 step.now)) }
-        ensures taken { option_map view result ≡ held_value
-            (option_and_then (λ (at : Node). cell_at at.body step.now) (heap_of self.old parent.0)) }
+        ensures rest { Shows self.new
+            (with_body (heap_of self.old) parent.0 (linked id.0 step.now)) }
+        ensures taken { option_map view result ≡ held_value (option_and_then
+            (λ (at : Node). cell_at at.body step.now) (heap_of self.old parent.0)) }
         ensures tokens { (t : ℕ) → slots_occur self.old t
             ≡ slots_occur self.new t + value_occurs (option_map view result) t }
         ensures length { length self.new ≡ length self.old }
@@ -72,16 +73,6 @@ impl Slots {
         }
     }
 
-    fn unlink_child(&mut self, parent: SlotId, step: &PathStep, id: SlotId)
-        requires { IsInUse self.old parent.0 }
-        ensures rest { Shows self.new
-            (with_body (heap_of self.old) parent.0 (unlinked id.0 step.now)) }
-        ensures tokens { SameTokens self.old self.new }
-    {
-        let place = self.place_mut(parent);
-        unlink(&mut place.piece, step, id);
-    }
-
     /// Lets the owner of a place not have it in this slot any more.
     pub(crate) fn unlink(&mut self, id: SlotId, owner: &FrameOwner)
         ensures rest { Shows self.new (unlinks owner.now id.0 (heap_of self.old)) }
@@ -90,8 +81,13 @@ impl Slots {
         let FrameOwner::Child(parent, step) = owner else {
             return;
         };
-        if self.place(*parent).is_some() {
-            self.unlink_child(*parent, step, id);
+        if parent.0 >= self.len() {
+            return;
+        }
+        let slot = self.slot_mut(*parent);
+        match slot {
+            Slot::Used(place) => unlink(&mut place.piece, step, id),
+            Slot::Free(_) => {}
         }
     }
 }

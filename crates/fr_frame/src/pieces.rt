@@ -5,10 +5,10 @@ ghost use Rattle.fr_shape.specs.Fills.{is_empty_struct};
 ghost use Rattle.fr_shape.specs.Look.{def_of};
 ghost use Rattle.fr_shape.specs.Released.{Room, RoseBy};
 ghost use Rattle.fr_shape.specs.Tokens.{occurs};
-ghost use Rattle.fr_shape.specs.Val.{product};
+ghost use Rattle.fr_shape.specs.Val.{Val, product};
 ghost use Rattle.fr_shape.specs.View.{view, vals_view};
 ghost use Rattle.fr_model.specs.Places.{parts_of};
-ghost use Rattle.fr_frame.specs.Bodies.{begun_body, body_occurs, cell_at, child_number, fresh_body, linked, opened, unlinked, value_of, with_cell, MayOpen};
+ghost use Rattle.fr_frame.specs.Bodies.{begun_body, body_occurs, cell_at, cells_of_vals, child_number, fresh_body, linked, opened, unlinked, value_of, whole_body, with_cell, MayOpen};
 ghost use Rattle.fr_frame.specs.Cells.{absent, given, cells_occur, held_value, slot_of_cell, value_occurs};
 ghost use Rattle.fr_frame.specs.Heap.{as_form, body_of};
 ghost use Rattle.fr_frame.specs.declared.places.SlotId.{SlotId as Number};
@@ -26,7 +26,20 @@ fn child_number(form: Form, step: &PathStep) -> Option<usize>
     match (form, step) {
         (Form::Struct, PathStep::Field(i)) => Some(*i as usize),
         (Form::Array, PathStep::Index(i)) => Some(*i as usize),
-        (Form::Struct | Form::Array, _) => None,
+        (Form::Struct, PathStep::Index(_)) | (Form::Array, PathStep::Field(_)) => None,
+        (
+            Form::Struct | Form::Array,
+            PathStep::Deref
+            | PathStep::Inner
+            | PathStep::OptionSome
+            | PathStep::Proxy
+            | PathStep::MapKey(_)
+            | PathStep::MapValue(_)
+            | PathStep::ResultOk
+            | PathStep::ResultErr
+            | PathStep::SetItem
+            | PathStep::Entry(_),
+        ) => None,
     }
 }
 
@@ -73,7 +86,8 @@ pub(crate) fn link(piece: &mut Piece, step: &PathStep, slot: SlotId) -> Option<V
 /// Lets the child at a step not be there, where it is in this slot.
 pub(crate) fn unlink(piece: &mut Piece, step: &PathStep, slot: SlotId)
     ensures piece { body_of piece.new ≡ unlinked slot.0 step.now (body_of piece.old) }
-    ensures tokens { (t : ℕ) → body_occurs (body_of piece.new) t ≡ body_occurs (body_of piece.old) t }
+    ensures tokens { (t : ℕ) →
+        body_occurs (body_of piece.new) t ≡ body_occurs (body_of piece.old) t }
 {
     let Piece::Begun(form, children) = piece else {
         return;
@@ -92,7 +106,8 @@ pub(crate) fn unlink(piece: &mut Piece, step: &PathStep, slot: SlotId)
 /// Puts a child's value at a step, where the child wasn't there.
 pub(crate) fn put_child(piece: &mut Piece, step: &PathStep, value: Value)
     requires { cell_at (body_of piece.old) step.now ≡ Some absent }
-    ensures piece { body_of piece.new ≡ with_cell (body_of piece.old) step.now (given (view value)) }
+    ensures piece { body_of piece.new
+        ≡ with_cell (body_of piece.old) step.now (given (view value)) }
     ensures tokens { (t : ℕ) → body_occurs (body_of piece.new) t
         ≡ body_occurs (body_of piece.old) t + occurs (view value) t }
 {
@@ -110,10 +125,10 @@ fn parts_of(value: Value) -> Vec<Value>
     requires { IsSome (parts_of (view value)) }
     ensures { parts_of (view value) ≡ Some (vals_view result.items) }
 {
-    match value {
-        Value::Product(items) => items.into_vec(),
-        _ => unreachable!(),
-    }
+    let Value::Product(items) = value else {
+        unreachable!()
+    };
+    items.into_vec()
 }
 
 /// The product of these. Takes no memory.
@@ -123,23 +138,21 @@ fn product_of(values: Vec<Value>) -> Value
     Value::Product(Items::from_vec(values))
 }
 
-/// The place begun, with so many children, or as it was where there is no memory for its children.
-pub(crate) fn opened(alloc: Global, piece: Piece, form: Form, count: usize) -> Result<Piece, Piece>
-    requires { MayOpen (body_of piece) }
-    ensures opened { IfOk result (λ begun.
-        body_of begun ≡ opened (as_form form) count (body_of piece)) }
-    ensures refused { IfErr result (λ back. body_of back ≡ body_of piece) }
+/// Takes the parts out of a value that has some, as children that are all there. The value stays where there is no memory
+/// for them.
+fn children_of(alloc: Global, value: &mut Value) -> Result<Children, OutOfMemory>
+    requires { IsSome (parts_of (view value.old)) }
+    ensures parts { IfOk result (λ children.
+        option_map cells_of_vals (parts_of (view value.old)) ≡ Some children) }
+    ensures refused { OnErr result (view value.new ≡ view value.old) }
 {
-    match piece {
-        Piece::Entered => match Children::none_yet(alloc, count) {
-            Ok(children) => Ok(Piece::Begun(form, children)),
-            Err(_) => Err(Piece::Entered),
-        },
-        Piece::Whole(value) => match Children::all_there(alloc, parts_of(value)) {
-            Ok(children) => Ok(Piece::Begun(form, children)),
-            Err(values) => Err(Piece::Whole(product_of(values))),
-        },
-        Piece::Begun(as_before, children) => Ok(Piece::Begun(as_before, children)),
+    let parts = parts_of(std::mem::replace(value, Value::Unit));
+    match Children::all_there(alloc, parts) {
+        Ok(children) => Ok(children),
+        Err(values) => {
+            *value = product_of(values);
+            Err(OutOfMemory)
+        }
     }
 }
 
@@ -154,21 +167,21 @@ pub(crate) fn open(
     ensures opened { OnOk result (body_of piece.new
         ≡ opened (as_form form) count (body_of piece.old)) }
     ensures refused { OnErr result (body_of piece.new ≡ body_of piece.old) }
-    ensures tokens { (t : ℕ) → body_occurs (body_of piece.new) t ≡ body_occurs (body_of piece.old) t }
+    ensures tokens { (t : ℕ) →
+        body_occurs (body_of piece.new) t ≡ body_occurs (body_of piece.old) t }
 {
-    if let Piece::Begun(..) = piece {
-        return Ok(());
-    }
-    let before = std::mem::replace(piece, Piece::Entered);
-    match opened(alloc, before, form, count) {
-        Ok(begun) => {
-            *piece = begun;
+    match piece {
+        Piece::Entered => {
+            let children = Children::none_yet(alloc, count)?;
+            *piece = Piece::Begun(form, children);
             Ok(())
         }
-        Err(back) => {
-            *piece = back;
-            Err(OutOfMemory)
+        Piece::Whole(value) => {
+            let children = children_of(alloc, value)?;
+            *piece = Piece::Begun(form, children);
+            Ok(())
         }
+        Piece::Begun(..) => Ok(()),
     }
 }
 
@@ -203,6 +216,21 @@ pub(crate) fn value_of(piece: Piece) -> Value
         Piece::Begun(_, children) => product_of(children.into_values()),
         Piece::Entered => unreachable!(),
     }
+}
+
+/// Lets a place that is whole, or begun with each child there, be whole with its value. Takes no memory.
+pub(crate) fn make_whole(piece: &mut Piece)
+    requires { IsSome (value_of (body_of piece.old)) }
+    ensures whole { (v : Val) → value_of (body_of piece.old) ≡ Some v
+        → body_of piece.new ≡ whole_body v }
+    ensures tokens { (t : ℕ) →
+        body_occurs (body_of piece.new) t ≡ body_occurs (body_of piece.old) t }
+{
+    if let Piece::Whole(_) = piece {
+        return;
+    }
+    let before = std::mem::replace(piece, Piece::Entered);
+    *piece = Piece::Whole(value_of(before));
 }
 
 /// Records the tokens of children as released.

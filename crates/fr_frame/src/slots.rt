@@ -39,6 +39,7 @@ impl Model for Slots {
 impl Slots {
     ghost use Rattle.fr_frame.specs.contracts.slots.Slots.{the_row};
     ghost use Rattle.fr_frame.specs.contracts.places.Place as place;
+    ghost use Rattle.fr_frame.specs.contracts.places.Slot as slot;
 
     /// No slots.
     pub fn new(alloc: Global) -> Slots
@@ -86,21 +87,6 @@ impl Slots {
         std::mem::replace(self.entries.get_mut(id.idx()), slot)
     }
 
-    /// Takes the place out of a slot, which is then free and comes before this one.
-    fn lift(&mut self, id: SlotId, next: Option<SlotId>) -> Place
-        requires { IsInUse self.old id.0 }
-        ensures place { heap_of self.old id.0 ≡ Some (node_of result) }
-        ensures rest { Shows self.new (with_slot (heap_of self.old) id.0 None) }
-        ensures tokens { (t : ℕ) → slots_occur self.old t
-            ≡ slots_occur self.new t + body_occurs (body_of result.piece) t }
-        ensures length { length self.new ≡ length self.old }
-    {
-        match self.swap(id, Slot::Free(next)) {
-            Slot::Used(place) => place,
-            Slot::Free(_) => unreachable!(),
-        }
-    }
-
     /// Puts a place into a slot that is free.
     pub(crate) fn lower(&mut self, id: SlotId, place: Place)
         requires inside { id.0 < length self.old }
@@ -113,6 +99,16 @@ impl Slots {
         self.swap(id, Slot::Used(place));
     }
 
+    /// A slot, for writing.
+    pub(crate) fn slot_mut(&mut self, id: SlotId) -> &mut Slot
+        requires { id.0 < length self.old }
+        ensures* writes_back { sem 𝓛 (Lends the_row slot.the_row self.entry result
+            (λ new. slice_set self.entry.now id.0 new)) }
+        ensures value { slice_get self.old id.0 ≡ Some result.now }
+    {
+        self.entries.get_mut(id.idx())
+    }
+
     /// The place in a slot that is in use, for writing.
     pub(crate) fn place_mut(&mut self, id: SlotId) -> &mut Place
         requires { IsInUse self.old id.0 }
@@ -120,21 +116,8 @@ impl Slots {
             (λ new. slice_set self.entry.now id.0 (Entry.Used new))) }
         ensures value { slice_get self.old id.0 ≡ Some (Entry.Used result.now) }
     {
-        let slot = self.entries.get_mut(id.idx());
+        let slot = self.slot_mut(id);
         slot.place_mut()
-    }
-
-    /// Takes the place out of a slot for a while.
-    pub(crate) fn lift_out(&mut self, id: SlotId) -> Place
-        requires { IsInUse self.old id.0 }
-        ensures place { heap_of self.old id.0 ≡ Some (node_of result) }
-        ensures rest { Shows self.new (with_slot (heap_of self.old) id.0 None) }
-        ensures tokens { (t : ℕ) → slots_occur self.old t
-            ≡ slots_occur self.new t + body_occurs (body_of result.piece) t }
-        ensures inside { id.0 < length self.new }
-        ensures length { length self.new ≡ length self.old }
-    {
-        self.lift(id, None)
     }
 
     /// Takes the place out of a slot, which may then serve another.
@@ -146,9 +129,11 @@ impl Slots {
             ≡ slots_occur self.new t + body_occurs (body_of result.piece) t }
     {
         let next = self.free;
-        let place = self.lift(id, next);
         self.free = Some(id);
-        place
+        match self.swap(id, Slot::Free(next)) {
+            Slot::Used(place) => place,
+            Slot::Free(_) => unreachable!(),
+        }
     }
 
     /// The slot that comes after a free one. There is none where that one isn't free.

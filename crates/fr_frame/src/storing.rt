@@ -1,16 +1,15 @@
 //! Places that are left half done and entered again: their mark, and the slot that a child is in.
 ghost use Rattle.std.specs.Prelude.{◌≡◌, ℕ, Some, IsSome};
-ghost use Rattle.std.specs.Option.{option_map, option_and_then};
+ghost use Rattle.std.specs.Option.{option_map};
 ghost use Rattle.fr_shape.specs.Released.{Room, RoseBy};
 ghost use Rattle.fr_shape.specs.Val.{Val};
-ghost use Rattle.fr_frame.specs.Bodies.{cell_at, value_of, whole_body};
-ghost use Rattle.fr_frame.specs.Cells.{slot_of_cell};
+ghost use Rattle.fr_frame.specs.Bodies.{value_of, whole_body};
 ghost use Rattle.fr_frame.specs.Changes.{Becomes, IfInUse, IsInUse, SameTokens, Shows};
-ghost use Rattle.fr_frame.specs.Heap.{Node, heap_of, marked, slot_occurs, slots_occur, with_mark};
+ghost use Rattle.fr_frame.specs.Heap.{child_slot, heap_of, marked, slot_occurs, slots_occur, with_mark};
 ghost use Rattle.fr_frame.specs.declared.places.SlotId.{SlotId as Number};
 
-use crate::pieces::{release_piece, slot_at, value_of};
-use crate::places::{Piece, Place, Slot, SlotId};
+use crate::pieces::{make_whole, release_piece, slot_at};
+use crate::places::{Slot, SlotId};
 use crate::slots::Slots;
 use fr_path::PathStep;
 use fr_shape::Ledger;
@@ -22,9 +21,8 @@ impl SlotId {
         ensures marked { Shows slots.new (with_mark (heap_of slots.old) self.0 stored) }
         ensures tokens { SameTokens slots.old slots.new }
     {
-        let mut place = slots.lift_out(self);
+        let place = slots.place_mut(self);
         place.stored = stored;
-        slots.lower(self, place);
     }
 
     /// Whether a place is in the slot, and stored.
@@ -39,8 +37,8 @@ impl SlotId {
 
     /// The slot of the child to which a step leads, where the place is begun, has that child, and has it in a slot.
     pub fn child(self, slots: &Slots, step: &PathStep) -> Option<SlotId>
-        ensures slot { option_map (λ (child : Number). child.0) result ≡ option_and_then slot_of_cell
-            (option_and_then (λ (at : Node). cell_at at.body step.now) (heap_of slots.now self.0)) }
+        ensures slot { option_map (λ (child : Number). child.0) result
+            ≡ child_slot (heap_of slots.now) self.0 step.now }
     {
         slot_at(&slots.place(self)?.piece, step)
     }
@@ -52,21 +50,8 @@ impl SlotId {
             → Becomes slots.old slots.new self.0 at (whole_body v)) }
         ensures tokens { SameTokens slots.old slots.new }
     {
-        let Place {
-            node,
-            owner,
-            stored,
-            depth,
-            piece,
-        } = slots.lift_out(self);
-        let place = Place {
-            node,
-            owner,
-            stored,
-            depth,
-            piece: Piece::Whole(value_of(piece)),
-        };
-        slots.lower(self, place);
+        let place = slots.place_mut(self);
+        make_whole(&mut place.piece);
     }
 }
 

@@ -1,10 +1,13 @@
 //! Slots with ample memory.
-ghost use Rattle.std.specs.Prelude.{IfOk, OnOk};
+ghost use Rattle.std.specs.Prelude.{◌≡◌, ◌<◌, length, IfOk, OnOk};
 ghost use Rattle.fr_shape.specs.Checked.{IsChecked};
-ghost use Rattle.fr_frame.specs.Completing.{IsPlanFor};
+ghost use Rattle.fr_shape.specs.Fills.{is_empty_struct};
+ghost use Rattle.fr_shape.specs.Look.{def_of};
+ghost use Rattle.fr_frame.specs.Completing.{shape_of, IsPlanFor};
 
 use crate::*;
-use fr_plan::TypePlanCore;
+use fr_path::PathStep;
+use fr_plan::{NodeId, TypePlanCore};
 use fr_shape::{
     Def, DefaultSource, Field, Items, NoHooks, PlanError, ReflectErrorKind, ScalarKind, Shape,
     ShapeId, ShapeTable, StructDef, StructKind, Template, Text, ValidatorDef, Value,
@@ -73,17 +76,21 @@ fn a_wide_array_is_begun(rt: HostRuntime) {
     assert!(&rt; !children.are_all_there());
 }
 
-/// The table of u64 and a struct with one of them, which is at least 5 and takes this default.
-fn number_table(rt: &impl Abort, alloc: Global, default: u128) -> ShapeTable {
+/// A field of the first shape, with this validator.
+fn number_field(rt: &impl Abort, alloc: Global, validator: ValidatorDef) -> Field {
+    let name = Text::new(alloc, "v").ok().expect(rt, "no memory");
+    let mut field = Field::new(alloc, name, ShapeId(0));
+    let pushed = field.validators.push(validator);
+    pushed.ok().expect(rt, "no memory");
+    field
+}
+
+/// The table of u64 and a struct with this field.
+fn record_table(rt: &impl Abort, alloc: Global, field: Field) -> ShapeTable {
     let mut shapes = Items::new(alloc);
     let number = Text::new(alloc, "u64").ok().expect(rt, "no memory");
     let scalar = Shape::new(alloc, number, Def::Scalar(ScalarKind::U64));
     shapes.push(scalar).ok().expect(rt, "no memory");
-    let name = Text::new(alloc, "v").ok().expect(rt, "no memory");
-    let mut field = Field::new(alloc, name, ShapeId(0));
-    field.default = Some(DefaultSource::Custom(Template::new(Value::Nat(default))));
-    let pushed = field.validators.push(ValidatorDef::Min(5));
-    pushed.ok().expect(rt, "no memory");
     let mut fields = Items::new(alloc);
     fields.push(field).ok().expect(rt, "no memory");
     let record = Text::new(alloc, "Record").ok().expect(rt, "no memory");
@@ -94,6 +101,13 @@ fn number_table(rt: &impl Abort, alloc: Global, default: u128) -> ShapeTable {
     let shape = Shape::new(alloc, record, def);
     shapes.push(shape).ok().expect(rt, "no memory");
     ShapeTable::new(alloc, shapes)
+}
+
+/// The table of u64 and a struct with one of them, which is at least 5 and takes this default.
+fn number_table(rt: &impl Abort, alloc: Global, default: u128) -> ShapeTable {
+    let mut field = number_field(rt, alloc, ValidatorDef::Min(5));
+    field.default = Some(DefaultSource::Custom(Template::new(Value::Nat(default))));
+    record_table(rt, alloc, field)
 }
 
 /// What completing an entered struct by defaults ends in, and whether it then has all fields.
@@ -132,4 +146,68 @@ fn a_default_is_validated(rt: HostRuntime) {
     let why = result.err().expect(&rt, "no refusal");
     assert!(&rt; matches!(why, ReflectErrorKind::ValidationFailed { .. }));
     assert!(&rt; full);
+}
+
+/// The table of u64 and a struct with one of them, which is at most 5.
+fn limited_table(rt: &impl Abort, alloc: Global) -> ShapeTable {
+    record_table(rt, alloc, number_field(rt, alloc, ValidatorDef::Max(5)))
+}
+
+/// Whether the shape of a plan's node is a struct without fields.
+fn is_empty(table: &ShapeTable, plan: &TypePlanCore, node: NodeId) -> bool
+    requires { node.0 < length plan.now.nodes }
+    ensures { result ≡ is_empty_struct (def_of table.now (shape_of plan.now node)) }
+{
+    match table.get(plan.node(node).shape) {
+        Some(shape) => shape.def.is_empty_struct(),
+        None => false,
+    }
+}
+
+/// What running the validators of a struct ends in whose field, which is at most 5, is there with this value.
+fn validated(rt: &impl Abort, alloc: Global, value: u128) -> Result<(), ReflectErrorKind> {
+    let table = limited_table(rt, alloc);
+    let Ok(plan) = plan_of(alloc, &table) else {
+        panic!(rt; "no plan");
+    };
+    let mut slots = Slots::new(alloc);
+    let Ok(id) = slots.enter(&table, &plan, plan.root_id(), FrameOwner::Root) else {
+        panic!(rt; "no memory");
+    };
+    if is_empty(&table, &plan, plan.root_id()) {
+        panic!(rt; "no field");
+    }
+    if id.begin(&mut slots, Form::Struct, 1).is_err() {
+        panic!(rt; "no memory");
+    }
+    id.put_child(&mut slots, &PathStep::Field(0), Value::Nat(value));
+    id.run_validators(&slots, &plan, &NoHooks)
+}
+
+#[test]
+fn a_value_that_passes_is_valid(rt: HostRuntime) {
+    assert!(&rt; validated(&rt, rt.alloc(), 5).is_ok());
+}
+
+#[test]
+fn a_value_that_fails_is_refused(rt: HostRuntime) {
+    let why = validated(&rt, rt.alloc(), 6)
+        .err()
+        .expect(&rt, "no refusal");
+    let ReflectErrorKind::ValidationFailed { field, .. } = why else {
+        panic!(&rt; "another refusal");
+    };
+    assert_eq!(&rt; field.shape.0, 1);
+    assert_eq!(&rt; field.index, 0);
+}
+
+#[test]
+fn an_entered_struct_has_no_value_to_refuse(rt: HostRuntime) {
+    let alloc = rt.alloc();
+    let table = limited_table(&rt, alloc);
+    let plan = plan_of(alloc, &table).ok().expect(&rt, "no plan");
+    let mut slots = Slots::new(alloc);
+    let entered = slots.enter(&table, &plan, plan.root_id(), FrameOwner::Root);
+    let id = entered.ok().expect(&rt, "no memory");
+    assert!(&rt; id.run_validators(&slots, &plan, &NoHooks).is_ok());
 }

@@ -7,7 +7,7 @@ ghost use Rattle.fr_shape.specs.Look.{Table};
 ghost use Rattle.fr_shape.specs.View.{view};
 ghost use Rattle.fr_model.specs.Failing.{first_invalid};
 ghost use Rattle.fr_model.specs.Tree.{as_struct};
-ghost use Rattle.fr_frame.specs.Bodies.{trees_of, value_of};
+ghost use Rattle.fr_frame.specs.Bodies.{trees_of, HasAllChildren};
 ghost use Rattle.fr_frame.specs.Cells.{values_of};
 ghost use Rattle.fr_frame.specs.Completing.{shape_of, IsFull, IsPlanFor};
 ghost use Rattle.fr_frame.specs.Defaults.{invalid};
@@ -16,7 +16,8 @@ ghost use Rattle.fr_frame.specs.Filling.{AreTold, IsCauseOf};
 ghost use Rattle.fr_frame.specs.Heap.{body_of};
 
 use crate::children::Children;
-use crate::lacking::{has_no_validators, run_validators};
+use crate::field_plans::has_validators;
+use crate::lacking::run_validators;
 use crate::places::{Form, Piece};
 use fr_plan::{FieldPlan, NodeId, TypePlanCore, law_plan_lookups};
 use fr_shape::{Hooks, ReflectErrorKind, Value};
@@ -53,8 +54,8 @@ fn test_value<H: Hooks>(
     own: Option<&Value>,
 ) -> Result<(), ReflectErrorKind>
     requires validators { HasValidators plan.now (option_copied told) }
-    ensures passing { OnOk result (refused_of (H.means hooks.now) plan.now (option_copied told.entry)
-        (option_map view (option_copied own.entry)) ≡ None) }
+    ensures passing { OnOk result (refused_of (H.means hooks.now) plan.now
+        (option_copied told.entry) (option_map view (option_copied own.entry)) ≡ None) }
     ensures failing { IfErr result (IsCauseOf (refused_of (H.means hooks.now) plan.now
         (option_copied told.entry) (option_map view (option_copied own.entry)))) }
 {
@@ -86,17 +87,17 @@ fn test_values<H: Hooks>(
         → IsCauseOf (first_invalid (H.means hooks.now) table (shape_of plan.now node) as_struct 0
         (trees_of children.now)) kind) }
 {
-    let told = fields_told(plan, node);
-    if has_no_validators(told) {
+    if !has_validators(plan, node) {
         return Ok(());
     }
+    let told = fields_told(plan, node);
     for i in 0..children.len() {
         test_value(alloc, plan, hooks, told_at(told, i), children.value(i))?;
     }
     Ok(())
 }
 
-/// Runs the validators of the fields of a place. Where no field has any, no child is looked at.
+/// Runs the validators of the fields of a place. Only a begun struct has any. Where no field has any, no child is looked at.
 pub(crate) fn test_valid<H: Hooks>(
     alloc: Global,
     plan: &TypePlanCore,
@@ -105,7 +106,7 @@ pub(crate) fn test_valid<H: Hooks>(
     piece: &Piece,
 ) -> Result<(), ReflectErrorKind>
     requires planned { IsPlanned plan.now node }
-    requires there { IsSome (value_of (body_of piece.now)) }
+    requires there { HasAllChildren (body_of piece.now) }
     ensures passing { OnOk result ((table : Table) → IsChecked table → IsPlanFor table plan.now
         → node.0 < length plan.now.nodes
         → IsFull table (shape_of plan.now node) (body_of piece.now)

@@ -12,12 +12,11 @@ use Rattle.fr_frame.specs.Filling.{IsTold, IsCauseOf, lack_of_child}
 use Rattle.fr_frame.proofs.LackLaws.{told_here, told_itself, item_is, err_so, fields_preserved, fields_cause, no_validator_lacks}
 use Rattle.fr_frame.proofs.lacking.test_fields.Goals as goal
 
-pub returns-then-has_no_validators-clause-passing : goal.returns-then-has_no_validators-clause-passing
-returns-then-has_no_validators-clause-passing g c =
-    no_validator_lacks (g.H.Hooks.means c.args.hooks.now) c.args.table.now c.args.plan.now (shape_of c.args.plan.now c.args.node)
-    c.plans_of_fields-told.result.now c.plans_of_fields-told.ensures (c.has_no_validators.ensures c.if-has_no_validators.true)
-    c.args.children.now (c.plans_of_fields-told.ensures.count (length c.args.children.now) c.requires.full)
-    (sym c.are_all_there.ensures ∙ c.if-are_all_there.true)
+pub returns-then-not-has_validators-clause-passing : goal.returns-then-not-has_validators-clause-passing
+returns-then-not-has_validators-clause-passing g c =
+    no_validator_lacks (g.H.Hooks.means c.args.hooks.now) c.args.table.now (shape_of c.args.plan.now c.args.node)
+    (sym (c.has_validators.ensures c.args.table.now c.requires.checked c.requires.planned) ∙ c.if-not-has_validators.true) 0
+    c.args.children.now (sym c.are_all_there.ensures ∙ c.if-are_all_there.true)
 
 pub test_field-requires : goal.test_field-requires
 test_field-requires g c = record {

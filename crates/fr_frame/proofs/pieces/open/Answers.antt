@@ -1,18 +1,18 @@
-use Rattle.std.proofs.Common.{◌≡◌, ap, ◌∙◌}
+use Rattle.std.proofs.Common.{List, ap, sym, ◌∙◌}
+use Rattle.fr_shape.specs.View.{view}
 use Rattle.fr_frame.specs.declared.places.Piece.{Piece}
-use Rattle.fr_frame.specs.Bodies.{Body, body_occurs, opened}
-use Rattle.fr_frame.specs.Heap.{as_form, body_of}
-use Rattle.fr_frame.proofs.BodyLaws.{opened_occurs}
+use Rattle.fr_frame.specs.Bodies.{body_occurs}
+use Rattle.fr_frame.specs.Cells.{Cell, cells_occur}
+use Rattle.fr_frame.specs.Heap.{body_of}
+use Rattle.fr_frame.proofs.BodyLaws.{none_occur, parts_occur}
 use Rattle.fr_frame.proofs.pieces.open.Goals as goal
 
-pub returns-in-Ok : goal.returns-in-Ok
-returns-in-Ok c =
-    let is : body_of c.in-Ok.begun ≡ opened (as_form c.args.form) c.args.count (body_of c.args.piece.now)
-    = c.in-Ok.ensures.opened
-    ∙ ap (λ (p : Piece). opened (as_form c.args.form) c.args.count (body_of p)) c.replace-before.ensures.value in
-    record {
-      opened = is;
-      refused = tt;
-      tokens = λ t.
-          ap (λ (b : Body). body_occurs b t) is ∙ opened_occurs (as_form c.args.form) c.args.count (body_of c.args.piece.now) t;
-    }
+pub returns-in_ok-children-in-Entered-clause-tokens : goal.returns-in_ok-children-in-Entered-clause-tokens
+returns-in_ok-children-in-Entered-clause-tokens c t =
+    ap (λ (cs : List Cell). cells_occur cs t) c.in_ok-children-in-Entered.ensures ∙ none_occur c.args.count t
+    ∙ sym (ap (λ (p : Piece). body_occurs (body_of p) t) c.in-Entered.is)
+
+pub returns-in_ok-children-in-Whole-clause-tokens : goal.returns-in_ok-children-in-Whole-clause-tokens
+returns-in_ok-children-in-Whole-clause-tokens c t =
+    parts_occur (view c.in-Whole.value) c.in_ok-children-in-Whole.children t c.in_ok-children-in-Whole.ensures.parts
+    ∙ sym (ap (λ (p : Piece). body_occurs (body_of p) t) c.in-Whole.is)

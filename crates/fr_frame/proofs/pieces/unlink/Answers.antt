@@ -13,7 +13,7 @@ pub returns-then-held-slot-clause-tokens : goal.returns-then-held-slot-clause-to
 returns-then-held-slot-clause-tokens c t =
     let was : body_occurs (body_of c.args.piece.now) t ≡ cells_occur c.in-Begun.children t
     = ap (λ (p : Piece). body_occurs (body_of p) t) c.in-Begun.is in
-    let held : Some c.in-Some-slot.held.0 ≡ slot_at c.in-Begun.children c.in-Some.i = c.in-Some-slot.ensures in
+    let held : Some c.in-Some-slot.held.0 ≡ slot_at c.in-Begun.children c.in-Some.i = c.in-Some-slot.ensures.slot in
     let none : value_at c.in-Begun.children c.in-Some.i ≡ None = slot_no_value c.in-Begun.children c.in-Some.i c.in-Some-slot.held.0 held in
     omega (
       arith,

@@ -1,4 +1,4 @@
-use Rattle.std.proofs.Common.{◌≡◌, length, ◌∙◌, arith}
+use Rattle.std.proofs.Common.{◌≡◌, length, sym, ◌∙◌, arith}
 use Rattle.std.specs.Prelude.{IfErr}
 use Rattle.std.specs.Option.{option_map, option_copied}
 use Rattle.std.proofs.lemmas.Grind.{common_steps}
@@ -14,14 +14,13 @@ use Rattle.fr_frame.proofs.LackLaws.{err_so}
 use Rattle.fr_frame.proofs.ValidLaws.{all_valid, valid_preserved, valid_cause}
 use Rattle.fr_frame.proofs.validating.test_values.Goals as goal
 
-pub returns-then-has_no_validators-clause-passing : goal.returns-then-has_no_validators-clause-passing
-returns-then-has_no_validators-clause-passing g c table so =
-    let are : AreTold table c.args.plan.now (shape_of c.args.plan.now c.args.node) c.fields_told-told.result.now
-    = c.fields_told-told.ensures.told table so.checked so.planned so.inside in
-    let count : length c.args.children.now ≡ length c.fields_told-told.result.now
-    = are.count (length c.args.children.now) so.full in
-    all_valid (g.H.Hooks.means c.args.hooks.now) table c.args.plan.now (shape_of c.args.plan.now c.args.node)
-    c.fields_told-told.result.now are (c.has_no_validators.ensures c.if-has_no_validators.true) 0 c.args.children.now (omega arith)
+pub has_validators-requires : goal.has_validators-requires
+has_validators-requires g c = c.requires.planned.inside
+
+pub returns-then-not-has_validators-clause-passing : goal.returns-then-not-has_validators-clause-passing
+returns-then-not-has_validators-clause-passing g c table so =
+    all_valid (g.H.Hooks.means c.args.hooks.now) table (shape_of c.args.plan.now c.args.node)
+    (sym (c.has_validators.ensures table so.checked so.planned) ∙ c.if-not-has_validators.true) 0 c.args.children.now
     c.requires.there
 
 pub returns-in_err-test_value-clause-failing : goal.returns-in_err-test_value-clause-failing

@@ -7,4 +7,4 @@ returns c =
     let n : length c.args.self.now ≡ length c.self.inside.values.items
     = same_length c.self.inside.given c.self.inside.values.items c.args.self.now c.self.view_is in
     let m : c.len.result ≡ length c.self.inside.values.items = omega (arith, c.len.ensures) in
-    m ∙ sym n
+    record { count = m ∙ sym n }

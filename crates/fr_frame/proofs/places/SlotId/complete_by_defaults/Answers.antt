@@ -1,5 +1,5 @@
 use Rattle.std.proofs.Common.{◌≡◌, ◌⊎◌, List, true, Some, None, IsSome, sym, subst, arith}
-use Rattle.fr_frame.specs.Bodies.{value_of}
+use Rattle.fr_frame.specs.Bodies.{value_of, HasAllChildren}
 use Rattle.std.specs.Prelude.{IfErr, IsSomeAnd, Option}
 use Rattle.std.proofs.lemmas.Grind.{common_steps}
 use Rattle.fr_shape.specs.declared.error.ReflectErrorKind.{ReflectErrorKind as Kind}
@@ -14,6 +14,7 @@ use Rattle.fr_frame.specs.Defaults.{invalid, left_out, unmet, WhyNotDefault}
 use Rattle.fr_frame.specs.FieldDefaults.{IsPlanned}
 use Rattle.fr_frame.specs.Filling.{IsCauseOf}
 use Rattle.fr_frame.specs.Heap.{Node, heap_of}
+use Rattle.fr_frame.proofs.BodyLaws.{value_has_all}
 use Rattle.fr_frame.proofs.LackLaws.{err_so}
 use Rattle.fr_frame.proofs.DefaultLaws.{ok_so}
 use Rattle.fr_frame.proofs.DefaultedLaws.{HasTaken, has_taken, unmet_so, may_after, left_so, value_so, invalid_so, filled_so}
@@ -76,15 +77,21 @@ run_validators-requires-clause-planned g c =
     (heap_of c.fill_defaults.new.slots c.args.self.0)
     (may_after c.args.table.now c.args.plan.now c.args.slots.now c.fill_defaults.new.slots c.args.self.0 taken))
 
+all_so : (found : Option Node) → IsSomeAnd found (λ (at : Node). IsSome (value_of at.body))
+    → IsSomeAnd found (λ (at : Node). HasAllChildren at.body)
+all_so (Some at) h = value_has_all at.body h
+all_so None h = absurd h
+
 pub run_validators-requires-clause-full : goal.run_validators-requires-clause-full
 run_validators-requires-clause-full g c =
     let taken : HasTaken c.args.table.now c.args.plan.now c.args.slots.now c.fill_defaults.new.slots c.args.self.0
     = has_taken c.args.table.now c.args.plan.now c.args.slots.now c.fill_defaults.new.slots c.args.self.0 c.requires.place
     c.in_ok-fill_defaults.ensures.filled c.in_ok-fill_defaults.ensures.met in
-    subst (λ (slots : List Slot). IfInUse slots c.args.self.0 (λ at. IsSome (value_of at.body)))
+    subst (λ (slots : List Slot). IfInUse slots c.args.self.0 (λ at. HasAllChildren at.body))
     (sym c.require_full_initialization.ensures.unchanged)
+    (all_so (heap_of c.fill_defaults.new.slots c.args.self.0)
     (value_so c.args.table.now c.args.plan.now c.args.slots.now c.fill_defaults.new.slots c.args.self.0 taken
-    (g.H.Hooks.means c.args.hooks.now) c.in_ok-require_full_initialization.ensures.full)
+    (g.H.Hooks.means c.args.hooks.now) c.in_ok-require_full_initialization.ensures.full))
 
 pub returns-clause-filled : goal.returns-clause-filled
 returns-clause-filled g c =

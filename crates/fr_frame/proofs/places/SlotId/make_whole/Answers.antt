@@ -1,14 +1,28 @@
-use Rattle.std.proofs.Common.{arith}
-use Rattle.fr_shape.specs.View.{view}
-use Rattle.fr_frame.specs.Heap.{body_of}
-use Rattle.fr_frame.proofs.BodyLaws.{value_occurs_same}
+use Rattle.std.proofs.Common.{◌≡◌, List, Some, set, subst, arith}
+use Rattle.fr_shape.specs.Val.{Val}
+use Rattle.fr_frame.specs.declared.places.Slot.{Slot}
+use Rattle.fr_frame.specs.Bodies.{Body, value_of, whole_body}
+use Rattle.fr_frame.specs.Changes.{Becomes}
+use Rattle.fr_frame.specs.Heap.{Node, node_of}
+use Rattle.fr_frame.proofs.PlaceLaws.{repieced, of_place, becomes, occur_change}
 use Rattle.fr_frame.proofs.places.SlotId.make_whole.Goals as goal
+
+pub returns-clause-whole : goal.returns-clause-whole
+returns-clause-whole c =
+    let after : List Slot
+    = set c.args.slots.now c.args.self.0 (Slot.Used (repieced c.place_mut-place.result.now c.make_whole.new.piece)) in
+    of_place c.args.slots.now c.args.self.0 c.place_mut-place.result.now c.place_mut-place.ensures.value
+    (λ (at : Node). (v : Val) → value_of at.body ≡ Some v → Becomes c.args.slots.now after c.args.self.0 at (whole_body v))
+    (λ v is.
+    subst (λ (body : Body). Becomes c.args.slots.now after c.args.self.0 (node_of c.place_mut-place.result.now) body)
+    (c.make_whole.ensures.whole v is)
+    (becomes c.args.slots.now c.args.self.0 c.place_mut-place.result.now c.place_mut-place.ensures.value c.make_whole.new.piece))
 
 pub returns-clause-tokens : goal.returns-clause-tokens
 returns-clause-tokens c t =
     omega (
       arith,
-      c.lift_out-owner.ensures.tokens t,
-      c.lower.ensures.tokens t,
-      value_occurs_same (body_of c.lift_out-owner.result.piece) (view c.value_of.result) t c.value_of.ensures,
+      occur_change c.args.slots.now c.args.self.0 c.place_mut-place.result.now c.place_mut-place.ensures.value
+          c.make_whole.new.piece t,
+      c.make_whole.ensures.tokens t,
     )

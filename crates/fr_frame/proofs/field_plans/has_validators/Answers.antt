@@ -1,0 +1,18 @@
+use Rattle.std.proofs.Common.{Option, None, option_map, ap, sym, ◌∙◌}
+use Rattle.std.specs.Prelude.{unwrap_or}
+use Rattle.fr_shape.specs.Look.{def_of}
+use Rattle.fr_plan.specs.declared.nodes.TypePlanNode.{TypePlanNode}
+use Rattle.fr_plan.specs.Fields.{has_validators}
+use Rattle.fr_plan.specs.LookupLaws.{shape_of as shape_of_node}
+use Rattle.fr_frame.proofs.ToldLaws.{node_reached}
+use Rattle.fr_frame.proofs.field_plans.has_validators.Goals as goal
+
+pub returns : goal.returns
+returns c table checked planned =
+    c.has_validators.ensures.some table planned.root checked planned.inside planned.planned
+    (node_reached c.law_plan_complete.ensures.complete table c.args.plan.now checked planned c.args.node c.node.result.now
+    c.node.ensures.node)
+    ∙ ap
+    (λ (found : Option TypePlanNode).
+    has_validators (def_of table (unwrap_or (option_map shape_of_node found) (record { 0 = 0 })).0) None)
+    (sym c.node.ensures.node)
