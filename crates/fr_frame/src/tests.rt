@@ -201,13 +201,20 @@ fn a_value_that_fails_is_refused(rt: HostRuntime) {
     assert_eq!(&rt; field.index, 0);
 }
 
+/// What running the validators of the same struct ends in where it was only entered.
+fn validated_entered(rt: &impl Abort, alloc: Global) -> Result<(), ReflectErrorKind> {
+    let table = limited_table(rt, alloc);
+    let Ok(plan) = plan_of(alloc, &table) else {
+        panic!(rt; "no plan");
+    };
+    let mut slots = Slots::new(alloc);
+    let Ok(id) = slots.enter(&table, &plan, plan.root_id(), FrameOwner::Root) else {
+        panic!(rt; "no memory");
+    };
+    id.run_validators(&slots, &plan, &NoHooks)
+}
+
 #[test]
 fn an_entered_struct_has_no_value_to_refuse(rt: HostRuntime) {
-    let alloc = rt.alloc();
-    let table = limited_table(&rt, alloc);
-    let plan = plan_of(alloc, &table).ok().expect(&rt, "no plan");
-    let mut slots = Slots::new(alloc);
-    let entered = slots.enter(&table, &plan, plan.root_id(), FrameOwner::Root);
-    let id = entered.ok().expect(&rt, "no memory");
-    assert!(&rt; id.run_validators(&slots, &plan, &NoHooks).is_ok());
+    assert!(&rt; validated_entered(&rt, rt.alloc()).is_ok());
 }
