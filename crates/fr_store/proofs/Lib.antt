@@ -1,4 +1,3 @@
-pub mod ChainLaws
 pub mod EarlierLaws
 pub mod IndexLaws
 pub mod KeptLaws
