@@ -1,5 +1,5 @@
 -- Going on to a child: what it is refused for, and what it means.
-use Rattle.std.proofs.Common.{◌≡◌, ℕ, suc, ◌+◌, ◌<◌, Bool, true, false, List, [], ◌∷◌, length, Some, None, Ok, Err, nat_lt, refl, sym, ◌∙◌, ap, arith}
+use Rattle.std.proofs.Common.{◌≡◌, ℕ, suc, ◌+◌, ◌<◌, Bool, true, false, List, [], ◌∷◌, length, Some, None, Ok, Err, nat_lt, refl, sym, ◌∙◌, ap, subst, arith}
 use Rattle.std.specs.Str.{bytes_eq}
 use Rattle.std.proofs.lemmas.Bool.{ltb-true, lt-ltb}
 use Rattle.fr_shape.specs.declared.shape.Def.{Def}
@@ -15,6 +15,8 @@ use Rattle.fr_model.specs.Step.{begin_nth_field, begin_field, enters, field_refu
 use Rattle.fr_frame.specs.declared.places.Slot.{Slot}
 use Rattle.fr_store.specs.Moves.{tree_here}
 use Rattle.fr_partial.specs.Builder.{Builder, here}
+use Rattle.fr_partial.specs.declared.admitting.Opening.{Opening}
+use Rattle.fr_partial.specs.Entering.{Describes}
 use Rattle.fr_partial.proofs.StateLaws.{builder_of}
 
 -- what may be entered is there
@@ -34,6 +36,13 @@ admitted_within (Def.Enum enumeration) t i e = cc
 admitted_within (Def.Slice item) t i e = cc
 admitted_within Def.Opaque t i e = cc
 admitted_within _ t i e = cc
+
+-- so it is one of the children that the place is begun with
+pub opened_within : (table : Table) (s : ℕ) (t : Tree) (i : ℕ) (opening : Opening) → Describes table s opening
+    → field_refusal (def_of table s) t i ≡ None → i < opening.count
+opened_within table s t i opening says may =
+    let below : i < count_children (def_of table s) = admitted_within (def_of table s) t i may in
+    omega (arith, below, says.count)
 
 -- the shape's number is the shape
 pub shape_of_number : {H : Type 0} (builder : Builder H) (shape : ShapeId) → shape.0 ≡ here builder
@@ -72,6 +81,12 @@ module _ {H : Type 0} {h : H} (table : Table) (root : ℕ) (slots : List Slot) (
   def_is : def_of table shape.0 ≡ def_of builder.shapes (here builder)
   def_is =
       ap (def_of table) same ∙ ap (λ (b : Builder H). def_of b.shapes (here builder)) is
+
+  -- what the table says of the place's shape
+  pub describes_here : (opening : Opening) → Describes table shape.0 opening → Describes builder.shapes (here builder) opening
+  describes_here opening says =
+      subst (λ (b : Builder H). Describes b.shapes (here builder) opening) is
+      (subst (λ (s : ℕ). Describes table s opening) same says)
 
   pub named_refused : (name : List ℕ) (operation : Operation) → named_refusal (def_of table shape.0) ≡ Some operation
       → begin_field builder.shapes (here builder) builder.state name

@@ -9,6 +9,7 @@ pub mod LackLaws
 pub mod PlaceLaws
 pub mod PutLaws
 pub mod ReachLaws
+pub mod ReleaseLaws
 pub mod RemovedLaws
 pub mod ShapeLaws
 pub mod StartLaws

@@ -53,7 +53,3 @@ pub record IsUnderway (table : Table) (root : ShapeId) (plan : Plan) (steps : Li
   pub leads : Leads mode (cursor_in slots stack) (tree_in_slots slots stack)
   pub began : BeganAbove mode (cursor_in slots stack)
   pub path : steps ≡ path_of (state_of slots stack mode calls)
-
--- slots and stack stand for something, by some plan
-abbrev pub AreOpen : List Slot → List ℕ → Type 0
-AreOpen slots stack = (plan : Plan) × IsOpen plan slots stack

@@ -1,8 +1,7 @@
 //! Which children of a place may be entered, and why others may not.
-ghost use Rattle.std.specs.Prelude.{◌≡◌, ◌<◌};
+ghost use Rattle.std.specs.Prelude.{◌≡◌, None, Some, IfErr, IfOk, OnOk};
 ghost use Rattle.fr_shape.specs.Look.{def_of};
 ghost use Rattle.fr_shape.specs.Named.{field_named};
-ghost use Rattle.fr_model.specs.Places.{child_count};
 ghost use Rattle.fr_model.specs.Step.{field_refusal, named_refusal};
 ghost use Rattle.fr_frame.specs.Bodies.{own_tree};
 ghost use Rattle.fr_frame.specs.Heap.{body_of};
@@ -14,9 +13,9 @@ use fr_plan::TypePlanCore;
 use fr_shape::{Def, Operation, ShapeId, ShapeTable};
 use fr_store::Stack;
 
-/// What a table says of a child that may be entered: as what the place around it is begun, and how many children that has.
+/// As what a place is begun whose children may be entered, and how many it has then.
 #[derive(Clone, Copy)]
-pub struct Child {
+pub struct Opening {
     pub form: Form,
     pub count: usize,
 }
@@ -41,50 +40,87 @@ fn element_refusal(item: ShapeId, count: u32, piece: &Piece, i: usize) -> Option
     }
 }
 
-/// Why child `i` of the place may not be entered, if so.
-pub fn field_refusal(
+/// As what a place of this shape is opened around child `i`, or why that may not be entered.
+pub fn nth_opening(
     table: &ShapeTable,
     shape: ShapeId,
     piece: &Piece,
     i: usize,
-) -> Option<Operation>
-    ensures { result ≡ field_refusal (def_of table.now shape.0) (own_tree (body_of piece.now)) i }
+) -> Result<Opening, Operation>
+    ensures opening { IfOk result (λ opening. Describes table.now shape.0 opening) }
+    ensures admitted { OnOk result
+        (field_refusal (def_of table.now shape.0) (own_tree (body_of piece.now)) i ≡ None) }
+    ensures refused { IfErr result (λ operation.
+        field_refusal (def_of table.now shape.0) (own_tree (body_of piece.now)) i
+        ≡ Some operation) }
 {
     let Some(entry) = table.get(shape) else {
-        return Some(Operation::FieldOfOther);
+        return Err(Operation::FieldOfOther);
     };
     match &entry.def {
         Def::Struct(described) => {
-            if i < described.fields.len() {
-                None
+            let count = described.fields.len();
+            if i < count {
+                Ok(Opening {
+                    form: Form::Struct,
+                    count,
+                })
             } else {
-                Some(Operation::FieldIndexOutOfBounds)
+                Err(Operation::FieldIndexOutOfBounds)
             }
         }
-        Def::Enum(_) => Some(Operation::FieldOfUnselectedVariant),
-        Def::Array(item, count) => element_refusal(*item, *count, piece, i),
-        Def::Slice(_) => Some(Operation::FieldOfSlice),
-        Def::Opaque => Some(Operation::FieldOfOpaque),
-        _ => Some(Operation::FieldOfOther),
+        Def::Array(item, count) => match element_refusal(*item, *count, piece, i) {
+            Some(operation) => Err(operation),
+            None => Ok(Opening {
+                form: Form::Array,
+                count: *count as usize,
+            }),
+        },
+        Def::Enum(_) => Err(Operation::FieldOfUnselectedVariant),
+        Def::Slice(_) => Err(Operation::FieldOfSlice),
+        Def::Opaque => Err(Operation::FieldOfOpaque),
+        Def::Scalar(_)
+        | Def::Str
+        | Def::Option(_)
+        | Def::Result(_, _)
+        | Def::List(_)
+        | Def::Map(_, _)
+        | Def::Set(_)
+        | Def::Pointer(_)
+        | Def::Dynamic
+        | Def::Undefined
+        | Def::Other => Err(Operation::FieldOfOther),
     }
 }
 
-/// Why no child of a place of this shape may be entered by a name, if so.
-pub fn named_refusal(table: &ShapeTable, shape: ShapeId) -> Option<Operation>
-    ensures { result ≡ named_refusal (def_of table.now shape.0) }
+/// As what a place of this shape is opened around a field that is entered by its name, or why none is.
+pub fn named_opening(table: &ShapeTable, shape: ShapeId) -> Result<Opening, Operation>
+    ensures opening { IfOk result (λ opening. Describes table.now shape.0 opening) }
+    ensures admitted { OnOk result (named_refusal (def_of table.now shape.0) ≡ None) }
+    ensures refused { IfErr result (λ operation.
+        named_refusal (def_of table.now shape.0) ≡ Some operation) }
 {
     let Some(entry) = table.get(shape) else {
-        return Some(Operation::FieldOfOther);
+        return Err(Operation::FieldOfOther);
     };
     match &entry.def {
-        Def::Struct(_) => None,
-        Def::Enum(_) => Some(Operation::NamedFieldOfUnselectedVariant),
-        Def::Undefined => Some(Operation::NamedFieldOfUndefined),
-        Def::Scalar(_) | Def::Str => Some(Operation::NamedFieldOfPrimitive),
-        Def::Array(_, _) | Def::Slice(_) => Some(Operation::NamedFieldOfSequence),
-        Def::Opaque => Some(Operation::NamedFieldOfOpaque),
-        Def::Pointer(_) => Some(Operation::NamedFieldOfPointer),
-        _ => Some(Operation::FieldOfOther),
+        Def::Struct(described) => Ok(Opening {
+            form: Form::Struct,
+            count: described.fields.len(),
+        }),
+        Def::Enum(_) => Err(Operation::NamedFieldOfUnselectedVariant),
+        Def::Undefined => Err(Operation::NamedFieldOfUndefined),
+        Def::Scalar(_) | Def::Str => Err(Operation::NamedFieldOfPrimitive),
+        Def::Array(_, _) | Def::Slice(_) => Err(Operation::NamedFieldOfSequence),
+        Def::Opaque => Err(Operation::NamedFieldOfOpaque),
+        Def::Pointer(_) => Err(Operation::NamedFieldOfPointer),
+        Def::Option(_)
+        | Def::Result(_, _)
+        | Def::List(_)
+        | Def::Map(_, _)
+        | Def::Set(_)
+        | Def::Dynamic
+        | Def::Other => Err(Operation::FieldOfOther),
     }
 }
 
@@ -109,26 +145,5 @@ pub fn field_named(
     match plan.declared_field(shape, None, name) {
         Some(number) => Some(number as usize),
         None => None,
-    }
-}
-
-/// What the table says of child `i` of a place of this shape.
-pub fn child_of(table: &ShapeTable, shape: ShapeId, i: usize) -> Child
-    requires { i < child_count table.now shape.0 }
-    ensures { Describes table.now shape.0 i result }
-{
-    let Some(entry) = table.get(shape) else {
-        unreachable!()
-    };
-    match &entry.def {
-        Def::Struct(described) => Child {
-            form: Form::Struct,
-            count: described.fields.len(),
-        },
-        Def::Array(_, count) => Child {
-            form: Form::Array,
-            count: *count as usize,
-        },
-        _ => unreachable!(),
     }
 }

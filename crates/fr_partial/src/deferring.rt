@@ -3,7 +3,7 @@ ghost use Rattle.std.specs.Prelude.{◌≡◌, ◌≢◌, Ok};
 ghost use Rattle.fr_shape.specs.Released.{Room, Conserved};
 ghost use Rattle.fr_model.specs.Commands.{Call};
 ghost use Rattle.fr_model.specs.Tree.{strict};
-ghost use Rattle.fr_partial.specs.Builder.{holds, left, IsNotOutOfMemory, IsStep, IsStepTo, RisesByRemoved, TellsPlaceBefore};
+ghost use Rattle.fr_partial.specs.Builder.{holds, left, IsNotOutOfMemory, IsStep, RisesByRemoved, TellsPlaceBefore};
 ghost use Rattle.fr_model.specs.Step.{begin_deferred};
 
 use crate::mode::Mode;
@@ -36,7 +36,7 @@ impl<'t, H: Hooks> Partial<'t, H> {
     }
 
     /// `begin_deferred` of a builder that is in strict mode.
-    pub fn enter_deferred(self) -> Partial<'t, H>
+    pub fn enter_deferred(mut self) -> Partial<'t, H>
         requires strict { self.state.mode ≡ strict }
         ensures state { begin_deferred self.entry.state ≡ Ok result.state }
         ensures shapes { result.shapes ≡ self.entry.shapes }
@@ -44,33 +44,10 @@ impl<'t, H: Hooks> Partial<'t, H> {
         ensures hooks { result.hooks ≡ self.entry.hooks }
     {
         law_well();
-        let Partial {
-            alloc,
-            table,
-            hooks,
-            plan,
-            root,
-            path,
-            slots,
-            stack,
-            store,
-            mode: _,
-            calls,
-        } = self;
-        let start = stack.len() - 1;
-        Partial {
-            alloc,
-            table,
-            hooks,
-            plan,
-            root,
-            path,
-            slots,
-            stack,
-            store,
-            mode: Mode::Deferred(start),
-            calls: calls.saturating_add(1),
-        }
+        let start = self.work.stack.len() - 1;
+        self.mode = Mode::Deferred(start);
+        self.calls = self.calls.saturating_add(1);
+        self
     }
 
     /// Completes all that was left, the longest path first, then step by step; then the place at which the builder works, which
@@ -96,7 +73,7 @@ impl<'t, H: Hooks> Partial<'t, H> {
     }
 
     /// `finish_deferred` in deferred mode.
-    fn finish_all(self, ledger: &mut Ledger) -> Result<Partial<'t, H>, ReflectError>
+    fn finish_all(mut self, ledger: &mut Ledger) -> Result<Partial<'t, H>, ReflectError>
         requires room { Room (holds self) ledger.old }
         requires deferred { self.state.mode ≢ strict }
         ensures step { IsStep (H.means self.entry.hooks) self.entry Call.FinishDeferred result }
@@ -107,35 +84,28 @@ impl<'t, H: Hooks> Partial<'t, H> {
         law_plan_lookups();
         law_removed();
         law_well();
-        let Partial {
-            alloc,
-            table,
-            hooks,
-            plan,
-            root,
-            path,
-            mut slots,
-            mut stack,
-            mut store,
-            mode: _,
-            calls,
-        } = self;
-        match store.finish(&mut slots, &mut stack, table, plan.core(), hooks, ledger) {
-            Ok(()) => Ok(Partial {
-                alloc,
-                table,
-                hooks,
-                plan,
-                root,
-                path,
-                slots,
-                stack,
-                store,
-                mode: Mode::Strict,
-                calls: calls.saturating_add(1),
-            }),
+        let (table, hooks) = (self.table, self.hooks);
+        let work = &mut self.work;
+        let plan = work.plan.core();
+        let (slots, stack) = (&mut work.slots, &mut work.stack);
+        match work.store.finish(slots, stack, table, plan, hooks, ledger) {
+            Ok(()) => {
+                self.mode = Mode::Strict;
+                self.calls = self.calls.saturating_add(1);
+                Ok(self)
+            }
             Err(kind) => {
-                drop(plan);
+                let Partial {
+                    alloc: _,
+                    table: _,
+                    hooks: _,
+                    root: _,
+                    work,
+                    path,
+                    mode: _,
+                    calls: _,
+                } = self;
+                drop(work);
                 Err(ReflectError { kind, path })
             }
         }

@@ -1,10 +1,11 @@
 //! Going on to a child of the place at which the builder works.
-ghost use Rattle.std.specs.Prelude.{◌≡◌, ◌<◌, ◌^◌, [], ◌∷◌, ◌++◌, Ok, None, IfOk, OnOk, OnErr};
+ghost use Rattle.std.specs.Prelude.{◌≡◌, ◌<◌, ◌^◌, [], ◌∷◌, ◌++◌, Ok, None, OnOk};
 ghost use Rattle.fr_shape.specs.declared.error.ReflectErrorKind.{ReflectErrorKind};
 ghost use Rattle.fr_shape.specs.Look.{def_of};
-ghost use Rattle.fr_shape.specs.Released.{Room, RoseBy, Conserved};
+ghost use Rattle.fr_shape.specs.Released.{Room, Conserved};
 ghost use Rattle.fr_model.specs.Step.{enter_child, enters, field_refusal};
-ghost use Rattle.fr_model.specs.Tree.{change_at, cursor_tree, tree_occurs};
+ghost use Rattle.fr_model.specs.Tree.{change_at, cursor_tree};
+ghost use Rattle.fr_frame.specs.Changes.{SameTokens};
 ghost use Rattle.fr_frame.specs.Heap.{as_form};
 ghost use Rattle.fr_frame.specs.Kids.{child_node};
 ghost use Rattle.fr_store.specs.Moves.{cursor_in, node_here, tree_here, tree_in_slots, IsOpenAt};
@@ -14,10 +15,8 @@ ghost use Rattle.fr_partial.specs.Builder.{here, holds, left, IsStepTo, TellsPla
 ghost use Rattle.fr_partial.specs.Entering.{Describes};
 ghost use Rattle.fr_partial.specs.Underway.{shape_here, IsReady};
 
-use crate::admitting::{Child, child_of};
-use crate::finishing::abandon;
+use crate::admitting::Opening;
 use crate::paths::{step_back, step_to};
-use crate::placing::shape_here;
 use crate::{Partial, ReflectError};
 use fr_frame::{Form, Slots};
 use fr_model::{law_paths, law_removed, law_well};
@@ -38,9 +37,15 @@ pub(crate) fn out_of_memory(path: Path) -> ReflectError
 }
 
 impl<'t, H: Hooks> Partial<'t, H> {
-    /// Enters a child that may be entered. Its place above may need memory.
-    pub(crate) fn enter(self, i: usize, ledger: &mut Ledger) -> Result<Partial<'t, H>, ReflectError>
+    /// Enters a child that may be entered; the place is opened as this for it, which may need memory.
+    pub(crate) fn enter(
+        mut self,
+        i: usize,
+        opening: Opening,
+        ledger: &mut Ledger,
+    ) -> Result<Partial<'t, H>, ReflectError>
         requires room { Room (holds self) ledger.old }
+        requires opening { Describes self.shapes (here self) opening }
         requires admitted { field_refusal (def_of self.shapes (here self))
             (cursor_tree self.state) i ≡ None }
         ensures step { IsStepTo self.entry
@@ -51,45 +56,30 @@ impl<'t, H: Hooks> Partial<'t, H> {
         law_paths();
         law_removed();
         law_well();
-        let Partial {
-            alloc,
-            table,
-            hooks,
-            plan,
-            root,
-            mut path,
-            slots,
-            stack,
-            mut store,
-            mode,
-            calls,
-        } = self;
-        let shape = shape_here(table, root, plan.core(), &slots, &stack);
-        let child = child_of(table, shape, i);
-        let Ok(()) = path.push(step_to(child.form, i)) else {
-            abandon(slots, stack, plan.core(), ledger);
-            drop(plan);
-            return Err(out_of_memory(path));
+        let Ok(()) = self.path.push(step_to(opening.form, i)) else {
+            return Err(self.refuse(ReflectErrorKind::OutOfMemory, ledger));
         };
-        let plan_core = plan.core();
-        match enter_child(
-            table, root, plan_core, slots, stack, &mut store, i, child, ledger,
-        ) {
-            Ok((slots, stack)) => Ok(Partial {
-                alloc,
-                table,
-                hooks,
-                plan,
-                root,
-                path,
-                slots,
-                stack,
-                store,
-                mode,
-                calls: calls.saturating_add(1),
-            }),
-            Err(_) => {
-                drop(plan);
+        let (table, root) = (self.table, self.root);
+        let work = &mut self.work;
+        let plan = work.plan.core();
+        let (slots, stack, store) = (&mut work.slots, &mut work.stack, &mut work.store);
+        match enter_child(table, root, plan, slots, stack, store, i, opening) {
+            Ok(()) => {
+                self.calls = self.calls.saturating_add(1);
+                Ok(self)
+            }
+            Err(OutOfMemory) => {
+                let Partial {
+                    alloc: _,
+                    table: _,
+                    hooks: _,
+                    root: _,
+                    work,
+                    mut path,
+                    mode: _,
+                    calls: _,
+                } = self;
+                work.release(ledger);
                 step_back(&mut path);
                 Err(out_of_memory(path))
             }
@@ -126,49 +116,38 @@ fn child_node(plan: &TypePlanCore, node: NodeId, form: Form, i: usize) -> NodeId
     }
 }
 
-/// Begins the place on top around a child that may be entered, and goes on to that child. Where there is no memory, all is
-/// released.
+/// Begins the place on top around a child that may be entered, and goes on to that child. Where there is no memory, all that
+/// was put is still there.
 fn enter_child(
     table: &ShapeTable,
     root: ShapeId,
     plan: &TypePlanCore,
-    mut slots: Slots,
-    mut stack: Stack,
+    slots: &mut Slots,
+    stack: &mut Stack,
     store: &mut FrameStore,
     i: usize,
-    child: Child,
-    ledger: &mut Ledger,
-) -> Result<(Slots, Stack), OutOfMemory>
-    requires ready { IsReady table.now root plan.now slots stack }
-    requires stored { IsKept store.old slots }
-    requires child { Describes table.now (shape_here table.now root.0 slots stack) i child }
-    requires admitted { field_refusal (def_of table.now (shape_here table.now root.0 slots stack))
-        (tree_here slots stack) i ≡ None }
+    opening: Opening,
+) -> Result<(), OutOfMemory>
+    requires ready { IsReady table.now root plan.now slots.old stack.old }
+    requires stored { IsKept store.old slots.old }
+    requires opening { Describes table.now (shape_here table.now root.0 slots.old stack.old) opening }
+    requires admitted { field_refusal
+        (def_of table.now (shape_here table.now root.0 slots.old stack.old))
+        (tree_here slots.old stack.old) i ≡ None }
     requires small { i < 2 ^ 32 }
-    requires room { Room (tree_occurs (tree_in_slots slots stack)) ledger.old }
-    ensures entered { IfOk result (λ both. IsOpenAt plan.now both.0 both.1
-        (cursor_in slots stack ++ i ∷ [])
-        (change_at (cursor_in slots stack)
-        (enter_child table.now (shape_here table.now root.0 slots stack) i)
-        (tree_in_slots slots stack))) }
-    ensures stored { IfOk result (λ both. IsKept store.new both.0) }
-    ensures marks { IfOk result (λ both. StoresNoMore slots both.0) }
-    ensures kept { OnOk result (ledger.new ≡ ledger.old) }
-    ensures released { OnErr result
-        (RoseBy (tree_occurs (tree_in_slots slots stack)) ledger.old ledger.new) }
+    ensures entered { OnOk result (IsOpenAt plan.now slots.new stack.new
+        (cursor_in slots.old stack.old ++ i ∷ [])
+        (change_at (cursor_in slots.old stack.old)
+        (enter_child table.now (shape_here table.now root.0 slots.old stack.old) i)
+        (tree_in_slots slots.old stack.old))) }
+    ensures stored { OnOk result (IsKept store.new slots.new) }
+    ensures marks { OnOk result (StoresNoMore slots.old slots.new) }
+    ensures tokens { SameTokens slots.old slots.new }
 {
     law_plan_lookups();
     let _root = root;
-    let node = child_node(plan, node_here(plan, &slots, &stack), child.form, i);
-    let Ok(()) = stack.begin(&mut slots, plan, child.form, child.count) else {
-        abandon(slots, stack, plan, ledger);
-        return Err(OutOfMemory);
-    };
-    match stack.enter(&mut slots, store, table, plan, node, child.form, i as u32) {
-        Ok(()) => Ok((slots, stack)),
-        Err(refused) => {
-            abandon(slots, stack, plan, ledger);
-            Err(refused)
-        }
-    }
+    let node = child_node(plan, node_here(plan, slots, stack), opening.form, i);
+    stack.begin(slots, plan, opening.form, opening.count)?;
+    stack.enter(slots, store, table, plan, node, opening.form, i as u32)?;
+    Ok(())
 }

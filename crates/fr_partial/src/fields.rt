@@ -3,8 +3,8 @@ ghost use Rattle.fr_shape.specs.Released.{Room, Conserved};
 ghost use Rattle.fr_model.specs.Commands.{Call};
 ghost use Rattle.fr_partial.specs.Builder.{holds, left, IsStep, RefusesBeforeMemory, RisesByRemoved, TellsPlaceBefore};
 
-use crate::admitting::{field_named, field_refusal, named_refusal};
-use crate::placing::piece_here;
+use crate::admitting::{field_named, named_opening, nth_opening};
+use crate::placing::place_here;
 use crate::{Partial, ReflectError};
 use fr_model::law_removed;
 use fr_shape::{Hooks, Ledger, ReflectErrorKind};
@@ -29,14 +29,17 @@ impl<'t, H: Hooks> Partial<'t, H> {
     {
         law_removed();
         let shape = self.shape();
-        if let Some(operation) = named_refusal(self.table, shape) {
-            let kind = ReflectErrorKind::OperationFailed { shape, operation };
-            return Err(self.refuse(kind, ledger));
-        }
-        let plan = self.plan.core();
-        let (slots, stack) = (&self.slots, &self.stack);
+        let opening = match named_opening(self.table, shape) {
+            Ok(opening) => opening,
+            Err(operation) => {
+                let kind = ReflectErrorKind::OperationFailed { shape, operation };
+                return Err(self.refuse(kind, ledger));
+            }
+        };
+        let plan = self.work.plan.core();
+        let (slots, stack) = (&self.work.slots, &self.work.stack);
         match field_named(self.table, self.root, plan, slots, stack, shape, field_name) {
-            Some(i) => self.enter(i, ledger),
+            Some(i) => self.enter(i, opening, ledger),
             None => Err(self.refuse(ReflectErrorKind::FieldError { shape }, ledger)),
         }
     }
@@ -59,13 +62,15 @@ impl<'t, H: Hooks> Partial<'t, H> {
             (Call.BeginNthField idx) result }
     {
         law_removed();
-        let shape = self.shape();
-        match field_refusal(self.table, shape, piece_here(&self.slots, &self.stack), idx) {
-            Some(operation) => {
+        let plan = self.work.plan.core();
+        let (slots, stack) = (&self.work.slots, &self.work.stack);
+        let (shape, piece) = place_here(self.table, self.root, plan, slots, stack);
+        match nth_opening(self.table, shape, piece, idx) {
+            Ok(opening) => self.enter(idx, opening, ledger),
+            Err(operation) => {
                 let kind = ReflectErrorKind::OperationFailed { shape, operation };
                 Err(self.refuse(kind, ledger))
             }
-            None => self.enter(idx, ledger),
         }
     }
 }

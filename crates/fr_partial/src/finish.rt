@@ -11,10 +11,10 @@ ghost use Rattle.fr_partial.specs.Filling.{fills_nothing};
 ghost use Rattle.fr_partial.specs.Modes.{IsBelowStart};
 ghost use Rattle.fr_partial.specs.Builder.{holds, left, left_built, BuildRefusesBeforeMemory, IsBuilt, IsNotOutOfMemory, IsStep, IsStepTo, RefusesBeforeMemory, RisesByRemoved, RisesByRemovedAtBuild, TellsPlaceBefore};
 
-use crate::entering::out_of_memory;
 use crate::finishing::{abandon, end_here, take_root};
 use crate::mode::Mode;
 use crate::paths::step_back;
+use crate::work::Work;
 use crate::{Built, Partial, ReflectError};
 use fr_model::{law_completes, law_paths, law_removed, law_well};
 use fr_path::Path;
@@ -37,7 +37,7 @@ impl<'t, H: Hooks> Partial<'t, H> {
             Call.End result }
     {
         law_removed();
-        let depth = self.stack.len() - 1;
+        let depth = self.work.stack.len() - 1;
         match self.mode {
             Mode::Strict | Mode::Deferred(_) if depth == 0 => {
                 let invariant = Invariant::EndAtRoot;
@@ -55,7 +55,7 @@ impl<'t, H: Hooks> Partial<'t, H> {
     }
 
     /// `end` in strict mode, below the root.
-    fn end_strict(self, ledger: &mut Ledger) -> Result<Partial<'t, H>, ReflectError>
+    fn end_strict(mut self, ledger: &mut Ledger) -> Result<Partial<'t, H>, ReflectError>
         requires room { Room (holds self) ledger.old }
         requires strict { self.state.mode ≡ strict }
         requires below { is_root self.state.cursor ≡ false }
@@ -72,45 +72,34 @@ impl<'t, H: Hooks> Partial<'t, H> {
         law_paths();
         law_removed();
         law_well();
-        let Partial {
-            alloc,
-            table,
-            hooks,
-            plan,
-            root,
-            mut path,
-            slots,
-            stack,
-            store,
-            mode,
-            calls,
-        } = self;
-        match end_here(table, root, plan.core(), hooks, slots, stack, ledger) {
-            Ok((slots, stack)) => {
-                step_back(&mut path);
-                Ok(Partial {
-                    alloc,
-                    table,
-                    hooks,
-                    plan,
-                    root,
-                    path,
-                    slots,
-                    stack,
-                    store,
-                    mode,
-                    calls: calls.saturating_add(1),
-                })
+        let (table, root, hooks) = (self.table, self.root, self.hooks);
+        let work = &mut self.work;
+        let (slots, stack) = (&mut work.slots, &mut work.stack);
+        match end_here(table, root, work.plan.core(), hooks, slots, stack, ledger) {
+            Ok(()) => {
+                step_back(&mut self.path);
+                self.calls = self.calls.saturating_add(1);
+                Ok(self)
             }
             Err(kind) => {
-                drop(plan);
+                let Partial {
+                    alloc: _,
+                    table: _,
+                    hooks: _,
+                    root: _,
+                    work,
+                    path,
+                    mode: _,
+                    calls: _,
+                } = self;
+                work.release(ledger);
                 Err(ReflectError { kind, path })
             }
         }
     }
 
     /// `end` in deferred mode, below the place at which that began.
-    fn leave(self, ledger: &mut Ledger) -> Result<Partial<'t, H>, ReflectError>
+    fn leave(mut self, ledger: &mut Ledger) -> Result<Partial<'t, H>, ReflectError>
         requires room { Room (holds self) ledger.old }
         requires below { IsBelowStart self.state.mode self.state.cursor }
         ensures step { IsStepTo self.entry (Ok (leaves self.entry.state)) result }
@@ -120,38 +109,14 @@ impl<'t, H: Hooks> Partial<'t, H> {
         law_paths();
         law_removed();
         law_well();
-        let Partial {
-            alloc,
-            table,
-            hooks,
-            plan,
-            root,
-            mut path,
-            mut slots,
-            mut stack,
-            mut store,
-            mode,
-            calls,
-        } = self;
-        let Ok(()) = stack.leave(&mut slots, &mut store, plan.core()) else {
-            abandon(slots, stack, plan.core(), ledger);
-            drop(plan);
-            return Err(out_of_memory(path));
+        let work = &mut self.work;
+        let (slots, store) = (&mut work.slots, &mut work.store);
+        let Ok(()) = work.stack.leave(slots, store, work.plan.core()) else {
+            return Err(self.refuse(ReflectErrorKind::OutOfMemory, ledger));
         };
-        step_back(&mut path);
-        Ok(Partial {
-            alloc,
-            table,
-            hooks,
-            plan,
-            root,
-            path,
-            slots,
-            stack,
-            store,
-            mode,
-            calls: calls.saturating_add(1),
-        })
+        step_back(&mut self.path);
+        self.calls = self.calls.saturating_add(1);
+        Ok(self)
     }
 
     /// Completes the root and hands its value over. Only copies of templates need memory, and what is lacking is found before any
@@ -201,15 +166,18 @@ impl<'t, H: Hooks> Partial<'t, H> {
             alloc: _,
             table,
             hooks,
-            plan,
             root,
+            work,
             path,
-            slots,
-            stack,
-            store: _,
             mode: _,
             calls,
         } = self;
+        let Work {
+            plan,
+            slots,
+            stack,
+            store: _,
+        } = work;
         let open = stack.len();
         if open == 1 {
             let result = take_root(table, root, plan.core(), hooks, slots, stack, ledger);
@@ -256,15 +224,18 @@ impl<'t, H: Hooks> Partial<'t, H> {
             alloc: _,
             table: _,
             hooks: _,
-            plan,
             root: _,
+            work,
             path,
-            slots,
-            stack,
-            store: _,
             mode: _,
             calls: _,
         } = self;
+        let Work {
+            plan,
+            slots,
+            stack,
+            store: _,
+        } = work;
         abandon(slots, stack, plan.core(), ledger);
         drop(plan);
         path

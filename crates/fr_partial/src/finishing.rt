@@ -5,6 +5,7 @@ ghost use Rattle.fr_shape.specs.View.{view};
 ghost use Rattle.fr_model.specs.Complete.{complete};
 ghost use Rattle.fr_model.specs.Places.{strict_column, is_root};
 ghost use Rattle.fr_model.specs.Tree.{tree_occurs};
+ghost use Rattle.fr_frame.specs.Changes.{SameTokens};
 ghost use Rattle.fr_store.specs.Moves.{cursor_in, tree_here, tree_in_slots};
 ghost use Rattle.fr_store.specs.Stands.{IsOpen};
 ghost use Rattle.fr_store.specs.Stored.{NothingStored};
@@ -16,43 +17,39 @@ use fr_plan::{TypePlanCore, law_plan_lookups};
 use fr_shape::{Hooks, Ledger, ReflectErrorKind, ShapeId, ShapeTable, Value};
 use fr_store::Stack;
 
-/// Completes the place on top, writes its value into the place above, and goes there. Where that can't be, all is released.
+/// Completes the place on top, writes its value into the place above, and goes there. Where that can't be, all that was put
+/// is still there.
 pub fn end_here<H: Hooks>(
     table: &ShapeTable,
     root: ShapeId,
     plan: &TypePlanCore,
     hooks: &H,
-    mut slots: Slots,
-    mut stack: Stack,
+    slots: &mut Slots,
+    stack: &mut Stack,
     ledger: &mut Ledger,
-) -> Result<(Slots, Stack), ReflectErrorKind>
-    requires ready { IsReady table.now root plan.now slots stack }
-    requires strict { NothingStored slots }
-    requires below { is_root (cursor_in slots stack) ≡ false }
-    requires room { Room (tree_occurs (tree_in_slots slots stack)) ledger.old }
-    ensures ended { IfOk result (λ both. IsEnded (H.means hooks.now) table.now
-        (shape_here table.now root.0 slots stack) plan.now both.0 both.1
-        (tree_in_slots slots stack) (cursor_in slots stack)) }
-    ensures kept { OnOk result (ledger.new ≡ ledger.old) }
+) -> Result<(), ReflectErrorKind>
+    requires ready { IsReady table.now root plan.now slots.old stack.old }
+    requires strict { NothingStored slots.old }
+    requires below { is_root (cursor_in slots.old stack.old) ≡ false }
+    ensures ended { OnOk result (IsEnded (H.means hooks.now) table.now
+        (shape_here table.now root.0 slots.old stack.old) plan.now slots.new stack.new
+        (tree_in_slots slots.old stack.old) (cursor_in slots.old stack.old)) }
     ensures why { IfErr result (λ kind. WhyNot (H.means hooks.now) table.now
-        (shape_here table.now root.0 slots stack) (tree_here slots stack) kind) }
-    ensures released { OnErr result
-        (RoseBy (tree_occurs (tree_in_slots slots stack)) ledger.old ledger.new) }
+        (shape_here table.now root.0 slots.old stack.old) (tree_here slots.old stack.old) kind) }
+    ensures tokens { OnErr result (SameTokens slots.old slots.new) }
+    ensures ledger { ledger.new ≡ ledger.old }
 {
     law_plan_lookups();
     let _root = root;
     let Some(top) = stack.top() else {
         unreachable!()
     };
-    match top.fill_and_require_fields(&mut slots, table, plan, hooks) {
+    match top.fill_and_require_fields(slots, table, plan, hooks) {
         Ok(()) => {
-            stack.end(&mut slots, plan, ledger);
-            Ok((slots, stack))
+            stack.end(slots, plan, ledger);
+            Ok(())
         }
-        Err(kind) => {
-            abandon(slots, stack, plan, ledger);
-            Err(kind)
-        }
+        Err(kind) => Err(kind),
     }
 }
 

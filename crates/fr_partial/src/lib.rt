@@ -19,6 +19,7 @@ mod set;
 mod starting;
 #[cfg(test)]
 mod tests;
+mod work;
 
 pub use built::Built;
 pub use partial::Partial;

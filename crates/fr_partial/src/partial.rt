@@ -5,12 +5,10 @@ ghost use Rattle.fr_shape.specs.Numbered.{IsNumbered};
 ghost use Rattle.fr_shape.specs.Served.{IsServed};
 ghost use Rattle.fr_model.specs.Well.{IsInOrder};
 
-use crate::held_plan::HeldPlan;
 use crate::mode::Mode;
-use fr_frame::Slots;
+use crate::work::Work;
 use fr_path::Path;
 use fr_shape::{Hooks, ShapeId, ShapeTable};
-use fr_store::{FrameStore, Stack};
 use std::alloc::Global;
 use std::marker::Model;
 
@@ -20,16 +18,10 @@ pub struct Partial<'t, H> {
     pub(crate) alloc: Global,
     pub(crate) table: &'t ShapeTable,
     pub(crate) hooks: &'t H,
-    pub(crate) plan: HeldPlan<'t>,
     pub(crate) root: ShapeId,
+    pub(crate) work: Work<'t>,
     /// The path of the place at which it works.
     pub(crate) path: Path,
-    /// The open places, and what was put at them.
-    pub(crate) slots: Slots,
-    /// Their slots, the root's first and that of the place at which it works last.
-    pub(crate) stack: Stack,
-    /// The slots of the places that were left half done.
-    pub(crate) store: FrameStore,
     pub(crate) mode: Mode,
     pub(crate) calls: u32,
 }
@@ -49,12 +41,12 @@ impl<'t, H> Model for Partial<'t, H> {
       shapes = p.table.now;
       hooks = p.hooks.now;
       root = p.root.0;
-      state = state_of p.slots p.stack (mode_of p.mode) p.calls;
+      state = state_of p.work.slots p.work.stack (mode_of p.mode) p.calls;
     } };
 
     ghost invariant = { λ p.
-        IsUnderway p.table.now p.root (plan_in p.plan) p.path p.slots p.stack p.store
-        (mode_of p.mode) p.calls };
+        IsUnderway p.table.now p.root (plan_in p.work.plan) p.path p.work.slots p.work.stack
+        p.work.store (mode_of p.mode) p.calls };
 }
 
 impl<'t, H: Hooks> Partial<'t, H> {
@@ -67,6 +59,6 @@ impl<'t, H: Hooks> Partial<'t, H> {
         ensures served { IsServed self.now.shapes }
         ensures in_order { IsInOrder self.now.shapes self.now.root self.now.state }
     {
-        let _slots = &self.slots;
+        let _work = &self.work;
     }
 }

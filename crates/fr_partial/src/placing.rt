@@ -10,7 +10,7 @@ ghost use Rattle.fr_frame.specs.Bodies.{own_tree};
 ghost use Rattle.fr_frame.specs.Heap.{body_of};
 ghost use Rattle.fr_store.specs.Moves.{tree_here};
 ghost use Rattle.fr_partial.specs.Builder.{here, holds};
-ghost use Rattle.fr_partial.specs.Underway.{shape_here, AreOpen, IsReady};
+ghost use Rattle.fr_partial.specs.Underway.{shape_here, IsReady};
 
 use crate::Partial;
 use fr_frame::{Piece, Slots};
@@ -19,16 +19,19 @@ use fr_plan::{TypePlanCore, law_plan_lookups};
 use fr_shape::{Hooks, Ledger, ShapeId, ShapeTable, Value};
 use fr_store::Stack;
 
-/// The shape of the place on top of the stack, as the plan has it.
-pub fn shape_here(
+/// The shape of the place on top of the stack, as the plan has it, and what was put there, in which a child that is stored isn't
+/// told.
+pub fn place_here<'a>(
     table: &ShapeTable,
     root: ShapeId,
     plan: &TypePlanCore,
-    slots: &Slots,
+    slots: &'a Slots,
     stack: &Stack,
-) -> ShapeId
+) -> (ShapeId, &'a Piece)
     requires { IsReady table.now root plan.now slots.now stack.now }
-    ensures { result.0 ≡ shape_here table.now root.0 slots.now stack.now }
+    ensures shape { result.0.0 ≡ shape_here table.now root.0 slots.now stack.now }
+    ensures piece { (def : Def) (i : ℕ) → field_refusal def (own_tree (body_of result.1.now)) i
+        ≡ field_refusal def (tree_here slots.now stack.now) i }
 {
     law_plan_lookups();
     let _table = table;
@@ -37,67 +40,30 @@ pub fn shape_here(
         unreachable!()
     };
     match slots.place(top) {
-        Some(place) => plan.node(place.node).shape,
-        None => unreachable!(),
-    }
-}
-
-/// What was put at the place on top of the stack, in which a child that is stored isn't told.
-pub fn piece_here<'a>(slots: &'a Slots, stack: &Stack) -> &'a Piece
-    requires { AreOpen slots.now stack.now }
-    ensures { (def : Def) (i : ℕ) → field_refusal def (own_tree (body_of result.now)) i
-        ≡ field_refusal def (tree_here slots.now stack.now) i }
-{
-    let Some(top) = stack.top() else {
-        unreachable!()
-    };
-    match slots.place(top) {
-        Some(place) => &place.piece,
+        Some(place) => (plan.node(place.node).shape, &place.piece),
         None => unreachable!(),
     }
 }
 
 impl<'t, H: Hooks> Partial<'t, H> {
     /// Puts a value that fits in the stead of all that was put at the place and beneath it. Takes no memory.
-    pub(crate) fn put(self, value: Value, ledger: &mut Ledger) -> Partial<'t, H>
-        requires fits { fits self.shapes (here self) (view value) ≡ true }
-        requires room { Room (λ t. holds self t + occurs (view value) t) ledger.old }
-        ensures state { result.state ≡ puts self.entry.state (view value) }
-        ensures shapes { result.shapes ≡ self.entry.shapes }
-        ensures root { result.root ≡ self.entry.root }
-        ensures hooks { result.hooks ≡ self.entry.hooks }
-        ensures tokens { Conserved (λ t. holds self.entry t + occurs (view value) t) ledger.old
-            (holds result) ledger.new }
+    pub(crate) fn put(&mut self, value: Value, ledger: &mut Ledger)
+        requires fits { fits self.old.shapes (here self.old) (view value) ≡ true }
+        requires room { Room (λ t. holds self.old t + occurs (view value) t) ledger.old }
+        ensures state { self.new.state ≡ puts self.old.state (view value) }
+        ensures shapes { self.new.shapes ≡ self.old.shapes }
+        ensures root { self.new.root ≡ self.old.root }
+        ensures hooks { self.new.hooks ≡ self.old.hooks }
+        ensures tokens { Conserved (λ t. holds self.old t + occurs (view value) t) ledger.old
+            (holds self.new) ledger.new }
     {
         law_paths();
         law_removed();
         law_well();
-        let Partial {
-            alloc,
-            table,
-            hooks,
-            plan,
-            root,
-            path,
-            mut slots,
-            stack,
-            mut store,
-            mode,
-            calls,
-        } = self;
-        stack.set(&mut slots, &mut store, plan.core(), value, ledger);
-        Partial {
-            alloc,
-            table,
-            hooks,
-            plan,
-            root,
-            path,
-            slots,
-            stack,
-            store,
-            mode,
-            calls: calls.saturating_add(1),
-        }
+        let work = &mut self.work;
+        let (slots, store) = (&mut work.slots, &mut work.store);
+        work.stack
+            .set(slots, store, work.plan.core(), value, ledger);
+        self.calls = self.calls.saturating_add(1);
     }
 }

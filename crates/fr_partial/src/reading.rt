@@ -6,7 +6,7 @@ ghost use Rattle.fr_partial.specs.Builder.{here};
 
 use crate::mode::Mode;
 use crate::paths::copy_path;
-use crate::placing::shape_here;
+use crate::placing::place_here;
 use crate::{Partial, ReflectError};
 use fr_model::law_paths;
 use fr_path::Path;
@@ -43,20 +43,22 @@ impl<'t, H: Hooks> Partial<'t, H> {
         ensures count { result ≡ length (path_of self.now.state) + 1 }
     {
         law_paths();
-        self.stack.len()
+        self.work.stack.len()
     }
 
     /// The shape of the place at which it works.
     pub fn shape(&self) -> ShapeId
         ensures shape { result.0 ≡ here self.now }
     {
-        shape_here(
+        let work = &self.work;
+        place_here(
             self.table,
             self.root,
-            self.plan.core(),
-            &self.slots,
-            &self.stack,
+            work.plan.core(),
+            &work.slots,
+            &work.stack,
         )
+        .0
     }
 
     /// The shape of what it builds.

@@ -26,7 +26,7 @@ fn copy_template(alloc: Global, template: &Template) -> Result<Value, OutOfMemor
 impl<'t, H: Hooks> Partial<'t, H> {
     /// Puts a value of the place's own shape there, in the stead of all that was put at the place and beneath it.
     pub fn set_shape(
-        self,
+        mut self,
         value: Shaped,
         ledger: &mut Ledger,
     ) -> Result<Partial<'t, H>, ReflectError>
@@ -46,7 +46,8 @@ impl<'t, H: Hooks> Partial<'t, H> {
         let expected = self.shape();
         let actual = value.shape();
         if actual.0 == expected.0 {
-            Ok(self.put(value.into_value(), ledger))
+            self.put(value.into_value(), ledger);
+            Ok(self)
         } else {
             release(value.into_value(), ledger);
             Err(self.refuse(ReflectErrorKind::WrongShape { expected, actual }, ledger))
@@ -55,7 +56,7 @@ impl<'t, H: Hooks> Partial<'t, H> {
 
     /// Puts a copy of the default of the place's shape there, in the stead of all that was put at the place and beneath
     /// it. Where there is no default, that is the refusal, and never out of memory.
-    pub fn set_default(self, ledger: &mut Ledger) -> Result<Partial<'t, H>, ReflectError>
+    pub fn set_default(mut self, ledger: &mut Ledger) -> Result<Partial<'t, H>, ReflectError>
         requires room { Room (holds self) ledger.old }
         ensures step { IsStep (H.means self.entry.hooks) self.entry Call.SetDefault result }
         ensures path { TellsPlaceBefore self.entry result }
@@ -73,7 +74,10 @@ impl<'t, H: Hooks> Partial<'t, H> {
             return Err(self.refuse(kind, ledger));
         };
         match copy_template(self.alloc, template) {
-            Ok(value) => Ok(self.put(value, ledger)),
+            Ok(value) => {
+                self.put(value, ledger);
+                Ok(self)
+            }
             Err(_) => Err(self.refuse(ReflectErrorKind::OutOfMemory, ledger)),
         }
     }

@@ -15,6 +15,7 @@ ghost use Rattle.fr_partial.specs.Starting.{IsPlanFrom, RefusedWith};
 use crate::Partial;
 use crate::held_plan::HeldPlan;
 use crate::mode::Mode;
+use crate::work::Work;
 use fr_frame::{FrameOwner, Slots};
 use fr_model::law_well;
 use fr_path::Path;
@@ -193,12 +194,14 @@ impl<'t, H: Hooks> Partial<'t, H> {
             alloc,
             table,
             hooks,
-            plan,
             root,
+            work: Work {
+                plan,
+                slots,
+                stack,
+                store: FrameStore::new(alloc),
+            },
             path: Path::new(alloc),
-            slots,
-            stack,
-            store: FrameStore::new(alloc),
             mode: Mode::Strict,
             calls: 0,
         })

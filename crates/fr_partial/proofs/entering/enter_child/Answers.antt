@@ -2,9 +2,8 @@ use Rattle.std.proofs.Common.{◌≡◌, ℕ, ◌<◌, length, List, ◌++◌, �
 use Rattle.std.specs.Prelude.{IsSomeAnd}
 use Rattle.fr_shape.specs.Look.{Table, def_of}
 use Rattle.fr_shape.specs.declared.shape.ShapeId.{ShapeId}
-use Rattle.fr_shape.specs.TokenLaws.{Room_same, RoseBy_same}
 use Rattle.fr_model.specs.Step.{enter, opened_as, field_refusal}
-use Rattle.fr_model.specs.Tree.{Form, Tree, tree_at, change_child, change_at, child_as, tree_occurs, deferred}
+use Rattle.fr_model.specs.Tree.{Form, Tree, tree_at, change_child, change_at, child_as, deferred}
 use Rattle.fr_model.specs.Places.{Place}
 use Rattle.fr_model.specs.Well.{IsFullAs, Suits, Leads}
 use Rattle.fr_plan.specs.declared.nodes.NodeId.{NodeId}
@@ -12,28 +11,21 @@ use Rattle.fr_plan.specs.LookupLaws.{LookupsAgree, LookupPathsAgree}
 use Rattle.fr_plan.specs.TypePlan.{Plan}
 use Rattle.fr_frame.specs.declared.places.Slot.{Slot}
 use Rattle.fr_frame.specs.Bodies.{MayOpen}
-use Rattle.fr_frame.specs.Changes.{SameTokens}
 use Rattle.fr_frame.specs.Completing.{shape_of}
 use Rattle.fr_frame.specs.Heap.{Node, as_form, heap_of}
 use Rattle.fr_frame.specs.Kids.{child_node}
 use Rattle.fr_store.specs.MoveLaws.{open_top}
 use Rattle.fr_store.specs.Moves.{cursor_in, node_here as node_on_top, tree_in_slots, tree_here, HasChild, IsOpenAt}
 use Rattle.fr_store.specs.Numbers.{IsLast}
-use Rattle.fr_store.specs.Stands.{IsOpen, kid_shown}
+use Rattle.fr_store.specs.Stands.{kid_shown}
 use Rattle.fr_partial.specs.Underway.{shape_here, IsReady}
+use Rattle.fr_partial.proofs.BeginLaws.{opened_within}
 use Rattle.fr_partial.proofs.EnterLaws.{may_open, has_child, changed_at, entered_so, node_stays, def_entered}
 use Rattle.fr_partial.proofs.FitLaws.{is_there}
-use Rattle.fr_partial.proofs.PlaceLaws.{here_found, here_along, held_is, open_shown, plot_here}
+use Rattle.fr_partial.proofs.PlaceLaws.{here_found, here_along, plot_here}
 use Rattle.fr_partial.proofs.ReachLaws.{tree_leads}
 use Rattle.fr_partial.proofs.ShapeLaws.{IsOfShape, child_shaped}
 use Rattle.fr_partial.proofs.entering.enter_child.Goals as goal
-
--- the tokens are the same where the slots' are
-same_tokens : (plan : Plan) (before after : List Slot) (stack : List ℕ) → IsOpen plan before stack → IsOpen plan after stack
-    → SameTokens before after → (t : ℕ)
-    → tree_occurs (tree_in_slots before stack) t ≡ tree_occurs (tree_in_slots after stack) t
-same_tokens plan before after stack first then same t =
-    sym (held_is plan before stack first t) ∙ sym (same t) ∙ held_is plan after stack then t
 
 module _ (agree : LookupsAgree) (paths : LookupPathsAgree) (table : Table) (root : ShapeId) (plan : Plan) (slots : List Slot)
     (stack : List ℕ) (ready : IsReady table root plan slots stack) (form : Form) (count i : ℕ)
@@ -90,120 +82,73 @@ module _ (agree : LookupsAgree) (paths : LookupPathsAgree) (table : Table) (root
 pub begin-requires-clause-may_open : goal.begin-requires-clause-may_open
 begin-requires-clause-may_open c =
     opens c.law_plan_lookups.ensures.agree c.law_plan_lookups.ensures.paths c.args.table.now c.args.root c.args.plan.now
-    c.args.slots c.args.stack c.requires.ready (as_form c.args.child.form) c.args.child.count c.args.i
-    c.requires.child.begun c.requires.child.within c.requires.admitted
-
-pub abandon-requires-clause-shown : goal.abandon-requires-clause-shown
-abandon-requires-clause-shown c =
-    open_shown c.args.plan.now c.args.slots c.begin.new.slots c.args.stack c.requires.ready.shown
-    c.in_default.ensures.refused c.begin.ensures.tokens
-
-pub abandon-requires-clause-room : goal.abandon-requires-clause-room
-abandon-requires-clause-room c =
-    Room_same (tree_occurs (tree_in_slots c.args.slots c.args.stack))
-    (tree_occurs (tree_in_slots c.begin.new.slots c.args.stack)) c.args.ledger.now
-    (same_tokens c.args.plan.now c.args.slots c.begin.new.slots c.args.stack c.requires.ready.shown
-    (abandon-requires-clause-shown c) c.begin.ensures.tokens)
-    c.requires.room
-
-pub returns-in_default-clause-released : goal.returns-in_default-clause-released
-returns-in_default-clause-released c =
-    RoseBy_same (tree_occurs (tree_in_slots c.begin.new.slots c.args.stack))
-    (tree_occurs (tree_in_slots c.args.slots c.args.stack)) c.args.ledger.now c.abandon.new.ledger
-    (λ t.
-    sym
-    (same_tokens c.args.plan.now c.args.slots c.begin.new.slots c.args.stack c.requires.ready.shown
-    (open_shown c.args.plan.now c.args.slots c.begin.new.slots c.args.stack c.requires.ready.shown
-    c.in_default.ensures.refused c.begin.ensures.tokens)
-    c.begin.ensures.tokens t))
-    c.abandon.ensures.released
+    c.args.slots.now c.args.stack.now c.requires.ready (as_form c.args.opening.form) c.args.opening.count c.args.i
+    c.requires.opening.begun (opened_within c.args.table.now _ _ c.args.i c.args.opening c.requires.opening c.requires.admitted)
+    c.requires.admitted
 
 pub enter-requires-clause-child : goal.enter-requires-clause-child
 enter-requires-clause-child c =
     has c.law_plan_lookups.ensures.agree c.law_plan_lookups.ensures.paths c.args.table.now c.args.root c.args.plan.now
-    c.args.slots c.args.stack c.requires.ready (as_form c.args.child.form) c.args.child.count c.args.i
-    c.requires.child.begun c.requires.child.within c.requires.admitted c.begin.new.slots c.in-Ok.ensures.begun
+    c.args.slots.now c.args.stack.now c.requires.ready (as_form c.args.opening.form) c.args.opening.count c.args.i
+    c.requires.opening.begun (opened_within c.args.table.now _ _ c.args.i c.args.opening c.requires.opening c.requires.admitted)
+    c.requires.admitted c.begin.new.slots c.in_ok-begin.ensures.begun
 
 pub enter-requires-clause-node : goal.enter-requires-clause-node
 enter-requires-clause-node c =
     c.child_node-node.ensures
-    ∙ ap (λ (n : NodeId). child_node c.args.plan.now n (as_form c.args.child.form) c.args.i)
+    ∙ ap (λ (n : NodeId). child_node c.args.plan.now n (as_form c.args.opening.form) c.args.i)
     (c.node_here.ensures
     ∙ sym
     (stays c.law_plan_lookups.ensures.agree c.law_plan_lookups.ensures.paths c.args.table.now c.args.root c.args.plan.now
-    c.args.slots c.args.stack c.requires.ready (as_form c.args.child.form) c.args.child.count c.args.i
-    c.requires.child.begun c.requires.child.within c.requires.admitted c.begin.new.slots c.in-Ok.ensures.begun))
+    c.args.slots.now c.args.stack.now c.requires.ready (as_form c.args.opening.form) c.args.opening.count c.args.i
+    c.requires.opening.begun (opened_within c.args.table.now _ _ c.args.i c.args.opening c.requires.opening c.requires.admitted)
+    c.requires.admitted c.begin.new.slots c.in_ok-begin.ensures.begun))
 
 pub enter-requires-clause-planned : goal.enter-requires-clause-planned
 enter-requires-clause-planned c =
     let shaped = child_is c.law_plan_lookups.ensures.agree c.law_plan_lookups.ensures.paths c.args.table.now c.args.root
-    c.args.plan.now c.args.slots c.args.stack c.requires.ready (as_form c.args.child.form) c.args.child.count c.args.i
-    c.requires.child.begun c.requires.child.within c.requires.admitted in
+    c.args.plan.now c.args.slots.now c.args.stack.now c.requires.ready
+    (as_form c.args.opening.form) c.args.opening.count c.args.i
+    c.requires.opening.begun (opened_within c.args.table.now _ _ c.args.i c.args.opening c.requires.opening c.requires.admitted)
+    c.requires.admitted in
     subst (λ (n : NodeId). n.0 < length c.args.plan.now.nodes)
     (sym
     (c.child_node-node.ensures
-    ∙ ap (λ (n : NodeId). child_node c.args.plan.now n (as_form c.args.child.form) c.args.i) c.node_here.ensures))
+    ∙ ap (λ (n : NodeId). child_node c.args.plan.now n (as_form c.args.opening.form) c.args.i) c.node_here.ensures))
     (is_there c.args.plan.now.nodes _ shaped.found shaped.there)
 
-pub abandon-requires-in-Err-clause-shown : goal.abandon-requires-in-Err-clause-shown
-abandon-requires-in-Err-clause-shown c =
-    subst (λ (slots : List Slot). IsOpen c.args.plan.now slots c.enter.new.self) (sym c.in-Err.ensures.slots_kept)
-    (subst (λ (stack : List ℕ). IsOpen c.args.plan.now c.begin.new.slots stack) (sym c.in-Err.ensures.refused)
-    c.in-Ok.ensures.begun.open_still)
-
-pub abandon-requires-in-Err-clause-room : goal.abandon-requires-in-Err-clause-room
-abandon-requires-in-Err-clause-room c =
-    Room_same (tree_occurs (tree_in_slots c.args.slots c.args.stack))
-    (tree_occurs (tree_in_slots c.enter.new.slots c.enter.new.self)) c.args.ledger.now
-    (λ t.
-    same_tokens c.args.plan.now c.args.slots c.begin.new.slots c.args.stack c.requires.ready.shown
-    c.in-Ok.ensures.begun.open_still c.begin.ensures.tokens t
-    ∙ ap (λ (slots : List Slot). tree_occurs (tree_in_slots slots c.args.stack) t) (sym c.in-Err.ensures.slots_kept)
-    ∙ ap (λ (stack : List ℕ). tree_occurs (tree_in_slots c.enter.new.slots stack) t) (sym c.in-Err.ensures.refused))
-    c.requires.room
-
-pub returns-in-Err-clause-released : goal.returns-in-Err-clause-released
-returns-in-Err-clause-released c =
-    RoseBy_same (tree_occurs (tree_in_slots c.enter.new.slots c.enter.new.self))
-    (tree_occurs (tree_in_slots c.args.slots c.args.stack)) c.args.ledger.now c.abandon-in-Err.new.ledger
-    (λ t.
-    sym
-    (same_tokens c.args.plan.now c.args.slots c.begin.new.slots c.args.stack c.requires.ready.shown
-    c.in-Ok.ensures.begun.open_still c.begin.ensures.tokens t
-    ∙ ap (λ (slots : List Slot). tree_occurs (tree_in_slots slots c.args.stack) t) (sym c.in-Err.ensures.slots_kept)
-    ∙ ap (λ (stack : List ℕ). tree_occurs (tree_in_slots c.enter.new.slots stack) t) (sym c.in-Err.ensures.refused)))
-    c.abandon-in-Err.ensures.released
-
-pub returns-in-Ok-enter-clause-entered : goal.returns-in-Ok-enter-clause-entered
-returns-in-Ok-enter-clause-entered c =
-    let entered = c.in-Ok-enter.ensures.entered in
-    let begun = c.in-Ok.ensures.begun in
-    let place = cursor_in c.args.slots c.args.stack in
+pub returns-clause-entered : goal.returns-clause-entered
+returns-clause-entered c =
+    let entered = c.in_ok-enter.ensures.entered in
+    let begun = c.in_ok-begin.ensures.begun in
+    let place = cursor_in c.args.slots.now c.args.stack.now in
     let change = change_child c.args.i (enter (def_of c.args.table.now (shape_of c.args.plan.now c.child_node-node.result))) in
     let shaped = child_is c.law_plan_lookups.ensures.agree c.law_plan_lookups.ensures.paths c.args.table.now c.args.root
-    c.args.plan.now c.args.slots c.args.stack c.requires.ready (as_form c.args.child.form) c.args.child.count c.args.i
-    c.requires.child.begun c.requires.child.within c.requires.admitted in
+    c.args.plan.now c.args.slots.now c.args.stack.now c.requires.ready
+    (as_form c.args.opening.form) c.args.opening.count c.args.i
+    c.requires.opening.begun (opened_within c.args.table.now _ _ c.args.i c.args.opening c.requires.opening c.requires.admitted)
+    c.requires.admitted in
     record {
       open_still = entered.open_still;
       cursor = entered.cursor ∙ ap (λ (p : Place). p ++ c.args.i ∷ []) begun.cursor;
       built =
           entered.built
-          ∙ ap (λ (p : Place). change_at p change (tree_in_slots c.begin.new.slots c.args.stack)) begun.cursor
+          ∙ ap (λ (p : Place). change_at p change (tree_in_slots c.begin.new.slots c.args.stack.now)) begun.cursor
           ∙ ap (change_at place change) begun.built
           ∙ entered_so c.args.table.now
-          (shape_here c.args.table.now c.args.root.0 c.args.slots c.args.stack) c.args.i place
-          (tree_in_slots c.args.slots c.args.stack) (as_form c.args.child.form) c.args.child.count
-          (def_of c.args.table.now (shape_of c.args.plan.now c.child_node-node.result)) c.requires.child.form
-          c.requires.child.count
+          (shape_here c.args.table.now c.args.root.0 c.args.slots.now c.args.stack.now) c.args.i place
+          (tree_in_slots c.args.slots.now c.args.stack.now) (as_form c.args.opening.form) c.args.opening.count
+          (def_of c.args.table.now (shape_of c.args.plan.now c.child_node-node.result)) c.requires.opening.form
+          c.requires.opening.count
           (def_entered c.args.table.now c.args.plan.now c.child_node-node.result
-          (shape_here c.args.table.now c.args.root.0 c.args.slots c.args.stack) c.args.i (as_form c.args.child.form)
+          (shape_here c.args.table.now c.args.root.0 c.args.slots.now c.args.stack.now) c.args.i (as_form c.args.opening.form)
           (subst
           (λ (n : NodeId).
           IsOfShape c.args.plan.now n
-          (child_as c.args.table.now (shape_here c.args.table.now c.args.root.0 c.args.slots c.args.stack)
-          (as_form c.args.child.form) c.args.i))
+          (child_as c.args.table.now (shape_here c.args.table.now c.args.root.0 c.args.slots.now c.args.stack.now)
+          (as_form c.args.opening.form) c.args.i))
           (sym
           (c.child_node-node.ensures
-          ∙ ap (λ (n : NodeId). child_node c.args.plan.now n (as_form c.args.child.form) c.args.i) c.node_here.ensures))
+          ∙ ap (λ (n : NodeId). child_node c.args.plan.now n (as_form c.args.opening.form) c.args.i) c.node_here.ensures))
           shaped));
     }

@@ -1,56 +1,44 @@
 use Rattle.std.proofs.Common.{ap, ◌∙◌}
 use Rattle.fr_model.specs.Places.{is_root}
 use Rattle.fr_store.specs.MoveLaws.{top_in_use}
-use Rattle.fr_partial.proofs.EndingLaws.{may_complete, why_here, open_after, cursor_after, room_after, rose_after, value_at_top, ended}
+use Rattle.fr_partial.proofs.EndingLaws.{may_complete, why_here, open_after, cursor_after, value_at_top, ended}
 use Rattle.fr_partial.proofs.finishing.end_here.Goals as goal
 
 pub fill_and_require_fields-requires-clause-in_use : goal.fill_and_require_fields-requires-clause-in_use
 fill_and_require_fields-requires-clause-in_use g c =
-    top_in_use c.args.plan.now c.args.slots c.args.stack c.requires.ready.shown c.in-Some.top.0 c.in-Some.ensures.last
+    top_in_use c.args.plan.now c.args.slots.now c.args.stack.now c.requires.ready.shown c.in-Some.top.0 c.in-Some.ensures.last
 
 pub fill_and_require_fields-requires-clause-place : goal.fill_and_require_fields-requires-clause-place
 fill_and_require_fields-requires-clause-place g c =
     may_complete c.law_plan_lookups.ensures.agree c.law_plan_lookups.ensures.paths c.args.table.now c.args.root
-    c.args.plan.now c.args.slots c.args.stack c.requires.ready c.requires.strict c.in-Some.top.0 c.in-Some.ensures.last
+    c.args.plan.now c.args.slots.now c.args.stack.now c.requires.ready c.requires.strict c.in-Some.top.0 c.in-Some.ensures.last
 
 pub end-requires-clause-is_open : goal.end-requires-clause-is_open
 end-requires-clause-is_open g c =
-    open_after c.args.plan.now c.args.slots c.fill_and_require_fields.new.slots c.args.stack c.requires.ready.shown
+    open_after c.args.plan.now c.args.slots.now c.fill_and_require_fields.new.slots c.args.stack.now c.requires.ready.shown
     c.requires.strict
     c.in-Some.top.0 c.in-Some.ensures.last c.fill_and_require_fields.ensures.closed c.fill_and_require_fields.ensures.tokens
 
 pub end-requires-clause-below : goal.end-requires-clause-below
 end-requires-clause-below g c =
     ap is_root
-    (cursor_after c.args.plan.now c.args.slots c.fill_and_require_fields.new.slots c.args.stack c.requires.ready.shown
+    (cursor_after c.args.plan.now c.args.slots.now c.fill_and_require_fields.new.slots c.args.stack.now c.requires.ready.shown
     c.requires.strict
     c.in-Some.top.0 c.in-Some.ensures.last c.fill_and_require_fields.ensures.closed c.fill_and_require_fields.ensures.tokens)
     ∙ c.requires.below
 
 pub end-requires-clause-complete : goal.end-requires-clause-complete
 end-requires-clause-complete g c =
-    value_at_top c.args.plan.now c.args.slots c.fill_and_require_fields.new.slots c.args.stack c.requires.ready.shown
+    value_at_top c.args.plan.now c.args.slots.now c.fill_and_require_fields.new.slots c.args.stack.now c.requires.ready.shown
     c.requires.strict
     c.in-Some.top.0 c.in-Some.ensures.last c.fill_and_require_fields.ensures.closed c.fill_and_require_fields.ensures.tokens
     (g.H.Hooks.means c.args.hooks.now) c.args.table.now c.args.root c.law_plan_lookups.ensures.agree
     c.law_plan_lookups.ensures.paths c.requires.ready c.in-Ok.ensures.filled
 
-pub abandon-requires-clause-shown : goal.abandon-requires-clause-shown
-abandon-requires-clause-shown g c =
-    open_after c.args.plan.now c.args.slots c.fill_and_require_fields.new.slots c.args.stack c.requires.ready.shown
-    c.requires.strict
-    c.in-Some.top.0 c.in-Some.ensures.last c.fill_and_require_fields.ensures.closed c.fill_and_require_fields.ensures.tokens
-
-pub abandon-requires-clause-room : goal.abandon-requires-clause-room
-abandon-requires-clause-room g c =
-    room_after c.args.plan.now c.args.slots c.fill_and_require_fields.new.slots c.args.stack c.requires.ready.shown
-    c.requires.strict
-    c.in-Some.top.0 c.in-Some.ensures.last c.fill_and_require_fields.ensures.closed c.fill_and_require_fields.ensures.tokens
-    c.args.ledger.now c.requires.room
-
 pub returns-in-Ok-clause-ended : goal.returns-in-Ok-clause-ended
 returns-in-Ok-clause-ended g c =
-    ended c.args.plan.now c.args.slots c.fill_and_require_fields.new.slots c.args.stack c.requires.ready.shown c.requires.strict
+    ended c.args.plan.now c.args.slots.now c.fill_and_require_fields.new.slots c.args.stack.now c.requires.ready.shown
+    c.requires.strict
     c.in-Some.top.0 c.in-Some.ensures.last c.fill_and_require_fields.ensures.closed c.fill_and_require_fields.ensures.tokens
     (g.H.Hooks.means c.args.hooks.now) c.args.table.now c.args.root c.law_plan_lookups.ensures.agree
     c.law_plan_lookups.ensures.paths c.requires.ready c.in-Ok.ensures.filled c.end.new.slots c.end.new.self
@@ -59,13 +47,6 @@ returns-in-Ok-clause-ended g c =
 pub returns-in-Err-clause-why : goal.returns-in-Err-clause-why
 returns-in-Err-clause-why g c =
     why_here c.law_plan_lookups.ensures.agree c.law_plan_lookups.ensures.paths c.args.table.now c.args.root
-    c.args.plan.now c.args.slots c.args.stack c.requires.ready c.requires.strict (g.H.Hooks.means c.args.hooks.now)
+    c.args.plan.now c.args.slots.now c.args.stack.now c.requires.ready c.requires.strict (g.H.Hooks.means c.args.hooks.now)
     c.in-Some.top.0
     c.in-Some.ensures.last c.in-Err.kind c.in-Err.ensures.why
-
-pub returns-in-Err-clause-released : goal.returns-in-Err-clause-released
-returns-in-Err-clause-released g c =
-    rose_after c.args.plan.now c.args.slots c.fill_and_require_fields.new.slots c.args.stack c.requires.ready.shown
-    c.requires.strict
-    c.in-Some.top.0 c.in-Some.ensures.last c.fill_and_require_fields.ensures.closed c.fill_and_require_fields.ensures.tokens
-    c.args.ledger.now c.abandon.new.ledger c.abandon.ensures.released

@@ -4,61 +4,68 @@ use Rattle.fr_shape.specs.Look.{def_of}
 use Rattle.fr_model.specs.Commands.{Call}
 use Rattle.fr_model.specs.Step.{field_refusal}
 use Rattle.fr_model.specs.Tree.{State, cursor_tree}
-use Rattle.fr_partial.specs.Builder.{here, holds, IsStepTo}
+use Rattle.fr_partial.specs.Builder.{Builder, here, holds, IsStepTo}
 use Rattle.fr_partial.specs.Modes.{mode_of}
-use Rattle.fr_partial.proofs.BeginLaws.{refusal_is, begin_admitted, begin_refused}
+use Rattle.fr_partial.proofs.BeginLaws.{describes_here, refusal_is, begin_admitted, begin_refused}
 use Rattle.fr_partial.proofs.RemovedLaws.{rises_by_removed, all_released}
 use Rattle.fr_partial.proofs.StateLaws.{in_order}
 use Rattle.fr_partial.proofs.partial.Partial.begin_nth_field.Goals as goal
 use Rattle.fr_partial.proofs.partial.Partial.begin_nth_field.Given.{Over}
-use Rattle.fr_partial.proofs.partial.Partial.begin_nth_field.Goals.{In-None}
+use Rattle.fr_partial.proofs.partial.Partial.begin_nth_field.Goals.{In-Ok}
 
-admitted : (g : Over) (c : In-None g)
+admitted : (g : Over) (c : In-Ok g)
     → field_refusal (def_of c.args.self.shapes (here c.args.self)) (cursor_tree c.args.self.state) c.args.idx ≡ None
 admitted g c =
     sym
-    (refusal_is c.self.inside.table.now c.self.inside.root.0 c.self.inside.slots c.self.inside.stack
-    (mode_of c.self.inside.mode) c.self.inside.calls c.args.self c.self.view_is c.shape-shape.result.0
-    c.shape-shape.ensures.shape _ c.piece_here.ensures c.args.idx)
-    ∙ sym c.in-None.ensures
+    (refusal_is c.self.inside.table.now c.self.inside.root.0 c.self.inside.work.slots c.self.inside.work.stack
+    (mode_of c.self.inside.mode) c.self.inside.calls c.args.self c.self.view_is c.place_here.result.0.0
+    (c.place_here.ensures.shape ∙ ap (λ (b : Builder _). here b) c.self.view_is) _ c.place_here.ensures.piece c.args.idx)
+    ∙ c.in-Ok.ensures.admitted
+
+pub enter-requires-clause-opening : goal.enter-requires-clause-opening
+enter-requires-clause-opening g c =
+    describes_here c.self.inside.table.now c.self.inside.root.0 c.self.inside.work.slots c.self.inside.work.stack
+    (mode_of c.self.inside.mode) c.self.inside.calls c.args.self c.self.view_is c.place_here.result.0
+    (c.place_here.ensures.shape ∙ ap (λ (b : Builder _). here b) c.self.view_is) c.in-Ok.opening c.in-Ok.ensures.opening
 
 pub enter-requires-clause-admitted : goal.enter-requires-clause-admitted
-enter-requires-clause-admitted g c = admitted g (goal.at.enter-requires-clause-admitted g c).In-None
+enter-requires-clause-admitted g c = admitted g (goal.at.enter-requires-clause-admitted g c).In-Ok
 
-pub returns-in-Some-clause-step : goal.returns-in-Some-clause-step
-returns-in-Some-clause-step g c =
+pub returns-in-Err-clause-step : goal.returns-in-Err-clause-step
+returns-in-Err-clause-step g c =
     inr
-    (begin_refused c.args.self c.args.idx c.shape-shape.result c.in-Some.operation c.shape-shape.ensures.shape
+    (begin_refused c.args.self c.args.idx c.place_here.result.0 c.in-Err.operation (c.place_here.ensures.shape ∙ ap (λ
+    (b : Builder _). here b) c.self.view_is)
     (sym
-    (refusal_is c.self.inside.table.now c.self.inside.root.0 c.self.inside.slots c.self.inside.stack
-    (mode_of c.self.inside.mode) c.self.inside.calls c.args.self c.self.view_is c.shape-shape.result.0
-    c.shape-shape.ensures.shape _ c.piece_here.ensures c.args.idx)
-    ∙ sym c.in-Some.ensures)
+    (refusal_is c.self.inside.table.now c.self.inside.root.0 c.self.inside.work.slots c.self.inside.work.stack
+    (mode_of c.self.inside.mode) c.self.inside.calls c.args.self c.self.view_is c.place_here.result.0.0
+    (c.place_here.ensures.shape ∙ ap (λ (b : Builder _). here b) c.self.view_is) _ c.place_here.ensures.piece c.args.idx)
+    ∙ c.in-Err.ensures.refused)
     ∙ ap Err (sym c.refuse.ensures.kind))
 
-pub returns-in-None-clause-step : goal.returns-in-None-clause-step
-returns-in-None-clause-step g c =
+pub returns-in-Ok-clause-step : goal.returns-in-Ok-clause-step
+returns-in-Ok-clause-step g c =
     subst (λ (meant : Result State ReflectErrorKind). IsStepTo c.args.self meant c.enter.result)
-    (sym (begin_admitted c.args.self c.args.idx (admitted g (goal.at.returns-in-None-clause-step g c).In-None)))
+    (sym (begin_admitted c.args.self c.args.idx (admitted g (goal.at.returns-in-Ok-clause-step g c).In-Ok)))
     c.enter.ensures.step
 
-pub returns-in-None-clause-refused : goal.returns-in-None-clause-refused
-returns-in-None-clause-refused g c refused =
+pub returns-in-Ok-clause-refused : goal.returns-in-Ok-clause-refused
+returns-in-Ok-clause-refused g c refused =
     let no : false ≡ true =
-    rw (begin_admitted c.args.self c.args.idx (admitted g (goal.at.returns-in-None-clause-refused g c).In-None)) at refused in
+    rw (begin_admitted c.args.self c.args.idx (admitted g (goal.at.returns-in-Ok-clause-refused g c).In-Ok)) at refused in
     absurd (cc)
 
-pub returns-in-Some-clause-removed : goal.returns-in-Some-clause-removed
-returns-in-Some-clause-removed g c =
+pub returns-in-Err-clause-removed : goal.returns-in-Err-clause-removed
+returns-in-Err-clause-removed g c =
     rises_by_removed (g.H.Hooks.means c.args.self.hooks) c.law_removed.ensures.step c.args.self
     (in_order c.self.invariant c.self.view_is)
     (Call.BeginNthField c.args.idx) (holds c.args.self) (λ t. omega arith) (Err c.refuse.result) c.args.ledger.now
-    c.refuse.new.ledger (returns-in-Some-clause-step g c)
+    c.refuse.new.ledger (returns-in-Err-clause-step g c)
     (all_released (holds c.args.self) c.args.ledger.now c.refuse.new.ledger c.refuse.ensures.released)
 
-pub returns-in-None-clause-removed : goal.returns-in-None-clause-removed
-returns-in-None-clause-removed g c =
+pub returns-in-Ok-clause-removed : goal.returns-in-Ok-clause-removed
+returns-in-Ok-clause-removed g c =
     rises_by_removed (g.H.Hooks.means c.args.self.hooks) c.law_removed.ensures.step c.args.self
     (in_order c.self.invariant c.self.view_is)
     (Call.BeginNthField c.args.idx) (holds c.args.self) (λ t. omega arith) c.enter.result c.args.ledger.now
-    c.enter.new.ledger (returns-in-None-clause-step g c) c.enter.ensures.tokens
+    c.enter.new.ledger (returns-in-Ok-clause-step g c) c.enter.ensures.tokens

@@ -16,7 +16,7 @@ returns-in-Deferred-clause-built g c =
     (subst (λ (b : Builder _). meaning_of_build (g.H.Hooks.means b.hooks) b ≡ Err (violates Invariant.BuildDeferred))
     c.self.view_is
     (builds_deferred (g.H.Hooks.means c.self.inside.hooks.now) c.self.inside.table.now c.self.inside.root.0
-    (state_of c.self.inside.slots c.self.inside.stack (mode_of c.self.inside.mode) c.self.inside.calls)
+    (state_of c.self.inside.work.slots c.self.inside.work.stack (mode_of c.self.inside.mode) c.self.inside.calls)
     c.in-Deferred.field-0 (ap mode_of c.in-Deferred.is))
     ∙ ap (λ (kind : ReflectErrorKind). Err kind) (sym c.refuse.ensures.kind))
 

@@ -21,12 +21,12 @@ use Rattle.fr_partial.proofs.partial.Partial.build_strict.Goals as goal
 
 pub take_root-result-requires-clause-strict : goal.take_root-result-requires-clause-strict
 take_root-result-requires-clause-strict g c =
-    strict_stores (mode_of c.self.inside.mode) c.self.inside.store c.self.inside.slots
+    strict_stores (mode_of c.self.inside.mode) c.self.inside.work.store c.self.inside.work.slots
     (ap (λ (b : Builder _). b.state.mode) c.self.view_is ∙ c.requires.strict) c.self.invariant.stores c.self.invariant.kept
 
 pub take_root-result-requires-clause-at_root : goal.take_root-result-requires-clause-at_root
 take_root-result-requires-clause-at_root g c =
-    only_root _ c.self.inside.slots c.self.inside.stack c.self.invariant.ready.shown c.len-open.result
+    only_root _ c.self.inside.work.slots c.self.inside.work.stack c.self.invariant.ready.shown c.len-open.result
     c.len-open.ensures.count c.if-open-eq1.true
 
 pub take_root-result-requires-clause-room : goal.take_root-result-requires-clause-room
@@ -41,9 +41,10 @@ pub returns-in-Ok-clause-built : goal.returns-in-Ok-clause-built
 returns-in-Ok-clause-built g c = (
   subst (λ (b : Builder _). meaning_of_build (g.H.Hooks.means b.hooks) b ≡ Ok (view c.in-Ok.value)) c.self.view_is
       (builds (g.H.Hooks.means c.self.inside.hooks.now) c.self.inside.table.now c.self.inside.root.0
-      (state_of c.self.inside.slots c.self.inside.stack (mode_of c.self.inside.mode) c.self.inside.calls) (view c.in-Ok.value)
+      (state_of c.self.inside.work.slots c.self.inside.work.stack (mode_of c.self.inside.mode) c.self.inside.calls)
+      (view c.in-Ok.value)
       (ap (λ (b : Builder _). b.state.mode) c.self.view_is ∙ c.requires.strict)
-      (only_root _ c.self.inside.slots c.self.inside.stack c.self.invariant.ready.shown c.len-open.result
+      (only_root _ c.self.inside.work.slots c.self.inside.work.stack c.self.invariant.ready.shown c.len-open.result
       c.len-open.ensures.count c.if-open-eq1.true)
       c.in-Ok.ensures.value),
   ap (λ (b : Builder _). b.state.calls) c.self.view_is,
@@ -54,18 +55,18 @@ returns-in-Ok-clause-fits g c =
     subst (λ (b : Builder _). fits b.shapes b.root (view c.in-Ok.value) ≡ true) c.self.view_is
     (c.law_completes.ensures.fits strict_column (g.H.Hooks.means c.self.inside.hooks.now) c.self.inside.table.now
     c.self.inside.root.0
-    (tree_in_slots c.self.inside.slots c.self.inside.stack) (view c.in-Ok.value) c.self.invariant.ready.checked
+    (tree_in_slots c.self.inside.work.slots c.self.inside.work.stack) (view c.in-Ok.value) c.self.invariant.ready.checked
     c.self.invariant.ready.suits c.in-Ok.ensures.value)
 
 pub returns-in-Ok-clause-tokens : goal.returns-in-Ok-clause-tokens
 returns-in-Ok-clause-tokens g c = record {
   same_length = ap length c.in-Ok.ensures.kept;
   kept_or_released = λ t.
-      let all : holds c.args.self t ≡ tree_occurs (tree_in_slots c.self.inside.slots c.self.inside.stack) t
+      let all : holds c.args.self t ≡ tree_occurs (tree_in_slots c.self.inside.work.slots c.self.inside.work.stack) t
       = ap (λ (b : Builder _). holds b t) (sym c.self.view_is) in
-      let kept : occurs (view c.in-Ok.value) t ≡ tree_occurs (tree_in_slots c.self.inside.slots c.self.inside.stack) t
+      let kept : occurs (view c.in-Ok.value) t ≡ tree_occurs (tree_in_slots c.self.inside.work.slots c.self.inside.work.stack) t
       = c.law_completes.ensures.tokens strict_column (g.H.Hooks.means c.self.inside.hooks.now) c.self.inside.table.now
-      c.self.inside.root.0 (tree_in_slots c.self.inside.slots c.self.inside.stack) (view c.in-Ok.value) t
+      c.self.inside.root.0 (tree_in_slots c.self.inside.work.slots c.self.inside.work.stack) (view c.in-Ok.value) t
       c.self.invariant.ready.checked c.self.invariant.ready.suits c.in-Ok.ensures.value in
       let same : slice_index c.take_root-result.new.ledger t ≡ slice_index c.args.ledger.now t
       = ap (λ ledger. slice_index ledger t) c.in-Ok.ensures.kept in
@@ -90,9 +91,10 @@ returns-in-Err-clause-built g c =
           inr
           (subst (λ (b : Builder _). meaning_of_build (g.H.Hooks.means b.hooks) b ≡ Err c.in-Err.kind) c.self.view_is
           (builds_not (g.H.Hooks.means c.self.inside.hooks.now) c.self.inside.table.now c.self.inside.root.0
-          (state_of c.self.inside.slots c.self.inside.stack (mode_of c.self.inside.mode) c.self.inside.calls) c.in-Err.kind
+          (state_of c.self.inside.work.slots c.self.inside.work.stack
+          (mode_of c.self.inside.mode) c.self.inside.calls) c.in-Err.kind
           (ap (λ (b : Builder _). b.state.mode) c.self.view_is ∙ c.requires.strict)
-          (only_root _ c.self.inside.slots c.self.inside.stack c.self.invariant.ready.shown c.len-open.result
+          (only_root _ c.self.inside.work.slots c.self.inside.work.stack c.self.invariant.ready.shown c.len-open.result
           c.len-open.ensures.count c.if-open-eq1.true)
           lacking))
       | inr wants ↦ inl wants.memory
@@ -108,8 +110,9 @@ pub returns-in-Err-clause-memory : goal.returns-in-Err-clause-memory
 returns-in-Err-clause-memory g c nothing is =
     let takes = only_takes (g.H.Hooks.means c.self.inside.hooks.now) c.self.inside.table.now c.self.invariant.served _ _
     c.in-Err.kind c.in-Err.ensures.why is in
-    let root = root_tree (state_of c.self.inside.slots c.self.inside.stack (mode_of c.self.inside.mode) c.self.inside.calls)
-    (only_root _ c.self.inside.slots c.self.inside.stack c.self.invariant.ready.shown c.len-open.result
+    let root = root_tree (state_of c.self.inside.work.slots c.self.inside.work.stack
+    (mode_of c.self.inside.mode) c.self.inside.calls)
+    (only_root _ c.self.inside.work.slots c.self.inside.work.stack c.self.invariant.ready.shown c.len-open.result
     c.len-open.ensures.count c.if-open-eq1.true) in
     let no : false ≡ true
     = sym takes ∙ ap fills_nothing (sym root)
@@ -119,9 +122,9 @@ returns-in-Err-clause-memory g c nothing is =
 pub returns-in-Err-clause-refused : goal.returns-in-Err-clause-refused
 returns-in-Err-clause-refused g c refused is =
     never_unbuilt (g.H.Hooks.means c.self.inside.hooks.now) c.self.inside.table.now c.self.inside.root.0
-    (state_of c.self.inside.slots c.self.inside.stack (mode_of c.self.inside.mode) c.self.inside.calls)
+    (state_of c.self.inside.work.slots c.self.inside.work.stack (mode_of c.self.inside.mode) c.self.inside.calls)
     (ap (λ (b : Builder _). b.state.mode) c.self.view_is ∙ c.requires.strict)
-    (only_root _ c.self.inside.slots c.self.inside.stack c.self.invariant.ready.shown c.len-open.result
+    (only_root _ c.self.inside.work.slots c.self.inside.work.stack c.self.invariant.ready.shown c.len-open.result
     c.len-open.ensures.count c.if-open-eq1.true)
     (only_wants (g.H.Hooks.means c.self.inside.hooks.now) c.self.inside.table.now c.self.invariant.served _ _ c.in-Err.kind
     c.in-Err.ensures.why is)
@@ -141,9 +144,9 @@ returns-else-open-eq1-clause-built g c =
     (λ (b : Builder _). meaning_of_build (g.H.Hooks.means b.hooks) b ≡ Err (violates Invariant.BuildOpenFrames))
     c.self.view_is
     (builds_below (g.H.Hooks.means c.self.inside.hooks.now) c.self.inside.table.now c.self.inside.root.0
-    (state_of c.self.inside.slots c.self.inside.stack (mode_of c.self.inside.mode) c.self.inside.calls)
+    (state_of c.self.inside.work.slots c.self.inside.work.stack (mode_of c.self.inside.mode) c.self.inside.calls)
     (ap (λ (b : Builder _). b.state.mode) c.self.view_is ∙ c.requires.strict)
-    (below _ c.self.inside.slots c.self.inside.stack c.self.invariant.ready.shown c.len-open.result
+    (below _ c.self.inside.work.slots c.self.inside.work.stack c.self.invariant.ready.shown c.len-open.result
     c.len-open.ensures.count c.if-open-eq1.false)))
 
 pub returns-else-open-eq1-clause-tokens : goal.returns-else-open-eq1-clause-tokens

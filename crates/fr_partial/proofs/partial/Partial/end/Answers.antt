@@ -22,9 +22,9 @@ returns-then-depth-eq0-clause-step g c =
     inr
     (subst (λ (b : Builder _). meaning (g.H.Hooks.means b.hooks) b Call.End ≡ Err (violates Invariant.EndAtRoot)) c.self.view_is
     (ends_at_root (g.H.Hooks.means c.self.inside.hooks.now) c.self.inside.table.now
-    (shape_here c.self.inside.table.now c.self.inside.root.0 c.self.inside.slots c.self.inside.stack)
-    (state_of c.self.inside.slots c.self.inside.stack (mode_of c.self.inside.mode) c.self.inside.calls)
-    (none_above _ c.self.inside.slots c.self.inside.stack c.self.invariant.ready.shown c.len-depth.result
+    (shape_here c.self.inside.table.now c.self.inside.root.0 c.self.inside.work.slots c.self.inside.work.stack)
+    (state_of c.self.inside.work.slots c.self.inside.work.stack (mode_of c.self.inside.mode) c.self.inside.calls)
+    (none_above _ c.self.inside.work.slots c.self.inside.work.stack c.self.invariant.ready.shown c.len-depth.result
     c.len-depth.ensures.count c.if-depth-eq0.true))
     ∙ ap (λ (kind : ReflectErrorKind). Err kind) (sym c.refuse.ensures.kind))
 
@@ -38,14 +38,15 @@ returns-then-depth-eq0-clause-removed g c =
 pub returns-in-Deferred-clause-step : goal.returns-in-Deferred-clause-step
 returns-in-Deferred-clause-step g c =
     inr
-    (subst (λ (b : Builder _). meaning (g.H.Hooks.means b.hooks) b Call.End ≡ Err (violates Invariant.EndAtStart)) c.self.view_is
+    (subst (λ (b : Builder _). meaning (g.H.Hooks.means b.hooks) b Call.End ≡ Err
+    (violates Invariant.EndAtStart)) c.self.view_is
     (ends_at_start (g.H.Hooks.means c.self.inside.hooks.now) c.self.inside.table.now
-    (shape_here c.self.inside.table.now c.self.inside.root.0 c.self.inside.slots c.self.inside.stack)
-    (state_of c.self.inside.slots c.self.inside.stack (mode_of c.self.inside.mode) c.self.inside.calls)
+    (shape_here c.self.inside.table.now c.self.inside.root.0 c.self.inside.work.slots c.self.inside.work.stack)
+    (state_of c.self.inside.work.slots c.self.inside.work.stack (mode_of c.self.inside.mode) c.self.inside.calls)
     c.in-Deferred.start (ap mode_of c.in-Deferred.is)
-    (some_above _ c.self.inside.slots c.self.inside.stack c.self.invariant.ready.shown c.len-depth.result
+    (some_above _ c.self.inside.work.slots c.self.inside.work.stack c.self.invariant.ready.shown c.len-depth.result
     c.len-depth.ensures.count c.if-depth-eq0.false)
-    (let same = as_deep _ c.self.inside.slots c.self.inside.stack c.self.invariant.ready.shown c.len-depth.result
+    (let same = as_deep _ c.self.inside.work.slots c.self.inside.work.stack c.self.invariant.ready.shown c.len-depth.result
     c.len-depth.ensures.count in
     omega (arith, c.if-depth-start.true, same)))
     ∙ ap (λ (kind : ReflectErrorKind). Err kind) (sym c.refuse-in-Deferred.ensures.kind))
@@ -63,7 +64,8 @@ returns-in-Deferred-2-clause-step g c =
     (sym
     (ends_below (g.H.Hooks.means c.args.self.hooks) c.args.self.shapes
     (cursor_shape c.args.self.shapes c.args.self.root c.args.self.state) c.args.self.state
-    (far_below _ c.self.invariant.ready.shown c.self.inside.mode c.in-Deferred.start c.len-depth.result c.len-depth.ensures.count
+    (far_below _ c.self.invariant.ready.shown c.self.inside.mode c.in-Deferred.start c.len-depth.result
+    c.len-depth.ensures.count
     c.in-Deferred.is c.if-depth-start.false c.self.view_is)))
     c.leave.ensures.step
 
@@ -78,7 +80,8 @@ returns-in-Deferred-2-clause-refused g c refused =
     let no = subst (λ (meant : Result State ReflectErrorKind). IsErr meant)
     (ends_below (g.H.Hooks.means c.args.self.hooks) c.args.self.shapes
     (cursor_shape c.args.self.shapes c.args.self.root c.args.self.state) c.args.self.state
-    (far_below _ c.self.invariant.ready.shown c.self.inside.mode c.in-Deferred.start c.len-depth.result c.len-depth.ensures.count
+    (far_below _ c.self.invariant.ready.shown c.self.inside.mode c.in-Deferred.start c.len-depth.result
+    c.len-depth.ensures.count
     c.in-Deferred.is c.if-depth-start.false c.self.view_is))
     refused in
     cc

@@ -1,10 +1,11 @@
-use Rattle.std.proofs.Common.{◌≡◌, ℕ, ◌+◌, length, slice_index, true, false, IsErr, Ok, Err, inl, inr, refl, sym, ap, ◌∙◌, subst, arith}
+use Rattle.std.proofs.Common.{◌≡◌, ℕ, ◌+◌, length, slice_index, List, true, false, IsErr, Ok, Err, inl, inr, refl, sym, ap, ◌∙◌, subst, arith}
 use Rattle.fr_shape.specs.Released.{Room, RoseBy}
 use Rattle.fr_model.specs.Commands.{Call}
 use Rattle.fr_model.specs.Places.{is_root}
 use Rattle.fr_model.specs.Step.{puts_and_leaves}
 use Rattle.fr_model.specs.Tree.{strict, Tree, State, cursor_tree, tree_occurs}
 use Rattle.fr_plan.specs.TypePlan.{Plan}
+use Rattle.fr_frame.specs.Heap.{slots_occur}
 use Rattle.fr_store.specs.Moves.{cursor_in, tree_in_slots}
 use Rattle.fr_store.specs.Stands.{IsOpen}
 use Rattle.fr_partial.specs.Builder.{Builder, holds, meaning}
@@ -13,6 +14,7 @@ use Rattle.fr_partial.specs.Modes.{mode_of}
 use Rattle.fr_partial.specs.Underway.{shape_here, state_of}
 use Rattle.fr_partial.proofs.EndLaws.{keeps_none, ends, ends_not, never_refused}
 use Rattle.fr_partial.proofs.LackLaws.{only_wants, only_takes}
+use Rattle.fr_partial.proofs.ReleaseLaws.{released_still, room_still}
 use Rattle.fr_partial.proofs.RemovedLaws.{rises_by_removed, all_released}
 use Rattle.fr_partial.proofs.StateLaws.{in_order, state_is, strict_stores, underway_after, order_after, tokens_after, last_of}
 use Rattle.fr_partial.proofs.WayLaws.{left_path}
@@ -20,34 +22,33 @@ use Rattle.fr_partial.proofs.partial.Partial.end_strict.Goals as goal
 
 pub end_here-requires-clause-strict : goal.end_here-requires-clause-strict
 end_here-requires-clause-strict g c =
-    strict_stores (mode_of c.self.inside.mode) c.self.inside.store c.self.inside.slots
+    strict_stores (mode_of c.self.inside.mode) c.self.inside.work.store c.self.inside.work.slots
     (ap (λ (b : Builder _). b.state.mode) c.self.view_is ∙ c.requires.strict) c.self.invariant.stores c.self.invariant.kept
 
 pub end_here-requires-clause-below : goal.end_here-requires-clause-below
 end_here-requires-clause-below g c =
     ap (λ (b : Builder _). is_root b.state.cursor) c.self.view_is ∙ c.requires.below
 
-pub end_here-requires-clause-room : goal.end_here-requires-clause-room
-end_here-requires-clause-room g c =
-    subst (λ (b : Builder _). Room (holds b) c.args.ledger.now) (sym c.self.view_is) c.requires.room
-
-pub invariant_of-result : goal.invariant_of-result
-invariant_of-result g c =
-    let s : ℕ = shape_here c.self.inside.table.now c.self.inside.root.0 c.self.inside.slots c.self.inside.stack in
-    let state : State = state_of c.self.inside.slots c.self.inside.stack (mode_of c.self.inside.mode) c.self.inside.calls in
+pub invariant_of-self : goal.invariant_of-self
+invariant_of-self g c =
+    let s : ℕ = shape_here c.self.inside.table.now c.self.inside.root.0 c.self.inside.work.slots c.self.inside.work.stack in
+    let state : State = state_of c.self.inside.work.slots c.self.inside.work.stack
+    (mode_of c.self.inside.mode) c.self.inside.calls in
     let v = c.in-Ok.ensures.ended.value in
     let mode : mode_of c.self.inside.mode ≡ strict
     = ap (λ (b : Builder _). b.state.mode) c.self.view_is ∙ c.requires.strict in
     let deep : is_root state.cursor ≡ false
     = ap (λ (b : Builder _). is_root b.state.cursor) c.self.view_is ∙ c.requires.below in
-    let last = last_of (cursor_in c.self.inside.slots c.self.inside.stack) deep in
-    underway_after c.self.invariant c.step_back.new.path c.in-Ok.slots c.in-Ok.stack c.self.inside.store
+    let last = last_of (cursor_in c.self.inside.work.slots c.self.inside.work.stack) deep in
+    underway_after c.self.invariant c.step_back.new.path c.end_here.new.slots c.end_here.new.stack c.self.inside.work.store
     (mode_of c.self.inside.mode) c.saturating_add.result (puts_and_leaves state v)
-    (subst (λ (p : Plan). IsOpen p c.in-Ok.slots c.in-Ok.stack) c.core.ensures c.in-Ok.ensures.ended.after.open_still)
-    (keeps_none (mode_of c.self.inside.mode) c.self.inside.store c.in-Ok.slots mode c.self.invariant.stores
+    (subst (λ (p : Plan). IsOpen p c.end_here.new.slots c.end_here.new.stack) c.core.ensures
+    c.in-Ok.ensures.ended.after.open_still)
+    (keeps_none (mode_of c.self.inside.mode) c.self.inside.work.store c.end_here.new.slots mode c.self.invariant.stores
     c.in-Ok.ensures.ended.stores)
     c.self.invariant.stores
-    (state_is _ c.in-Ok.slots c.in-Ok.stack _ _ (mode_of c.self.inside.mode) c.saturating_add.result _ c.in-Ok.ensures.ended.after
+    (state_is _ c.end_here.new.slots c.end_here.new.stack _ _
+    (mode_of c.self.inside.mode) c.saturating_add.result _ c.in-Ok.ensures.ended.after
     c.saturating_add.ensures)
     (order_after c.self.invariant c.law_well.ensures.in_order (g.H.Hooks.means c.self.inside.hooks.now)
     (puts_and_leaves state v) Call.End tt
@@ -58,8 +59,9 @@ invariant_of-result g c =
 
 pub returns-in-Ok-clause-step : goal.returns-in-Ok-clause-step
 returns-in-Ok-clause-step g c =
-    let s : ℕ = shape_here c.self.inside.table.now c.self.inside.root.0 c.self.inside.slots c.self.inside.stack in
-    let state : State = state_of c.self.inside.slots c.self.inside.stack (mode_of c.self.inside.mode) c.self.inside.calls in
+    let s : ℕ = shape_here c.self.inside.table.now c.self.inside.root.0 c.self.inside.work.slots c.self.inside.work.stack in
+    let state : State = state_of c.self.inside.work.slots c.self.inside.work.stack
+    (mode_of c.self.inside.mode) c.self.inside.calls in
     let v = c.in-Ok.ensures.ended.value in
     let mode : mode_of c.self.inside.mode ≡ strict
     = ap (λ (b : Builder _). b.state.mode) c.self.view_is ∙ c.requires.strict in
@@ -70,7 +72,7 @@ returns-in-Ok-clause-step g c =
           c.in-Ok.ensures.ended.meant)
           ∙ ap (λ (next : State). Ok next)
           (sym
-          (state_is _ c.in-Ok.slots c.in-Ok.stack _ _ (mode_of c.self.inside.mode) c.saturating_add.result _
+          (state_is _ c.end_here.new.slots c.end_here.new.stack _ _ (mode_of c.self.inside.mode) c.saturating_add.result _
           c.in-Ok.ensures.ended.after
           c.saturating_add.ensures)),
       ap (λ (b : Builder _). b.shapes) c.self.view_is,
@@ -80,10 +82,11 @@ returns-in-Ok-clause-step g c =
 
 pub returns-in-Ok-clause-tokens : goal.returns-in-Ok-clause-tokens
 returns-in-Ok-clause-tokens g c = record {
-  same_length = ap length c.in-Ok.ensures.kept;
+  same_length = ap length c.end_here.ensures.ledger;
   kept_or_released = λ t.
-      let s : ℕ = shape_here c.self.inside.table.now c.self.inside.root.0 c.self.inside.slots c.self.inside.stack in
-      let state : State = state_of c.self.inside.slots c.self.inside.stack (mode_of c.self.inside.mode) c.self.inside.calls in
+      let s : ℕ = shape_here c.self.inside.table.now c.self.inside.root.0 c.self.inside.work.slots c.self.inside.work.stack in
+      let state : State = state_of c.self.inside.work.slots c.self.inside.work.stack
+      (mode_of c.self.inside.mode) c.self.inside.calls in
       let v = c.in-Ok.ensures.ended.value in
       let mode : mode_of c.self.inside.mode ≡ strict
       = ap (λ (b : Builder _). b.state.mode) c.self.view_is ∙ c.requires.strict in
@@ -96,14 +99,15 @@ returns-in-Ok-clause-tokens g c = record {
       (puts_and_leaves state v) Call.End
       (ends (g.H.Hooks.means c.self.inside.hooks.now) c.self.inside.table.now s state v mode deep c.in-Ok.ensures.ended.meant)
       t in
-      let now : tree_occurs (tree_in_slots c.in-Ok.slots c.in-Ok.stack) t ≡ tree_occurs (puts_and_leaves state v).tree t
+      let now : tree_occurs (tree_in_slots c.end_here.new.slots c.end_here.new.stack) t ≡ tree_occurs
+      (puts_and_leaves state v).tree t
       = ap (λ (tree : Tree). tree_occurs tree t) c.in-Ok.ensures.ended.after.built in
       let same : slice_index c.end_here.new.ledger t ≡ slice_index c.args.ledger.now t
-      = ap (λ ledger. slice_index ledger t) c.in-Ok.ensures.kept in
+      = ap (λ ledger. slice_index ledger t) c.end_here.ensures.ledger in
       omega arith;
   none_falls = λ t.
       let same : slice_index c.end_here.new.ledger t ≡ slice_index c.args.ledger.now t
-      = ap (λ ledger. slice_index ledger t) c.in-Ok.ensures.kept in
+      = ap (λ ledger. slice_index ledger t) c.end_here.ensures.ledger in
       omega arith;
 }
 
@@ -121,19 +125,32 @@ returns-in-Err-clause-step g c =
           inr
           (subst (λ (b : Builder _). meaning (g.H.Hooks.means b.hooks) b Call.End ≡ Err c.in-Err.kind) c.self.view_is
           (ends_not (g.H.Hooks.means c.self.inside.hooks.now) c.self.inside.table.now
-          (shape_here c.self.inside.table.now c.self.inside.root.0 c.self.inside.slots c.self.inside.stack)
-          (state_of c.self.inside.slots c.self.inside.stack (mode_of c.self.inside.mode) c.self.inside.calls) c.in-Err.kind
+          (shape_here c.self.inside.table.now c.self.inside.root.0 c.self.inside.work.slots c.self.inside.work.stack)
+          (state_of c.self.inside.work.slots c.self.inside.work.stack
+          (mode_of c.self.inside.mode) c.self.inside.calls) c.in-Err.kind
           (ap (λ (b : Builder _). b.state.mode) c.self.view_is ∙ c.requires.strict)
           (ap (λ (b : Builder _). is_root b.state.cursor) c.self.view_is ∙ c.requires.below)
           lacking))
       | inr wants ↦ inl wants.memory
     ]
 
+pub release-requires : goal.release-requires
+release-requires g c = record {
+  room =
+      subst (λ (ledger : List ℕ). Room (slots_occur c.end_here.new.slots) ledger) (sym c.end_here.ensures.ledger)
+      (room_still _ c.self.inside.work.slots c.end_here.new.slots c.self.inside.work.stack c.self.invariant.ready.shown
+      c.in-Err.ensures.tokens c.args.ledger.now
+      (subst (λ (b : Builder _). Room (holds b) c.args.ledger.now) (sym c.self.view_is) c.requires.room));
+}
+
 pub returns-in-Err-clause-tokens : goal.returns-in-Err-clause-tokens
 returns-in-Err-clause-tokens g c =
-    all_released (holds c.args.self) c.args.ledger.now c.end_here.new.ledger
-    (subst (λ (b : Builder _). RoseBy (holds b) c.args.ledger.now c.end_here.new.ledger) c.self.view_is
-    c.in-Err.ensures.released)
+    all_released (holds c.args.self) c.args.ledger.now c.release.new.ledger
+    (subst (λ (b : Builder _). RoseBy (holds b) c.args.ledger.now c.release.new.ledger) c.self.view_is
+    (released_still _ c.self.inside.work.slots c.end_here.new.slots c.self.inside.work.stack c.self.invariant.ready.shown
+    c.in-Err.ensures.tokens c.args.ledger.now c.release.new.ledger
+    (subst (λ (ledger : List ℕ). RoseBy (slots_occur c.end_here.new.slots) ledger c.release.new.ledger)
+    c.end_here.ensures.ledger c.release.ensures.released)))
 
 pub returns-in-Err-clause-memory : goal.returns-in-Err-clause-memory
 returns-in-Err-clause-memory g c nothing is =
@@ -146,8 +163,8 @@ returns-in-Err-clause-memory g c nothing is =
 pub returns-in-Err-clause-refused : goal.returns-in-Err-clause-refused
 returns-in-Err-clause-refused g c refused is =
     never_refused (g.H.Hooks.means c.self.inside.hooks.now) c.self.inside.table.now
-    (shape_here c.self.inside.table.now c.self.inside.root.0 c.self.inside.slots c.self.inside.stack)
-    (state_of c.self.inside.slots c.self.inside.stack (mode_of c.self.inside.mode) c.self.inside.calls)
+    (shape_here c.self.inside.table.now c.self.inside.root.0 c.self.inside.work.slots c.self.inside.work.stack)
+    (state_of c.self.inside.work.slots c.self.inside.work.stack (mode_of c.self.inside.mode) c.self.inside.calls)
     (ap (λ (b : Builder _). b.state.mode) c.self.view_is ∙ c.requires.strict)
     (ap (λ (b : Builder _). is_root b.state.cursor) c.self.view_is ∙ c.requires.below)
     (only_wants (g.H.Hooks.means c.self.inside.hooks.now) c.self.inside.table.now c.self.invariant.served _ _ c.in-Err.kind
@@ -159,5 +176,5 @@ returns-in-Err-clause-removed g c =
     rises_by_removed (g.H.Hooks.means c.args.self.hooks) c.law_removed.ensures.step c.args.self
     (in_order c.self.invariant c.self.view_is)
     Call.End (holds c.args.self) (λ t. omega arith)
-    (Err (record { kind = c.in-Err.kind; path = c.self.inside.path })) c.args.ledger.now c.end_here.new.ledger
+    (Err (record { kind = c.in-Err.kind; path = c.self.inside.path })) c.args.ledger.now c.release.new.ledger
     (returns-in-Err-clause-step g c) (returns-in-Err-clause-tokens g c)

@@ -10,14 +10,17 @@ use Rattle.fr_partial.proofs.FinishLaws.{begins_with, deferred_is, state_deferre
 use Rattle.fr_partial.proofs.StateLaws.{underway_after, order_after}
 use Rattle.fr_partial.proofs.partial.Partial.enter_deferred.Goals as goal
 
-pub invariant_of-result : goal.invariant_of-result
-invariant_of-result g c =
-    let state : State = state_of c.self.inside.slots c.self.inside.stack (mode_of c.self.inside.mode) c.self.inside.calls in
-    underway_after c.self.invariant c.self.inside.path c.self.inside.slots c.self.inside.stack c.self.inside.store
+pub invariant_of-self : goal.invariant_of-self
+invariant_of-self g c =
+    let state : State = state_of c.self.inside.work.slots c.self.inside.work.stack
+    (mode_of c.self.inside.mode) c.self.inside.calls in
+    underway_after c.self.invariant c.self.inside.path c.self.inside.work.slots c.self.inside.work.stack
+    c.self.inside.work.store
     (deferred (c.len-start.result - 1)) c.saturating_add.result (state_deferred state) c.self.invariant.ready.shown
     c.self.invariant.kept tt
-    (deferred_is c.self.inside.slots c.self.inside.stack (mode_of c.self.inside.mode) c.self.inside.calls _ _
-    (as_deep _ c.self.inside.slots c.self.inside.stack c.self.invariant.ready.shown c.len-start.result c.len-start.ensures.count)
+    (deferred_is c.self.inside.work.slots c.self.inside.work.stack (mode_of c.self.inside.mode) c.self.inside.calls _ _
+    (as_deep _ c.self.inside.work.slots c.self.inside.work.stack c.self.invariant.ready.shown c.len-start.result
+    c.len-start.ensures.count)
     c.saturating_add.ensures)
     (order_after c.self.invariant c.law_well.ensures.in_order (g.H.Hooks.means c.self.inside.hooks.now) (state_deferred state)
     Call.BeginDeferred tt
@@ -26,14 +29,17 @@ invariant_of-result g c =
 
 pub returns-clause-state : goal.returns-clause-state
 returns-clause-state g c =
-    let state : State = state_of c.self.inside.slots c.self.inside.stack (mode_of c.self.inside.mode) c.self.inside.calls in
+    let state : State = state_of c.self.inside.work.slots c.self.inside.work.stack
+    (mode_of c.self.inside.mode) c.self.inside.calls in
     subst
     (λ (b : Builder _). begin_deferred b.state
-    ≡ Ok (state_of c.self.inside.slots c.self.inside.stack (deferred (c.len-start.result - 1)) c.saturating_add.result))
+    ≡ Ok (state_of c.self.inside.work.slots c.self.inside.work.stack (deferred
+    (c.len-start.result - 1)) c.saturating_add.result))
     c.self.view_is
     (begins_with state (ap (λ (b : Builder _). b.state.mode) c.self.view_is ∙ c.requires.strict)
     ∙ ap (λ (next : State). Ok next)
     (sym
-    (deferred_is c.self.inside.slots c.self.inside.stack (mode_of c.self.inside.mode) c.self.inside.calls _ _
-    (as_deep _ c.self.inside.slots c.self.inside.stack c.self.invariant.ready.shown c.len-start.result c.len-start.ensures.count)
+    (deferred_is c.self.inside.work.slots c.self.inside.work.stack (mode_of c.self.inside.mode) c.self.inside.calls _ _
+    (as_deep _ c.self.inside.work.slots c.self.inside.work.stack c.self.invariant.ready.shown c.len-start.result
+    c.len-start.ensures.count)
     c.saturating_add.ensures)))

@@ -17,22 +17,24 @@ use Rattle.fr_partial.proofs.partial.Partial.finish_all.Goals as goal
 
 pub finish-requires-clause-suits : goal.finish-requires-clause-suits
 finish-requires-clause-suits g c =
-    subst (λ (p : Plan). Suits c.self.inside.table.now (root_shape p) (tree_in_slots c.self.inside.slots c.self.inside.stack))
-    (sym c.core.ensures)
+    subst (λ (p : Plan). Suits c.self.inside.table.now (root_shape p)
+    (tree_in_slots c.self.inside.work.slots c.self.inside.work.stack))
+    (sym c.core-plan.ensures)
     (suits_root c.law_plan_lookups.ensures.agree c.law_plan_lookups.ensures.paths c.self.inside.table.now c.self.inside.root _
-    c.self.inside.slots c.self.inside.stack c.self.invariant.ready)
+    c.self.inside.work.slots c.self.inside.work.stack c.self.invariant.ready)
 
 pub finish-requires-clause-room : goal.finish-requires-clause-room
 finish-requires-clause-room g c =
     subst (λ (b : Builder _). Room (holds b) c.args.ledger.now) (sym c.self.view_is) c.requires.room
 
-pub invariant_of-result : goal.invariant_of-result
-invariant_of-result g c =
+pub invariant_of-self : goal.invariant_of-self
+invariant_of-self g c =
     let done = subst
-    (λ (p : Plan). IsFinished (g.H.Hooks.means c.self.inside.hooks.now) c.self.inside.table.now p c.self.inside.slots
-    c.self.inside.stack c.finish.new.slots c.finish.new.stack)
-    c.core.ensures c.in-Ok.ensures.finished in
-    let state : State = state_of c.self.inside.slots c.self.inside.stack (mode_of c.self.inside.mode) c.self.inside.calls in
+    (λ (p : Plan). IsFinished (g.H.Hooks.means c.self.inside.hooks.now) c.self.inside.table.now p c.self.inside.work.slots
+    c.self.inside.work.stack c.finish.new.slots c.finish.new.stack)
+    c.core-plan.ensures c.in-Ok.ensures.finished in
+    let state : State = state_of c.self.inside.work.slots c.self.inside.work.stack
+    (mode_of c.self.inside.mode) c.self.inside.calls in
     underway_after c.self.invariant c.self.inside.path c.finish.new.slots c.finish.new.stack c.finish.new.self strict
     c.saturating_add.result (state_with state done.tree) done.stands.open_still
     (keeps_none strict c.finish.new.self c.finish.new.slots refl c.in-Ok.ensures.empty c.in-Ok.ensures.strict)
@@ -42,16 +44,17 @@ invariant_of-result g c =
     (state_with state done.tree)
     Call.FinishDeferred tt
     (ends_with c.law_plan_lookups.ensures.agree c.law_plan_lookups.ensures.paths (g.H.Hooks.means c.self.inside.hooks.now)
-    c.self.inside.table.now c.self.inside.root _ c.self.inside.slots c.self.inside.stack (mode_of c.self.inside.mode)
+    c.self.inside.table.now c.self.inside.root _ c.self.inside.work.slots c.self.inside.work.stack (mode_of c.self.inside.mode)
     c.self.inside.calls c.self.invariant.ready
     (λ mode. c.requires.deferred (ap (λ (b : Builder _). b.state.mode) (sym c.self.view_is) ∙ mode))
     c.finish.new.slots c.finish.new.stack done))
     (c.self.invariant.path
     ∙ sym
     (c.law_paths.ensures.finish (g.H.Hooks.means c.self.inside.hooks.now) c.self.inside.table.now c.self.inside.root.0
-    (cursor_in c.self.inside.slots c.self.inside.stack) (tree_in_slots c.self.inside.slots c.self.inside.stack) done.tree
+    (cursor_in c.self.inside.work.slots c.self.inside.work.stack)
+    (tree_in_slots c.self.inside.work.slots c.self.inside.work.stack) done.tree
     (finished_so c.law_plan_lookups.ensures.agree c.law_plan_lookups.ensures.paths (g.H.Hooks.means c.self.inside.hooks.now)
-    c.self.inside.table.now c.self.inside.root _ c.self.inside.slots c.self.inside.stack (mode_of c.self.inside.mode)
+    c.self.inside.table.now c.self.inside.root _ c.self.inside.work.slots c.self.inside.work.stack (mode_of c.self.inside.mode)
     c.self.inside.calls c.self.invariant.ready
     (λ mode. c.requires.deferred (ap (λ (b : Builder _). b.state.mode) (sym c.self.view_is) ∙ mode))
     c.finish.new.slots c.finish.new.stack done)))
@@ -59,15 +62,17 @@ invariant_of-result g c =
 pub returns-in-Ok-clause-step : goal.returns-in-Ok-clause-step
 returns-in-Ok-clause-step g c =
     let done = subst
-    (λ (p : Plan). IsFinished (g.H.Hooks.means c.self.inside.hooks.now) c.self.inside.table.now p c.self.inside.slots
-    c.self.inside.stack c.finish.new.slots c.finish.new.stack)
-    c.core.ensures c.in-Ok.ensures.finished in
-    let state : State = state_of c.self.inside.slots c.self.inside.stack (mode_of c.self.inside.mode) c.self.inside.calls in (
+    (λ (p : Plan). IsFinished (g.H.Hooks.means c.self.inside.hooks.now) c.self.inside.table.now p c.self.inside.work.slots
+    c.self.inside.work.stack c.finish.new.slots c.finish.new.stack)
+    c.core-plan.ensures c.in-Ok.ensures.finished in
+    let state : State = state_of c.self.inside.work.slots c.self.inside.work.stack
+    (mode_of c.self.inside.mode) c.self.inside.calls in (
       subst
           (λ (b : Builder _). meaning (g.H.Hooks.means b.hooks) b Call.FinishDeferred ≡ Ok (state_with state done.tree))
           c.self.view_is
           (ends_with c.law_plan_lookups.ensures.agree c.law_plan_lookups.ensures.paths (g.H.Hooks.means c.self.inside.hooks.now)
-          c.self.inside.table.now c.self.inside.root _ c.self.inside.slots c.self.inside.stack (mode_of c.self.inside.mode)
+          c.self.inside.table.now c.self.inside.root _ c.self.inside.work.slots c.self.inside.work.stack
+          (mode_of c.self.inside.mode)
           c.self.inside.calls c.self.invariant.ready
           (λ mode. c.requires.deferred (ap (λ (b : Builder _). b.state.mode) (sym c.self.view_is) ∙ mode))
           c.finish.new.slots c.finish.new.stack done)
@@ -85,17 +90,19 @@ returns-in-Ok-clause-tokens g c = record {
   same_length = ap length c.in-Ok.ensures.kept;
   kept_or_released = λ t.
       let done = subst
-      (λ (p : Plan). IsFinished (g.H.Hooks.means c.self.inside.hooks.now) c.self.inside.table.now p c.self.inside.slots
-      c.self.inside.stack c.finish.new.slots c.finish.new.stack)
-      c.core.ensures c.in-Ok.ensures.finished in
-      let state : State = state_of c.self.inside.slots c.self.inside.stack (mode_of c.self.inside.mode) c.self.inside.calls in
+      (λ (p : Plan). IsFinished (g.H.Hooks.means c.self.inside.hooks.now) c.self.inside.table.now p c.self.inside.work.slots
+      c.self.inside.work.stack c.finish.new.slots c.finish.new.stack)
+      c.core-plan.ensures c.in-Ok.ensures.finished in
+      let state : State = state_of c.self.inside.work.slots c.self.inside.work.stack
+      (mode_of c.self.inside.mode) c.self.inside.calls in
       let all : holds c.args.self t ≡ tree_occurs state.tree t
       = ap (λ (b : Builder _). holds b t) (sym c.self.view_is) in
       let kept : tree_occurs state.tree t + 0 ≡ tree_occurs done.tree t + 0
       = tokens_after c.self.invariant c.law_removed.ensures.step (g.H.Hooks.means c.self.inside.hooks.now)
       (state_with state done.tree) Call.FinishDeferred
       (ends_with c.law_plan_lookups.ensures.agree c.law_plan_lookups.ensures.paths (g.H.Hooks.means c.self.inside.hooks.now)
-      c.self.inside.table.now c.self.inside.root _ c.self.inside.slots c.self.inside.stack (mode_of c.self.inside.mode)
+      c.self.inside.table.now c.self.inside.root _ c.self.inside.work.slots c.self.inside.work.stack
+      (mode_of c.self.inside.mode)
       c.self.inside.calls c.self.invariant.ready
       (λ mode. c.requires.deferred (ap (λ (b : Builder _). b.state.mode) (sym c.self.view_is) ∙ mode))
       c.finish.new.slots c.finish.new.stack done)
@@ -111,26 +118,27 @@ returns-in-Ok-clause-tokens g c = record {
       omega (arith, same);
 }
 
-pub returns-clause-step : goal.returns-clause-step
-returns-clause-step g c =
+pub returns-in-Err-clause-step : goal.returns-in-Err-clause-step
+returns-in-Err-clause-step g c =
     elim c.in-Err.ensures.why [
       | inl memory ↦ inl memory
       | inr held ↦
           inr
           (subst (λ (b : Builder _). meaning (g.H.Hooks.means b.hooks) b Call.FinishDeferred ≡ Err c.in-Err.kind) c.self.view_is
           (held_up c.law_plan_lookups.ensures.agree c.law_plan_lookups.ensures.paths (g.H.Hooks.means c.self.inside.hooks.now)
-          c.self.inside.table.now c.self.inside.root _ c.self.inside.slots c.self.inside.stack (mode_of c.self.inside.mode)
+          c.self.inside.table.now c.self.inside.root _ c.self.inside.work.slots c.self.inside.work.stack
+          (mode_of c.self.inside.mode)
           c.self.inside.calls c.self.invariant.ready
           (λ mode. c.requires.deferred (ap (λ (b : Builder _). b.state.mode) (sym c.self.view_is) ∙ mode))
           c.in-Err.kind
           (subst
-          (λ (p : Plan). IsHeldUp (g.H.Hooks.means c.self.inside.hooks.now) c.self.inside.table.now p c.self.inside.slots
-          c.self.inside.stack c.in-Err.kind)
-          c.core.ensures held)))
+          (λ (p : Plan). IsHeldUp (g.H.Hooks.means c.self.inside.hooks.now) c.self.inside.table.now p c.self.inside.work.slots
+          c.self.inside.work.stack c.in-Err.kind)
+          c.core-plan.ensures held)))
     ]
 
-pub returns-clause-tokens : goal.returns-clause-tokens
-returns-clause-tokens g c =
+pub returns-in-Err-clause-tokens : goal.returns-in-Err-clause-tokens
+returns-in-Err-clause-tokens g c =
     all_released (holds c.args.self) c.args.ledger.now c.finish.new.ledger
     (subst (λ (b : Builder _). RoseBy (holds b) c.args.ledger.now c.finish.new.ledger) c.self.view_is
     c.in-Err.ensures.released)

@@ -20,31 +20,35 @@ use Rattle.fr_partial.proofs.partial.Partial.put.Goals as goal
 
 pub set-requires-clause-room : goal.set-requires-clause-room
 set-requires-clause-room g c =
-    Room_fewer (tokens_here c.self.inside.slots c.self.inside.stack)
-    (λ t. holds c.args.self t + occurs (view c.args.value) t) c.args.ledger.now
+    Room_fewer (tokens_here c.self.inside.work.slots c.self.inside.work.stack)
+    (λ t. holds c.args.self.now t + occurs (view c.args.value) t) c.args.ledger.now
     (λ t. omega (
       arith,
       put_keeps c.self.invariant c.self.view_is c.law_removed.ensures.step (view c.args.value) t
-          (set_admitted (shape_here c.self.inside.table.now c.self.inside.root.0 c.self.inside.slots c.self.inside.stack)
-          (shape_here c.self.inside.table.now c.self.inside.root.0 c.self.inside.slots c.self.inside.stack)
-          (state_of c.self.inside.slots c.self.inside.stack (mode_of c.self.inside.mode) c.self.inside.calls) (view c.args.value)
+          (set_admitted (shape_here c.self.inside.table.now c.self.inside.root.0 c.self.inside.work.slots
+          c.self.inside.work.stack)
+          (shape_here c.self.inside.table.now c.self.inside.root.0 c.self.inside.work.slots c.self.inside.work.stack)
+          (state_of c.self.inside.work.slots c.self.inside.work.stack (mode_of c.self.inside.mode) c.self.inside.calls)
+          (view c.args.value)
           refl),
     )) c.requires.room
 
-pub invariant_of-result : goal.invariant_of-result
-invariant_of-result g c =
-    let s : ℕ = shape_here c.self.inside.table.now c.self.inside.root.0 c.self.inside.slots c.self.inside.stack in
-    let state : State = state_of c.self.inside.slots c.self.inside.stack (mode_of c.self.inside.mode) c.self.inside.calls in
+pub invariant_of-self : goal.invariant_of-self
+invariant_of-self g c =
+    let s : ℕ = shape_here c.self.inside.table.now c.self.inside.root.0 c.self.inside.work.slots c.self.inside.work.stack in
+    let state : State = state_of c.self.inside.work.slots c.self.inside.work.stack
+    (mode_of c.self.inside.mode) c.self.inside.calls in
     let fitting : fits c.self.inside.table.now s (view c.args.value) ≡ true
     = ap (λ (b : Builder _). fits b.shapes (here b) (view c.args.value)) c.self.view_is ∙ c.requires.fits in
-    underway_after c.self.invariant c.self.inside.path c.set.new.slots c.self.inside.stack c.set.new.store
-    (mode_of c.self.inside.mode) c.saturating_add.result (puts state (view c.args.value))
-    (subst (λ (p : Plan). IsOpen p c.set.new.slots c.self.inside.stack) c.core.ensures c.set.ensures.set.open_still)
+    underway_after c.self.invariant c.self.inside.path c.set.new.slots c.self.inside.work.stack c.set.new.store
+    (mode_of c.self.inside.mode) c.saturating_add-self-inside.result (puts state (view c.args.value))
+    (subst (λ (p : Plan). IsOpen p c.set.new.slots c.self.inside.work.stack) c.core.ensures c.set.ensures.set.open_still)
     c.set.ensures.kept
-    (stores_after (mode_of c.self.inside.mode) c.self.inside.store c.set.new.store c.self.inside.slots c.set.new.slots
+    (stores_after (mode_of c.self.inside.mode) c.self.inside.work.store c.set.new.store c.self.inside.work.slots c.set.new.slots
     c.self.invariant.stores c.self.invariant.kept c.set.ensures.kept c.set.ensures.marks)
-    (state_is _ c.set.new.slots c.self.inside.stack _ _ (mode_of c.self.inside.mode) c.saturating_add.result _ c.set.ensures.set
-    c.saturating_add.ensures)
+    (state_is _ c.set.new.slots c.self.inside.work.stack _ _
+    (mode_of c.self.inside.mode) c.saturating_add-self-inside.result _ c.set.ensures.set
+    c.saturating_add-self-inside.ensures)
     (order_after c.self.invariant c.law_well.ensures.in_order no_hooks (puts state (view c.args.value))
     (Call.Set s (view c.args.value)) (fits_in c.self.inside.table.now s (view c.args.value) fitting, fitting)
     (set_admitted s s state (view c.args.value) refl))
@@ -52,24 +56,27 @@ invariant_of-result g c =
 
 pub returns-clause-state : goal.returns-clause-state
 returns-clause-state g c =
-    state_is _ c.set.new.slots c.self.inside.stack _ _ (mode_of c.self.inside.mode) c.saturating_add.result _ c.set.ensures.set
-    c.saturating_add.ensures
+    state_is _ c.set.new.slots c.self.inside.work.stack _ _
+    (mode_of c.self.inside.mode) c.saturating_add-self-inside.result _ c.set.ensures.set
+    c.saturating_add-self-inside.ensures
     ∙ ap (λ (b : Builder _). puts b.state (view c.args.value)) c.self.view_is
 
 pub returns-clause-tokens : goal.returns-clause-tokens
 returns-clause-tokens g c = record {
   same_length = c.set.ensures.released.same_length;
   kept_or_released = λ t.
-      let now : tree_occurs (tree_in_slots c.set.new.slots c.self.inside.stack) t
-      ≡ tree_occurs (puts (state_of c.self.inside.slots c.self.inside.stack (mode_of c.self.inside.mode) c.self.inside.calls)
+      let now : tree_occurs (tree_in_slots c.set.new.slots c.self.inside.work.stack) t
+      ≡ tree_occurs (puts (state_of c.self.inside.work.slots c.self.inside.work.stack
+      (mode_of c.self.inside.mode) c.self.inside.calls)
       (view c.args.value)).tree t
       = ap (λ (tree : Tree). tree_occurs tree t) c.set.ensures.set.built in
       omega (
         arith,
         put_keeps c.self.invariant c.self.view_is c.law_removed.ensures.step (view c.args.value) t
-            (set_admitted (shape_here c.self.inside.table.now c.self.inside.root.0 c.self.inside.slots c.self.inside.stack)
-            (shape_here c.self.inside.table.now c.self.inside.root.0 c.self.inside.slots c.self.inside.stack)
-            (state_of c.self.inside.slots c.self.inside.stack (mode_of c.self.inside.mode) c.self.inside.calls)
+            (set_admitted (shape_here c.self.inside.table.now c.self.inside.root.0 c.self.inside.work.slots
+            c.self.inside.work.stack)
+            (shape_here c.self.inside.table.now c.self.inside.root.0 c.self.inside.work.slots c.self.inside.work.stack)
+            (state_of c.self.inside.work.slots c.self.inside.work.stack (mode_of c.self.inside.mode) c.self.inside.calls)
             (view c.args.value) refl),
         c.set.ensures.released.each t,
       );

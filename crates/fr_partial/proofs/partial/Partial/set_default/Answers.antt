@@ -33,7 +33,7 @@ nothing_more g c t =
 pub returns-in_default-clause-step : goal.returns-in_default-clause-step
 returns-in_default-clause-step g c =
     inr
-    (default_missing c.self.inside.table.now c.self.inside.root.0 c.self.inside.slots c.self.inside.stack
+    (default_missing c.self.inside.table.now c.self.inside.root.0 c.self.inside.work.slots c.self.inside.work.stack
     (mode_of c.self.inside.mode) c.self.inside.calls c.args.self c.self.view_is c.shape-shape.result c.shape-shape.ensures.shape
     (sym c.in_default.ensures.template)
     ∙ ap Err (sym c.refuse.ensures.kind))
@@ -55,7 +55,7 @@ put-requires-clause-room g c =
 
 pub returns-in-Ok-clause-step : goal.returns-in-Ok-clause-step
 returns-in-Ok-clause-step g c = (
-  default_there c.self.inside.table.now c.self.inside.root.0 c.self.inside.slots c.self.inside.stack
+  default_there c.self.inside.table.now c.self.inside.root.0 c.self.inside.work.slots c.self.inside.work.stack
       (mode_of c.self.inside.mode) c.self.inside.calls c.args.self c.self.view_is c.shape-shape.result
       c.shape-shape.ensures.shape c.in-Some.template.now
       (sym c.in-Some.ensures.template)
@@ -69,14 +69,14 @@ returns-in-Ok-clause-step g c = (
 pub returns-in-Ok-clause-tokens : goal.returns-in-Ok-clause-tokens
 returns-in-Ok-clause-tokens g c =
     Conserved_same (λ t. holds c.args.self t + occurs (view c.in-Ok.value) t) (holds c.args.self) c.args.ledger.now
-    (holds c.put.result) (left (Ok c.put.result)) c.put.new.ledger
+    (holds c.put.new.self) (left (Ok c.put.new.self)) c.put.new.ledger
     (λ t. omega (arith, nothing_more g (goal.at.returns-in-Ok-clause-tokens g c).In-Ok t)) (λ t. refl) c.put.ensures.tokens
 
 pub returns-in-Err-clause-refused : goal.returns-in-Err-clause-refused
 returns-in-Err-clause-refused g c refused =
     let there : set_default c.args.self.shapes (here c.args.self) c.args.self.state
     ≡ Ok (puts c.args.self.state c.in-Some.template.now)
-    = default_there c.self.inside.table.now c.self.inside.root.0 c.self.inside.slots c.self.inside.stack
+    = default_there c.self.inside.table.now c.self.inside.root.0 c.self.inside.work.slots c.self.inside.work.stack
     (mode_of c.self.inside.mode) c.self.inside.calls c.args.self c.self.view_is c.shape-shape.result c.shape-shape.ensures.shape
     c.in-Some.template.now
     (sym c.in-Some.ensures.template) in
@@ -95,7 +95,7 @@ pub returns-in-Ok-clause-removed : goal.returns-in-Ok-clause-removed
 returns-in-Ok-clause-removed g c =
     rises_by_removed (g.H.Hooks.means c.args.self.hooks) c.law_removed.ensures.step c.args.self
     (in_order c.self.invariant c.self.view_is)
-    Call.SetDefault (holds c.args.self) (λ t. omega arith) (Ok c.put.result) c.args.ledger.now c.put.new.ledger
+    Call.SetDefault (holds c.args.self) (λ t. omega arith) (Ok c.put.new.self) c.args.ledger.now c.put.new.ledger
     (returns-in-Ok-clause-step g c) (returns-in-Ok-clause-tokens g c)
 
 pub returns-in-Err-clause-removed : goal.returns-in-Err-clause-removed

@@ -48,7 +48,7 @@ returns-then-actual-expected-clause-removed g c =
     (record { checked = c.law_in_order.ensures.checked; state = c.law_in_order.ensures.in_order })
     (Call.Set c.args.value.shape c.args.value.value)
     (λ t. holds c.args.self t + occurs (view c.into_value.result) t)
-    (λ t. ap (λ (v : Val). holds c.args.self t + occurs v t) c.into_value.ensures.value) (Ok c.put.result)
+    (λ t. ap (λ (v : Val). holds c.args.self t + occurs v t) c.into_value.ensures.value) (Ok c.put.new.self)
     c.args.ledger.now c.put.new.ledger (returns-then-actual-expected-clause-step g c) c.put.ensures.tokens
 
 pub returns-else-actual-expected-clause-removed : goal.returns-else-actual-expected-clause-removed

@@ -1,0 +1,26 @@
+use Rattle.fr_partial.proofs.PlaceLaws.{none_found, found_inside, found_shape, refusal_found}
+use Rattle.fr_partial.proofs.placing.place_here.Goals as goal
+
+pub node-requires : goal.node-requires
+node-requires c = record {
+  inside =
+      found_inside c.law_plan_lookups.ensures.agree c.law_plan_lookups.ensures.paths c.args.table.now c.args.root
+      c.args.plan.now c.args.slots.now c.args.stack.now c.requires c.in-Some.top.0 c.in-Some.ensures.last
+      c.in-Some-place.place.now c.in-Some-place.ensures.place;
+}
+
+pub unreachable-requires-in-None : goal.unreachable-requires-in-None
+unreachable-requires-in-None c =
+    none_found c.args.plan.now c.args.slots.now c.args.stack.now c.requires.shown c.in-Some.top.0 c.in-Some.ensures.last
+    c.in-None.ensures.place
+
+pub returns : goal.returns
+returns c = record {
+  shape =
+      found_shape c.law_plan_lookups.ensures.agree c.law_plan_lookups.ensures.paths c.args.table.now c.args.root
+      c.args.plan.now c.args.slots.now c.args.stack.now c.requires c.in-Some.top.0 c.in-Some.ensures.last
+      c.in-Some-place.place.now c.in-Some-place.ensures.place c.node.result.now c.node.ensures.node;
+  piece =
+      refusal_found c.args.plan.now c.args.slots.now c.args.stack.now c.requires.shown c.in-Some.top.0 c.in-Some.ensures.last
+      c.in-Some-place.place.now c.in-Some-place.ensures.place;
+}
