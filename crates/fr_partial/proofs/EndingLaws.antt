@@ -18,13 +18,13 @@ use Rattle.fr_plan.specs.declared.nodes.TypePlanNode.{TypePlanNode}
 use Rattle.fr_plan.specs.LookupLaws.{LookupsAgree, LookupPathsAgree}
 use Rattle.fr_plan.specs.TypePlan.{Plan}
 use Rattle.fr_frame.specs.declared.places.Slot.{Slot}
-use Rattle.fr_frame.specs.Bodies.{Body, entered_body, whole_body, begun_body, body_occurs, own_tree, trees_of, value_of, IsClosed, AreUnplaced}
+use Rattle.fr_frame.specs.Bodies.{Body, entered_body, whole_body, begun_body, body_occurs, own_tree, trees_of, value_of, IsClosed}
 use Rattle.fr_frame.specs.Cells.{Cell, absent, given, placed, values_of}
 use Rattle.fr_frame.specs.Changes.{IfInUse, SameTokens}
 use Rattle.fr_frame.specs.Closed.{IsClosedAt}
 use Rattle.fr_frame.specs.Completing.{shape_of, takes_template, FillsAt, IsFull, IsOfValidator, IsPlanFor, MayComplete, WhyNot as WhyNotAt}
 use Rattle.fr_frame.specs.Heap.{Node, heap_of, with_slot}
-use Rattle.fr_frame.specs.Kids.{gone, Plot, tree_of, tree_in, trees_in, cells_in, body_in, kids_in, plot_in, plot_occurs}
+use Rattle.fr_frame.specs.Kids.{Plot, tree_of, body_in, plot_occurs}
 use Rattle.fr_store.specs.HereLaws.{body_back, closed_plot, tree_back}
 use Rattle.fr_store.specs.MoveLaws.{open_top, closed_open, same_last, top_changed}
 use Rattle.fr_store.specs.Moves.{cursor_in, tree_here, tree_in_slots, AtTop, IsOpenAt}

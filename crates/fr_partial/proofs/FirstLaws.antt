@@ -4,14 +4,12 @@ use Rattle.std.specs.Prelude.{IsSome, if◌then◌else◌}
 use Rattle.fr_shape.specs.declared.shape.Def.{Def}
 use Rattle.fr_shape.specs.declared.shape.ShapeId.{ShapeId}
 use Rattle.fr_shape.specs.Checked.{IsChecked}
-use Rattle.fr_shape.specs.Fills.{is_empty_struct}
 use Rattle.fr_shape.specs.Look.{Table, IsIn, def_of}
 use Rattle.fr_shape.specs.Numbered.{IsNumbered}
 use Rattle.fr_shape.specs.Served.{IsServed}
-use Rattle.fr_shape.specs.Val.{product, no_vals}
 use Rattle.fr_model.specs.Laws.{StartIsWell}
 use Rattle.fr_model.specs.Paths.{path_of}
-use Rattle.fr_model.specs.Tree.{Tree, State, whole, entered, fresh, initial, strict}
+use Rattle.fr_model.specs.Tree.{Tree, State, fresh, initial, strict}
 use Rattle.fr_model.specs.Well.{Suits, Leads}
 use Rattle.fr_path.specs.declared.path_steps.PathStep.{PathStep}
 use Rattle.fr_plan.specs.declared.nodes.NodeId.{NodeId}
@@ -19,11 +17,11 @@ use Rattle.fr_plan.specs.LookupLaws.{LookupPathsAgree}
 use Rattle.fr_plan.specs.TypePlan.{Plan, IsPlanOf}
 use Rattle.fr_frame.specs.declared.places.FrameOwner.{FrameOwner}
 use Rattle.fr_frame.specs.declared.places.Slot.{Slot}
-use Rattle.fr_frame.specs.Bodies.{Body, entered_body, whole_body, fresh_body, IsClosed}
+use Rattle.fr_frame.specs.Bodies.{Body, IsClosed}
 use Rattle.fr_frame.specs.Changes.{SameTokens, Shows}
 use Rattle.fr_frame.specs.Completing.{shape_of}
-use Rattle.fr_frame.specs.Heap.{Node, heap_of, slots_occur, entered_node, with_entered, depth_limit, stored_in}
-use Rattle.fr_frame.specs.Kids.{at, Plot, entered_plot, whole_plot, tree_in, body_in, plot_occurs}
+use Rattle.fr_frame.specs.Heap.{heap_of, slots_occur, entered_node, with_entered, depth_limit, stored_in}
+use Rattle.fr_frame.specs.Kids.{at, Plot, tree_in, body_in, plot_occurs}
 use Rattle.fr_store.specs.EnterLaws.{fresh_closed, fresh_plot, fresh_same, fresh_tokens, fresh_tree}
 use Rattle.fr_store.specs.MoveLaws.{open_at_from}
 use Rattle.fr_store.specs.Moves.{IsOpenAt}
