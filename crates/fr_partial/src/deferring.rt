@@ -7,6 +7,7 @@ ghost use Rattle.fr_partial.specs.Builder.{holds, left, IsNotOutOfMemory, IsStep
 ghost use Rattle.fr_model.specs.Step.{begin_deferred};
 
 use crate::mode::Mode;
+use crate::work::Work;
 use crate::{Partial, ReflectError};
 use fr_model::{law_paths, law_removed, law_well};
 use fr_plan::law_plan_lookups;
@@ -105,7 +106,13 @@ impl<'t, H: Hooks> Partial<'t, H> {
                     mode: _,
                     calls: _,
                 } = self;
-                drop(work);
+                let Work {
+                    plan,
+                    slots: _,
+                    stack: _,
+                    store: _,
+                } = work;
+                drop(plan);
                 Err(ReflectError { kind, path })
             }
         }

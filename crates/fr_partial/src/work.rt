@@ -9,7 +9,6 @@ use fr_store::{FrameStore, Stack};
 
 /// The plan that a builder goes by, and the places that it opened. One loan of it lends them all, so that a call changes them
 /// where they are.
-#[derive(Drop)]
 pub struct Work<'t> {
     pub plan: HeldPlan<'t>,
     /// The open places, and what was put at them.
