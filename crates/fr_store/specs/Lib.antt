@@ -1,6 +1,5 @@
 pub mod AgainLaws
 pub mod BeginLaws
-pub mod Chains
 pub mod ChildLaws
 pub mod ClosingLaws
 pub mod EndLaws
