@@ -97,8 +97,9 @@ fn read_field(alloc: Global, json: &Json) -> Result<Field, FormError>
 pub fn read_fields(alloc: Global, json: &Json) -> Result<Items<Field>, FormError>
     ensures { Reads (λ fields. fields) (fields_form (data_of json.now)) result }
 {
-    let mut fields = Items::new(alloc);
-    for item in json.as_array().ok_or(Broken)? {
+    let items = json.as_array().ok_or(Broken)?;
+    let mut fields = Items::from_vec(Vec::with_capacity(alloc, items.len())?);
+    for item in items {
         fields.push(read_field(alloc, item)?)?;
     }
     Ok(fields)

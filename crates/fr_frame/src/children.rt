@@ -42,7 +42,7 @@ fn placeholders(alloc: Global, count: usize) -> Result<Vec<Value>, OutOfMemory>
     ensures absent { IfOk result (λ values. All (λ value. view value ≡ unit) values.items) }
     ensures count { IfOk result (λ values. length values.items ≡ count) }
 {
-    let mut values = Vec::new(alloc);
+    let mut values = Vec::with_capacity(alloc, count)?;
     for _i in 0..count {
         if values.push(Value::Unit).is_err() {
             return Err(OutOfMemory);

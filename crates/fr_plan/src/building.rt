@@ -82,12 +82,15 @@ fn build_children(
 {
     match &shape.def {
         Def::Struct(described) => {
-            let mut nodes = Items::new(alloc);
             let of = Container {
                 shape: id,
                 variant: None,
             };
             let fields = described.fields.as_slice();
+            let Ok(room) = Vec::with_capacity(alloc, fields.len()) else {
+                return Err(PlanError::OutOfMemory);
+            };
+            let mut nodes = Items::from_vec(room);
             match build_fields(alloc, table, walk, depth, of, fields, &mut nodes) {
                 Ok(()) => Ok(nodes),
                 Err(refused) => Err(refused),

@@ -107,7 +107,7 @@ pub(crate) fn field_plans(
     ensures told { IfOk result (NamesFields table.now lists.new nodes.now (fields_from of.shape of.variant 0 fields.now)) }
     ensures grown { ListsGrow lists.old lists.new }
 {
-    let mut plans = Vec::new(alloc);
+    let mut plans = Vec::with_capacity(alloc, fields.len())?;
     for i in 0..fields.len() {
         let Ok(index) = u32::try_from(i) else {
             return Err(OutOfMemory);

@@ -20,7 +20,7 @@ pub fn script_of(alloc: Global, json: &Json) -> Result<Script, ReadError>
     let Json::Array(items) = json else {
         return Err(ReadError::Fault(DocFault::BadForm(DocPlace::Commands)));
     };
-    let mut script = Items::new(alloc);
+    let mut script = Items::from_vec(Vec::with_capacity(alloc, items.len())?);
     for (i, item) in items.iter().enumerate() {
         if script.push(read_command_at(alloc, i, item)?).is_err() {
             return Err(ReadError::Memory);
