@@ -33,7 +33,7 @@ pub(crate) fn sort_by_prefix(
         → filter (has_prefix prefix_len prefix) entries.new.items
         ≡ filter (has_prefix prefix_len prefix) entries.old.items) }
 {
-    entries.sort_by_key(|entry| prefix_of(prefix_len, entry.name.as_str()))?;
+    entries.sort_by_cached_key(|entry| prefix_of(prefix_len, entry.name.as_str()))?;
     Ok(())
 }
 
