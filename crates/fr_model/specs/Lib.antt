@@ -1,6 +1,7 @@
 pub mod Agree
 pub mod Commands
 pub mod Complete
+pub mod Contents
 pub mod Covering
 pub mod Examples
 pub mod Failing
@@ -21,4 +22,5 @@ pub mod Settled
 pub mod StateCode
 pub mod Step
 pub mod Tree
+pub mod Variants
 pub mod Well

@@ -2,6 +2,7 @@
 use Rattle.std.specs.Prelude.{ℕ, zero, suc, Bool, true, false, List, [], ◌∷◌, length, slice_get, Option, Some, None, is_some}
 use Rattle.fr_shape.specs.declared.shape.Def.{Def}
 use Rattle.fr_shape.specs.declared.shape.Field.{Field}
+use Rattle.fr_shape.specs.declared.shape.ShapeId.{ShapeId}
 use Rattle.fr_shape.specs.Fills.{strict_fill, deferred_fill}
 use Rattle.fr_shape.specs.Look.{Table, def_of, field_in}
 use Rattle.fr_shape.specs.Val.{Val, Vals, unit, bool, char, int, nat, text, token, product, variant, none, some, ok, err, list_of, map_of, set_of, ptr, dyn, no_vals, first}
@@ -71,6 +72,27 @@ shape_of_child Def.Other i = 0
 -- is 0, which no definition asks for.
 abbrev pub child_shape : Table → ℕ → ℕ → ℕ
 child_shape table s i = shape_of_child (def_of table s) i
+
+-- the shape of what an option holds, of either side of a result, and of what a pointer points to (0 where there is none)
+abbrev pub content_shape : Def → ℕ
+content_shape (Def.Option t) = t.0
+content_shape _ = 0
+
+abbrev pub ok_shape : Def → ℕ
+ok_shape (Def.Result t e) = t.0
+ok_shape _ = 0
+
+abbrev pub err_shape : Def → ℕ
+err_shape (Def.Result t e) = e.0
+err_shape _ = 0
+
+abbrev pub shape_or_zero : Option ShapeId → ℕ
+shape_or_zero (Some t) = t.0
+shape_or_zero None = 0
+
+abbrev pub pointee_shape : Def → ℕ
+pointee_shape (Def.Pointer pointer) = shape_or_zero pointer.pointee
+pointee_shape _ = 0
 
 -- The two columns of rules by which a place completes: the one of strict mode, and the one of the end of deferred mode.
 pub data Column : Type 0 where

@@ -6,7 +6,7 @@ ghost use Rattle.fr_model.specs.FailingLaws.{FailuresLieThere, FinishesOrRefuses
 ghost use Rattle.fr_model.specs.FinishLaws.{ClosingKeepsCompletion, ClosingKeepsFailures, ClosingKeepsFailuresOff, ClosingKeepsFinish};
 ghost use Rattle.fr_model.specs.Finishing.{NotesWhatIsDue, StuckOrNoted};
 ghost use Rattle.fr_model.specs.Laws.{BuildKeepsTokens, CompletesOrFails, CompletesOrLacks, CompletingFits, CompletingKeepsTokens, StartIsWell, StepKeepsDistinct, StepKeepsOrder, StepKeepsTokens};
-ghost use Rattle.fr_model.specs.PathLaws.{EnteringAddsAStep, FinishingKeepsThePath, LeavingAsItIs, LeavingDropsAStep, PathIsAsDeep, PuttingKeepsThePath};
+ghost use Rattle.fr_model.specs.PathLaws.{DefaultingKeepsThePath, EnteringAddsAStep, EnteringContentAddsAStep, EnteringSomeAddsAStep, FinishingKeepsThePath, LeavingAsItIs, LeavingDropsAStep, PathIsAsDeep, PuttingKeepsThePath, SelectingKeepsThePath};
 
 /// For every script of fitting values over a table that is plain for the root, whatever the hooks mean, the run of the
 /// commands gives a value exactly where the journal completes, and the same one. At the start, and after each command
@@ -70,6 +70,10 @@ pub fn law_finishing()
 /// There are as many steps as the place lies deep, so that only the root has none.
 pub fn law_paths()
     ensures enter { EnteringAddsAStep }
+    ensures enter_content { EnteringContentAddsAStep }
+    ensures enter_some { EnteringSomeAddsAStep }
+    ensures select { SelectingKeepsThePath }
+    ensures default { DefaultingKeepsThePath }
     ensures put { PuttingKeepsThePath }
     ensures leave { LeavingDropsAStep }
     ensures leave_as_it_is { LeavingAsItIs }
