@@ -73,7 +73,7 @@ plain_child table s as_struct i parts below plain id shape reached is =
     plain id shape (reached_on table s (child_shape table s i) id (child_reached table s i below) reached) is
 plain_child table s as_array i parts below plain id shape reached is =
     plain id shape (reached_on table s (child_shape table s i) id (child_reached table s i below) reached) is
-plain_child table s _ i parts below plain = absurd parts
+plain_child table s _ i parts below plain id shape reached is = absurd parts
 
 -- each field of a plain struct is plain
 field_plain : (table : Table) (s : ℕ) (struct : StructDef) (i : ℕ) (field : Field) → AllPlain table s
