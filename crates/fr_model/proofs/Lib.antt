@@ -21,6 +21,7 @@ pub mod Plannable
 pub mod Relating
 pub mod Rows
 pub mod Runs
+pub mod Sized
 pub mod Steps
 pub mod Structs
 pub mod Templates

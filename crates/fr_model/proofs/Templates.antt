@@ -115,7 +115,7 @@ struct_at table s struct e = go (slice_get table s) refl e
 
 -- fields of a struct or of a variant
 
-all_of_both : {X : Type 0} (test : X → Bool) (xs ys : List X) → list_all test (xs ++ ys) ≡ true
+pub all_of_both : {X : Type 0} (test : X → Bool) (xs ys : List X) → list_all test (xs ++ ys) ≡ true
     → (list_all test xs ≡ true) × (list_all test ys ≡ true)
 all_of_both test [] ys all = (refl, all)
 all_of_both test (x ∷ xs) ys all =
