@@ -217,28 +217,49 @@ entry_at table root state i enterable order =
     (at_cursor state.mode state.cursor state.tree order.leads)
     (suits_at state.mode table root state.cursor state.tree order.leads order.suits)
 
+-- the place at the cursor becomes another that suits its shape and may be the cursor's
+pub changed_in_order : (table : Table) (root : ℕ) (state : State) (change : Tree → Tree)
+    → Suits table (cursor_shape table root state) (change (cursor_tree state)) → AtCursor state.mode (change (cursor_tree state))
+    → IsInOrder table root state
+    → IsInOrder table root (record state {
+      tree = change_at state.cursor change state.tree;
+      calls = one_more_call state.calls;
+    })
+changed_in_order table root state change suits at order = record {
+  suits = suits_changed state.mode table root state.cursor state.tree change order.leads order.suits
+      (leads_touched state.mode [] (change (cursor_tree state)) at) suits;
+  leads = subst (λ (place : Place). Leads state.mode place (change_at state.cursor change state.tree))
+      (append-nil state.cursor) (leads_on state.mode state.cursor [] state.tree change order.leads at);
+  began = order.began;
+}
+
+-- and the cursor goes to its child i
+pub moved_in_order : (table : Table) (root : ℕ) (state : State) (i : ℕ) (change : Tree → Tree)
+    → Suits table (cursor_shape table root state) (change (cursor_tree state))
+    → Leads state.mode (i ∷ []) (change (cursor_tree state)) → IsInOrder table root state
+    → IsInOrder table root (record state {
+      tree = change_at state.cursor change state.tree;
+      cursor = state.cursor ++ i ∷ [];
+      calls = one_more_call state.calls;
+    })
+moved_in_order table root state i change suits leads order = record {
+  suits = suits_changed state.mode table root state.cursor state.tree change order.leads order.suits
+      (leads_touched state.mode (i ∷ []) (change (cursor_tree state)) leads) suits;
+  leads = leads_on state.mode state.cursor (i ∷ []) state.tree change order.leads leads;
+  began = began_below state.mode state.cursor i order.began;
+}
+
 pub begun_in_order : (table : Table) (root : ℕ) (state : State) (i : ℕ)
     → Enterable table (cursor_shape table root state) i (cursor_tree state) → IsInOrder table root state
     → IsInOrder table root (enters table (cursor_shape table root state) state i)
 begun_in_order table root state i enterable order =
     let child = entry_at table root state i enterable order in
-    let change : Tree → Tree = enter_child table (cursor_shape table root state) i in
-    record {
-      suits = suits_changed state.mode table root state.cursor state.tree change order.leads order.suits
-          (leads_touched state.mode (i ∷ []) (change (cursor_tree state)) child.leads) child.suits;
-      leads = leads_on state.mode state.cursor (i ∷ []) state.tree change order.leads child.leads;
-      began = began_below state.mode state.cursor i order.began;
-    }
+    moved_in_order table root state i (enter_child table (cursor_shape table root state) i) child.suits child.leads order
 
 pub put_in_order : (table : Table) (root : ℕ) (state : State) (v : Val)
     → fits table (cursor_shape table root state) v ≡ true → IsInOrder table root state
     → IsInOrder table root (puts state v)
-put_in_order table root state v fit order = record {
-  suits = suits_changed state.mode table root state.cursor state.tree (λ old. whole v) order.leads order.suits tt fit;
-  leads = subst (λ (place : Place). Leads state.mode place (change_at state.cursor (λ old. whole v) state.tree))
-      (append-nil state.cursor) (leads_on state.mode state.cursor [] state.tree (λ old. whole v) order.leads tt);
-  began = order.began;
-}
+put_in_order table root state v fit order = changed_in_order table root state (λ old. whole v) fit tt order
 
 -- what the place at the cursor makes
 pub made_at : (column : Column) (hooks : Meanings) (table : Table) (root : ℕ) (state : State) (v : Val) → IsChecked table

@@ -103,7 +103,7 @@ hole_off : (mode : Mode) → IsOff mode hole
 hole_off strict = tt
 hole_off (deferred start) = tt
 
-holes_off : (mode : Mode) (n : ℕ) → AllOff mode (holes n)
+pub holes_off : (mode : Mode) (n : ℕ) → AllOff mode (holes n)
 holes_off mode zero = tt
 holes_off mode (suc n) = (hole_off mode, holes_off mode n)
 

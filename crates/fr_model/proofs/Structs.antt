@@ -7,6 +7,7 @@ use Rattle.fr_shape.specs.declared.shape.EnumDef.{EnumDef}
 use Rattle.fr_shape.specs.declared.shape.VariantDef.{VariantDef}
 use Rattle.fr_shape.specs.declared.shape.PointerDef.{PointerDef}
 use Rattle.fr_shape.specs.declared.shape.Field.{Field}
+use Rattle.fr_shape.specs.declared.shape.ScalarKind.{ScalarKind}
 use Rattle.fr_shape.specs.Look.{Table, def_of, settled}
 use Rattle.fr_shape.specs.Val.{Val, Vals, product, no_vals, first}
 use Rattle.fr_shape.specs.Fits.{fits, all_fit, fields_fit, fields_of_variant, points_at, count_vals}
@@ -34,6 +35,15 @@ pub settled_option : (table : Table) (s : ℕ) (t : ShapeId) → def_of table s 
     → settled table s ≡ Def.Option t
 settled_option [] s t e = cc
 settled_option (shape ∷ shapes) s t e = rw e refl
+
+pub settled_str : (table : Table) (s : ℕ) → def_of table s ≡ Def.Str → settled table s ≡ Def.Str
+settled_str [] s e = cc
+settled_str (shape ∷ shapes) s e = rw e refl
+
+pub settled_scalar : (table : Table) (s : ℕ) (kind : ScalarKind) → def_of table s ≡ Def.Scalar kind
+    → settled table s ≡ Def.Scalar kind
+settled_scalar [] s kind e = cc
+settled_scalar (shape ∷ shapes) s kind e = rw e refl
 
 pub settled_enum : (table : Table) (s : ℕ) (enumeration : EnumDef) → def_of table s ≡ Def.Enum enumeration
     → settled table s ≡ Def.Enum enumeration

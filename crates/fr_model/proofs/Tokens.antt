@@ -13,7 +13,7 @@ use Rattle.fr_model.proofs.Agreement.{leads_within, leads_child}
 
 -- a child is entered
 
-holes_hold : (n t : ℕ) → trees_occur (holes n) t ≡ 0
+pub holes_hold : (n t : ℕ) → trees_occur (holes n) t ≡ 0
 holes_hold zero t = refl
 holes_hold (suc n) t = let rest = holes_hold n t in omega arith
 
@@ -21,7 +21,7 @@ pub wholes_hold : (vs : Vals) (t : ℕ) → trees_occur (wholes vs) t ≡ vals_o
 wholes_hold no_vals t = refl
 wholes_hold (first v vs) t = let rest = wholes_hold vs t in omega arith
 
-opened_holds : (form : Form) (count : ℕ) (tree : Tree) (t : ℕ)
+pub opened_holds : (form : Form) (count : ℕ) (tree : Tree) (t : ℕ)
     → tree_occurs (opened_as form count tree) t ≡ tree_occurs tree t
 opened_holds form count entered t = holes_hold count t
 opened_holds form count (whole (product vs)) t = wholes_hold vs t
@@ -59,7 +59,7 @@ enter_child_holds table s i tree t =
 
 -- a change at the cursor
 
-nth_holds : (i : ℕ) (change : Tree → Tree) (trees : Trees) (t : ℕ) → i < count_trees trees
+pub nth_holds : (i : ℕ) (change : Tree → Tree) (trees : Trees) (t : ℕ) → i < count_trees trees
     → trees_occur (change_nth i change trees) t + tree_occurs (tree_nth i trees) t
     ≡ trees_occur trees t + tree_occurs (change (tree_nth i trees)) t
 nth_holds i change no_trees t within = absurd (omega arith)
