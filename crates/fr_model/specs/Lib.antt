@@ -1,6 +1,7 @@
 pub mod Agree
 pub mod Commands
 pub mod Complete
+pub mod ContentExamples
 pub mod Contents
 pub mod Covering
 pub mod Examples

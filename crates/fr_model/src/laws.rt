@@ -1,5 +1,6 @@
 //! Laws of the definitions: each is the contract of a function that does nothing.
 ghost use Rattle.fr_model.specs.Agree.{MachineAgrees, StartIsRelated, StepKeepsRelated};
+ghost use Rattle.fr_model.specs.ContentExamples.{DefaultExamples, OptionExamples, PointerExamples, ResultExamples, SelectionExamples, VariantExamples};
 ghost use Rattle.fr_model.specs.Covering.{ScanAgrees, WaysAgree};
 ghost use Rattle.fr_model.specs.Examples.{EndRunsValidators};
 ghost use Rattle.fr_model.specs.FailingLaws.{FailuresLieThere, FinishesOrRefuses, FinishOfDone, FirstByWalkIs, LackingFails, NothingFailsOfDone};
@@ -44,6 +45,12 @@ pub fn law_completes()
 /// Scripts computed through the definitions.
 pub fn law_examples()
     ensures validators { EndRunsValidators }
+    ensures variants { VariantExamples }
+    ensures selection { SelectionExamples }
+    ensures options { OptionExamples }
+    ensures results { ResultExamples }
+    ensures pointers { PointerExamples }
+    ensures defaults { DefaultExamples }
 {}
 
 /// What fails at the end of deferred mode is half done and lies off the way, and a place that lacks something by itself fails, its
