@@ -1,23 +1,20 @@
 -- Places at which a content is entered or a variant is selected: what is kept of them, and how they start anew.
-use Rattle.std.proofs.Common.{◌≡◌, ℕ, zero, suc, ◌+◌, eqb-true, Bool, true, false, if◌then◌else◌, List, [], ◌∷◌, length, slice_get, Option, Some, None, unwrap_or, refl, sym, ◌∙◌, ap, subst, arith}
+use Rattle.std.proofs.Common.{◌≡◌, ℕ, ◌+◌, eqb-true, Bool, true, false, if◌then◌else◌, [], ◌∷◌, length, slice_get, Option, Some, None, unwrap_or, refl, sym, ◌∙◌, ap, subst, arith}
 use Rattle.std.specs.Option.{option_map, option_or}
 use Rattle.fr_shape.specs.declared.shape.Def.{Def}
-use Rattle.fr_shape.specs.declared.shape.EnumDef.{EnumDef}
-use Rattle.fr_shape.specs.declared.shape.PointerDef.{PointerDef}
 use Rattle.fr_shape.specs.declared.shape.ShapeId.{ShapeId}
 use Rattle.fr_shape.specs.declared.shape.VariantDef.{VariantDef}
 use Rattle.fr_shape.specs.declared.error.Operation.{Operation}
 use Rattle.fr_shape.specs.Fills.{is_option}
 use Rattle.fr_shape.specs.Fits.{fits}
 use Rattle.fr_shape.specs.Look.{Table, def_of}
-use Rattle.fr_shape.specs.Tokens.{occurs}
 use Rattle.fr_shape.specs.Val.{Val, some}
 use Rattle.fr_model.specs.Contents.{is_result, pointee_refusal, pointer_refusal, variant_anew, around, content_anew, kept_so, kept_in, is_entered_in_place, content_of, kept_option}
 use Rattle.fr_model.specs.Places.{Place, content_shape}
 use Rattle.fr_model.specs.StateCode.{form_numbered, form_comes_back}
-use Rattle.fr_model.specs.Tree.{Form, as_struct, as_array, as_variant, as_some, as_ok, as_err, as_pointer, form_number, same_form, Tree, hole, entered, whole, begun, Trees, no_trees, branch, child_as, count_trees, holes, fresh, tree_occurs, trees_occur, Mode, strict, deferred}
+use Rattle.fr_model.specs.Tree.{Form, as_struct, as_array, as_variant, as_some, as_ok, as_err, as_pointer, form_number, same_form, Tree, hole, entered, whole, begun, Trees, no_trees, branch, child_as, fresh, tree_occurs, Mode, strict, deferred}
 use Rattle.fr_model.specs.Variants.{is_enum, fields_or_none, variant_fields, layout_refusal, told_apart, selection_refusal}
-use Rattle.fr_model.specs.Well.{HasContent, HasSide, PointsTo, HasPointee, HasFieldsOf, HasVariantFields, IsFullAs, MayBegin, IsBegunAs, IsTouched, IsContent, IsBegunRightly, Suits, AllOff, AtCursor, OffBut, Leads}
+use Rattle.fr_model.specs.Well.{HasSide, PointsTo, HasPointee, HasFieldsOf, HasVariantFields, IsFullAs, MayBegin, IsBegunAs, IsTouched, IsContent, IsBegunRightly, Suits, AtCursor, OffBut, Leads}
 use Rattle.fr_model.proofs.Opening.{enter_touched, fresh_suits, fresh_at_cursor, holes_off, all_deferred}
 use Rattle.fr_model.proofs.Structs.{count_holes, holes_suit, settled_option}
 use Rattle.fr_model.proofs.Tokens.{fresh_holds, holes_hold}

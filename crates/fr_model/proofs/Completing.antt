@@ -1,5 +1,5 @@
 -- What completes, what fits of it, and what it holds.
-use Rattle.std.proofs.Common.{◌≡◌, ℕ, zero, suc, ◌+◌, true, is_none, is_some, Option, Some, None, refl, sym, ◌∙◌, ap, arith}
+use Rattle.std.proofs.Common.{◌≡◌, ℕ, zero, suc, ◌+◌, true, is_none, is_some, Option, Some, None, refl, ◌∙◌, ap, arith}
 use Rattle.std.specs.Option.{option_or}
 use Rattle.fr_shape.specs.declared.error.ReflectErrorKind.{ReflectErrorKind}
 use Rattle.fr_shape.specs.declared.shape.Def.{Def}
@@ -11,7 +11,7 @@ use Rattle.fr_shape.specs.Look.{Table, def_of}
 use Rattle.fr_shape.specs.Val.{Val, Vals, none, no_vals, first}
 use Rattle.fr_shape.specs.Tokens.{occurs, vals_occur}
 use Rattle.fr_model.specs.Places.{Column, strict_column, child_count, one_more, each_child, fill_at}
-use Rattle.fr_model.specs.Tree.{Form, as_struct, as_array, as_variant, Tree, hole, entered, whole, begun, Trees, no_trees, branch, child_as, count_trees, tree_occurs, trees_occur}
+use Rattle.fr_model.specs.Tree.{Form, as_struct, as_variant, Tree, hole, entered, whole, begun, Trees, no_trees, branch, child_as, count_trees, tree_occurs, trees_occur}
 use Rattle.fr_model.specs.Complete.{complete, complete_all, unless_there, failing_child, unless_failing, valid_child, hole_takes, missing_child, made, made_of_fills, made_by, lack_of_hole, lack_of_holes, lack_by, lack, lack_among, missing_value}
 use Rattle.fr_model.specs.Well.{IsFullAs, Suits}
 use Rattle.fr_model.proofs.Structs.{OneMore, one_more_is, ChildrenFit, MadeOf, made_is, SuitFrom, begun_full, value_fits, value_holds, settled_option}

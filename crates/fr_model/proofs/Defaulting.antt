@@ -1,5 +1,5 @@
 -- A field of the place at the cursor that is set to its default.
-use Rattle.std.proofs.Common.{◌≡◌, ℕ, zero, suc, ◌+◌, ◌<◌, true, List, [], ◌∷◌, length, slice_get, Option, Some, None, is_some, refl, sym, ◌∙◌, ap, subst, arith}
+use Rattle.std.proofs.Common.{◌≡◌, ℕ, zero, suc, ◌+◌, ◌<◌, true, List, [], ◌∷◌, length, slice_get, Option, Some, None, refl, sym, ◌∙◌, ap, subst, arith}
 use Rattle.fr_shape.specs.declared.shape.Def.{Def}
 use Rattle.fr_shape.specs.declared.shape.EnumDef.{EnumDef}
 use Rattle.fr_shape.specs.declared.shape.Field.{Field}
@@ -10,9 +10,9 @@ use Rattle.fr_shape.specs.Look.{Table, def_of, field_of_variant, field_in}
 use Rattle.fr_shape.specs.Tokens.{occurs}
 use Rattle.fr_shape.specs.Val.{Val}
 use Rattle.fr_model.specs.Step.{opened, put_child}
-use Rattle.fr_model.specs.Tree.{Form, as_struct, as_variant, form_of, form_at, variant_of, selected, Tree, hole, entered, whole, begun, Trees, no_trees, branch, tree_nth, child_tree, change_nth, change_child, child_as, count_trees, tree_occurs, Mode}
+use Rattle.fr_model.specs.Tree.{Form, as_struct, as_variant, form_of, form_at, selected, Tree, hole, entered, whole, begun, Trees, no_trees, branch, child_tree, change_nth, change_child, child_as, count_trees, tree_occurs, Mode}
 use Rattle.fr_model.specs.Places.{child_count}
-use Rattle.fr_model.specs.Variants.{fields_or_none, variant_fields}
+use Rattle.fr_model.specs.Variants.{fields_or_none}
 use Rattle.fr_model.specs.Well.{IsFullAs, IsBegunAs, Suits, AllOff, AtCursor}
 use Rattle.fr_model.proofs.Opening.{Enterable, a_field, a_variant_field, Opening, opening, rightly_changed, whole_off}
 use Rattle.fr_model.proofs.Structs.{count_change, suit_change}

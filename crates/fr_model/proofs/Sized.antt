@@ -1,5 +1,5 @@
 -- The place at the cursor of a field script has a size: it is the root, or a field or an element of what has one.
-use Rattle.std.proofs.Common.{◌≡◌, ℕ, zero, suc, ◌++◌, ◌<◌, Bool, true, false, List, [], ◌∷◌, length, map, slice_get, Option, Some, None, option_to_list, refl, arith}
+use Rattle.std.proofs.Common.{◌≡◌, ℕ, zero, suc, ◌++◌, ◌<◌, Bool, true, List, [], ◌∷◌, length, map, slice_get, Option, Some, None, option_to_list, refl, arith}
 use Rattle.std.specs.List.{list_all}
 use Rattle.fr_shape.specs.declared.shape.Shape.{Shape}
 use Rattle.fr_shape.specs.declared.shape.ShapeId.{ShapeId}
@@ -10,7 +10,7 @@ use Rattle.fr_shape.specs.Checked.{IsChecked, fields_of, contents_of, all_proxie
 use Rattle.fr_shape.specs.Look.{Table, def_or_other, def_of}
 use Rattle.fr_model.specs.Places.{Place, shape_of_field, shape_of_child}
 use Rattle.fr_model.specs.Relation.{HasParts}
-use Rattle.fr_model.specs.Tree.{Form, as_struct, as_array, Tree, hole, entered, whole, begun, tree_nth, child_as, shape_in, count_trees, Mode}
+use Rattle.fr_model.specs.Tree.{Form, as_struct, as_array, Tree, begun, tree_nth, child_as, shape_in, count_trees, Mode}
 use Rattle.fr_model.specs.Well.{IsFullAs, Suits, Leads}
 use Rattle.fr_model.proofs.Agreement.{leads_within, leads_child}
 use Rattle.fr_model.proofs.Cursor.{PartsAlong}

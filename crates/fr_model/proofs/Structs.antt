@@ -9,7 +9,7 @@ use Rattle.fr_shape.specs.declared.shape.PointerDef.{PointerDef}
 use Rattle.fr_shape.specs.declared.shape.Field.{Field}
 use Rattle.fr_shape.specs.declared.shape.ScalarKind.{ScalarKind}
 use Rattle.fr_shape.specs.Look.{Table, def_of, settled}
-use Rattle.fr_shape.specs.Val.{Val, Vals, product, no_vals, first}
+use Rattle.fr_shape.specs.Val.{Val, Vals, no_vals, first}
 use Rattle.fr_shape.specs.Fits.{fits, all_fit, fields_fit, fields_of_variant, points_at, count_vals}
 use Rattle.fr_shape.specs.Tokens.{occurs, vals_occur}
 use Rattle.fr_model.specs.Places.{child_shape, shape_or_zero, vals_nth, one_more, product_of}

@@ -23,7 +23,7 @@ use Rattle.fr_model.specs.Complete.{missing_field, missing_value}
 use Rattle.fr_model.specs.Removed.{removed}
 use Rattle.fr_model.specs.Run.{Refusal, full_run}
 use Rattle.fr_model.specs.Step.{operation_failed, was_not_a}
-use Rattle.fr_model.specs.Tree.{as_variant, as_some, as_err, Tree, hole, whole, begun, no_trees, branch, Mode, strict, deferred}
+use Rattle.fr_model.specs.Tree.{as_variant, as_some, Tree, hole, whole, begun, no_trees, branch, Mode, strict, deferred}
 
 -- To write tables, values and scripts
 

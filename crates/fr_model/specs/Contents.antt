@@ -9,7 +9,7 @@ use Rattle.fr_shape.specs.Fills.{is_collection}
 use Rattle.fr_shape.specs.Look.{Table, def_of}
 use Rattle.fr_shape.specs.Val.{Val, some}
 use Rattle.fr_path.specs.Places.{owns}
-use Rattle.fr_model.specs.Tree.{Form, as_variant, as_some, same_form, Tree, hole, entered, whole, begun, Trees, no_trees, branch, child_as, holes, fresh, Mode, strict, deferred}
+use Rattle.fr_model.specs.Tree.{Form, as_variant, as_some, same_form, Tree, hole, entered, whole, begun, no_trees, branch, child_as, holes, fresh, Mode, strict, deferred}
 use Rattle.fr_model.specs.Variants.{is_enum, variant_fields}
 
 abbrev pub is_result : Def → Bool
