@@ -64,7 +64,7 @@ pub record FieldThere (table : Table) (s i : ℕ) (t : Tree) (field : Field) : T
   pub enterable : Enterable table s i t
   pub shape : child_as table s (form_at (def_of table s) t) i ≡ field.shape.0
 
-get_below : {X : Type 0} (xs : List X) (i : ℕ) (x : X) → slice_get xs i ≡ Some x → i < length xs
+pub get_below : {X : Type 0} (xs : List X) (i : ℕ) (x : X) → slice_get xs i ≡ Some x → i < length xs
 get_below [] i x e = cc
 get_below (y ∷ ys) zero x e = omega arith
 get_below (y ∷ ys) (suc i) x e = let rest = get_below ys i x e in omega arith
@@ -101,7 +101,7 @@ variant_child table s i k enumeration field hole is chosen e = cc
 variant_child table s i k enumeration field entered is chosen e = cc
 variant_child table s i k enumeration field (whole v) is chosen e = cc
 
-of_variant_below : (found : Option VariantDef) (i : ℕ) (field : Field) → field_of_variant found i ≡ Some field
+pub of_variant_below : (found : Option VariantDef) (i : ℕ) (field : Field) → field_of_variant found i ≡ Some field
     → i < length (fields_or_none found)
 of_variant_below (Some variant) i field e = get_below variant.fields i field e
 of_variant_below None i field e = cc

@@ -27,4 +27,5 @@ pub mod Sized
 pub mod Steps
 pub mod Structs
 pub mod Templates
+pub mod ThreeCalls
 pub mod Tokens

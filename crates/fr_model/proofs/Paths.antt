@@ -25,7 +25,7 @@ as_deep (i ∷ here) _ = ap suc (as_deep here hole)
 
 -- below a place that is changed
 
-changed_nth : (i : ℕ) (change : Tree → Tree) (ts : Trees) → i < count_trees ts
+pub changed_nth : (i : ℕ) (change : Tree → Tree) (ts : Trees) → i < count_trees ts
     → tree_nth i (change_nth i change ts) ≡ change (tree_nth i ts)
 changed_nth i change no_trees below = absurd (omega arith)
 changed_nth zero change (branch t ts) below = refl

@@ -4,6 +4,7 @@ pub mod Complete
 pub mod ContentExamples
 pub mod Contents
 pub mod Covering
+pub mod DefaultLaws
 pub mod Examples
 pub mod Failing
 pub mod FailingLaws

@@ -2,6 +2,7 @@
 ghost use Rattle.fr_model.specs.Agree.{MachineAgrees, StartIsRelated, StepKeepsRelated};
 ghost use Rattle.fr_model.specs.ContentExamples.{DefaultExamples, OptionExamples, PointerExamples, ResultExamples, SelectionExamples, VariantExamples};
 ghost use Rattle.fr_model.specs.Covering.{ScanAgrees, WaysAgree};
+ghost use Rattle.fr_model.specs.DefaultLaws.{DefaultIsThreeCalls};
 ghost use Rattle.fr_model.specs.Examples.{EndRunsValidators};
 ghost use Rattle.fr_model.specs.FailingLaws.{FailuresLieThere, FinishesOrRefuses, FinishOfDone, FirstByWalkIs, LackingFails, NothingFailsOfDone};
 ghost use Rattle.fr_model.specs.FinishLaws.{ClosingKeepsCompletion, ClosingKeepsFailures, ClosingKeepsFailuresOff, ClosingKeepsFinish};
@@ -40,6 +41,11 @@ pub fn law_completes()
     ensures or_fails { CompletesOrFails }
     ensures fits { CompletingFits }
     ensures tokens { CompletingKeepsTokens }
+{}
+
+/// In a state that is in order, setting a field to its default is entering it, setting it to that and leaving it, made as one call.
+pub fn law_default()
+    ensures default { DefaultIsThreeCalls }
 {}
 
 /// Scripts computed through the definitions.
