@@ -22,7 +22,7 @@ use Rattle.fr_model.specs.Variants.{is_enum, variant_numbered, variant_named, va
 use Rattle.fr_model.specs.Tree.{Form, as_some, as_ok, as_err, as_pointer, selected, Tree, whole, change_at, Mode, strict, deferred, State, cursor_shape, cursor_tree, initial, tree_occurs}
 use Rattle.fr_model.specs.Complete.{complete}
 use Rattle.fr_model.specs.Finish.{finished}
-use Rattle.fr_model.specs.Step.{unless_refused, at_shape, was_not_a, named_refusal, is_str, is_string_kind, is_string, takes_shape, field_default, put_child, puts_child, puts_child_default, defaults_field, enters_content, option_kept, content_kept, begin_side, variant_kept, selects, select_found, select, violates, enter_child, enters, puts, puts_default, puts_and_leaves, ended, leaves, end_in, begins_deferred, finishes, finish_in, step, cause, built, build_in, build}
+use Rattle.fr_model.specs.Step.{unless_refused, at_shape, was_not_a, named_refusal, is_str, is_owned_string_kind, is_owned_string, takes_shape, field_default, put_child, puts_child, puts_child_default, defaults_field, enters_content, option_kept, content_kept, begin_side, variant_kept, selects, select_found, select, violates, enter_child, enters, puts, puts_default, puts_and_leaves, ended, leaves, end_in, begins_deferred, finishes, finish_in, step, cause, built, build_in, build}
 use Rattle.fr_model.specs.Scripts.{IsFitting, brings}
 use Rattle.fr_model.specs.Removed.{removed, removed_by, replaced, dropped_unless, dropped_by_selecting, removed_at_build, removed_by_build}
 use Rattle.fr_model.specs.Laws.{held_after, built_occurs, IsFresh}
@@ -454,7 +454,7 @@ build_keeps_tokens hooks table root state checked suits t =
     by_mode (deferred start) = kept (Err (violates Invariant.BuildDeferred)) (λ u e. cc)
 
 -- a text that fits an owned text fits a `str` too
-text_fits : (table : Table) (s given : ℕ) (v : Val) → is_str (def_of table s) ≡ true → is_string (def_of table given) ≡ true
+text_fits : (table : Table) (s given : ℕ) (v : Val) → is_str (def_of table s) ≡ true → is_owned_string (def_of table given) ≡ true
     → fits table given v ≡ true → fits table s v ≡ true
 text_fits table s given v str string fit = go (def_of table s) (def_of table given) refl refl str string
   where
@@ -465,13 +465,13 @@ text_fits table s given v str string fit = go (def_of table s) (def_of table giv
     of_string is from _ fit = let none = rw from at fit in cc
 
     of_kind : (kind : ScalarKind) → def_of table s ≡ Def.Str → def_of table given ≡ Def.Scalar kind
-        → is_string_kind kind ≡ true → fits table s v ≡ true
+        → is_owned_string_kind kind ≡ true → fits table s v ≡ true
     of_kind ScalarKind.String is from string =
         of_string (settled_str table s is) (settled_scalar table given ScalarKind.String from) v fit
     of_kind _ is from string = cc
 
     go : (def from_def : Def) → def_of table s ≡ def → def_of table given ≡ from_def → is_str def ≡ true
-        → is_string from_def ≡ true
+        → is_owned_string from_def ≡ true
         → fits table s v ≡ true
     go Def.Str (Def.Scalar kind) is from str string = of_kind kind is from string
     go Def.Str _ is from str string = cc
@@ -479,10 +479,10 @@ text_fits table s given v str string fit = go (def_of table s) (def_of table giv
 
 taken_fits : (table : Table) (s given : ℕ) (v : Val) → takes_shape table s given ≡ true → fits table given v ≡ true
     → fits table s v ≡ true
-taken_fits table s given v taken fit = go (s == given) (is_str (def_of table s)) (is_string (def_of table given)) refl refl refl taken
+taken_fits table s given v taken fit = go (s == given) (is_str (def_of table s)) (is_owned_string (def_of table given)) refl refl refl taken
   where
     go : (same str string : Bool) → (s == given) ≡ same → is_str (def_of table s) ≡ str
-        → is_string (def_of table given) ≡ string → (same || (str && string)) ≡ true → fits table s v ≡ true
+        → is_owned_string (def_of table given) ≡ string → (same || (str && string)) ≡ true → fits table s v ≡ true
     go true str string same is from e = rw (eqb-true s given same) fit
     go false true true same is from e = text_fits table s given v is from fit
     go false true false same is from e = cc

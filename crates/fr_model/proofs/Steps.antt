@@ -19,7 +19,7 @@ use Rattle.fr_model.specs.Variants.{field_found}
 use Rattle.fr_model.specs.Tree.{Form, as_struct, as_array, variant_of, selected, Tree, hole, entered, begun, whole, Mode, strict, deferred, State, cursor_shape, cursor_tree, one_more_call}
 use Rattle.fr_model.specs.Complete.{complete}
 use Rattle.fr_model.specs.Finish.{finished}
-use Rattle.fr_model.specs.Step.{unless_refused, field_refusal, named_refusal, at_shape, enter_child, enters, begins_named, puts, is_str, is_string, takes_shape, set_refusal, puts_default, violates, ended, leaves, end_in, begins_deferred, finishes, finish_in, step}
+use Rattle.fr_model.specs.Step.{unless_refused, field_refusal, named_refusal, at_shape, enter_child, enters, begins_named, puts, is_str, is_owned_string, takes_shape, set_refusal, puts_default, violates, ended, leaves, end_in, begins_deferred, finishes, finish_in, step}
 use Rattle.fr_model.specs.Scripts.{IsFitting}
 use Rattle.fr_model.specs.Well.{Suits, IsInOrder}
 use Rattle.fr_model.proofs.Plain.{AllPlain}
@@ -227,7 +227,7 @@ module _ (hooks : Meanings) (table : Table) (checked : IsChecked table) (root : 
       let no_str : is_str (def_of table at_here) ≡ false
       = not_str (def_of table at_here)
       (sized_at state.mode table root state.cursor state.tree checked parts order.leads order.suits sized) in
-      ap (λ (b : Bool). at_here == given || (b && is_string (def_of table given))) no_str ∙ or_false (at_here == given)
+      ap (λ (b : Bool). at_here == given || (b && is_owned_string (def_of table given))) no_str ∙ or_false (at_here == given)
     where
       or_false : (b : Bool) → (b || false) ≡ b
       or_false true = refl

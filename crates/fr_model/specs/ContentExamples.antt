@@ -1,7 +1,6 @@
--- Worked examples of enums, options, results, pointers and defaults of fields, computed from the definitions.
+-- Worked examples of enums, options, results and pointers, computed from the definitions.
 use Rattle.std.specs.Prelude.{◌≡◌, ℕ, ℤ, pos, true, false, List, [], ◌∷◌, ◌++◌, Option, Some, None, Result, Ok, Err, codes}
 use Rattle.fr_shape.specs.declared.shape.Def.{Def}
-use Rattle.fr_shape.specs.declared.shape.DefaultSource.{DefaultSource}
 use Rattle.fr_shape.specs.declared.shape.EnumRepr.{EnumRepr}
 use Rattle.fr_shape.specs.declared.shape.Field.{Field}
 use Rattle.fr_shape.specs.declared.shape.KnownPointer.{KnownPointer}
@@ -23,7 +22,7 @@ use Rattle.fr_model.specs.Complete.{missing_field, missing_value}
 use Rattle.fr_model.specs.Removed.{removed}
 use Rattle.fr_model.specs.Run.{Refusal, full_run}
 use Rattle.fr_model.specs.Step.{operation_failed, was_not_a}
-use Rattle.fr_model.specs.Tree.{as_variant, as_some, Tree, hole, whole, begun, no_trees, branch, Mode, strict, deferred}
+use Rattle.fr_model.specs.Tree.{as_variant, as_some, as_ok, as_pointer, Tree, hole, whole, begun, no_trees, branch, Mode, strict, deferred}
 
 -- To write tables, values and scripts
 
@@ -201,7 +200,7 @@ pub record SelectionExamples : Type 0 where
 
 -- Options
 
--- options of a number, of a list, of a struct and of an opaque shape
+-- options of a number, of a list, of a struct, of an opaque shape and of an enum
 abbrev pub options : Table
 options =
     u32
@@ -211,7 +210,15 @@ options =
     ∷ plain_shape (codes "OptU32") (Def.Option (id 0))
     ∷ plain_shape (codes "OptList") (Def.Option (id 1))
     ∷ plain_shape (codes "OptPoint") (Def.Option (id 2))
-    ∷ plain_shape (codes "OptRes") (Def.Option (id 3)) ∷ []
+    ∷ plain_shape (codes "OptRes") (Def.Option (id 3))
+    ∷ plain_shape (codes "Pick") (enum_of EnumRepr.U8 (
+    variant_of_name (codes "A") (plain_field (codes "x") 0 ∷ plain_field (codes "r") 3 ∷ []) (Some (pos 0)) ∷ []
+    ))
+    ∷ plain_shape (codes "OptPick") (Def.Option (id 8)) ∷ []
+
+-- a variant of the enum, in an option
+abbrev pub some_pick : Val
+some_pick = some (variant 0 (two (nat 1) (token 0)))
 
 -- a content is begun and left
 abbrev pub enter_and_leave : List Call
@@ -234,7 +241,7 @@ pub record OptionExamples : Type 0 where
   pub begun_again : Runs options 4 (in_deferred (put_some 0 (nat 5) ++ enter_and_leave)) (Ok (some (nat 5)))
   pub anew_drops : Drops options 7 strict (begun as_some (branch (whole (token 0)) no_trees)) Call.BeginSome 0 1
   pub again_drops_none : Drops options 7 (deferred 0) (begun as_some (branch (whole (token 0)) no_trees)) Call.BeginSome 0 0
-  -- a whole `Some` of a list is entered in place in either mode, one of a struct in deferred mode, and no other
+  -- a whole `Some` of a list is entered in place in either mode, one of a struct or an enum in deferred mode, and no other
   pub list_in_place :
       Runs options 5 (Call.Set 5 (some (list_of (one (nat 1)))) ∷ enter_and_leave) (Ok (some (list_of (one (nat 1)))))
   pub list_in_place_deferred :
@@ -245,20 +252,33 @@ pub record OptionExamples : Type 0 where
   pub struct_in_place :
       Runs options 6 (in_deferred (Call.Set 6 (some (point 1 2)) ∷ Call.BeginSome ∷ put_in 0 0 (nat 9) ++ Call.End ∷ []))
       (Ok (some (point 9 2)))
+  pub enum_anew : Runs options 9 (Call.Set 9 some_pick ∷ enter_and_leave) (refused 2 (missing_value 8) (PathStep.OptionSome ∷ []))
+  pub enum_in_place : Runs options 9 (in_deferred (Call.Set 9 some_pick ∷ enter_and_leave)) (Ok some_pick)
+  -- the enum is whole then, and so has no fields
+  pub enum_is_whole :
+      Runs options 9 (Call.BeginDeferred ∷ Call.Set 9 some_pick ∷ Call.BeginSome ∷ Call.BeginNthField 0 ∷ [])
+      (refused 3 (operation_failed 8 Operation.FieldOfUnselectedVariant) (PathStep.OptionSome ∷ []))
   pub number_anew :
       Runs options 4 (Call.Set 4 (some (nat 5)) ∷ enter_and_leave) (refused 2 (missing_value 0) (PathStep.OptionSome ∷ []))
   pub number_anew_deferred :
       Runs options 4 (in_deferred (Call.Set 4 (some (nat 5)) ∷ enter_and_leave)) (refused 4 (missing_value 0) [])
   pub whole_drops : Drops options 7 (deferred 0) (whole (some (token 0))) Call.BeginSome 0 1
+  pub enum_anew_drops : Drops options 9 strict (whole some_pick) Call.BeginSome 0 1
+  pub in_place_drops_none : Drops options 9 (deferred 0) (whole some_pick) Call.BeginSome 0 0
   pub none_anew : Runs options 4 (Call.Set 4 none ∷ put_some 0 (nat 5)) (Ok (some (nat 5)))
 
 -- Results
 
--- a result of a text and a number, and a struct of two
+-- a result of a text and a number, a struct of two, and a result of an opaque shape and a number
 abbrev pub results : Table
 results =
     u32 ∷ string ∷ plain_shape (codes "R") (Def.Result (id 1) (id 0))
-    ∷ plain_shape (codes "Res2") (struct_of (plain_field (codes "success") 2 ∷ plain_field (codes "failure") 2 ∷ [])) ∷ []
+    ∷ plain_shape (codes "Res2") (struct_of (plain_field (codes "success") 2 ∷ plain_field (codes "failure") 2 ∷ []))
+    ∷ resource ∷ plain_shape (codes "ResOr") (Def.Result (id 4) (id 0)) ∷ []
+
+-- a result that is begun as ok, with a token in it
+abbrev pub ok_with_token : Tree
+ok_with_token = begun as_ok (branch (whole (token 0)) no_trees)
 
 abbrev pub put_ok : List ℕ → List Call
 put_ok content = Call.BeginOk ∷ Call.Set 1 (text content) ∷ Call.End ∷ []
@@ -290,6 +310,11 @@ pub record ResultExamples : Type 0 where
   -- a whole result starts anew in either
   pub whole_anew :
       Runs results 2 (in_deferred (Call.Set 2 (err (nat 1)) ∷ Call.BeginErr ∷ Call.End ∷ [])) (refused 4 (missing_value 0) [])
+  -- a side that starts anew drops what stood there, one that is entered again drops none
+  pub same_side_drops : Drops results 5 strict ok_with_token Call.BeginOk 0 1
+  pub same_side_deferred_drops_none : Drops results 5 (deferred 0) ok_with_token Call.BeginOk 0 0
+  pub other_side_drops : Drops results 5 (deferred 0) ok_with_token Call.BeginErr 0 1
+  pub whole_drops : Drops results 5 (deferred 0) (whole (ok (token 0))) Call.BeginOk 0 1
 
 -- Pointers
 
@@ -313,7 +338,12 @@ boxes =
     ∷ plain_shape (codes "Weak") (Def.Pointer (record { known = None; pointee = None; constructible = true }))
     ∷ plain_shape (codes "Raw") (Def.Pointer (record { known = None; pointee = Some (id 0); constructible = false }))
     ∷ plain_shape (codes "CowStr") (Def.Scalar ScalarKind.CowStr)
-    ∷ plain_shape (codes "BoxU32") (pointer_to (Some KnownPointer.Box) 0) ∷ []
+    ∷ plain_shape (codes "BoxU32") (pointer_to (Some KnownPointer.Box) 0)
+    ∷ resource ∷ plain_shape (codes "BoxRes") (pointer_to (Some KnownPointer.Box) 12) ∷ []
+
+-- a pointer that is begun, with a token behind it
+abbrev pub pointer_to_token : Tree
+pointer_to_token = begun as_pointer (branch (whole (token 0)) no_trees)
 
 abbrev pub put_pointee : (shape : ℕ) → Val → List Call
 put_pointee shape v = Call.BeginSmartPtr ∷ Call.Set shape v ∷ Call.End ∷ []
@@ -336,6 +366,9 @@ pub record PointerExamples : Type 0 where
   pub whole_anew :
       Runs boxes 11 (in_deferred (Call.Set 11 (ptr (nat 1)) ∷ Call.BeginSmartPtr ∷ Call.End ∷ []))
       (refused 4 (missing_value 0) [])
+  pub anew_drops : Drops boxes 13 strict pointer_to_token Call.BeginSmartPtr 0 1
+  pub again_drops_none : Drops boxes 13 (deferred 0) pointer_to_token Call.BeginSmartPtr 0 0
+  pub whole_drops : Drops boxes 13 (deferred 0) (whole (ptr (token 0))) Call.BeginSmartPtr 0 1
   -- of several refusals the first
   pub no_pointer : begins_pointer 0 Operation.PointerNotConstructible
   pub not_constructible : begins_pointer 9 Operation.PointerNotConstructible
@@ -353,70 +386,3 @@ pub record PointerExamples : Type 0 where
   pub own_shape : Runs boxes 3 (put_pointee 2 (text (codes "hi"))) (Ok (ptr (text (codes "hi"))))
   pub no_str_at_string :
       Runs boxes 1 (Call.Set 2 (text (codes "hi")) ∷ []) (refused_first (ReflectErrorKind.WrongShape (id 1) (id 2)))
-
--- Defaults of fields
-
-abbrev pub marked : Field → DefaultSource → Field
-marked field source = record field { default = Some source }
-
--- fields marked with a default of their own, marked for that of their shape, and unmarked; and enums with such fields
-abbrev pub defaults : Table
-defaults =
-    with_preset u32 (nat 0) ∷ resource
-    ∷ plain_shape (codes "Own") (struct_of (marked (plain_field (codes "a") 0) (DefaultSource.Custom (nat 5)) ∷ []))
-    ∷ plain_shape (codes "Both") (struct_of (
-    marked (plain_field (codes "a") 0) DefaultSource.FromTrait ∷ marked (plain_field (codes "b") 1) DefaultSource.FromTrait ∷ []
-    ))
-    ∷ plain_shape (codes "Bare") (struct_of (plain_field (codes "a") 0 ∷ plain_field (codes "b") 1 ∷ []))
-    ∷ with_preset (plain_shape (codes "Preset") (enum_of EnumRepr.U8 (
-    variant_of_name (codes "A") (plain_field (codes "a") 0 ∷ []) (Some (pos 0)) ∷ []
-    ))) (variant 0 (one (nat 1)))
-    ∷ record (plain_shape (codes "Attr") (enum_of EnumRepr.U8 (
-    variant_of_name (codes "A") (plain_field (codes "a") 0 ∷ []) (Some (pos 0)) ∷ []
-    ))) { default_attr = true }
-    ∷ plain_shape (codes "Marked") (enum_of EnumRepr.U8 (
-    variant_of_name (codes "A") (marked (plain_field (codes "a") 1) DefaultSource.FromTrait ∷ []) (Some (pos 0)) ∷ []
-    ))
-    ∷ plain_shape (codes "Option") (Def.Option (id 0)) ∷ []
-
-abbrev pub set_to_default : ℕ → Call
-set_to_default i = Call.SetNthFieldToDefault i
-
-abbrev pub first_variant : Call
-first_variant = Call.SelectNthVariant 0
-
-pub record DefaultExamples : Type 0 where
-  pub own : Runs defaults 2 (set_to_default 0 ∷ []) (Ok (product (one (nat 5))))
-  pub of_shape : Runs defaults 3 (set_to_default 0 ∷ put_in 1 1 (token 0)) (Ok (product (two (nat 0) (token 0))))
-  pub unmarked : Runs defaults 4 (set_to_default 0 ∷ put_in 1 1 (token 0)) (Ok (product (two (nat 0) (token 0))))
-  pub of_shape_deferred :
-      Runs defaults 3 (in_deferred (set_to_default 0 ∷ put_in 1 1 (token 0))) (Ok (product (two (nat 0) (token 0))))
-  pub in_place_of_another : Runs defaults 2 (put_in 0 0 (nat 9) ++ set_to_default 0 ∷ []) (Ok (product (one (nat 5))))
-  pub of_whole :
-      Runs defaults 4 (Call.Set 4 (product (two (nat 9) (token 0))) ∷ set_to_default 0 ∷ [])
-      (Ok (product (two (nat 0) (token 0))))
-  pub marked_without : Runs defaults 3 (set_to_default 1 ∷ []) (refused_first (operation_failed 1 Operation.NoDefault))
-  pub unmarked_without :
-      Runs defaults 4 (set_to_default 1 ∷ []) (refused_first (ReflectErrorKind.DefaultAttrButNoDefaultImpl (id 1)))
-  pub no_such_field :
-      Runs defaults 4 (set_to_default 2 ∷ []) (refused_first (operation_failed 4 Operation.FieldIndexOutOfBounds))
-  pub of_a_number :
-      Runs defaults 0 (set_to_default 0 ∷ []) (refused_first (operation_failed 0 Operation.NamedFieldOfPrimitive))
-  pub of_an_option : Runs defaults 8 (set_to_default 0 ∷ []) (refused_first (operation_failed 8 Operation.FieldOfOther))
-  pub unselected :
-      Runs defaults 6 (set_to_default 0 ∷ []) (refused_first (operation_failed 6 Operation.NamedFieldOfUnselectedVariant))
-  pub of_variant : Runs defaults 6 (first_variant ∷ set_to_default 0 ∷ []) (Ok (variant 0 (one (nat 0))))
-  pub no_such_variant_field :
-      Runs defaults 6 (first_variant ∷ set_to_default 1 ∷ [])
-      (refused 1 (operation_failed 6 Operation.FieldIndexOutOfBounds) [])
-  -- a variant's hole doesn't take its shape's default for its enum's preset, but for its enum's attribute in deferred mode
-  pub no_fill_by_preset : Runs defaults 5 (first_variant ∷ []) (refused 1 (missing_field 5 (Some 0) 0) [])
-  pub no_fill_by_preset_deferred :
-      Runs defaults 5 (in_deferred (first_variant ∷ [])) (refused 2 (missing_field 5 (Some 0) 0) [])
-  pub fill_by_attribute : Runs defaults 6 (in_deferred (first_variant ∷ [])) (Ok (variant 0 (one (nat 0))))
-  pub no_fill_by_attribute : Runs defaults 6 (first_variant ∷ []) (refused 1 (missing_field 6 (Some 0) 0) [])
-  pub marked_hole :
-      Runs defaults 7 (in_deferred (first_variant ∷ []))
-      (refused 2 (ReflectErrorKind.DefaultAttrButNoDefaultImpl (id 1)) [])
-  pub drops_child : Drops defaults 4 strict (whole (product (two (nat 9) (token 0)))) (set_to_default 0) 0 0
-  pub drops_other : Drops foo_bar 2 strict (begun (as_variant 1) (branch hole (branch (whole (token 0)) no_trees))) (set_to_default 1) 0 1

@@ -1,16 +1,15 @@
 -- Options, results, pointers and enums as places: what is kept of one at which something is begun, and how it starts anew.
-use Rattle.std.specs.Prelude.{ℕ, Bool, true, false, ◌&&◌, ◌||◌, length, Option, Some, None, if◌then◌else◌}
+use Rattle.std.specs.Prelude.{ℕ, Bool, true, false, length, Option, Some, None, if◌then◌else◌}
 use Rattle.std.specs.Option.{option_map}
 use Rattle.fr_shape.specs.declared.shape.Def.{Def}
 use Rattle.fr_shape.specs.declared.shape.KnownPointer.{KnownPointer}
 use Rattle.fr_shape.specs.declared.shape.ShapeId.{ShapeId}
 use Rattle.fr_shape.specs.declared.error.Operation.{Operation}
-use Rattle.fr_shape.specs.Fills.{is_collection}
 use Rattle.fr_shape.specs.Look.{Table, def_of}
 use Rattle.fr_shape.specs.Val.{Val, some}
 use Rattle.fr_path.specs.Places.{owns}
 use Rattle.fr_model.specs.Tree.{Form, as_variant, as_some, same_form, Tree, hole, entered, whole, begun, no_trees, branch, child_as, holes, fresh, Mode, strict, deferred}
-use Rattle.fr_model.specs.Variants.{is_enum, variant_fields}
+use Rattle.fr_model.specs.Variants.{variant_fields}
 
 abbrev pub is_result : Def → Bool
 is_result (Def.Result t e) = true
@@ -81,19 +80,25 @@ abbrev pub is_deferred : Mode → Bool
 is_deferred strict = false
 is_deferred (deferred start) = true
 
-abbrev pub is_dynamic : Def → Bool
-is_dynamic Def.Dynamic = true
-is_dynamic _ = false
-
-abbrev pub is_struct : Def → Bool
-is_struct (Def.Struct struct) = true
-is_struct _ = false
-
 -- A whole `Some` of a content of this definition is entered in place: a list, map, set or dynamic value, to which more can be added;
 -- in deferred mode a struct or an enum too, whose fields can be set.
 abbrev pub is_entered_in_place : Mode → (content : Def) → Bool
-is_entered_in_place mode content =
-    is_collection content || is_dynamic content || (is_deferred mode && (is_struct content || is_enum content))
+is_entered_in_place mode (Def.List t) = true
+is_entered_in_place mode (Def.Map key item) = true
+is_entered_in_place mode (Def.Set t) = true
+is_entered_in_place mode Def.Dynamic = true
+is_entered_in_place mode (Def.Struct struct) = is_deferred mode
+is_entered_in_place mode (Def.Enum enumeration) = is_deferred mode
+is_entered_in_place mode (Def.Scalar kind) = false
+is_entered_in_place mode Def.Str = false
+is_entered_in_place mode Def.Opaque = false
+is_entered_in_place mode (Def.Option t) = false
+is_entered_in_place mode (Def.Result t e) = false
+is_entered_in_place mode (Def.Array t n) = false
+is_entered_in_place mode (Def.Pointer pointer) = false
+is_entered_in_place mode (Def.Slice t) = false
+is_entered_in_place mode Def.Undefined = false
+is_entered_in_place mode Def.Other = false
 
 -- what a whole option holds
 abbrev pub content_of : Val → Option Val

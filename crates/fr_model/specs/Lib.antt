@@ -4,11 +4,13 @@ pub mod Complete
 pub mod ContentExamples
 pub mod Contents
 pub mod Covering
+pub mod DefaultExamples
 pub mod DefaultLaws
 pub mod Examples
 pub mod Failing
 pub mod FailingLaws
 pub mod Finish
+pub mod FinishExamples
 pub mod FinishLaws
 pub mod Finishing
 pub mod Journal

@@ -22,7 +22,8 @@ EnteringAddsAStep =
     → path_of (enters table (cursor_shape table root state) state i)
     ≡ path_of state ++ step_as (form_at (def_of table (cursor_shape table root state)) (cursor_tree state)) i ∷ []
 
--- entering either side of a result, or what a pointer points to, adds the step to it
+-- entering child 0 of a place that is begun in a form, kept or anew, adds that form's step: either side of a result, and what a
+-- pointer points to, are entered so
 abbrev pub EnteringContentAddsAStep : Type 0
 EnteringContentAddsAStep =
     (table : Table) (root : ℕ) (state : State) (form : Form) → IsInOrder table root state

@@ -24,7 +24,8 @@ up [] = []
 up (i ∷ []) = []
 up (i ∷ j ∷ place) = i ∷ up (j ∷ place)
 
--- how many children a place of a definition has: one for each field of a struct, one for each element of an array
+-- How many children a struct's or an array's place has: one for each field, one for each element. None is counted of any other
+-- definition: a variant's fields, and the one thing that an option, a result or a pointer holds, are counted by what is begun.
 abbrev pub count_children : Def → ℕ
 count_children (Def.Struct struct) = length struct.fields
 count_children (Def.Array t n) = n
@@ -118,7 +119,8 @@ fill_in column table s selected i = fill_of_field column table s (is_some select
 abbrev pub fill_at : Column → Table → ℕ → ℕ → Option Val
 fill_at column table s i = fill_in column table s None i
 
--- the shape of the place that this way leads to, from a place of shape s
+-- The shape of the place that this way leads to, from a place of shape s, through structs and arrays alone: shape_in goes by
+-- what is begun, and so through any place.
 abbrev pub shape_at : Table → ℕ → Place → ℕ
 shape_at table s [] = s
 shape_at table s (i ∷ place) = shape_at table (child_shape table s i) place

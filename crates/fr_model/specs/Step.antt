@@ -166,18 +166,33 @@ abbrev pub is_str : Def → Bool
 is_str Def.Str = true
 is_str _ = false
 
-abbrev pub is_string_kind : ScalarKind → Bool
-is_string_kind ScalarKind.String = true
-is_string_kind _ = false
+-- a text that may be borrowed is none
+abbrev pub is_owned_string_kind : ScalarKind → Bool
+is_owned_string_kind ScalarKind.String = true
+is_owned_string_kind ScalarKind.CowStr = false
+is_owned_string_kind ScalarKind.Bool = false
+is_owned_string_kind ScalarKind.Char = false
+is_owned_string_kind ScalarKind.I8 = false
+is_owned_string_kind ScalarKind.I16 = false
+is_owned_string_kind ScalarKind.I32 = false
+is_owned_string_kind ScalarKind.I64 = false
+is_owned_string_kind ScalarKind.I128 = false
+is_owned_string_kind ScalarKind.ISize = false
+is_owned_string_kind ScalarKind.U8 = false
+is_owned_string_kind ScalarKind.U16 = false
+is_owned_string_kind ScalarKind.U32 = false
+is_owned_string_kind ScalarKind.U64 = false
+is_owned_string_kind ScalarKind.U128 = false
+is_owned_string_kind ScalarKind.USize = false
 
 -- an owned text
-abbrev pub is_string : Def → Bool
-is_string (Def.Scalar kind) = is_string_kind kind
-is_string _ = false
+abbrev pub is_owned_string : Def → Bool
+is_owned_string (Def.Scalar kind) = is_owned_string_kind kind
+is_owned_string _ = false
 
 -- set takes a value of the place's own shape, and at a `str` an owned text
 abbrev pub takes_shape : Table → (s given : ℕ) → Bool
-takes_shape table s given = s == given || (is_str (def_of table s) && is_string (def_of table given))
+takes_shape table s given = s == given || (is_str (def_of table s) && is_owned_string (def_of table given))
 
 -- set is refused with any other value
 abbrev pub set_refusal : Table → ℕ → ℕ → Option ReflectErrorKind
@@ -234,7 +249,8 @@ defaults_field table s state i (Some kind) field = Err kind
 defaults_field table s state i None (Some field) = puts_child_default table s state i (field_default table field)
 defaults_field table s state i None None = Err (operation_failed s Operation.FieldIndexOutOfBounds)
 
--- set_nth_field_to_default is refused where begin_field is, whatever the name, and where there is no such field; it is one call
+-- set_nth_field_to_default is refused where begin_field is, whatever the name; where there is no such field; and where that field
+-- has no default. It is one call.
 abbrev pub set_nth_field_to_default : Table → ℕ → State → ℕ → Result State ReflectErrorKind
 set_nth_field_to_default table s state i =
     defaults_field table s state i (at_shape s (named_refusal (def_of table s) (cursor_tree state)))

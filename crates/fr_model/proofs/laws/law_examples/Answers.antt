@@ -59,9 +59,14 @@ returns-clause-options c = record {
   list_in_place_deferred = refl;
   struct_anew = refl;
   struct_in_place = refl;
+  enum_anew = refl;
+  enum_in_place = refl;
+  enum_is_whole = refl;
   number_anew = refl;
   number_anew_deferred = refl;
   whole_drops = refl;
+  enum_anew_drops = refl;
+  in_place_drops_none = refl;
   none_anew = refl;
 }
 
@@ -78,6 +83,10 @@ returns-clause-results c = record {
   other_side_deferred = refl;
   other_side_anew = refl;
   whole_anew = refl;
+  same_side_drops = refl;
+  same_side_deferred_drops_none = refl;
+  other_side_drops = refl;
+  whole_drops = refl;
 }
 
 pub returns-clause-pointers : goal.returns-clause-pointers
@@ -88,6 +97,9 @@ returns-clause-pointers c = record {
   begun_anew = refl;
   begun_again = refl;
   whole_anew = refl;
+  anew_drops = refl;
+  again_drops_none = refl;
+  whole_drops = refl;
   no_pointer = refl;
   not_constructible = refl;
   no_pointee = refl;
@@ -121,6 +133,40 @@ returns-clause-defaults c = record {
   fill_by_attribute = refl;
   no_fill_by_attribute = refl;
   marked_hole = refl;
+  own_of_variant = refl;
+  own_of_variant_deferred = refl;
+  marked_of_variant = refl;
+  marked_of_variant_deferred = refl;
+  skipped_of_variant = refl;
+  skipped_of_variant_deferred = refl;
   drops_child = refl;
-  drops_other = refl;
+  keeps_other = refl;
+  drops_part = refl;
+  keeps_other_part = refl;
+  refused_drops = refl;
+}
+
+pub returns-clause-checks : goal.returns-clause-checks
+returns-clause-checks c = record {
+  large = refl;
+  large_deferred = refl;
+  small = refl;
+  small_deferred = refl;
+  small_fill = refl;
+  small_fill_deferred = refl;
+  small_default = refl;
+}
+
+pub returns-clause-finishes : goal.returns-clause-finishes
+returns-clause-finishes c = record {
+  content_is_deeper = refl;
+  pointee_is_deeper = refl;
+  first_field_is_told = refl;
+  cursor_is_last = refl;
+  inside_option = refl;
+  inside_side = refl;
+  inside_side_whole = refl;
+  inside_pointer = refl;
+  inside_option_half_done = refl;
+  above_starts_anew = refl;
 }
