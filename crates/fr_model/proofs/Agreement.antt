@@ -14,7 +14,8 @@ use Rattle.fr_model.specs.Places.{Place, Column, count_children, child_count, on
 use Rattle.fr_model.specs.Journal.{Note, entered_at, wrote_at, Journal, Held, in_parts, written, just_entered, untouched, held, longest, entered_struct, by_entered, entered_value, by_held, by_parts, child_makes, completes_within, completes}
 use Rattle.fr_model.specs.Tree.{Form, as_struct, as_array, Tree, hole, entered, whole, begun, Trees, no_trees, branch, tree_nth, change_nth, tree_at, change_at, shape_in, child_as, count_trees, Mode}
 use Rattle.fr_model.specs.Complete.{complete, complete_all, valid_child, hole_takes, made, made_by, made_of_entered}
-use Rattle.fr_model.specs.Well.{IsBegunAs, Suits, OffBut, Leads}
+use Rattle.fr_model.specs.Well.{IsBegunAs, IsTouched, Suits, OffBut, Leads}
+use Rattle.fr_model.specs.Relation.{HasParts}
 use Rattle.fr_model.proofs.Beneath.{down, along, each_same, child_value, held_down, completes_down, completes_along, longest_down, longest_along, parts_long}
 use Rattle.fr_model.proofs.Structs.{made_product, SuitFrom}
 use Rattle.fr_model.proofs.Templates.{option_preset}
@@ -31,7 +32,8 @@ abbrev mutual
   Agrees table s notes hole = held notes [] ≡ untouched
   Agrees table s notes entered = held notes [] ≡ just_entered
   Agrees table s notes (whole v) = IsWhole table s v (held notes [])
-  Agrees table s notes (begun form ts) = (held notes [] ≡ in_parts) × AgreeAll table s form notes 0 ts
+  Agrees table s notes (begun form ts) =
+      (held notes [] ≡ in_parts) × AgreeAll table s form notes 0 ts × HasParts form
 
   pub AgreeAll : Table → ℕ → Form → Journal → ℕ → Trees → Type 0
   AgreeAll table s form notes i no_trees = Unit {0}
@@ -54,27 +56,32 @@ by_just_entered h parts of_entered e = rw e refl
 by_untouched : (h : Held) (parts of_entered : Option Val) → h ≡ untouched → by_held h parts of_entered ≡ None
 by_untouched h parts of_entered e = rw e refl
 
-pub begun_count : (def : Def) (form : Form) (n : ℕ) → IsBegunAs def form n → n ≡ count_children def
-begun_count (Def.Struct struct) as_struct n begun_as = begun_as.0
-begun_count (Def.Array t m) as_array n begun_as = begun_as.0
-begun_count _ _ n begun_as = absurd begun_as.0
+pub begun_count : (def : Def) (form : Form) (n : ℕ) → HasParts form → IsBegunAs def form n → n ≡ count_children def
+begun_count (Def.Struct struct) as_struct n parts begun_as = begun_as.0
+begun_count (Def.Array t m) as_array n parts begun_as = begun_as.0
+begun_count _ as_struct n parts begun_as = absurd begun_as.0
+begun_count _ as_array n parts begun_as = absurd begun_as.0
+begun_count _ _ n parts begun_as = absurd parts
 
 -- what is begun has parts
-begun_makes : (def : Def) (form : Form) (n : ℕ) (of_parts : Option Val) → IsBegunAs def form n
+begun_makes : (def : Def) (form : Form) (n : ℕ) (of_parts : Option Val) → HasParts form → IsBegunAs def form n
     → by_parts def of_parts ≡ of_parts
-begun_makes (Def.Struct struct) as_struct n of_parts begun_as = refl
-begun_makes (Def.Array t m) as_array n of_parts begun_as = refl
-begun_makes _ _ n of_parts begun_as = absurd begun_as.0
+begun_makes (Def.Struct struct) as_struct n of_parts parts begun_as = refl
+begun_makes (Def.Array t m) as_array n of_parts parts begun_as = refl
+begun_makes _ as_struct n of_parts parts begun_as = absurd begun_as.0
+begun_makes _ as_array n of_parts parts begun_as = absurd begun_as.0
+begun_makes _ _ n of_parts parts begun_as = absurd parts
 
 -- a hole takes what the journal says of an untouched child
-pub begun_takes : (column : Column) (table : Table) (s : ℕ) (form : Form) (n : ℕ) → IsBegunAs (def_of table s) form n → (k : ℕ)
-    → fill_at column table s k ≡ hole_takes column table s form k
-begun_takes column table s as_struct n count k = refl
-begun_takes column table s as_array n count k = go (def_of table s) count
+pub begun_takes : (column : Column) (table : Table) (s : ℕ) (form : Form) (n : ℕ) → HasParts form
+    → IsBegunAs (def_of table s) form n → (k : ℕ) → fill_at column table s k ≡ hole_takes column table s form k
+begun_takes column table s as_struct n parts count k = refl
+begun_takes column table s as_array n parts count k = go (def_of table s) count
   where
     go : (def : Def) → IsBegunAs def as_array n → fill_of_field column table s false (field_in def None k) ≡ None
     go (Def.Array t m) count = refl
     go _ count = absurd count.0
+begun_takes column table s _ n parts count k = absurd parts
 
 -- an entered place
 
@@ -86,7 +93,7 @@ entered_same column hooks table s checked plain fields =
     (product_of (each_child (λ k. valid_child hooks table s as_struct k (fill_at column table s k)) (child_count table s) 0))
     (ap product_of
     (each_same (λ k. fill_at column table s k) (λ k. valid_child hooks table s as_struct k (fill_at column table s k))
-    (child_count table s) 0 (λ k. sym (valid_same hooks table s as_struct k (fill_at column table s k) plain)))) fields
+    (child_count table s) 0 (λ k. sym (valid_same hooks table s as_struct k (fill_at column table s k) tt plain)))) fields
   where
     with_fields : (all : List Field) (preset fills valid : Option Val) → fills ≡ valid → is_nil all ≡ false
         → entered_struct (length all) preset fills ≡ option_or preset valid
@@ -127,11 +134,6 @@ whole_same column table s v h parts (by_entry e none is) =
 
 -- a child that isn't a hole makes its own value
 
--- a tree that isn't a hole
-abbrev pub IsTouched : Tree → Type 0
-IsTouched hole = ⊥
-IsTouched _ = Unit {0}
-
 makes_own : (table : Table) (s : ℕ) (t : Tree) (notes : Journal) (fill own : Option Val) → IsTouched t
     → Agrees table s notes t → child_makes (held notes []) fill own ≡ own
 makes_own table s hole notes fill own touched agrees = absurd touched
@@ -143,23 +145,25 @@ makes_own table s (begun form ts) notes fill own touched agrees = rw agrees.0 re
 hole_makes : (h : Held) (fill own : Option Val) → h ≡ untouched → child_makes h fill own ≡ fill
 hole_makes h fill own e = rw e refl
 
-pub child_as_is : (table : Table) (s : ℕ) (form : Form) (i : ℕ) → child_as table s form i ≡ child_shape table s i
-child_as_is table s as_struct i = refl
-child_as_is table s as_array i = refl
+pub child_as_is : (table : Table) (s : ℕ) (form : Form) (i : ℕ) → HasParts form
+    → child_as table s form i ≡ child_shape table s i
+child_as_is table s as_struct i parts = refl
+child_as_is table s as_array i parts = refl
+child_as_is table s _ i parts = absurd parts
 
 touched_child : (column : Column) (hooks : Meanings) (table : Table) (s : ℕ) (form : Form) (i : ℕ) (t : Tree) (notes : Journal)
-    (steps : ℕ) → AllPlain table s → IsTouched t → Agrees table (child_as table s form i) (down i notes) t
+    (steps : ℕ) → HasParts form → AllPlain table s → IsTouched t → Agrees table (child_as table s form i) (down i notes) t
     → completes_within column table steps (down i notes) (child_as table s form i) []
     ≡ complete column hooks table (child_as table s form i) t
     → child_value column table steps notes s [] i
     ≡ valid_child hooks table s form i (complete column hooks table (child_as table s form i) t)
-touched_child column hooks table s form i t notes steps plain touched agrees e =
+touched_child column hooks table s form i t notes steps parts plain touched agrees e =
     ap₂ (λ (h : Held) (own : Option Val). child_makes h (fill_at column table s i) own) (held_down i notes [])
     (completes_down column table steps notes (child_shape table s i) i []
-    ∙ ap (λ (m : ℕ). completes_within column table steps (down i notes) m []) (sym (child_as_is table s form i)) ∙ e)
+    ∙ ap (λ (m : ℕ). completes_within column table steps (down i notes) m []) (sym (child_as_is table s form i parts)) ∙ e)
     ∙ makes_own table (child_as table s form i) t (down i notes) (fill_at column table s i)
     (complete column hooks table (child_as table s form i) t) touched agrees
-    ∙ sym (valid_same hooks table s form i (complete column hooks table (child_as table s form i) t) plain)
+    ∙ sym (valid_same hooks table s form i (complete column hooks table (child_as table s form i) t) parts plain)
 
 mutual
   pub completes_tree : (column : Column) (hooks : Meanings) (table : Table) (t : Tree) (steps s : ℕ) (notes : Journal)
@@ -173,37 +177,38 @@ mutual
       whole_same column table s v (held notes []) _ agrees
   completes_tree column hooks table (begun form ts) steps s notes checked plain suits agrees long =
       by_in_parts (held notes []) _ _ agrees.0
-      ∙ begun_makes (def_of table s) form (count_trees ts) _ suits.0
+      ∙ begun_makes (def_of table s) form (count_trees ts) _ agrees.2 suits.0
       ∙ ap (λ (n : ℕ). product_of (each_child (child_value column table steps notes s []) n 0))
-      (sym (begun_count (def_of table s) form (count_trees ts) suits.0))
-      ∙ sym (made_product form (each_child (child_value column table steps notes s []) (count_trees ts) 0))
+      (sym (begun_count (def_of table s) form (count_trees ts) agrees.2 suits.0))
+      ∙ sym (made_product form (each_child (child_value column table steps notes s []) (count_trees ts) 0) agrees.2)
       ∙ ap (made form)
-      (children_complete column hooks table ts steps s form 0 notes checked plain
-      (let count : count_trees ts ≡ child_count table s = begun_count (def_of table s) form (count_trees ts) suits.0 in omega arith)
-      (begun_takes column table s form (count_trees ts) suits.0) suits.1 agrees.1 (parts_long notes agrees.0) (omega arith))
+      (children_complete column hooks table ts steps s form 0 notes agrees.2 checked plain
+      (let count : count_trees ts ≡ child_count table s = begun_count (def_of table s) form (count_trees ts) agrees.2 suits.0 in
+      omega arith)
+      (begun_takes column table s form (count_trees ts) agrees.2 suits.0) suits.1 agrees.1 (parts_long notes agrees.0) (omega arith))
 
   children_complete : (column : Column) (hooks : Meanings) (table : Table) (ts : Trees) (steps s : ℕ) (form : Form) (i : ℕ)
-      (notes : Journal) → IsChecked table → AllPlain table s → i + count_trees ts ≡ child_count table s
+      (notes : Journal) → HasParts form → IsChecked table → AllPlain table s → i + count_trees ts ≡ child_count table s
       → ((k : ℕ) → fill_at column table s k ≡ hole_takes column table s form k) → SuitFrom table s form i ts
       → AgreeAll table s form notes i ts → 1 ≤ longest notes → longest notes ≤ steps
       → each_child (child_value column table steps notes s []) (count_trees ts) i ≡ complete_all column hooks table s form i ts
-  children_complete column hooks table no_trees steps s form i notes checked plain count takes suits agrees some long = refl
-  children_complete column hooks table (branch t ts) zero s form i notes checked plain count takes suits agrees some long =
+  children_complete column hooks table no_trees steps s form i notes parts checked plain count takes suits agrees some long = refl
+  children_complete column hooks table (branch t ts) zero s form i notes parts checked plain count takes suits agrees some long =
       absurd (omega arith)
-  children_complete column hooks table (branch hole ts) (suc steps) s form i notes checked plain count takes suits agrees some
+  children_complete column hooks table (branch hole ts) (suc steps) s form i notes parts checked plain count takes suits agrees some
       long =
       ap₂ one_more
       (hole_makes (held notes (i ∷ [])) (fill_at column table s i) _ (held_down i notes [] ∙ agrees.0)
-      ∙ takes i ∙ sym (valid_same hooks table s form i (hole_takes column table s form i) plain))
-      (children_complete column hooks table ts (suc steps) s form (suc i) notes checked plain (omega arith) takes suits.1 agrees.1 some
+      ∙ takes i ∙ sym (valid_same hooks table s form i (hole_takes column table s form i) parts plain))
+      (children_complete column hooks table ts (suc steps) s form (suc i) notes parts checked plain (omega arith) takes suits.1 agrees.1 some
       long)
-  children_complete column hooks table (branch t ts) (suc steps) s form i notes checked plain count takes suits agrees some long =
+  children_complete column hooks table (branch t ts) (suc steps) s form i notes parts checked plain count takes suits agrees some long =
       let below : longest (down i notes) < suc steps = omega (arith, longest_down i notes) in
       ap₂ one_more
-      (touched_child column hooks table s form i t notes (suc steps) plain tt agrees.0
+      (touched_child column hooks table s form i t notes (suc steps) parts plain tt agrees.0
       (completes_tree column hooks table t steps (child_as table s form i) (down i notes) checked
-      (plain_child table s form i (omega arith) plain) suits.0 agrees.0 below))
-      (children_complete column hooks table ts (suc steps) s form (suc i) notes checked plain (omega arith) takes suits.1 agrees.1 some
+      (plain_child table s form i parts (omega arith) plain) suits.0 agrees.0 below))
+      (children_complete column hooks table ts (suc steps) s form (suc i) notes parts checked plain (omega arith) takes suits.1 agrees.1 some
       long)
 
 -- one child that agrees with something else
@@ -318,6 +323,7 @@ follow mode table s (i ∷ here) (begun form ts) notes note change leads agrees 
       (sym (down_same i (under here note) notes))
       (follow mode table (child_as table s form i) here (tree_nth i ts) (down i notes) note change
       (leads_child mode i (λ c. Leads mode here c) ts leads) child step)),
+  agrees.2,
 )
 follow mode table s (i ∷ here) _ notes note change leads agrees step = absurd leads
 

@@ -4,6 +4,7 @@ use Rattle.std.specs.Str.{bytes_eq}
 use Rattle.fr_shape.specs.declared.shape.Def.{Def}
 use Rattle.fr_shape.specs.declared.shape.ShapeId.{ShapeId}
 use Rattle.fr_shape.specs.declared.shape.StructDef.{StructDef}
+use Rattle.fr_shape.specs.declared.shape.EnumDef.{EnumDef}
 use Rattle.fr_shape.specs.declared.shape.Field.{Field}
 use Rattle.fr_shape.specs.declared.error.Operation.{Operation}
 use Rattle.fr_shape.specs.Look.{Table, def_of}
@@ -11,11 +12,12 @@ use Rattle.fr_shape.specs.Val.{Val}
 use Rattle.fr_shape.specs.Named.{first_declared, field_named}
 use Rattle.fr_model.specs.Places.{array_limit, count_children}
 use Rattle.fr_model.specs.Journal.{Journal, Held, held, is_written, may_enter_children}
-use Rattle.fr_model.specs.Tree.{Tree, hole, entered, whole, begun, Mode}
+use Rattle.fr_model.specs.Tree.{Form, as_variant, selected, Tree, hole, entered, whole, begun, count_trees, Mode}
 use Rattle.fr_model.specs.Step.{field_refusal, named_refusal}
-use Rattle.fr_model.specs.Well.{AtCursor}
+use Rattle.fr_model.specs.Variants.{variant_fields, field_found}
+use Rattle.fr_model.specs.Well.{IsFullAs, Suits, AtCursor}
 use Rattle.fr_model.proofs.Agreement.{IsWhole, by_value, by_entry, Agrees}
-use Rattle.fr_model.proofs.Opening.{IsOpen, Enterable, a_field, an_element}
+use Rattle.fr_model.proofs.Opening.{IsOpen, Enterable, a_field, an_element, a_variant_field}
 
 -- of an array, the journal holds a value exactly where the tree has one
 
@@ -56,14 +58,19 @@ may_enter_by def i h = nat_lt i (count_children def) && may_enter_children def h
 pub data ChildOf (def : Def) (i : ℕ) (t : Tree) : Type 0 where
   field_of : (struct : StructDef) → def ≡ Def.Struct struct → i < length struct.fields → ChildOf def i t
   element_of : (item : ShapeId) (n : ℕ) → def ≡ Def.Array item n → i < n → n ≤ array_limit → IsOpen t → ChildOf def i t
+  variant_field_of : (k : ℕ) (enumeration : EnumDef) → def ≡ Def.Enum enumeration → selected t ≡ Some k
+      → i < length (variant_fields def k) → ChildOf def i t
 
 pub enterable : (table : Table) (s i : ℕ) (t : Tree) → ChildOf (def_of table s) i t → Enterable table s i t
 enterable table s i t (field_of struct is below) = a_field struct is below
 enterable table s i t (element_of item n is below few not_whole) = an_element item n is below few not_whole
+enterable table s i t (variant_field_of k enumeration is chosen below) = a_variant_field k enumeration is chosen below
 
+-- a child that the journal may enter too, one of a variant, which the journal doesn't know, or none
 pub data ChildCase (def : Def) (i : ℕ) (t : Tree) : Type 0 where
   a_child : ChildOf def i t → field_refusal def t i ≡ None
       → ((h : Held) → SeesWhole def t h → may_enter_by def i h ≡ true) → ChildCase def i t
+  a_variant_child : (k : ℕ) → ChildOf def i t → field_refusal def t i ≡ None → selected t ≡ Some k → ChildCase def i t
   no_child : (operation : Operation) → field_refusal def t i ≡ Some operation
       → ((h : Held) → SeesWhole def t h → may_enter_by def i h ≡ false) → ChildCase def i t
 
@@ -89,11 +96,24 @@ array_case item n i entered true true e f =
 array_case item n i (begun form ts) true true e f =
     a_child (element_of item n refl (ltb-true i n e) (leb-true n array_limit f) tt) (rw (e, f) refl) (λ h sees. rw (e, f, sees) refl)
 
+variant_case : (enumeration : EnumDef) (i : ℕ) (t : Tree) (chosen : Option ℕ) → selected t ≡ chosen
+    → ChildCase (Def.Enum enumeration) i t
+variant_case enumeration i t None is =
+    no_child Operation.FieldOfUnselectedVariant (rw is refl) (λ h sees. rw (nothing_below i) refl)
+variant_case enumeration i t (Some k) is = go (nat_lt i (length (variant_fields (Def.Enum enumeration) k))) refl
+  where
+    go : (b : Bool) → nat_lt i (length (variant_fields (Def.Enum enumeration) k)) ≡ b → ChildCase (Def.Enum enumeration) i t
+    go true e =
+        a_variant_child k
+        (variant_field_of k enumeration refl is (ltb-true i (length (variant_fields (Def.Enum enumeration) k)) e))
+        (rw (is, e) refl) is
+    go false e =
+        no_child Operation.VariantFieldIndexOutOfBounds (rw (is, e) refl) (λ h sees. rw (nothing_below i) refl)
+
 pub child_case : (def : Def) (i : ℕ) (t : Tree) → ChildCase def i t
 child_case (Def.Struct struct) i t = struct_case struct i t (nat_lt i (length struct.fields)) refl
 child_case (Def.Array item n) i t = array_case item n i t (nat_lt i n) (nat_le n array_limit) refl refl
-child_case (Def.Enum enumeration) i t =
-    no_child Operation.FieldOfUnselectedVariant refl (λ h sees. rw (nothing_below i) refl)
+child_case (Def.Enum enumeration) i t = variant_case enumeration i t (selected t) refl
 child_case (Def.Slice item) i t = no_child Operation.FieldOfSlice refl (λ h sees. rw (nothing_below i) refl)
 child_case Def.Opaque i t = no_child Operation.FieldOfOpaque refl (λ h sees. rw (nothing_below i) refl)
 child_case _ i t = no_child Operation.FieldOfOther refl (λ h sees. rw (nothing_below i) refl)
@@ -114,28 +134,73 @@ found_below name i k (field ∷ fields) e =
         let later : (suc i ≤ k) × (k < suc i + length fields) = rest e in
         (omega (arith, later.0), omega (arith, later.1))
 
+-- a variant is selected only at an enum
+abbrev pub OnlyOfEnum : Def → Tree → Type 0
+OnlyOfEnum (Def.Enum enumeration) t = Unit {0}
+OnlyOfEnum _ t = selected t ≡ None
+
+pub only_of_enum : (table : Table) (s : ℕ) (t : Tree) → Suits table s t → OnlyOfEnum (def_of table s) t
+only_of_enum table s hole suits = go (def_of table s)
+  where
+    go : (def : Def) → OnlyOfEnum def hole
+    go (Def.Enum enumeration) = tt
+    go _ = refl
+only_of_enum table s entered suits = go (def_of table s)
+  where
+    go : (def : Def) → OnlyOfEnum def entered
+    go (Def.Enum enumeration) = tt
+    go _ = refl
+only_of_enum table s (whole v) suits = go (def_of table s)
+  where
+    go : (def : Def) → OnlyOfEnum def (whole v)
+    go (Def.Enum enumeration) = tt
+    go _ = refl
+only_of_enum table s (begun form ts) suits = go (def_of table s) form suits.0.0
+  where
+    go : (def : Def) (form : Form) → IsFullAs def form (count_trees ts) → OnlyOfEnum def (begun form ts)
+    go (Def.Enum enumeration) form full_as = tt
+    go _ (as_variant k) full_as = absurd full_as
+    go _ _ full_as = refl
+
+-- a field that the journal may enter too, one of a variant, which the journal doesn't know, or none
 pub data NamedCase (name : List ℕ) (def : Def) (t : Tree) : Type 0 where
-  a_named : (i : ℕ) → ChildOf def i t → named_refusal def ≡ None → field_named name def ≡ Some i
-      → ((h : Held) → may_enter_by def i h ≡ true) → NamedCase name def t
-  no_such_name : named_refusal def ≡ None → field_named name def ≡ None → NamedCase name def t
-  no_names : (operation : Operation) → named_refusal def ≡ Some operation → field_named name def ≡ None
+  a_named : (i : ℕ) → ChildOf def i t → named_refusal def t ≡ None → field_found name def (selected t) ≡ Some i
+      → field_named name def ≡ Some i → ((h : Held) → may_enter_by def i h ≡ true) → NamedCase name def t
+  a_variant_named : (i k : ℕ) → ChildOf def i t → named_refusal def t ≡ None → field_found name def (selected t) ≡ Some i
+      → selected t ≡ Some k → NamedCase name def t
+  no_such_name : named_refusal def t ≡ None → field_found name def (selected t) ≡ None → field_named name def ≡ None
+      → NamedCase name def t
+  no_names : (operation : Operation) → named_refusal def t ≡ Some operation → field_named name def ≡ None
       → NamedCase name def t
 
-pub named_case : (name : List ℕ) (def : Def) (t : Tree) → NamedCase name def t
-named_case name (Def.Struct struct) t = go (first_declared name 0 struct.fields) refl
+named_in_variant : (name : List ℕ) (enumeration : EnumDef) (t : Tree) (chosen : Option ℕ) → selected t ≡ chosen
+    → NamedCase name (Def.Enum enumeration) t
+named_in_variant name enumeration t None is = no_names Operation.NamedFieldOfUnselectedVariant (rw is refl) refl
+named_in_variant name enumeration t (Some k) is = go (first_declared name 0 (variant_fields (Def.Enum enumeration) k)) refl
+  where
+    go : (found : Option ℕ) → first_declared name 0 (variant_fields (Def.Enum enumeration) k) ≡ found
+        → NamedCase name (Def.Enum enumeration) t
+    go (Some i) e =
+        let there : (0 ≤ i) × (i < 0 + length (variant_fields (Def.Enum enumeration) k))
+        = found_below name 0 i (variant_fields (Def.Enum enumeration) k) e in
+        a_variant_named i k (variant_field_of k enumeration refl is (omega (arith, there.1))) (rw is refl) (rw is e) is
+    go None e = no_such_name (rw is refl) (rw is e) refl
+
+pub named_case : (name : List ℕ) (def : Def) (t : Tree) → OnlyOfEnum def t → NamedCase name def t
+named_case name (Def.Struct struct) t only = go (first_declared name 0 struct.fields) refl
   where
     go : (found : Option ℕ) → first_declared name 0 struct.fields ≡ found → NamedCase name (Def.Struct struct) t
     go (Some i) e =
         let there : (0 ≤ i) × (i < 0 + length struct.fields) = found_below name 0 i struct.fields e in
-        a_named i (field_of struct refl (omega (arith, there.1))) refl e
+        a_named i (field_of struct refl (omega (arith, there.1))) refl (rw only e) e
         (λ h. rw (lt-ltb i (length struct.fields) (omega (arith, there.1))) refl)
-    go None e = no_such_name refl e
-named_case name (Def.Enum enumeration) t = no_names Operation.NamedFieldOfUnselectedVariant refl refl
-named_case name Def.Undefined t = no_names Operation.NamedFieldOfUndefined refl refl
-named_case name (Def.Scalar kind) t = no_names Operation.NamedFieldOfPrimitive refl refl
-named_case name Def.Str t = no_names Operation.NamedFieldOfPrimitive refl refl
-named_case name (Def.Array item n) t = no_names Operation.NamedFieldOfSequence refl refl
-named_case name (Def.Slice item) t = no_names Operation.NamedFieldOfSequence refl refl
-named_case name Def.Opaque t = no_names Operation.NamedFieldOfOpaque refl refl
-named_case name (Def.Pointer pointer) t = no_names Operation.NamedFieldOfPointer refl refl
-named_case name _ t = no_names Operation.FieldOfOther refl refl
+    go None e = no_such_name refl (rw only e) e
+named_case name (Def.Enum enumeration) t only = named_in_variant name enumeration t (selected t) refl
+named_case name Def.Undefined t only = no_names Operation.NamedFieldOfUndefined refl refl
+named_case name (Def.Scalar kind) t only = no_names Operation.NamedFieldOfPrimitive refl refl
+named_case name Def.Str t only = no_names Operation.NamedFieldOfPrimitive refl refl
+named_case name (Def.Array item n) t only = no_names Operation.NamedFieldOfSequence refl refl
+named_case name (Def.Slice item) t only = no_names Operation.NamedFieldOfSequence refl refl
+named_case name Def.Opaque t only = no_names Operation.NamedFieldOfOpaque refl refl
+named_case name (Def.Pointer pointer) t only = no_names Operation.NamedFieldOfPointer refl refl
+named_case name _ t only = no_names Operation.FieldOfOther refl refl

@@ -1,5 +1,5 @@
 -- What completes, what fits of it, and what it holds.
-use Rattle.std.proofs.Common.{◌≡◌, ℕ, zero, suc, ◌+◌, true, is_none, is_some, Option, Some, None, refl, sym, ◌∙◌, ap, arith}
+use Rattle.std.proofs.Common.{◌≡◌, ℕ, zero, suc, ◌+◌, true, is_none, is_some, Option, Some, None, refl, ◌∙◌, ap, arith}
 use Rattle.std.specs.Option.{option_or}
 use Rattle.fr_shape.specs.declared.error.ReflectErrorKind.{ReflectErrorKind}
 use Rattle.fr_shape.specs.declared.shape.Def.{Def}
@@ -11,19 +11,17 @@ use Rattle.fr_shape.specs.Look.{Table, def_of}
 use Rattle.fr_shape.specs.Val.{Val, Vals, none, no_vals, first}
 use Rattle.fr_shape.specs.Tokens.{occurs, vals_occur}
 use Rattle.fr_model.specs.Places.{Column, strict_column, child_count, one_more, each_child, fill_at}
-use Rattle.fr_model.specs.Tree.{Form, as_struct, as_array, Tree, hole, entered, whole, begun, Trees, no_trees, branch, child_as, count_trees, tree_occurs, trees_occur}
+use Rattle.fr_model.specs.Tree.{Form, as_struct, as_variant, Tree, hole, entered, whole, begun, Trees, no_trees, branch, child_as, count_trees, tree_occurs, trees_occur}
 use Rattle.fr_model.specs.Complete.{complete, complete_all, unless_there, failing_child, unless_failing, valid_child, hole_takes, missing_child, made, made_of_fills, made_by, lack_of_hole, lack_of_holes, lack_by, lack, lack_among, missing_value}
 use Rattle.fr_model.specs.Well.{IsFullAs, Suits}
-use Rattle.fr_model.proofs.Structs.{OneMore, one_more_is, ProductOf, product_is, ChildrenFit, made_product, SuitFrom, begun_full, product_fits, settled_option}
-use Rattle.fr_model.proofs.Templates.{IsTemplate, template_holds, preset_template, fill_template}
+use Rattle.fr_model.proofs.Structs.{OneMore, one_more_is, ChildrenFit, MadeOf, made_is, SuitFrom, begun_full, value_fits, value_holds, settled_option}
+use Rattle.fr_model.proofs.Templates.{IsTemplate, template_holds, preset_template, fill_in_template, fill_template}
 
 -- either a value or a lack
 
 pub no_made : (form : Form) (values : Option Vals) → is_none (made form values) ≡ is_none values
-no_made as_struct (Some vs) = refl
-no_made as_struct None = refl
-no_made as_array (Some vs) = refl
-no_made as_array None = refl
+no_made form (Some vs) = refl
+no_made form None = refl
 
 pub not_all : (value : Option Val) (values : Option Vals) (here there : Option ReflectErrorKind)
     → is_none value ≡ is_some here → is_none values ≡ is_some there
@@ -151,7 +149,8 @@ valid_is hooks table s form i made v e = go (failing_child hooks table s form i 
 taken_template : (column : Column) (table : Table) (s : ℕ) (form : Form) (i : ℕ) (v : Val) → IsChecked table
     → hole_takes column table s form i ≡ Some v → IsTemplate table (child_as table s form i) v
 taken_template column table s as_struct i v checked e = fill_template column table s i v checked e
-taken_template column table s as_array i v checked e = cc
+taken_template column table s (as_variant k) i v checked e = fill_in_template column table s (Some k) i v checked e
+taken_template column table s _ i v checked e = cc
 
 -- the values of children fit, one for each, and hold these tokens
 pub record Children (table : Table) (s : ℕ) (form : Form) (i count : ℕ) (held : ℕ → ℕ) (vs : Vals) : Type 0 where
@@ -220,11 +219,12 @@ made_of_children : (table : Table) (s : ℕ) (form : Form) (count : ℕ) (held :
     → ((vs : Vals) → children ≡ Some vs → Children table s form 0 count held vs) → made form children ≡ Some v
     → Made table s held v
 made_of_children table s form count held children v full_as each e =
-    let parts : ProductOf children v = product_is children v (sym (made_product form children) ∙ e) in
+    let parts : MadeOf form children v = made_is form children v e in
     let those : Children table s form 0 count held parts.parts = each parts.parts parts.parts_are in
+    let all_there : IsFullAs (def_of table s) form (count_vals parts.parts) = rw those.counted full_as in
     rw parts.same (record {
-      fit = product_fits table s form parts.parts (rw those.counted full_as) those.fit;
-      hold = those.hold;
+      fit = value_fits table s form parts.parts all_there those.fit;
+      hold = λ t. value_holds (def_of table s) form parts.parts all_there t ∙ those.hold t;
     })
 
 entered_makes : (column : Column) (hooks : Meanings) (table : Table) (s : ℕ) (v : Val) → IsChecked table

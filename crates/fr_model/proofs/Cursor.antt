@@ -9,12 +9,15 @@ use Rattle.fr_model.specs.Places.{Place, Column, up, child_count, child_shape, s
 use Rattle.fr_model.specs.Tree.{as_struct, as_array, Tree, hole, entered, whole, begun, Trees, no_trees, branch, tree_nth, change_nth, tree_at, change_at, shape_in, child_as, count_trees, tree_occurs, Mode, strict, deferred, State, cursor_shape, cursor_tree, one_more_call, initial}
 use Rattle.fr_model.specs.Complete.{complete}
 use Rattle.fr_model.specs.Step.{enter_child, enters, puts, puts_and_leaves, leaves}
-use Rattle.fr_model.specs.Well.{IsBegunAs, Suits, AllOff, AtCursor, OffBut, Leads, BeganAbove, IsInOrder}
-use Rattle.fr_model.proofs.Agreement.{begun_count, leads_within, leads_child}
+use Rattle.fr_model.specs.Journal.{Journal}
+use Rattle.fr_model.specs.Relation.{HasParts}
+use Rattle.fr_model.specs.Well.{IsBegunAs, IsTouched, Suits, AllOff, AtCursor, OffBut, Leads, BeganAbove, IsInOrder}
+use Rattle.fr_model.proofs.Agreement.{Agrees, agree_nth, begun_count, leads_within, leads_child}
+use Rattle.fr_model.proofs.Beneath.{down}
 use Rattle.fr_model.proofs.Completing.{Made, completing_makes}
 use Rattle.fr_model.proofs.Plain.{AllPlain, plain_child}
 use Rattle.fr_model.proofs.Structs.{count_change, suit_change, suit_nth}
-use Rattle.fr_model.proofs.Opening.{Enterable, Entry, entry, fresh_suits, fresh_at_cursor, whole_off, all_deferred}
+use Rattle.fr_model.proofs.Opening.{Enterable, Entry, entry, fresh_suits, fresh_at_cursor, rightly_changed, whole_off, all_deferred}
 
 -- what stands at the cursor
 
@@ -34,43 +37,78 @@ suits_at mode table s (i ∷ here) (begun form ts) leads suits =
     (suit_nth table s form i 0 ts i (omega arith) suits.1)
 suits_at mode table s (i ∷ here) _ leads suits = absurd leads
 
-pub same_shape : (mode : Mode) (table : Table) (s : ℕ) (here : Place) (t : Tree) → Leads mode here t
+-- the places above the cursor's have parts to which the journal writes
+abbrev pub PartsAlong : Place → Tree → Type 0
+PartsAlong [] t = Unit {0}
+PartsAlong (i ∷ here) (begun form ts) = HasParts form × PartsAlong here (tree_nth i ts)
+PartsAlong (i ∷ here) _ = ⊥
+
+pub parts_along : (mode : Mode) (table : Table) (s : ℕ) (here : Place) (t : Tree) (notes : Journal) → Leads mode here t
+    → Agrees table s notes t → PartsAlong here t
+parts_along mode table s [] t notes leads agrees = tt
+parts_along mode table s (i ∷ here) (begun form ts) notes leads agrees = (
+  agrees.2,
+  parts_along mode table (child_as table s form i) here (tree_nth i ts) (down i notes)
+      (leads_child mode i (λ child. Leads mode here child) ts leads)
+      (agree_nth table s form i 0 ts i notes (omega arith) (leads_within mode i (λ child. Leads mode here child) ts leads)
+      agrees.1),
+)
+parts_along mode table s (i ∷ here) _ notes leads agrees = absurd leads
+
+pub same_shape : (table : Table) (s : ℕ) (here : Place) (t : Tree) → PartsAlong here t
     → shape_at table s here ≡ shape_in table s here t
-same_shape mode table s [] t leads = refl
-same_shape mode table s (i ∷ here) (begun as_struct ts) leads =
-    same_shape mode table (child_shape table s i) here (tree_nth i ts)
-    (leads_child mode i (λ child. Leads mode here child) ts leads)
-same_shape mode table s (i ∷ here) (begun as_array ts) leads =
-    same_shape mode table (child_shape table s i) here (tree_nth i ts)
-    (leads_child mode i (λ child. Leads mode here child) ts leads)
-same_shape mode table s (i ∷ here) _ leads = absurd leads
+same_shape table s [] t along = refl
+same_shape table s (i ∷ here) (begun as_struct ts) along =
+    same_shape table (child_shape table s i) here (tree_nth i ts) along.1
+same_shape table s (i ∷ here) (begun as_array ts) along =
+    same_shape table (child_shape table s i) here (tree_nth i ts) along.1
+same_shape table s (i ∷ here) (begun _ ts) along = absurd along.0
+same_shape table s (i ∷ here) _ along = absurd along
 
 -- and each shape that the place's shape reaches is plain
-pub plain_at : (mode : Mode) (table : Table) (s : ℕ) (here : Place) (t : Tree) → Leads mode here t → Suits table s t
-    → AllPlain table s → AllPlain table (shape_in table s here t)
-plain_at mode table s [] t leads suits plain = plain
-plain_at mode table s (i ∷ here) (begun form ts) leads suits plain =
-    let count : count_trees ts ≡ child_count table s = begun_count (def_of table s) form (count_trees ts) suits.0 in
+pub plain_at : (mode : Mode) (table : Table) (s : ℕ) (here : Place) (t : Tree) → PartsAlong here t → Leads mode here t
+    → Suits table s t → AllPlain table s → AllPlain table (shape_in table s here t)
+plain_at mode table s [] t along leads suits plain = plain
+plain_at mode table s (i ∷ here) (begun form ts) along leads suits plain =
+    let count : count_trees ts ≡ child_count table s
+    = begun_count (def_of table s) form (count_trees ts) along.0 suits.0 in
     let within : i < count_trees ts = leads_within mode i (λ child. Leads mode here child) ts leads in
-    plain_at mode table (child_as table s form i) here (tree_nth i ts)
+    plain_at mode table (child_as table s form i) here (tree_nth i ts) along.1
     (leads_child mode i (λ child. Leads mode here child) ts leads)
-    (suit_nth table s form i 0 ts i (omega arith) suits.1) (plain_child table s form i (omega arith) plain)
-plain_at mode table s (i ∷ here) _ leads suits plain = absurd leads
+    (suit_nth table s form i 0 ts i (omega arith) suits.1) (plain_child table s form i along.0 (omega arith) plain)
+plain_at mode table s (i ∷ here) _ along leads suits plain = absurd leads
+
+-- a place to which the cursor leads is no hole
+pub leads_touched : (mode : Mode) (here : Place) (t : Tree) → Leads mode here t → IsTouched t
+leads_touched mode [] hole leads = absurd leads
+leads_touched mode [] _ leads = tt
+leads_touched mode (i ∷ here) (begun form ts) leads = tt
+leads_touched mode (i ∷ here) _ leads = absurd leads
 
 -- a change there
 
+-- what was touched stays so
+changed_touched : (mode : Mode) (here : Place) (t : Tree) (change : Tree → Tree) → Leads mode here t
+    → IsTouched (change (tree_at here t)) → IsTouched (change_at here change t)
+changed_touched mode [] t change leads touched = touched
+changed_touched mode (i ∷ here) (begun form ts) change leads touched = tt
+changed_touched mode (i ∷ here) _ change leads touched = absurd leads
+
 pub suits_changed : (mode : Mode) (table : Table) (s : ℕ) (here : Place) (t : Tree) (change : Tree → Tree) → Leads mode here t
-    → Suits table s t → Suits table (shape_in table s here t) (change (tree_at here t))
-    → Suits table s (change_at here change t)
-suits_changed mode table s [] t change leads suits changed = changed
-suits_changed mode table s (i ∷ here) (begun form ts) change leads suits changed = (
+    → Suits table s t → IsTouched (change (tree_at here t))
+    → Suits table (shape_in table s here t) (change (tree_at here t)) → Suits table s (change_at here change t)
+suits_changed mode table s [] t change leads suits touched changed = changed
+suits_changed mode table s (i ∷ here) (begun form ts) change leads suits touched changed = (
   subst (λ (n : ℕ). IsBegunAs (def_of table s) form n)
       (sym (count_change i (λ child. change_at here change child) ts)) suits.0,
   suit_change table s form i 0 ts i (λ child. change_at here change child) (omega arith) suits.1
       (λ child. suits_changed mode table (child_as table s form i) here (tree_nth i ts) change
-      (leads_child mode i (λ c. Leads mode here c) ts leads) child changed),
+      (leads_child mode i (λ c. Leads mode here c) ts leads) child touched changed),
+  rightly_changed table s form ts i (λ child. change_at here change child)
+      (changed_touched mode here (tree_nth i ts) change (leads_child mode i (λ c. Leads mode here c) ts leads) touched)
+      suits.2,
 )
-suits_changed mode table s (i ∷ here) _ change leads suits changed = absurd leads
+suits_changed mode table s (i ∷ here) _ change leads suits touched changed = absurd leads
 
 off_change : (mode : Mode) (i : ℕ) (Below After : Tree → Type 0) (change : Tree → Tree) (ts : Trees)
     → (Below (tree_nth i ts) → After (change (tree_nth i ts))) → OffBut mode i Below ts
@@ -179,27 +217,49 @@ entry_at table root state i enterable order =
     (at_cursor state.mode state.cursor state.tree order.leads)
     (suits_at state.mode table root state.cursor state.tree order.leads order.suits)
 
+-- the place at the cursor becomes another that suits its shape and may be the cursor's
+pub changed_in_order : (table : Table) (root : ℕ) (state : State) (change : Tree → Tree)
+    → Suits table (cursor_shape table root state) (change (cursor_tree state)) → AtCursor state.mode (change (cursor_tree state))
+    → IsInOrder table root state
+    → IsInOrder table root (record state {
+      tree = change_at state.cursor change state.tree;
+      calls = one_more_call state.calls;
+    })
+changed_in_order table root state change suits at order = record {
+  suits = suits_changed state.mode table root state.cursor state.tree change order.leads order.suits
+      (leads_touched state.mode [] (change (cursor_tree state)) at) suits;
+  leads = subst (λ (place : Place). Leads state.mode place (change_at state.cursor change state.tree))
+      (append-nil state.cursor) (leads_on state.mode state.cursor [] state.tree change order.leads at);
+  began = order.began;
+}
+
+-- and the cursor goes to its child i
+pub moved_in_order : (table : Table) (root : ℕ) (state : State) (i : ℕ) (change : Tree → Tree)
+    → Suits table (cursor_shape table root state) (change (cursor_tree state))
+    → Leads state.mode (i ∷ []) (change (cursor_tree state)) → IsInOrder table root state
+    → IsInOrder table root (record state {
+      tree = change_at state.cursor change state.tree;
+      cursor = state.cursor ++ i ∷ [];
+      calls = one_more_call state.calls;
+    })
+moved_in_order table root state i change suits leads order = record {
+  suits = suits_changed state.mode table root state.cursor state.tree change order.leads order.suits
+      (leads_touched state.mode (i ∷ []) (change (cursor_tree state)) leads) suits;
+  leads = leads_on state.mode state.cursor (i ∷ []) state.tree change order.leads leads;
+  began = began_below state.mode state.cursor i order.began;
+}
+
 pub begun_in_order : (table : Table) (root : ℕ) (state : State) (i : ℕ)
     → Enterable table (cursor_shape table root state) i (cursor_tree state) → IsInOrder table root state
     → IsInOrder table root (enters table (cursor_shape table root state) state i)
 begun_in_order table root state i enterable order =
     let child = entry_at table root state i enterable order in
-    let change : Tree → Tree = enter_child table (cursor_shape table root state) i in
-    record {
-      suits = suits_changed state.mode table root state.cursor state.tree change order.leads order.suits child.suits;
-      leads = leads_on state.mode state.cursor (i ∷ []) state.tree change order.leads child.leads;
-      began = began_below state.mode state.cursor i order.began;
-    }
+    moved_in_order table root state i (enter_child table (cursor_shape table root state) i) child.suits child.leads order
 
 pub put_in_order : (table : Table) (root : ℕ) (state : State) (v : Val)
     → fits table (cursor_shape table root state) v ≡ true → IsInOrder table root state
     → IsInOrder table root (puts state v)
-put_in_order table root state v fit order = record {
-  suits = suits_changed state.mode table root state.cursor state.tree (λ old. whole v) order.leads order.suits fit;
-  leads = subst (λ (place : Place). Leads state.mode place (change_at state.cursor (λ old. whole v) state.tree))
-      (append-nil state.cursor) (leads_on state.mode state.cursor [] state.tree (λ old. whole v) order.leads tt);
-  began = order.began;
-}
+put_in_order table root state v fit order = changed_in_order table root state (λ old. whole v) fit tt order
 
 -- what the place at the cursor makes
 pub made_at : (column : Column) (hooks : Meanings) (table : Table) (root : ℕ) (state : State) (v : Val) → IsChecked table
@@ -216,7 +276,7 @@ pub ended_in_order : (column : Column) (hooks : Meanings) (table : Table) (root 
 ended_in_order column hooks table root state v checked is_strict e order =
     let made = made_at column hooks table root state v checked e order in
     record {
-      suits = suits_changed state.mode table root state.cursor state.tree (λ old. whole v) order.leads order.suits made.fit;
+      suits = suits_changed state.mode table root state.cursor state.tree (λ old. whole v) order.leads order.suits tt made.fit;
       leads = leads_up state.mode state.cursor state.tree v order.leads;
       began = began_strict state.mode (up state.cursor) is_strict;
     }

@@ -11,7 +11,7 @@ use Rattle.fr_shape.specs.Val.{Val, Vals}
 use Rattle.fr_path.specs.declared.path_steps.PathStep.{PathStep}
 use Rattle.fr_model.specs.Places.{deferred_column, child_count, one_more, each_child, fill_of_field, fill_at}
 use Rattle.fr_model.specs.Paths.{step_as}
-use Rattle.fr_model.specs.Tree.{Form, as_struct, as_array, Tree, hole, entered, whole, begun, Trees, no_trees, branch, child_as, holes}
+use Rattle.fr_model.specs.Tree.{Form, as_struct, as_variant, Tree, hole, entered, whole, begun, Trees, no_trees, branch, child_as, holes}
 use Rattle.fr_model.specs.Complete.{complete, complete_all, failing_child, unless_failing, unless_there, valid_child, hole_takes, made_of_fills, missing_child, missing_value}
 use Rattle.fr_model.specs.Failing.{unmet_by, unmet_mark_of, unmet_mark, first_unmet, first_missing, first_invalid, lack_of_begun, own_lack, Failure, failure_at, or_itself, failures, failures_among}
 use Rattle.fr_model.specs.Finish.{closed}
@@ -95,11 +95,11 @@ none_valid None (Some v) = refl
 none_valid None None = refl
 
 -- a hole that is marked and has no default takes nothing
-marked_takes_none : (table : Table) (s : ℕ) (form : Form) (i : ℕ)
-    → (is_some (unmet_mark table s form i) || is_none (hole_takes deferred_column table s form i))
-    ≡ is_none (hole_takes deferred_column table s form i)
-marked_takes_none table s as_array i = refl
-marked_takes_none table s as_struct i = of_field (field_in (def_of table s) None i)
+marked_field_takes_none : (table : Table) (s : ℕ) (selected : Option ℕ) (found : Option Field)
+    → (is_some (unmet_mark_of table s found) || is_none (fill_of_field deferred_column table s (is_some selected) found))
+    ≡ is_none (fill_of_field deferred_column table s (is_some selected) found)
+marked_field_takes_none table s selected None = refl
+marked_field_takes_none table s selected (Some field) = by_rule field (deferred_rule table s field)
   where
     by_rule : (field : Field) (rule : DeferredRule)
         → (is_some (unmet_by field rule) || is_none (by_deferred_rule table field rule))
@@ -108,11 +108,12 @@ marked_takes_none table s as_struct i = of_field (field_in (def_of table s) None
     by_rule field marked_without_default = refl
     by_rule field missing = refl
 
-    of_field : (found : Option Field)
-        → (is_some (unmet_mark_of table s found) || is_none (fill_of_field deferred_column table s false found))
-        ≡ is_none (fill_of_field deferred_column table s false found)
-    of_field (Some field) = by_rule field (deferred_rule table s field)
-    of_field None = refl
+marked_takes_none : (table : Table) (s : ℕ) (form : Form) (i : ℕ)
+    → (is_some (unmet_mark table s form i) || is_none (hole_takes deferred_column table s form i))
+    ≡ is_none (hole_takes deferred_column table s form i)
+marked_takes_none table s as_struct i = marked_field_takes_none table s None (field_in (def_of table s) None i)
+marked_takes_none table s (as_variant k) i = marked_field_takes_none table s (Some k) (field_in (def_of table s) (Some k) i)
+marked_takes_none table s _ i = refl
 
 hole_lacks : (hooks : Meanings) (table : Table) (s : ℕ) (form : Form) (i : ℕ)
     → is_none (valid_child hooks table s form i (hole_takes deferred_column table s form i))

@@ -11,8 +11,9 @@ use Rattle.fr_model.specs.Finish.{closed, one_more_tree, closed_all, closed_but,
 use Rattle.fr_model.specs.Journal.{Note, entered_at, wrote_at, Journal, Held, in_parts, written, just_entered, untouched, held, longest, child_makes, completes, both_notes, each_notes, writing, closing_by, closing, closing_beside, closing_parts, closing_here_by, closing_here, finish_notes}
 use Rattle.fr_model.specs.Places.{Place, deferred_column, child_count, child_shape, part, one_more, fill_at}
 use Rattle.fr_model.specs.Tree.{Form, Tree, hole, entered, whole, begun, Trees, no_trees, branch, for_hole, tree_nth, child_as, count_trees, wholes, Mode, State}
-use Rattle.fr_model.specs.Well.{IsBegunAs, Suits, AtCursor, Leads, IsInOrder}
-use Rattle.fr_model.proofs.Agreement.{IsWhole, by_value, by_entry, Agrees, AgreeAll, agree_nth, agree_same, begun_count, begun_takes, IsTouched, child_as_is, completes_tree, in_child, under, under_wrote, down_same, down_other, leads_child, leads_within}
+use Rattle.fr_model.specs.Relation.{HasParts}
+use Rattle.fr_model.specs.Well.{IsBegunAs, IsTouched, Suits, AtCursor, Leads, IsInOrder}
+use Rattle.fr_model.proofs.Agreement.{IsWhole, by_value, by_entry, Agrees, AgreeAll, agree_nth, agree_same, begun_count, begun_takes, child_as_is, completes_tree, in_child, under, under_wrote, down_same, down_other, leads_child, leads_within}
 use Rattle.fr_model.proofs.Beneath.{down, along, held_along, completes_along, longest_along}
 use Rattle.fr_model.proofs.FinishNotes.{hole_makes, touched_makes}
 use Rattle.fr_model.proofs.Plain.{AllPlain, plain_child, valid_same}
@@ -164,10 +165,11 @@ write_ends table s here seen (Some v) value same =
     (ap (λ (note : Note). Some (note ∷ [])) (sym (under_wrote here v))) (by_value refl))
 
 -- what is begun has as many trees as its shape has children
-all_of_them : (table : Table) (s : ℕ) (form : Form) (ts : Trees) → IsBegunAs (def_of table s) form (count_trees ts)
-    → 0 + count_trees ts ≡ child_count table s
-all_of_them table s form ts begun_as =
-    let count : count_trees ts ≡ child_count table s = begun_count (def_of table s) form (count_trees ts) begun_as in omega arith
+all_of_them : (table : Table) (s : ℕ) (form : Form) (ts : Trees) → HasParts form
+    → IsBegunAs (def_of table s) form (count_trees ts) → 0 + count_trees ts ≡ child_count table s
+all_of_them table s form ts parts begun_as =
+    let count : count_trees ts ≡ child_count table s = begun_count (def_of table s) form (count_trees ts) parts begun_as in
+    omega arith
 
 -- the place at which a builder works has parts, or a value of its own
 closes_itself : (h : Held) (of_parts of_itself : Option Journal) → h ≢ in_parts
@@ -240,7 +242,7 @@ module _ (hooks : Meanings) (table : Table) (checked : IsChecked table) (notes :
       left_ends s here seen (begun form ts) tt (value_at s here (begun form ts) plain suits agrees) agrees
 
   -- the children of a place that is begun, all but the one on the way
-  module _ (s : ℕ) (form : Form) (above : Place) (plain : AllPlain table s) (on_way : ℕ) (base : Journal)
+  module _ (s : ℕ) (form : Form) (has : HasParts form) (above : Place) (plain : AllPlain table s) (on_way : ℕ) (base : Journal)
       (apart : (j : ℕ) → j ≢ on_way → down j base ≡ down j (along above notes)) where
     abbrev beside : ℕ → Option Journal
     beside j = if j == on_way then Some [] else closing table notes (child_shape table s j) (above ++ j ∷ [])
@@ -256,9 +258,9 @@ module _ (hooks : Meanings) (table : Table) (checked : IsChecked table) (notes :
         (sym (not_same k on_way other))
         (subst (λ (m : ℕ). BothEnd table (child_as table s form k) (above ++ k ∷ []) (down k base)
         (closed hooks table (child_as table s form k) t) (closing table notes m (above ++ k ∷ [])))
-        (child_as_is table s form k)
+        (child_as_is table s form k has)
         (closed_ends (child_as table s form k) (above ++ k ∷ []) (down k base) t
-        (apart k other ∙ sym (along_on above k notes)) (plain_child table s form k there plain) suits
+        (apart k other ∙ sym (along_on above k notes)) (plain_child table s form k has there plain) suits
         (subst (λ (some : Journal). Agrees table (child_as table s form k) some t) (sym (along_on above k notes)) agrees)))
 
     all_closed : (ts : Trees) (k : ℕ) → on_way < k → k + count_trees ts ≡ child_count table s → SuitFrom table s form k ts
@@ -296,7 +298,7 @@ module _ (hooks : Meanings) (table : Table) (checked : IsChecked table) (notes :
         (but_closed d ts (suc k) becomes (omega arith) (omega arith) (omega arith) suits.1 agrees.1 child)
 
   -- the children of the place at which a builder works, which is begun
-  module _ (s : ℕ) (form : Form) (above : Place) (plain : AllPlain table s)
+  module _ (s : ℕ) (form : Form) (has : HasParts form) (above : Place) (plain : AllPlain table s)
       (takes : (k : ℕ) → fill_at deferred_column table s k ≡ hole_takes deferred_column table s form k) where
     abbrev seen : Journal
     seen = along above notes
@@ -322,16 +324,16 @@ module _ (hooks : Meanings) (table : Table) (checked : IsChecked table) (notes :
     touched_part k t touched there suits agrees =
         touched_makes (held notes (above ++ k ∷ [])) _ _
         (λ e. touched_held table (child_as table s form k) t (down k seen) touched agrees (sym (held_part k) ∙ e))
-        ∙ ap (λ (m : ℕ). completes deferred_column table notes m (above ++ k ∷ [])) (sym (child_as_is table s form k))
-        ∙ value_at (child_as table s form k) (above ++ k ∷ []) t (plain_child table s form k there plain) suits
+        ∙ ap (λ (m : ℕ). completes deferred_column table notes m (above ++ k ∷ [])) (sym (child_as_is table s form k has))
+        ∙ value_at (child_as table s form k) (above ++ k ∷ []) t (plain_child table s form k has there plain) suits
         (subst (λ (some : Journal). Agrees table (child_as table s form k) some t) (sym (along_on above k notes)) agrees)
-        ∙ sym (valid_same hooks table s form k _ plain)
+        ∙ sym (valid_same hooks table s form k _ has plain)
 
     part_same : (k : ℕ) (t : Tree) → k < child_count table s → Suits table (child_as table s form k) t
         → Agrees table (child_as table s form k) (down k seen) t → part_value k ≡ part_made k t
     part_same k hole there suits agrees =
         hole_makes (held notes (above ++ k ∷ [])) _ _ (held_part k ∙ agrees) ∙ takes k
-        ∙ sym (valid_same hooks table s form k _ plain)
+        ∙ sym (valid_same hooks table s form k _ has plain)
     part_same k entered there suits agrees = touched_part k entered tt there suits agrees
     part_same k (whole v) there suits agrees = touched_part k (whole v) tt there suits agrees
     part_same k (begun made ts) there suits agrees = touched_part k (begun made ts) tt there suits agrees
@@ -384,14 +386,14 @@ module _ (hooks : Meanings) (table : Table) (checked : IsChecked table) (notes :
       (go (complete_all deferred_column hooks table s form 0 ts) (closing_parts table notes s here)
       (subst (λ (n : ℕ). AllEnd table s form here (along here notes) 0
       (option_map wholes (complete_all deferred_column hooks table s form 0 ts))
-      (each_notes (λ j. writing (here ++ j ∷ []) (part_value s form here plain takes j)) n 0))
-      (begun_count (def_of table s) form (count_trees ts) suits.0)
-      (parts_end s form here plain takes ts 0
-      (all_of_them table s form ts suits.0)
+      (each_notes (λ j. writing (here ++ j ∷ []) (part_value s form agrees.2 here plain takes j)) n 0))
+      (begun_count (def_of table s) form (count_trees ts) agrees.2 suits.0)
+      (parts_end s form agrees.2 here plain takes ts 0
+      (all_of_them table s form ts agrees.2 suits.0)
       suits.1 agrees.1)))
     where
       takes : (k : ℕ) → fill_at deferred_column table s k ≡ hole_takes deferred_column table s form k
-      takes = begun_takes deferred_column table s form (count_trees ts) suits.0
+      takes = begun_takes deferred_column table s form (count_trees ts) agrees.2 suits.0
 
       go : (values : Option Vals) (found : Option Journal)
           → AllEnd table s form here (along here notes) 0 (option_map wholes values) found
@@ -404,6 +406,7 @@ module _ (hooks : Meanings) (table : Table) (checked : IsChecked table) (notes :
           both_end (begun form (wholes vs)) added refl noted (
             parts (along here notes) agrees.0,
             subst (λ (all : Trees). AgreeAll table s form (added ++ along here notes) 0 all) (sym same) agree,
+            agrees.2,
           )
 
   -- a place above it, by what becomes of the child on the way
@@ -419,10 +422,10 @@ module _ (hooks : Meanings) (table : Table) (checked : IsChecked table) (notes :
   way_ends form ts s i above becomes found plain within suits agrees (both_end after added is noted agree) =
       go (closed_but hooks table s form i becomes 0 ts) (closing_beside table notes s above i)
       (subst (λ (n : ℕ). AllEnd table s form above base 0 (closed_but hooks table s form i becomes 0 ts)
-      (each_notes (beside s form above plain i base apart) n 0))
-      (begun_count (def_of table s) form (count_trees ts) suits.0)
-      (but_closed s form above plain i base apart i ts 0 becomes (omega arith) within
-      (all_of_them table s form ts suits.0)
+      (each_notes (beside s form agrees.2 above plain i base apart) n 0))
+      (begun_count (def_of table s) form (count_trees ts) agrees.2 suits.0)
+      (but_closed s form agrees.2 above plain i base apart i ts 0 becomes (omega arith) within
+      (all_of_them table s form ts agrees.2 suits.0)
       suits.1 agrees.1
       (both_end after [] is refl
       (subst (λ (all : Journal). Agrees table (child_as table s form i) all after) (sym at_child) agree))))
@@ -451,7 +454,7 @@ module _ (hooks : Meanings) (table : Table) (checked : IsChecked table) (notes :
           ∙ sym (map-append (under above) addeds (all_in_child i added)))))
           (subst (λ (some : Journal). Agrees table s some (begun form afters))
           (sym (append_assoc addeds (all_in_child i added) (along above notes)))
-          (parts base (parts_stay i added (along above notes) agrees.0), all))
+          (parts base (parts_stay i added (along above notes) agrees.0), all, agrees.2))
 
   -- from a place above it, or it, on
   ends_from : (mode : Mode) (cursor : Place) (t : Tree) (s : ℕ) (above : Place) → AllPlain table s → Leads mode cursor t
@@ -463,15 +466,15 @@ module _ (hooks : Meanings) (table : Table) (checked : IsChecked table) (notes :
   ends_from mode (i ∷ cursor) (whole v) s above plain leads suits agrees = absurd leads
   ends_from mode (i ∷ cursor) (begun form ts) s above plain leads suits agrees =
       let within : i < count_trees ts = leads_within mode i (λ child. Leads mode cursor child) ts leads in
-      let count : count_trees ts ≡ child_count table s = begun_count (def_of table s) form (count_trees ts) suits.0 in
+      let count : count_trees ts ≡ child_count table s = begun_count (def_of table s) form (count_trees ts) agrees.2 suits.0 in
       way_ends form ts s i above (λ shape child. finished hooks table shape cursor child)
       (finish_notes table notes (child_shape table s i) (above ++ i ∷ []) cursor) plain within suits agrees
       (subst (λ (m : ℕ). BothEnd table (child_as table s form i) (above ++ i ∷ []) (along (above ++ i ∷ []) notes)
       (finished hooks table (child_as table s form i) cursor (tree_nth i ts))
       (finish_notes table notes m (above ++ i ∷ []) cursor))
-      (child_as_is table s form i)
+      (child_as_is table s form i agrees.2)
       (ends_from mode cursor (tree_nth i ts) (child_as table s form i) (above ++ i ∷ [])
-      (plain_child table s form i (omega arith) plain) (leads_child mode i (λ child. Leads mode cursor child) ts leads)
+      (plain_child table s form i agrees.2 (omega arith) plain) (leads_child mode i (λ child. Leads mode cursor child) ts leads)
       (suit_nth table s form i 0 ts i (omega arith) suits.1)
       (subst (λ (some : Journal). Agrees table (child_as table s form i) some (tree_nth i ts)) (sym (along_on above i notes))
       (agree_nth table s form i 0 ts i (along above notes) (omega arith) within agrees.1))))

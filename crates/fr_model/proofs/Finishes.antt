@@ -11,11 +11,11 @@ use Rattle.fr_shape.specs.Val.{Vals, no_vals, first}
 use Rattle.fr_path.specs.declared.path_steps.PathStep.{PathStep}
 use Rattle.fr_model.specs.Places.{Place, deferred_column}
 use Rattle.fr_model.specs.Paths.{step_as, steps_in}
-use Rattle.fr_model.specs.Tree.{Form, Tree, hole, entered, whole, begun, Trees, no_trees, branch, tree_nth, tree_at, child_as, shape_in, wholes, count_trees, tree_occurs, trees_occur, Mode, strict}
+use Rattle.fr_model.specs.Tree.{Form, as_struct, as_array, as_variant, as_some, as_ok, as_err, as_pointer, Tree, hole, entered, whole, begun, Trees, no_trees, branch, tree_nth, tree_at, child_as, shape_in, wholes, count_trees, tree_occurs, trees_occur, Mode, strict}
 use Rattle.fr_model.specs.Complete.{complete, complete_all}
 use Rattle.fr_model.specs.Failing.{own_lack, Failure, failures, failures_among, first_by_walk}
 use Rattle.fr_model.specs.Finish.{closed, one_more_tree, closed_all, closed_but, begun_with, finished_here, finished, failures_but, failures_off, kind_of}
-use Rattle.fr_model.specs.Well.{IsBegunAs, Suits, IsOff, AllOff, AtCursor, OffBut, Leads}
+use Rattle.fr_model.specs.Well.{IsBegunAs, IsTouched, IsContent, IsBegunRightly, Suits, IsOff, AllOff, AtCursor, OffBut, Leads}
 use Rattle.fr_model.proofs.Completing.{Made, completing_makes, Children, all_completing_make}
 use Rattle.fr_model.proofs.Failing.{none_mapped, joined_there, some_or, completes_or_fails, all_complete_or_fail, entered_lacks}
 use Rattle.fr_model.proofs.Structs.{ChildrenFit, SuitFrom}
@@ -51,16 +51,18 @@ one_more_tree_is None os us e = cc
 -- what becomes of a place suits its shape and holds each token as often
 pub record Kept (table : Table) (s : ℕ) (tree next : Tree) : Type 0 where
   pub suits : Suits table s next
+  pub touched : IsTouched tree → IsTouched next
   pub hold : (t : ℕ) → tree_occurs next t ≡ tree_occurs tree t
 
 pub record AllKept (table : Table) (s : ℕ) (form : Form) (i : ℕ) (ts us : Trees) : Type 0 where
   pub suit : SuitFrom table s form i us
+  pub content : IsContent ts → IsContent us
   pub counted : count_trees us ≡ count_trees ts
   pub hold : (t : ℕ) → trees_occur us t ≡ trees_occur ts t
 
 none_kept : (table : Table) (s : ℕ) (form : Form) (i : ℕ) (us : Trees)
     → ◌≡◌ {A = Option Trees} (Some no_trees) (Some us) → AllKept table s form i no_trees us
-none_kept table s form i no_trees e = record { suit = tt; counted = refl; hold = λ t. refl }
+none_kept table s form i no_trees e = record { suit = tt; content = λ has. has; counted = refl; hold = λ t. refl }
 none_kept table s form i (branch u us) e = cc
 
 -- a child and the ones after it
@@ -71,6 +73,7 @@ more_kept : (table : Table) (s : ℕ) (form : Form) (i : ℕ) (tree : Tree) (ts 
 more_kept table s form i tree ts o os us child others e =
     rw parts.same (record {
       suit = (here.suits, more.suit);
+      content = here.touched;
       counted = ap suc more.counted;
       hold = λ t. omega (arith, here.hold t, more.hold t);
     })
@@ -87,13 +90,13 @@ more_kept table s form i tree ts o os us child others e =
 closed_keeps : (hooks : Meanings) (table : Table) (s : ℕ) (tree u : Tree) → IsChecked table → Suits table s tree
     → closed hooks table s tree ≡ Some u → Kept table s tree u
 closed_keeps hooks table s hole u checked suits e =
-    let same : hole ≡ u = cc in rw (← same) (record { suits = tt; hold = λ t. refl })
+    let same : hole ≡ u = cc in rw (← same) (record { suits = tt; touched = λ there. there; hold = λ t. refl })
 closed_keeps hooks table s tree u checked suits e =
     let to : Mapped whole (complete deferred_column hooks table s tree) u
     = mapped_is whole (complete deferred_column hooks table s tree) u e in
     let made : Made table s (λ t. tree_occurs tree t) to.from
     = completing_makes deferred_column hooks table tree s to.from checked suits to.is in
-    rw to.same (record { suits = made.fit; hold = made.hold })
+    rw to.same (record { suits = made.fit; touched = λ there. tt; hold = made.hold })
 
 closed_all_keep : (hooks : Meanings) (table : Table) (s : ℕ) (form : Form) (i : ℕ) (ts us : Trees) → IsChecked table
     → SuitFrom table s form i ts → closed_all hooks table s form i ts ≡ Some us → AllKept table s form i ts us
@@ -131,6 +134,21 @@ fitting_suit : (table : Table) (s : ℕ) (form : Form) (i : ℕ) (vs : Vals) →
 fitting_suit table s form i no_vals fit = tt
 fitting_suit table s form i (first v vs) fit = (fit.0, fitting_suit table s form (suc i) vs fit.1)
 
+content_wholes : (ts : Trees) (vs : Vals) → count_vals vs ≡ count_trees ts → IsContent ts → IsContent (wholes vs)
+content_wholes no_trees vs e has = absurd has
+content_wholes (branch t ts) no_vals e has = absurd (omega arith)
+content_wholes (branch t ts) (first v vs) e has = tt
+
+right_wholes : (table : Table) (s : ℕ) (form : Form) (ts : Trees) (vs : Vals) → count_vals vs ≡ count_trees ts
+    → IsBegunRightly table s form ts → IsBegunRightly table s form (wholes vs)
+right_wholes table s as_struct ts vs e rightly = tt
+right_wholes table s as_array ts vs e rightly = tt
+right_wholes table s (as_variant k) ts vs e rightly = rightly
+right_wholes table s as_some ts vs e rightly = content_wholes ts vs e rightly
+right_wholes table s as_ok ts vs e rightly = content_wholes ts vs e rightly
+right_wholes table s as_err ts vs e rightly = content_wholes ts vs e rightly
+right_wholes table s as_pointer ts vs e rightly = (content_wholes ts vs e rightly.0, rightly.1)
+
 begun_keeps : (hooks : Meanings) (table : Table) (s : ℕ) (form : Form) (ts : Trees) (u : Tree) → IsChecked table
     → Suits table s (begun form ts) → finished_here hooks table s (begun form ts) ≡ Some u
     → Kept table s (begun form ts) u
@@ -139,7 +157,9 @@ begun_keeps hooks table s form ts u checked suits e =
       suits = (
         subst (IsBegunAs (def_of table s) form) (sym (count_wholes to.from ∙ those.counted)) suits.0,
         fitting_suit table s form 0 to.from those.fit,
+        right_wholes table s form ts to.from those.counted suits.2,
       );
+      touched = λ there. tt;
       hold = λ t. wholes_hold to.from t ∙ those.hold t;
     })
   where
@@ -152,11 +172,21 @@ begun_keeps hooks table s form ts u checked suits e =
 here_keeps : (hooks : Meanings) (table : Table) (s : ℕ) (tree u : Tree) → IsChecked table → Suits table s tree
     → finished_here hooks table s tree ≡ Some u → Kept table s tree u
 here_keeps hooks table s hole u checked suits e =
-    let same : hole ≡ u = cc in rw (← same) (record { suits = tt; hold = λ t. refl })
+    let same : hole ≡ u = cc in rw (← same) (record { suits = tt; touched = λ there. there; hold = λ t. refl })
 here_keeps hooks table s entered u checked suits e = closed_keeps hooks table s entered u checked suits e
 here_keeps hooks table s (whole v) u checked suits e =
-    let same : whole v ≡ u = cc in rw (← same) (record { suits = suits; hold = λ t. refl })
+    let same : whole v ≡ u = cc in rw (← same) (record { suits = suits; touched = λ there. there; hold = λ t. refl })
 here_keeps hooks table s (begun form ts) u checked suits e = begun_keeps hooks table s form ts u checked suits e
+
+right_kept : (table : Table) (s : ℕ) (form : Form) (ts us : Trees) → (IsContent ts → IsContent us)
+    → IsBegunRightly table s form ts → IsBegunRightly table s form us
+right_kept table s as_struct ts us keeps rightly = tt
+right_kept table s as_array ts us keeps rightly = tt
+right_kept table s (as_variant k) ts us keeps rightly = rightly
+right_kept table s as_some ts us keeps rightly = keeps rightly
+right_kept table s as_ok ts us keeps rightly = keeps rightly
+right_kept table s as_err ts us keeps rightly = keeps rightly
+right_kept table s as_pointer ts us keeps rightly = (keeps rightly.0, rightly.1)
 
 -- a begun place above the cursor
 above_keeps : (hooks : Meanings) (table : Table) (s : ℕ) (form : Form) (on_way : ℕ) (becomes : ℕ → Tree → Option Tree)
@@ -167,7 +197,12 @@ above_keeps : (hooks : Meanings) (table : Table) (s : ℕ) (form : Form) (on_way
     → Kept table s (begun form ts) next
 above_keeps hooks table s form on_way becomes ts next checked keeps suits e =
     rw to.same (record {
-      suits = (subst (IsBegunAs (def_of table s) form) (sym those.counted) suits.0, those.suit);
+      suits = (
+        subst (IsBegunAs (def_of table s) form) (sym those.counted) suits.0,
+        those.suit,
+        right_kept table s form ts to.from those.content suits.2,
+      );
+      touched = λ there. tt;
       hold = those.hold;
     })
   where
@@ -182,11 +217,11 @@ pub finish_keeps : (hooks : Meanings) (table : Table) (s : ℕ) (cursor : Place)
     → Suits table s tree → finished hooks table s cursor tree ≡ Some next → Kept table s tree next
 finish_keeps hooks table s [] tree next checked suits e = here_keeps hooks table s tree next checked suits e
 finish_keeps hooks table s (i ∷ place) hole next checked suits e =
-    let same : hole ≡ next = cc in rw (← same) (record { suits = tt; hold = λ t. refl })
+    let same : hole ≡ next = cc in rw (← same) (record { suits = tt; touched = λ there. there; hold = λ t. refl })
 finish_keeps hooks table s (i ∷ place) entered next checked suits e =
-    let same : entered ≡ next = cc in rw (← same) (record { suits = suits; hold = λ t. refl })
+    let same : entered ≡ next = cc in rw (← same) (record { suits = suits; touched = λ there. there; hold = λ t. refl })
 finish_keeps hooks table s (i ∷ place) (whole v) next checked suits e =
-    let same : whole v ≡ next = cc in rw (← same) (record { suits = suits; hold = λ t. refl })
+    let same : whole v ≡ next = cc in rw (← same) (record { suits = suits; touched = λ there. there; hold = λ t. refl })
 finish_keeps hooks table s (i ∷ place) (begun form ts) next checked suits e =
     above_keeps hooks table s form i (λ (shape : ℕ) (t : Tree). finished hooks table shape place t) ts next checked
     (λ shape t u fits is. finish_keeps hooks table shape place t u checked fits is) suits e

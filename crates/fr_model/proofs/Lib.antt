@@ -1,5 +1,6 @@
 pub mod Agreement
 pub mod ArrayRows
+pub mod Becoming
 pub mod Beneath
 pub mod Children
 pub mod Closing
@@ -7,6 +8,7 @@ pub mod Completing
 pub mod Covering
 pub mod Cursor
 pub mod DefaultRows
+pub mod Defaulting
 pub mod Failing
 pub mod FailingPlaces
 pub mod FinishAgreement
@@ -21,7 +23,9 @@ pub mod Plannable
 pub mod Relating
 pub mod Rows
 pub mod Runs
+pub mod Sized
 pub mod Steps
 pub mod Structs
 pub mod Templates
+pub mod ThreeCalls
 pub mod Tokens

@@ -1,21 +1,25 @@
 -- A place at the cursor as its children see it, and the entry of one of them.
-use Rattle.std.proofs.Common.{◌≡◌, ℕ, zero, suc, ◌+◌, ◌<◌, ◌≤◌, Bool, true, false, if◌then◌else◌, List, [], ◌∷◌, length, refl, sym, ◌∙◌, ap, subst, arith}
+use Rattle.std.proofs.Common.{◌≡◌, ℕ, zero, suc, ◌+◌, ◌<◌, ◌≤◌, Bool, true, false, if◌then◌else◌, List, [], ◌∷◌, length, slice_get, Option, Some, None, refl, sym, ◌∙◌, ap, subst, arith}
 use Rattle.fr_shape.specs.declared.shape.Def.{Def}
 use Rattle.fr_shape.specs.declared.shape.ShapeId.{ShapeId}
 use Rattle.fr_shape.specs.declared.shape.StructDef.{StructDef}
+use Rattle.fr_shape.specs.declared.shape.EnumDef.{EnumDef}
+use Rattle.fr_shape.specs.declared.shape.VariantDef.{VariantDef}
 use Rattle.fr_shape.specs.declared.shape.Field.{Field}
 use Rattle.fr_shape.specs.Fills.{is_empty_struct}
 use Rattle.fr_shape.specs.Lists.{is_nil}
 use Rattle.fr_shape.specs.Look.{Table, def_of}
 use Rattle.fr_shape.specs.Val.{Val, Vals, unit, product, no_vals, first}
 use Rattle.fr_shape.specs.Fits.{fits, fields_fit}
-use Rattle.fr_model.specs.Places.{array_limit, child_count, vals_nth}
+use Rattle.fr_model.specs.Places.{array_limit, vals_nth}
 use Rattle.fr_model.specs.Journal.{entered_at, Journal, Held, written, just_entered, untouched, at_least_entered, held}
-use Rattle.fr_model.specs.Tree.{Form, as_struct, as_array, form_of, Tree, hole, entered, whole, begun, Trees, no_trees, branch, tree_nth, change_nth, change_child, child_as, count_trees, holes, wholes, fresh, Mode, strict, deferred}
-use Rattle.fr_model.specs.Step.{opened_as, enter, enter_child}
-use Rattle.fr_model.specs.Well.{IsBegunAs, Suits, IsOff, AllOff, AtCursor, OffBut, Leads}
+use Rattle.fr_model.specs.Tree.{Form, as_struct, as_array, as_variant, as_some, as_ok, as_err, as_pointer, form_of, form_at, selected, Tree, hole, entered, whole, begun, Trees, no_trees, branch, tree_nth, change_nth, change_child, child_as, count_trees, holes, wholes, fresh, Mode, strict, deferred}
+use Rattle.fr_model.specs.Relation.{HasParts}
+use Rattle.fr_model.specs.Step.{opened, enter, enter_child}
+use Rattle.fr_model.specs.Variants.{fields_or_none, variant_fields}
+use Rattle.fr_model.specs.Well.{HasFieldsOf, IsFullAs, IsBegunAs, IsTouched, IsContent, IsBegunRightly, Suits, IsOff, AllOff, AtCursor, OffBut, Leads}
 use Rattle.fr_model.proofs.Beneath.{down, held_down, IsLow, untouched_below, written_below}
-use Rattle.fr_model.proofs.Agreement.{IsWhole, by_value, by_entry, Agrees, AgreeAll, agree_change, begun_count, child_as_is, down_same, down_other}
+use Rattle.fr_model.proofs.Agreement.{IsWhole, by_value, by_entry, Agrees, AgreeAll, agree_change, down_same, down_other}
 use Rattle.fr_model.proofs.Structs.{SuitFrom, settled_struct, all_from, WholesSuit, wholes_suit, count_change, count_holes, holes_suit, suit_change}
 
 -- the place isn't a value
@@ -23,37 +27,75 @@ abbrev pub IsOpen : Tree → Type 0
 IsOpen (whole v) = ⊥
 IsOpen _ = Unit {0}
 
--- child i of the place of shape s may be entered: a field of a struct, or an element of an array that isn't whole and not
--- too large
+-- child i of the place of shape s may be entered: a field of a struct, an element of an array that isn't whole and not too large, or a
+-- field of the variant that is selected
 pub data Enterable (table : Table) (s i : ℕ) (t : Tree) : Type 0 where
   a_field : (struct : StructDef) → def_of table s ≡ Def.Struct struct → i < length struct.fields → Enterable table s i t
   an_element : (item : ShapeId) (n : ℕ) → def_of table s ≡ Def.Array item n → i < n → n ≤ array_limit → IsOpen t
       → Enterable table s i t
+  a_variant_field : (k : ℕ) (enumeration : EnumDef) → def_of table s ≡ Def.Enum enumeration → selected t ≡ Some k
+      → i < length (variant_fields (def_of table s) k) → Enterable table s i t
 
-within : (table : Table) (s i : ℕ) (t : Tree) → Enterable table s i t → i < child_count table s
-within table s i t (a_field struct is below) = rw is below
-within table s i t (an_element item n is below few not_whole) = rw is below
+begun_fields : (struct : StructDef) (form : Form) (n : ℕ) → IsFullAs (Def.Struct struct) form n → n ≡ length struct.fields
+begun_fields struct as_struct n full_as = full_as
+begun_fields struct _ n full_as = absurd full_as
 
-begins_as : (table : Table) (s i : ℕ) (t : Tree) (n : ℕ) → Enterable table s i t → n ≡ child_count table s
-    → IsBegunAs (def_of table s) (form_of (def_of table s)) n
-begins_as table s i t n (a_field struct is below) e =
-    let there : n ≡ length struct.fields = rw is at e in rw is (there, omega arith)
-begins_as table s i t n (an_element item m is below few not_whole) e =
-    let there : n ≡ m = rw is at e in rw is (there, omega (arith, few))
+begun_elements : (item : ShapeId) (m : ℕ) (form : Form) (n : ℕ) → IsFullAs (Def.Array item m) form n → n ≡ m
+begun_elements item m as_array n full_as = full_as
+begun_elements item m _ n full_as = absurd full_as
 
-pub begun_form : (def : Def) (form : Form) (n : ℕ) → IsBegunAs def form n → form ≡ form_of def
-begun_form (Def.Struct struct) as_struct n h = refl
-begun_form (Def.Array item m) as_array n h = refl
-begun_form _ _ n h = absurd h.0
+begun_variant : (def : Def) (k n : ℕ) → IsFullAs def (as_variant k) n → n ≡ length (variant_fields def k)
+begun_variant (Def.Enum enumeration) k n full_as = go (slice_get enumeration.variants k) full_as
+  where
+    go : (found : Option VariantDef) → HasFieldsOf found n → n ≡ length (fields_or_none found)
+    go (Some variant) full_as = full_as
+    go None full_as = absurd full_as
+begun_variant _ k n full_as = absurd full_as
 
--- the children that a place has, or gets when one of them is entered
-pub record Opening (mode : Mode) (table : Table) (s : ℕ) (form : Form) (t : Tree) : Type 0 where
+-- a begun place has the child
+begun_within : (table : Table) (s i : ℕ) (form : Form) (ts : Trees) → Enterable table s i (begun form ts)
+    → IsFullAs (def_of table s) form (count_trees ts) → i < count_trees ts
+begun_within table s i form ts (a_field struct is below) full_as =
+    omega (arith, below, begun_fields struct form (count_trees ts) (rw is at full_as))
+begun_within table s i form ts (an_element item n is below few not_whole) full_as =
+    omega (arith, below, begun_elements item n form (count_trees ts) (rw is at full_as))
+begun_within table s i (as_variant j) ts (a_variant_field k enumeration is chosen below) full_as =
+    let same : j ≡ k = cc in
+    let count : count_trees ts ≡ length (variant_fields (def_of table s) k)
+    = subst (λ (n : ℕ). count_trees ts ≡ length (variant_fields (def_of table s) n)) same
+    (begun_variant (def_of table s) j (count_trees ts) full_as) in
+    omega (arith, below, count)
+begun_within table s i _ ts (a_variant_field k enumeration is chosen below) full_as = cc
+
+-- a content that is there stays there
+pub content_changed : (ts : Trees) (i : ℕ) (change : Tree → Tree) → IsTouched (change (tree_nth i ts)) → IsContent ts
+    → IsContent (change_nth i change ts)
+content_changed no_trees i change touched has = absurd has
+content_changed (branch t ts) zero change touched has = touched
+content_changed (branch t ts) (suc i) change touched has = has
+
+pub rightly_changed : (table : Table) (s : ℕ) (form : Form) (ts : Trees) (i : ℕ) (change : Tree → Tree)
+    → IsTouched (change (tree_nth i ts)) → IsBegunRightly table s form ts
+    → IsBegunRightly table s form (change_nth i change ts)
+rightly_changed table s as_struct ts i change touched rightly = tt
+rightly_changed table s as_array ts i change touched rightly = tt
+rightly_changed table s (as_variant k) ts i change touched rightly = rightly
+rightly_changed table s as_some ts i change touched rightly = content_changed ts i change touched rightly
+rightly_changed table s as_ok ts i change touched rightly = content_changed ts i change touched rightly
+rightly_changed table s as_err ts i change touched rightly = content_changed ts i change touched rightly
+rightly_changed table s as_pointer ts i change touched rightly =
+    (content_changed ts i change touched rightly.0, rightly.1)
+
+-- the children that a place of this form has, or gets when child i is entered
+pub record Opening (mode : Mode) (table : Table) (s i : ℕ) (form : Form) (t : Tree) : Type 0 where
   pub children : Trees
-  pub is : opened_as form (child_count table s) t ≡ begun form children
+  pub is : opened (def_of table s) t ≡ begun form children
   pub begun_as : IsBegunAs (def_of table s) form (count_trees children)
   pub suit : SuitFrom table s form 0 children
+  pub rightly : IsBegunRightly table s form children
+  pub within : i < count_trees children
   pub off : AllOff mode children
-  pub agree : (notes : Journal) → Agrees table s notes t → AgreeAll table s form notes 0 children
+  pub agree : (notes : Journal) → Agrees table s notes t → AgreeAll table s form notes 0 children × HasParts form
 
 -- holes
 
@@ -61,7 +103,7 @@ hole_off : (mode : Mode) → IsOff mode hole
 hole_off strict = tt
 hole_off (deferred start) = tt
 
-holes_off : (mode : Mode) (n : ℕ) → AllOff mode (holes n)
+pub holes_off : (mode : Mode) (n : ℕ) → AllOff mode (holes n)
 holes_off mode zero = tt
 holes_off mode (suc n) = (hole_off mode, holes_off mode n)
 
@@ -91,17 +133,33 @@ wholes_agree table s form (first v vs) i notes each = (
 
 -- all that may stand at the cursor
 
-opening_entered : (mode : Mode) (table : Table) (s : ℕ) (form : Form) → IsBegunAs (def_of table s) form (child_count table s)
-    → Opening mode table s form entered
-opening_entered mode table s form begun_as = record {
-  children = holes (child_count table s);
-  is = refl;
-  begun_as = subst (λ (n : ℕ). IsBegunAs (def_of table s) form n) (sym (count_holes (child_count table s))) begun_as;
-  suit = holes_suit table s form 0 (child_count table s);
-  off = holes_off mode (child_count table s);
-  agree = λ notes agrees. holes_agree table s form (child_count table s) 0 notes
-      (λ j. sym (held_down j notes []) ∙ untouched_below j notes [] (subst IsLow (sym agrees) tt));
+opening_holes : (mode : Mode) (table : Table) (s i n : ℕ) (form : Form) → HasParts form
+    → opened (def_of table s) entered ≡ begun form (holes n) → IsBegunAs (def_of table s) form n
+    → IsBegunRightly table s form (holes n) → i < n → Opening mode table s i form entered
+opening_holes mode table s i n form parts is begun_as rightly below = record {
+  children = holes n;
+  is = is;
+  begun_as = subst (λ (m : ℕ). IsBegunAs (def_of table s) form m) (sym (count_holes n)) begun_as;
+  suit = holes_suit table s form 0 n;
+  rightly = rightly;
+  within = omega (arith, below, count_holes n);
+  off = holes_off mode n;
+  agree = λ notes agrees. (
+    holes_agree table s form n 0 notes
+        (λ j. sym (held_down j notes []) ∙ untouched_below j notes [] (subst IsLow (sym agrees) tt)),
+    parts,
+  );
 }
+
+opening_entered : (mode : Mode) (table : Table) (s i : ℕ) → Enterable table s i entered
+    → Opening mode table s i (form_at (def_of table s) entered) entered
+opening_entered mode table s i (a_field struct is below) =
+    subst (λ (form : Form). Opening mode table s i form entered) (sym (ap form_of is))
+    (opening_holes mode table s i (length struct.fields) as_struct tt (rw is refl) (rw is (refl, omega arith)) tt below)
+opening_entered mode table s i (an_element item n is below few not_whole) =
+    subst (λ (form : Form). Opening mode table s i form entered) (sym (ap form_of is))
+    (opening_holes mode table s i n as_array tt (rw is refl) (rw is (refl, few)) tt below)
+opening_entered mode table s i (a_variant_field k enumeration is chosen below) = cc
 
 product_agrees : (table : Table) (s : ℕ) (vs : Vals) (notes : Journal) → IsWhole table s (product vs) (held notes [])
     → AgreeAll table s as_struct notes 0 (wholes vs)
@@ -113,49 +171,52 @@ product_agrees table s no_vals notes (by_entry is empty same) = tt
 product_agrees table s (first v vs) notes (by_entry is empty same) = cc
 
 opening_product : (mode : Mode) (table : Table) (s i : ℕ) (struct : StructDef) (vs : Vals) → def_of table s ≡ Def.Struct struct
-    → i < length struct.fields → fields_fit table struct.fields vs ≡ true → Opening mode table s as_struct (whole (product vs))
+    → i < length struct.fields → fields_fit table struct.fields vs ≡ true
+    → Opening mode table s i as_struct (whole (product vs))
 opening_product mode table s i struct vs is below fit =
     let suits : WholesSuit table s 0 struct.fields vs
     = wholes_suit table s struct is 0 struct.fields vs (all_from struct.fields) fit in
     record {
       children = wholes vs;
-      is = refl;
+      is = rw is refl;
       begun_as = rw is (suits.count, omega (arith, suits.count));
       suit = suits.suit;
+      rightly = tt;
+      within = omega (arith, suits.count, below);
       off = wholes_off mode vs;
-      agree = product_agrees table s vs;
+      agree = λ notes agrees. (product_agrees table s vs notes agrees, tt);
     }
 
 opening_whole : (mode : Mode) (table : Table) (s i : ℕ) (struct : StructDef) (v : Val) → def_of table s ≡ Def.Struct struct
-    → i < length struct.fields → fits table s v ≡ true → Opening mode table s as_struct (whole v)
+    → i < length struct.fields → fits table s v ≡ true → Opening mode table s i as_struct (whole v)
 opening_whole mode table s i struct (product vs) is below fit =
     opening_product mode table s i struct vs is below (rw (settled_struct table s struct is) at fit)
 opening_whole mode table s i struct unit is below fit = cc
 opening_whole mode table s i struct _ is below fit = let none = rw (settled_struct table s struct is) at fit in cc
 
-opening_begun : (mode : Mode) (table : Table) (s : ℕ) (form : Form) (ts : Trees) → AllOff mode ts → Suits table s (begun form ts)
-    → Opening mode table s form (begun form ts)
-opening_begun mode table s form ts off suits = record {
+opening_begun : (mode : Mode) (table : Table) (s i : ℕ) (form : Form) (ts : Trees) → Enterable table s i (begun form ts)
+    → AllOff mode ts → Suits table s (begun form ts) → Opening mode table s i form (begun form ts)
+opening_begun mode table s i form ts enterable off suits = record {
   children = ts;
   is = refl;
   begun_as = suits.0;
   suit = suits.1;
+  rightly = suits.2;
+  within = begun_within table s i form ts enterable suits.0.0;
   off = off;
-  agree = λ notes agrees. agrees.1;
+  agree = λ notes agrees. (agrees.1, agrees.2);
 }
 
 pub opening : (mode : Mode) (table : Table) (s i : ℕ) (t : Tree) → Enterable table s i t → AtCursor mode t → Suits table s t
-    → Opening mode table s (form_of (def_of table s)) t
+    → Opening mode table s i (form_at (def_of table s) t) t
 opening mode table s i hole enterable at suits = absurd at
-opening mode table s i entered enterable at suits =
-    opening_entered mode table s (form_of (def_of table s)) (begins_as table s i entered (child_count table s) enterable refl)
+opening mode table s i entered enterable at suits = opening_entered mode table s i enterable
 opening mode table s i (whole v) (a_field struct is below) at suits =
-    subst (λ (form : Form). Opening mode table s form (whole v)) (sym (ap form_of is))
+    subst (λ (form : Form). Opening mode table s i form (whole v)) (sym (ap form_of is))
     (opening_whole mode table s i struct v is below suits)
 opening mode table s i (whole v) (an_element item n is below few not_whole) at suits = absurd not_whole
-opening mode table s i (begun form ts) enterable at suits =
-    subst (λ (known : Form). Opening mode table s known (begun form ts))
-    (begun_form (def_of table s) form (count_trees ts) suits.0) (opening_begun mode table s form ts at suits)
+opening mode table s i (whole v) (a_variant_field k enumeration is chosen below) at suits = cc
+opening mode table s i (begun form ts) enterable at suits = opening_begun mode table s i form ts enterable at suits
 
 -- a fresh place
 
@@ -232,7 +293,8 @@ enter_agrees table s hole notes agrees =
     fresh_agrees table s (entered_at [] ∷ notes) (ap at_least_entered agrees)
 enter_agrees table s entered notes agrees = ap at_least_entered agrees
 enter_agrees table s (whole v) notes agrees = whole_entered table s v (held notes []) agrees
-enter_agrees table s (begun form ts) notes agrees = (ap at_least_entered agrees.0, seen_alike ts 0 notes agrees.1)
+enter_agrees table s (begun form ts) notes agrees =
+    (ap at_least_entered agrees.0, seen_alike ts 0 notes agrees.1, agrees.2)
   where
     seen_alike : (ts : Trees) (i : ℕ) (notes : Journal) → AgreeAll table s form notes i ts
         → AgreeAll table s form (entered_at [] ∷ notes) i ts
@@ -245,11 +307,20 @@ pub record Entry (mode : Mode) (table : Table) (s i : ℕ) (t after : Tree) : Ty
   pub leads : Leads mode (i ∷ []) after
   pub agrees : (notes : Journal) → Agrees table s notes t → Agrees table s (entered_at (i ∷ []) ∷ notes) after
 
-entry_opened : (mode : Mode) (table : Table) (s : ℕ) (form : Form) (i : ℕ) (t : Tree) → Opening mode table s form t
-    → i < child_count table s
+pub enter_touched : (def : Def) (t : Tree) → IsTouched (enter def t)
+enter_touched def hole = go (is_empty_struct def)
+  where
+    go : (b : Bool) → IsTouched (if b then whole (product no_vals) else entered)
+    go true = tt
+    go false = tt
+enter_touched def entered = tt
+enter_touched def (whole v) = tt
+enter_touched def (begun form ts) = tt
+
+entry_opened : (mode : Mode) (table : Table) (s : ℕ) (form : Form) (i : ℕ) (t : Tree) → Opening mode table s i form t
     → Entry mode table s i t
-    (change_child i (enter (def_of table (child_as table s form i))) (opened_as form (child_count table s) t))
-entry_opened mode table s form i t place below =
+    (change_child i (enter (def_of table (child_as table s form i))) (opened (def_of table s) t))
+entry_opened mode table s form i t place =
     subst (λ (u : Tree). Entry mode table s i t (change_child i (enter (def_of table (child_as table s form i))) u))
     (sym place.is) (record {
       suits = (
@@ -257,28 +328,25 @@ entry_opened mode table s form i t place below =
             (sym (count_change i (enter (def_of table (child_as table s form i))) place.children)) place.begun_as,
         suit_change table s form i 0 place.children i (enter (def_of table (child_as table s form i))) (omega arith)
             place.suit (λ h. enter_suits table (child_as table s form i) (tree_nth i place.children) h),
+        rightly_changed table s form place.children i (enter (def_of table (child_as table s form i)))
+            (enter_touched (def_of table (child_as table s form i)) (tree_nth i place.children)) place.rightly,
       );
-      leads = enter_leads mode (def_of table (child_as table s form i)) i place.children place.off
-          (omega (arith, begun_count (def_of table s) form (count_trees place.children) place.begun_as));
+      leads = enter_leads mode (def_of table (child_as table s form i)) i place.children place.off place.within;
       agrees = λ notes agrees. (
         refl,
         agree_change table s form i 0 place.children i notes (entered_at (i ∷ []) ∷ notes)
             (enter (def_of table (child_as table s form i))) (omega arith)
-            (λ j apart. down_other i j (entered_at []) notes apart) (place.agree notes agrees)
+            (λ j apart. down_other i j (entered_at []) notes apart) (place.agree notes agrees).0
             (λ h. subst
             (λ (seen : Journal). Agrees table (child_as table s form i) seen
             (enter (def_of table (child_as table s form i)) (tree_nth i place.children)))
             (sym (down_same i (entered_at []) notes))
             (enter_agrees table (child_as table s form i) (tree_nth i place.children) (down i notes) h)),
+        (place.agree notes agrees).1,
       );
     })
 
 pub entry : (mode : Mode) (table : Table) (s i : ℕ) (t : Tree) → Enterable table s i t → AtCursor mode t → Suits table s t
     → Entry mode table s i t (enter_child table s i t)
 entry mode table s i t enterable at suits =
-    subst
-    (λ (m : ℕ). Entry mode table s i t
-    (change_child i (enter (def_of table m)) (opened_as (form_of (def_of table s)) (child_count table s) t)))
-    (child_as_is table s (form_of (def_of table s)) i)
-    (entry_opened mode table s (form_of (def_of table s)) i t (opening mode table s i t enterable at suits)
-    (within table s i t enterable))
+    entry_opened mode table s (form_at (def_of table s) t) i t (opening mode table s i t enterable at suits)

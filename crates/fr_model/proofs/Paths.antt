@@ -1,5 +1,6 @@
 -- The path of the place at which a builder works, after it enters a child, puts a value or goes up.
-use Rattle.std.proofs.Common.{◌≡◌, ℕ, zero, suc, ◌<◌, true, List, [], ◌∷◌, ◌++◌, append-nil, length, Option, Some, None, refl, sym, ◌∙◌, ap, arith}
+use Rattle.std.proofs.Common.{◌≡◌, ℕ, zero, suc, ◌<◌, Bool, true, false, if◌then◌else◌, List, [], ◌∷◌, ◌++◌, append-nil, length, Option, Some, None, unwrap_or, refl, sym, ◌∙◌, ap, arith}
+use Rattle.std.specs.Option.{option_map}
 use Rattle.fr_shape.specs.declared.shape.Def.{Def}
 use Rattle.fr_shape.specs.declared.shape.ShapeId.{ShapeId}
 use Rattle.fr_shape.specs.Look.{Table, def_of}
@@ -7,13 +8,14 @@ use Rattle.fr_shape.specs.Val.{Val, Vals, unit, product}
 use Rattle.fr_shape.specs.Fits.{fits}
 use Rattle.fr_path.specs.declared.path_steps.PathStep.{PathStep}
 use Rattle.fr_model.specs.Paths.{step_as, step_below, steps_in, path_of}
-use Rattle.fr_model.specs.Places.{Place, up, child_shape, parts_of}
-use Rattle.fr_model.specs.Step.{opened_value, opened, enter, enter_child, enters, puts, puts_and_leaves, leaves}
-use Rattle.fr_model.specs.Tree.{Form, form_of, Tree, hole, entered, whole, begun, Trees, no_trees, branch, tree_nth, child_tree, change_nth, change_child, tree_at, change_at, count_trees, Mode, State, cursor_shape, cursor_tree}
+use Rattle.fr_model.specs.Contents.{variant_anew, around, content_anew, kept_in, is_entered_in_place, content_of, kept_option}
+use Rattle.fr_model.specs.Places.{Place, up, content_shape, parts_of}
+use Rattle.fr_model.specs.Step.{opened_value, opened, enter, enter_child, enters, puts, put_child, puts_child, enters_content, option_kept, content_kept, variant_kept, selects, puts_and_leaves, leaves}
+use Rattle.fr_model.specs.Tree.{Form, as_some, form_of, form_at, Tree, hole, entered, whole, begun, Trees, no_trees, branch, tree_nth, child_tree, change_nth, change_child, tree_at, change_at, child_as, count_trees, Mode, strict, deferred, State, cursor_shape, cursor_tree}
 use Rattle.fr_model.specs.Well.{Suits, AtCursor, Leads, IsInOrder}
 use Rattle.fr_model.proofs.Agreement.{leads_within, leads_child}
 use Rattle.fr_model.proofs.Cursor.{at_cursor, suits_at}
-use Rattle.fr_model.proofs.Opening.{begun_form}
+use Rattle.fr_model.proofs.Becoming.{kept_so_is}
 use Rattle.fr_model.proofs.Structs.{settled_array}
 
 pub as_deep : (here : Place) (t : Tree) → length (steps_in here t) ≡ length here
@@ -23,7 +25,7 @@ as_deep (i ∷ here) _ = ap suc (as_deep here hole)
 
 -- below a place that is changed
 
-changed_nth : (i : ℕ) (change : Tree → Tree) (ts : Trees) → i < count_trees ts
+pub changed_nth : (i : ℕ) (change : Tree → Tree) (ts : Trees) → i < count_trees ts
     → tree_nth i (change_nth i change ts) ≡ change (tree_nth i ts)
 changed_nth i change no_trees below = absurd (omega arith)
 changed_nth zero change (branch t ts) below = refl
@@ -41,12 +43,25 @@ steps_on mode (i ∷ here) way _ change leads = absurd leads
 
 -- a value is put
 
-pub put_keeps : (state : State) (v : Val) → Leads state.mode state.cursor state.tree → path_of (puts state v) ≡ path_of state
-put_keeps state v leads =
-    ap (λ (place : Place). steps_in place (change_at state.cursor (λ old. whole v) state.tree))
-    (sym (append-nil state.cursor))
-    ∙ steps_on state.mode state.cursor [] state.tree (λ old. whole v) leads
+-- whatever becomes of the place at the cursor
+pub change_keeps : (state : State) (change : Tree → Tree) → Leads state.mode state.cursor state.tree
+    → steps_in state.cursor (change_at state.cursor change state.tree) ≡ path_of state
+change_keeps state change leads =
+    ap (λ (place : Place). steps_in place (change_at state.cursor change state.tree)) (sym (append-nil state.cursor))
+    ∙ steps_on state.mode state.cursor [] state.tree change leads
     ∙ append-nil (path_of state)
+
+pub put_keeps : (state : State) (v : Val) → Leads state.mode state.cursor state.tree → path_of (puts state v) ≡ path_of state
+put_keeps state v leads = change_keeps state (λ old. whole v) leads
+
+pub select_keeps : (table : Table) (s : ℕ) (state : State) (k : ℕ) → Leads state.mode state.cursor state.tree
+    → path_of (selects table s state k) ≡ path_of state
+select_keeps table s state k leads =
+    change_keeps state (λ old. unwrap_or (variant_kept state k) (variant_anew (def_of table s) k)) leads
+
+pub default_keeps : (table : Table) (s : ℕ) (state : State) (i : ℕ) (v : Val) → Leads state.mode state.cursor state.tree
+    → path_of (puts_child table s state i v) ≡ path_of state
+default_keeps table s state i v leads = change_keeps state (put_child (def_of table s) i v) leads
 
 -- a child is entered
 
@@ -64,11 +79,10 @@ array_parts table s item n unit is fit none = cc
 array_parts table s item n _ is fit none = let absent = rw (settled_array table s item n is) at fit in cc
 
 opened_below : (mode : Mode) (table : Table) (s i : ℕ) (t : Tree) → AtCursor mode t → Suits table s t
-    → step_below i (opened (def_of table s) t) ≡ step_as (form_of (def_of table s)) i
+    → step_below i (opened (def_of table s) t) ≡ step_as (form_at (def_of table s) t) i
 opened_below mode table s i hole at suits = absurd at
 opened_below mode table s i entered at suits = refl
-opened_below mode table s i (begun form ts) at suits =
-    ap (λ (known : Form). step_as known i) (begun_form (def_of table s) form (count_trees ts) suits.0)
+opened_below mode table s i (begun form ts) at suits = refl
 opened_below mode table s i (whole v) at suits = of_parts (parts_of v) refl
   where
     without : (def : Def) → def_of table s ≡ def → parts_of v ≡ None → PathStep.Field i ≡ step_as (form_of def) i
@@ -82,16 +96,59 @@ opened_below mode table s i (whole v) at suits = of_parts (parts_of v) refl
 
 pub enter_adds : (table : Table) (root : ℕ) (state : State) (i : ℕ) → IsInOrder table root state
     → path_of (enters table (cursor_shape table root state) state i)
-    ≡ path_of state ++ step_as (form_of (def_of table (cursor_shape table root state))) i ∷ []
+    ≡ path_of state ++ step_as (form_at (def_of table (cursor_shape table root state)) (cursor_tree state)) i ∷ []
 enter_adds table root state i order =
     steps_on state.mode state.cursor (i ∷ []) state.tree (enter_child table here i) order.leads
     ∙ ap (λ (step : PathStep). path_of state ++ step ∷ [])
-    (changed_below i (enter (def_of table (child_shape table here i))) (opened (def_of table here) (cursor_tree state))
+    (changed_below i (enter (def_of table (child_as table here (form_at (def_of table here) (cursor_tree state)) i)))
+    (opened (def_of table here) (cursor_tree state))
     ∙ opened_below state.mode table here i (cursor_tree state) (at_cursor state.mode state.cursor state.tree order.leads)
     (suits_at state.mode table root state.cursor state.tree order.leads order.suits))
   where
     here : ℕ
     here = cursor_shape table root state
+
+-- a content, a side or a pointee is entered
+
+content_adds_so : (table : Table) (s : ℕ) (state : State) (form : Form) (kept : Option Tree)
+    → Leads state.mode state.cursor state.tree → step_below 0 (unwrap_or kept (content_anew table s form)) ≡ step_as form 0
+    → path_of (enters_content table s state form kept) ≡ path_of state ++ step_as form 0 ∷ []
+content_adds_so table s state form kept leads below =
+    steps_on state.mode state.cursor (0 ∷ []) state.tree (λ old. unwrap_or kept (content_anew table s form)) leads
+    ∙ ap (λ (step : PathStep). path_of state ++ step ∷ []) below
+
+kept_below : (table : Table) (s : ℕ) (mode : Mode) (form : Form) (t : Tree) (kept : Option Tree) → kept_in mode form t ≡ kept
+    → step_below 0 (unwrap_or kept (content_anew table s form)) ≡ step_as form 0
+kept_below table s mode form t None e = refl
+kept_below table s strict form t (Some tree) e = cc
+kept_below table s (deferred start) form t (Some tree) e = ap (step_below 0) (kept_so_is form t tree e).same
+
+pub content_adds : (table : Table) (s : ℕ) (state : State) (form : Form) → Leads state.mode state.cursor state.tree
+    → path_of (enters_content table s state form (content_kept state form)) ≡ path_of state ++ step_as form 0 ∷ []
+content_adds table s state form leads =
+    content_adds_so table s state form (content_kept state form) leads
+    (kept_below table s state.mode form (cursor_tree state) (content_kept state form) refl)
+
+option_below : (table : Table) (s : ℕ) (mode : Mode) (content : Def) (t : Tree)
+    → step_below 0 (unwrap_or (kept_option mode content t) (content_anew table s as_some)) ≡ PathStep.OptionSome
+option_below table s mode content hole = refl
+option_below table s mode content entered = refl
+option_below table s mode content (begun form ts) =
+    kept_below table s mode as_some (begun form ts) (kept_in mode as_some (begun form ts)) refl
+option_below table s mode content (whole v) = go (is_entered_in_place mode content) (content_of v)
+  where
+    go : (b : Bool) (held : Option Val)
+        → step_below 0 (unwrap_or (if b then option_map (λ (u : Val). around as_some (whole u)) held else None)
+        (content_anew table s as_some)) ≡ PathStep.OptionSome
+    go true (Some u) = refl
+    go true None = refl
+    go false held = refl
+
+pub some_adds : (table : Table) (s : ℕ) (state : State) → Leads state.mode state.cursor state.tree
+    → path_of (enters_content table s state as_some (option_kept table s state)) ≡ path_of state ++ step_as as_some 0 ∷ []
+some_adds table s state leads =
+    content_adds_so table s state as_some (option_kept table s state) leads
+    (option_below table s state.mode (def_of table (content_shape (def_of table s))) (cursor_tree state))
 
 -- the cursor goes up
 

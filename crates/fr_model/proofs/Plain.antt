@@ -15,6 +15,7 @@ use Rattle.fr_shape.specs.Look.{Table, def_or_other, def_of, field_in}
 use Rattle.fr_shape.specs.Plannable.{Reached, at_root, further, children_of, own_sources, leads_to, is_plain_field, is_plain_shape}
 use Rattle.fr_shape.specs.Val.{Val}
 use Rattle.fr_model.specs.Complete.{first_failing, failing_field, unless_failing, valid_child}
+use Rattle.fr_model.specs.Relation.{HasParts}
 use Rattle.fr_model.specs.Places.{count_children, child_count, shape_of_field, shape_of_child, child_shape}
 use Rattle.fr_model.specs.Tree.{Form, as_struct, as_array, child_as}
 use Rattle.fr_model.proofs.Templates.{both_true, nil_is, each_passes, IsStructAt, struct_at}
@@ -66,12 +67,13 @@ child_reached table s i below = go (slice_get table s) refl below
     go None is below = absurd (omega arith)
 
 -- and so each shape that a child reaches is plain
-pub plain_child : (table : Table) (s : ℕ) (form : Form) (i : ℕ) → i < child_count table s → AllPlain table s
+pub plain_child : (table : Table) (s : ℕ) (form : Form) (i : ℕ) → HasParts form → i < child_count table s → AllPlain table s
     → AllPlain table (child_as table s form i)
-plain_child table s as_struct i below plain id shape reached is =
+plain_child table s as_struct i parts below plain id shape reached is =
     plain id shape (reached_on table s (child_shape table s i) id (child_reached table s i below) reached) is
-plain_child table s as_array i below plain id shape reached is =
+plain_child table s as_array i parts below plain id shape reached is =
     plain id shape (reached_on table s (child_shape table s i) id (child_reached table s i below) reached) is
+plain_child table s _ i parts below plain id shape reached is = absurd parts
 
 -- each field of a plain struct is plain
 field_plain : (table : Table) (s : ℕ) (struct : StructDef) (i : ℕ) (field : Field) → AllPlain table s
@@ -89,27 +91,28 @@ no_validators : (field : Field) → is_plain_field field ≡ true → field.vali
 no_validators field h = nil_is field.validators (both_true _ (is_nil field.validators) h).1
 
 none_fails : (hooks : Meanings) (table : Table) (s i : ℕ) (made : Option Val) → AllPlain table s
-    → failing_field hooks table s i (field_in (def_of table s) None i) made ≡ None
+    → failing_field hooks table s None i (field_in (def_of table s) None i) made ≡ None
 none_fails hooks table s i made plain = go (def_of table s) refl
   where
     of_field : (field : Field) (made : Option Val) → field.validators ≡ []
-        → failing_field hooks table s i (Some field) made ≡ None
+        → failing_field hooks table s None i (Some field) made ≡ None
     of_field field (Some v) none =
-        ap (λ validators. first_failing hooks (def_of table field.shape.0) s i validators v) none
+        ap (λ validators. first_failing hooks (def_of table field.shape.0) s None i validators v) none
     of_field field None none = refl
 
     of_found : (struct : StructDef) (found : Option Field) → def_of table s ≡ Def.Struct struct
-        → slice_get struct.fields i ≡ found → failing_field hooks table s i found made ≡ None
+        → slice_get struct.fields i ≡ found → failing_field hooks table s None i found made ≡ None
     of_found struct (Some field) is at =
         of_field field made (no_validators field (field_plain table s struct i field plain is at))
     of_found struct None is at = refl
 
-    go : (def : Def) → def_of table s ≡ def → failing_field hooks table s i (field_in def None i) made ≡ None
+    go : (def : Def) → def_of table s ≡ def → failing_field hooks table s None i (field_in def None i) made ≡ None
     go (Def.Struct struct) is = of_found struct (slice_get struct.fields i) is refl
     go _ is = refl
 
 pub valid_same : (hooks : Meanings) (table : Table) (s : ℕ) (form : Form) (i : ℕ) (made : Option Val)
-    → AllPlain table s → valid_child hooks table s form i made ≡ made
-valid_same hooks table s as_struct i made plain =
+    → HasParts form → AllPlain table s → valid_child hooks table s form i made ≡ made
+valid_same hooks table s as_struct i made parts plain =
     ap (λ (failing : Option ReflectErrorKind). unless_failing failing made) (none_fails hooks table s i made plain)
-valid_same hooks table s as_array i made plain = refl
+valid_same hooks table s as_array i made parts plain = refl
+valid_same hooks table s _ i made parts plain = absurd parts

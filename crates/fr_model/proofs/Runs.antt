@@ -4,12 +4,12 @@ use Rattle.std.specs.Result.{result_ok}
 use Rattle.fr_shape.specs.declared.error.AllocError.{AllocError}
 use Rattle.fr_shape.specs.declared.error.ReflectErrorKind.{ReflectErrorKind}
 use Rattle.fr_shape.specs.declared.error.Invariant.{Invariant}
-use Rattle.fr_shape.specs.Checked.{IsChecked}
+use Rattle.fr_shape.specs.Checked.{IsChecked, is_sized}
 use Rattle.fr_shape.specs.Hooks.{Meanings}
-use Rattle.fr_shape.specs.Look.{Table}
+use Rattle.fr_shape.specs.Look.{Table, def_of}
 use Rattle.fr_shape.specs.Plannable.{IsPlain}
 use Rattle.fr_shape.specs.Val.{Val}
-use Rattle.fr_model.specs.Commands.{Call}
+use Rattle.fr_model.specs.Commands.{Call, IsFieldCall, IsFieldScript}
 use Rattle.fr_model.specs.Places.{Place, strict_column, is_root}
 use Rattle.fr_model.specs.Journal.{entered_at, longest, completes, Progress, initial_progress, rule, then_rules, rules, outcome_in, outcome, journal_run}
 use Rattle.fr_model.specs.Tree.{Tree, Mode, strict, deferred, State, initial}
@@ -43,7 +43,8 @@ built_same : (hooks : Meanings) (table : Table) (root number : ℕ) (state : Sta
 built_same hooks table root number state t (Some v) by_notes same = sym same
 built_same hooks table root number state t None by_notes same = sym same
 
-module _ (hooks : Meanings) (table : Table) (checked : IsChecked table) (root : ℕ) (plain : AllPlain table root) where
+module _ (hooks : Meanings) (table : Table) (checked : IsChecked table) (root : ℕ)
+    (sized : is_sized (def_of table root) ≡ true) (plain : AllPlain table root) where
   build_same : (number : ℕ) (state : State) (run : Progress) → Alike table root state run
       → result_ok (run_from hooks table root number state []) ≡ outcome table root (Some run)
   build_same number state run alike = rw alike.same_mode (by_mode state.mode)
@@ -69,24 +70,24 @@ module _ (hooks : Meanings) (table : Table) (checked : IsChecked table) (root : 
       by_mode strict = rw alike.same_cursor (go (is_root state.cursor))
       by_mode (deferred start) = refl
 
-  both_step : (state : State) (run : Progress) (command : Call) → Alike table root state run → IsFitting table command
-      → BothStep table root (step hooks table root state command) (rule table root run command)
-  both_step state run command alike fit =
+  both_step : (state : State) (run : Progress) (command : Call) → Alike table root state run → IsFieldCall command
+      → IsFitting table command → BothStep table root (step hooks table root state command) (rule table root run command)
+  both_step state run command alike of_field fit =
       subst (λ (there : Progress). BothStep table root (step hooks table root state command) (rule table root there command))
       (sym
       (ap₂ (λ (here : Place) (mode : Mode). record { notes = run.notes; cursor = here; mode = mode }) alike.same_cursor
       alike.same_mode))
-      (steps_alike hooks table checked root plain state run.notes alike.in_order alike.agrees command fit)
+      (steps_alike hooks table checked root sized plain state run.notes alike.in_order alike.agrees command of_field fit)
 
   run_same : (script : List Call) (number : ℕ) (state : State) (run : Progress) → Alike table root state run
-      → AllFitting table script
+      → IsFieldScript script → AllFitting table script
       → result_ok (run_from hooks table root number state script) ≡ outcome table root (rules table root run script)
-  run_same [] number state run alike fit = build_same number state run alike
-  run_same (command ∷ commands) number state run alike fit =
+  run_same [] number state run alike of_fields fit = build_same number state run alike
+  run_same (command ∷ commands) number state run alike of_fields fit =
       joined table root number state (step hooks table root state command) (rule table root run command)
       (λ next. run_from hooks table root (number + 1) next commands) (λ next. rules table root next commands)
-      (both_step state run command alike fit.0)
-      (λ next after both. run_same commands (number + 1) next after both fit.1)
+      (both_step state run command alike of_fields.0 fit.0)
+      (λ next after both. run_same commands (number + 1) next after both of_fields.1 fit.1)
 
 -- at the start
 
@@ -100,14 +101,14 @@ start_alike table root = record {
 
 -- the whole run of a plain root, which is never refused
 pub machine_agrees : (hooks : Meanings) (table : Table) (root : ℕ) (script : List Call) → IsPlain table root
-    → AllFitting table script → result_ok (full_run hooks table root script) ≡ journal_run table root script
-machine_agrees hooks table root script plain fit =
+    → IsFieldScript script → AllFitting table script → result_ok (full_run hooks table root script) ≡ journal_run table root script
+machine_agrees hooks table root script plain of_fields fit =
     ap
     (λ (refusal : Option AllocError).
     result_ok (unless_alloc refusal (run_from hooks table root 0 (initial table root) script)))
     (none_refused table root plain)
-    ∙ run_same hooks table plain.checked root plain.plain script 0 (initial table root) initial_progress
-    (start_alike table root) fit
+    ∙ run_same hooks table plain.checked root plain.sized plain.plain script 0 (initial table root) initial_progress
+    (start_alike table root) of_fields fit
 
 -- the relation place by place
 
@@ -132,11 +133,13 @@ pub start_is_related : (table : Table) (root : ℕ) → IsRelated table root (in
 start_is_related table root = alike_related table root (initial table root) initial_progress (start_alike table root)
 
 pub step_keeps_related : (hooks : Meanings) (table : Table) (root : ℕ) (state : State) (run : Progress) (command : Call)
-    → IsPlain table root → IsInOrder table root state → IsRelated table root state run → IsFitting table command
+    → IsPlain table root → IsInOrder table root state → IsRelated table root state run → IsFieldCall command
+    → IsFitting table command
     → BothGoOn table root (step hooks table root state command) (rule table root run command)
-step_keeps_related hooks table root state run command plain order related fit =
+step_keeps_related hooks table root state run command plain order related of_field fit =
     go (step hooks table root state command) (rule table root run command)
-    (both_step hooks table plain.checked root plain.plain state run command (related_alike table root state run order related) fit)
+    (both_step hooks table plain.checked root plain.sized plain.plain state run command
+    (related_alike table root state run order related) of_field fit)
   where
     go : (outcome : Result State ReflectErrorKind) (ruled : Option Progress) → BothStep table root outcome ruled
         → BothGoOn table root outcome ruled

@@ -1,31 +1,35 @@
 -- One command does the same to the journal and to the tree.
-use Rattle.std.proofs.Common.{◌≡◌, ℕ, ◌<◌, ◌==◌, eqb-true, ltb-true, Bool, true, false, if◌then◌else◌, List, [], ◌∷◌, ◌++◌, length, nat_lt, Option, Some, None, Result, Ok, Err, refl, sym, ◌∙◌, ap, subst}
+use Rattle.std.proofs.Common.{◌≡◌, ℕ, ◌<◌, ◌==◌, eqb-true, ltb-true, Bool, true, false, ◌&&◌, ◌||◌, if◌then◌else◌, List, [], ◌∷◌, ◌++◌, length, nat_lt, Option, Some, None, Result, Ok, Err, refl, sym, ◌∙◌, ap, subst}
 use Rattle.fr_shape.specs.declared.error.ReflectErrorKind.{ReflectErrorKind}
 use Rattle.fr_shape.specs.declared.error.Operation.{Operation}
 use Rattle.fr_shape.specs.declared.error.Invariant.{Invariant}
-use Rattle.fr_shape.specs.Checked.{IsChecked}
+use Rattle.fr_shape.specs.declared.shape.Def.{Def}
+use Rattle.fr_shape.specs.Checked.{IsChecked, is_sized}
 use Rattle.fr_shape.specs.Fills.{preset_of}
 use Rattle.fr_shape.specs.Fits.{fits}
 use Rattle.fr_shape.specs.Hooks.{Meanings}
 use Rattle.fr_shape.specs.Look.{Table, def_of}
 use Rattle.fr_shape.specs.Val.{Val}
-use Rattle.fr_model.specs.Commands.{Call}
+use Rattle.fr_model.specs.Commands.{Call, IsFieldCall}
 use Rattle.fr_shape.specs.Named.{field_named}
 use Rattle.fr_model.specs.Places.{Place, Column, strict_column, is_root, shape_at}
 use Rattle.fr_model.specs.Journal.{entered_at, wrote_at, Journal, Held, held, completes, Progress, may_enter, goes_to_child, goes_to_found, writes, ends, goes_up, end_rule, begin_deferred_rule, finishes_with, finish_rule, finish_notes, rule}
-use Rattle.fr_model.specs.Tree.{Tree, whole, Mode, strict, deferred, State, cursor_shape, cursor_tree, one_more_call}
+use Rattle.fr_model.specs.Relation.{HasParts}
+use Rattle.fr_model.specs.Variants.{field_found}
+use Rattle.fr_model.specs.Tree.{Form, as_struct, as_array, variant_of, selected, Tree, hole, entered, begun, whole, Mode, strict, deferred, State, cursor_shape, cursor_tree, one_more_call}
 use Rattle.fr_model.specs.Complete.{complete}
 use Rattle.fr_model.specs.Finish.{finished}
-use Rattle.fr_model.specs.Step.{unless_refused, field_refusal, named_refusal, at_shape, enter_child, enters, begins_named, puts, set_refusal, puts_default, violates, ended, leaves, end_in, begins_deferred, finishes, finish_in, step}
+use Rattle.fr_model.specs.Step.{unless_refused, field_refusal, named_refusal, at_shape, enter_child, enters, begins_named, puts, is_str, is_owned_string, takes_shape, set_refusal, puts_default, violates, ended, leaves, end_in, begins_deferred, finishes, finish_in, step}
 use Rattle.fr_model.specs.Scripts.{IsFitting}
-use Rattle.fr_model.specs.Well.{IsInOrder}
+use Rattle.fr_model.specs.Well.{Suits, IsInOrder}
 use Rattle.fr_model.proofs.Plain.{AllPlain}
 use Rattle.fr_model.proofs.Beneath.{along, held_along}
 use Rattle.fr_model.proofs.Agreement.{by_value, Agrees, agree_along, completes_at, under_entered, under_wrote, follow}
-use Rattle.fr_model.proofs.Children.{nothing_below, SeesWhole, sees_whole, may_enter_by, ChildOf, enterable, ChildCase, a_child, no_child, child_case, NamedCase, a_named, no_such_name, no_names, named_case}
-use Rattle.fr_model.proofs.Cursor.{at_cursor, suits_at, plain_at, same_shape, entry_at, begun_in_order, put_in_order, ended_in_order, left_in_order, deferred_in_order}
+use Rattle.fr_model.proofs.Children.{nothing_below, SeesWhole, sees_whole, may_enter_by, ChildOf, enterable, ChildCase, a_child, a_variant_child, no_child, child_case, only_of_enum, NamedCase, a_named, a_variant_named, no_such_name, no_names, named_case}
+use Rattle.fr_model.proofs.Cursor.{PartsAlong, parts_along, at_cursor, suits_at, plain_at, same_shape, entry_at, begun_in_order, put_in_order, ended_in_order, left_in_order, deferred_in_order}
 use Rattle.fr_model.proofs.FinishAgreement.{BothFinish, finish_agrees}
 use Rattle.fr_model.proofs.Finishes.{Kept, finish_keeps, finish_leads}
+use Rattle.fr_model.proofs.Sized.{sized_at}
 use Rattle.fr_model.proofs.Templates.{preset_template}
 
 -- a builder's state and a run of the rules that have come equally far
@@ -57,17 +61,37 @@ begun_neither : (table : Table) (root s i : ℕ) (refusal : Option Operation) (m
     → BothStep table root (unless_refused (at_shape s refusal) next) (goes_to_child may run i)
 begun_neither table root s i refusal may operation next run refused absent = rw (refused, absent) tt
 
-named_both : (table : Table) (root s i : ℕ) (state : State) (refusal : Option Operation) (found : Option ℕ)
-    (run : Progress) (t : ℕ) → refusal ≡ None → found ≡ Some i → may_enter table t i (held run.notes run.cursor) ≡ true
-    → Alike table root (enters table s state i) (entered_run run i)
-    → BothStep table root (begins_named table s state (at_shape s refusal) found) (goes_to_found table t run found)
-named_both table root s i state refusal found run t admitted is there alike = rw (admitted, is, there) alike
+named_both : (table : Table) (root s i : ℕ) (state : State) (refusal : Option Operation) (found named : Option ℕ)
+    (run : Progress) (t : ℕ) → refusal ≡ None → found ≡ Some i → named ≡ Some i
+    → may_enter table t i (held run.notes run.cursor) ≡ true → Alike table root (enters table s state i) (entered_run run i)
+    → BothStep table root (begins_named table s state (at_shape s refusal) found) (goes_to_found table t run named)
+named_both table root s i state refusal found named run t admitted is same there alike = rw (admitted, is, same, there) alike
 
-named_none : (table : Table) (root s t : ℕ) (state : State) (refusal : Option ReflectErrorKind) (found : Option ℕ)
-    (run : Progress) → found ≡ None
-    → BothStep table root (begins_named table s state refusal found) (goes_to_found table t run found)
-named_none table root s t state (Some kind) found run is = rw is tt
-named_none table root s t state None found run is = rw is tt
+named_none : (table : Table) (root s t : ℕ) (state : State) (refusal : Option Operation) (found named : Option ℕ)
+    (run : Progress) → refusal ≡ None → found ≡ None → named ≡ None
+    → BothStep table root (begins_named table s state (at_shape s refusal) found) (goes_to_found table t run named)
+named_none table root s t state refusal found named run admitted is same = rw (admitted, is, same) tt
+
+named_refused : (table : Table) (root s t : ℕ) (state : State) (refusal : Option Operation) (operation : Operation)
+    (found named : Option ℕ) (run : Progress) → refusal ≡ Some operation → named ≡ None
+    → BothStep table root (begins_named table s state (at_shape s refusal) found) (goes_to_found table t run named)
+named_refused table root s t state refusal operation found named run refused same = rw (refused, same) tt
+
+-- a tree that agrees with a journal has no variant selected
+no_variant : (table : Table) (s k : ℕ) (t : Tree) (notes : Journal) → Agrees table s notes t → selected t ≡ Some k → ⊥
+no_variant table s k (begun form ts) notes agrees e = go form agrees.2 e
+  where
+    go : (form : Form) → HasParts form → variant_of form ≡ Some k → ⊥
+    go as_struct parts e = cc
+    go as_array parts e = cc
+    go _ parts e = absurd parts
+no_variant table s k hole notes agrees e = cc
+no_variant table s k entered notes agrees e = cc
+no_variant table s k (whole v) notes agrees e = cc
+
+not_str : (def : Def) → is_sized def ≡ true → is_str def ≡ false
+not_str Def.Str sized = cc
+not_str _ sized = refl
 
 -- the end of deferred mode
 
@@ -88,8 +112,8 @@ finished_in_order hooks table root state tree checked order is =
     }
 
 -- each command, at a tree and a journal that agree
-module _ (hooks : Meanings) (table : Table) (checked : IsChecked table) (root : ℕ) (plain : AllPlain table root)
-    (state : State) (notes : Journal) (order : IsInOrder table root state) (agrees : Agrees table root notes state.tree) where
+module _ (hooks : Meanings) (table : Table) (checked : IsChecked table) (root : ℕ) (sized : is_sized (def_of table root) ≡ true)
+    (plain : AllPlain table root) (state : State) (notes : Journal) (order : IsInOrder table root state) (agrees : Agrees table root notes state.tree) where
   abbrev run : Progress
   run = record { notes = notes; cursor = state.cursor; mode = state.mode }
 
@@ -97,16 +121,24 @@ module _ (hooks : Meanings) (table : Table) (checked : IsChecked table) (root : 
   abbrev at_here : ℕ
   at_here = cursor_shape table root state
 
+  parts : PartsAlong state.cursor state.tree
+  parts = parts_along state.mode table root state.cursor state.tree notes order.leads agrees
+
   same : shape_at table root state.cursor ≡ at_here
-  same = same_shape state.mode table root state.cursor state.tree order.leads
+  same = same_shape table root state.cursor state.tree parts
+
+  agrees_here : Agrees table at_here (along state.cursor notes) (cursor_tree state)
+  agrees_here = agree_along state.mode table root state.cursor state.tree notes order.leads agrees
+
+  suits_here : Suits table at_here (cursor_tree state)
+  suits_here = suits_at state.mode table root state.cursor state.tree order.leads order.suits
 
   -- what the journal knows of the place at the cursor
   sees : SeesWhole (def_of table at_here) (cursor_tree state) (held notes state.cursor)
   sees =
       subst (λ (h : Held). SeesWhole (def_of table at_here) (cursor_tree state) h) (sym (held_along notes state.cursor))
       (sees_whole state.mode table at_here (cursor_tree state) (along state.cursor notes)
-      (at_cursor state.mode state.cursor state.tree order.leads)
-      (agree_along state.mode table root state.cursor state.tree notes order.leads agrees))
+      (at_cursor state.mode state.cursor state.tree order.leads) agrees_here)
 
   -- a child is entered
   entered_alike : (i : ℕ) → ChildOf (def_of table at_here) i (cursor_tree state)
@@ -138,35 +170,43 @@ module _ (hooks : Meanings) (table : Table) (checked : IsChecked table) (root : 
           begun_both table root at_here i (field_refusal (def_of table at_here) (cursor_tree state) i)
           (may_enter table (shape_at table root state.cursor) i (held notes state.cursor)) (enters table at_here state i) run admitted
           (may_is i true (may (held notes state.cursor) sees)) (entered_alike i child)
+      go (a_variant_child k child admitted chosen) =
+          absurd (no_variant table at_here k (cursor_tree state) (along state.cursor notes) agrees_here chosen)
       go (no_child operation refused may) =
           begun_neither table root at_here i (field_refusal (def_of table at_here) (cursor_tree state) i)
           (may_enter table (shape_at table root state.cursor) i (held notes state.cursor)) operation (enters table at_here state i) run
           refused (may_is i false (may (held notes state.cursor) sees))
 
+  abbrev refuses_names : Option Operation
+  refuses_names = named_refusal (def_of table at_here) (cursor_tree state)
+
+  abbrev finds : List ℕ → Option ℕ
+  finds name = field_found name (def_of table at_here) (selected (cursor_tree state))
+
   named_alike : (name : List ℕ)
       → BothStep table root (step hooks table root state (Call.BeginField name)) (rule table root run (Call.BeginField name))
   named_alike name =
       subst
-      (λ (s : ℕ). BothStep table root
-      (begins_named table at_here state (at_shape at_here (named_refusal (def_of table at_here)))
-      (field_named name (def_of table at_here)))
+      (λ (s : ℕ). BothStep table root (begins_named table at_here state (at_shape at_here refuses_names) (finds name))
       (goes_to_found table s run (field_named name (def_of table s))))
-      (sym same) (go (named_case name (def_of table at_here) (cursor_tree state)))
+      (sym same)
+      (go (named_case name (def_of table at_here) (cursor_tree state)
+      (only_of_enum table at_here (cursor_tree state) suits_here)))
     where
       go : NamedCase name (def_of table at_here) (cursor_tree state)
-          → BothStep table root
-          (begins_named table at_here state (at_shape at_here (named_refusal (def_of table at_here)))
-          (field_named name (def_of table at_here)))
+          → BothStep table root (begins_named table at_here state (at_shape at_here refuses_names) (finds name))
           (goes_to_found table at_here run (field_named name (def_of table at_here)))
-      go (a_named i child admitted is may) =
-          named_both table root at_here i state (named_refusal (def_of table at_here))
-          (field_named name (def_of table at_here)) run at_here admitted is (may (held notes state.cursor)) (entered_alike i child)
-      go (no_such_name admitted is) =
-          named_none table root at_here at_here state (at_shape at_here (named_refusal (def_of table at_here)))
-          (field_named name (def_of table at_here)) run is
-      go (no_names operation refused is) =
-          named_none table root at_here at_here state (at_shape at_here (named_refusal (def_of table at_here)))
-          (field_named name (def_of table at_here)) run is
+      go (a_named i child admitted is named may) =
+          named_both table root at_here i state refuses_names (finds name) (field_named name (def_of table at_here)) run at_here
+          admitted is named (may (held notes state.cursor)) (entered_alike i child)
+      go (a_variant_named i k child admitted is chosen) =
+          absurd (no_variant table at_here k (cursor_tree state) (along state.cursor notes) agrees_here chosen)
+      go (no_such_name admitted is named) =
+          named_none table root at_here at_here state refuses_names (finds name) (field_named name (def_of table at_here)) run
+          admitted is named
+      go (no_names operation refused named) =
+          named_refused table root at_here at_here state refuses_names operation (finds name)
+          (field_named name (def_of table at_here)) run refused named
 
   -- a value is put
   put_alike : (v : Val) → fits table at_here v ≡ true
@@ -181,16 +221,28 @@ module _ (hooks : Meanings) (table : Table) (checked : IsChecked table) (root : 
     same_mode = refl;
   }
 
+  -- the place has a size, so it is no `str`
+  own_shape : (given : ℕ) → takes_shape table at_here given ≡ (at_here == given)
+  own_shape given =
+      let no_str : is_str (def_of table at_here) ≡ false
+      = not_str (def_of table at_here)
+      (sized_at state.mode table root state.cursor state.tree checked parts order.leads order.suits sized) in
+      ap (λ (b : Bool). at_here == given || (b && is_owned_string (def_of table given))) no_str ∙ or_false (at_here == given)
+    where
+      or_false : (b : Bool) → (b || false) ≡ b
+      or_false true = refl
+      or_false false = refl
+
   sets_alike : (given : ℕ) (v : Val) → fits table given v ≡ true
       → BothStep table root (step hooks table root state (Call.Set given v)) (rule table root run (Call.Set given v))
   sets_alike given v fit = rw same (go (at_here == given) refl)
     where
       go : (b : Bool) → (at_here == given) ≡ b
-          → BothStep table root (unless_refused (set_refusal at_here given) (puts state v))
+          → BothStep table root (unless_refused (set_refusal table at_here given) (puts state v))
           (writes run (if at_here == given then Some v else None))
       go true e =
-          rw e (put_alike v (ap (λ (s : ℕ). fits table s v) (eqb-true at_here given e) ∙ fit))
-      go false e = rw e tt
+          rw (own_shape given, e) (put_alike v (ap (λ (s : ℕ). fits table s v) (eqb-true at_here given e) ∙ fit))
+      go false e = rw (own_shape given, e) tt
 
   defaults_alike : BothStep table root (step hooks table root state Call.SetDefault) (rule table root run Call.SetDefault)
   defaults_alike = rw same (go (preset_of table at_here) refl)
@@ -208,8 +260,7 @@ module _ (hooks : Meanings) (table : Table) (checked : IsChecked table) (root : 
   completes_here column =
       ap (λ (s : ℕ). completes column table notes s state.cursor) same
       ∙ completes_at state.mode column hooks table root state.cursor state.tree notes checked
-      (plain_at state.mode table root state.cursor state.tree order.leads order.suits plain) order.leads
-      (suits_at state.mode table root state.cursor state.tree order.leads order.suits) agrees
+      (plain_at state.mode table root state.cursor state.tree parts order.leads order.suits plain) order.leads suits_here agrees
 
   -- end in strict mode
   ends_alike : state.mode ≡ strict → (value : Option Val) (by_notes : Option Val)
@@ -301,12 +352,13 @@ module _ (hooks : Meanings) (table : Table) (checked : IsChecked table) (root : 
       finished_alike (finished hooks table root state.cursor state.tree) (finish_notes table notes root [] state.cursor) refl
       (finish_agrees hooks table root state notes checked plain order agrees)
 
-  pub steps_alike : (command : Call) → IsFitting table command
+  pub steps_alike : (command : Call) → IsFieldCall command → IsFitting table command
       → BothStep table root (step hooks table root state command) (rule table root run command)
-  steps_alike (Call.BeginField name) fit = named_alike name
-  steps_alike (Call.BeginNthField i) fit = begins_alike i
-  steps_alike (Call.Set given v) fit = sets_alike given v fit.1
-  steps_alike Call.SetDefault fit = defaults_alike
-  steps_alike Call.End fit = end_alike state.mode refl
-  steps_alike Call.BeginDeferred fit = defers_alike state.mode refl
-  steps_alike Call.FinishDeferred fit = finish_alike state.mode
+  steps_alike (Call.BeginField name) of_field fit = named_alike name
+  steps_alike (Call.BeginNthField i) of_field fit = begins_alike i
+  steps_alike (Call.Set given v) of_field fit = sets_alike given v fit.1
+  steps_alike Call.SetDefault of_field fit = defaults_alike
+  steps_alike Call.End of_field fit = end_alike state.mode refl
+  steps_alike Call.BeginDeferred of_field fit = defers_alike state.mode refl
+  steps_alike Call.FinishDeferred of_field fit = finish_alike state.mode
+  steps_alike _ of_field fit = absurd of_field

@@ -3,14 +3,20 @@ use Rattle.std.proofs.Common.{◌≡◌, ℕ, zero, suc, ◌+◌, eq-eqb, true, 
 use Rattle.fr_shape.specs.declared.shape.Def.{Def}
 use Rattle.fr_shape.specs.declared.shape.ShapeId.{ShapeId}
 use Rattle.fr_shape.specs.declared.shape.StructDef.{StructDef}
+use Rattle.fr_shape.specs.declared.shape.EnumDef.{EnumDef}
+use Rattle.fr_shape.specs.declared.shape.VariantDef.{VariantDef}
+use Rattle.fr_shape.specs.declared.shape.PointerDef.{PointerDef}
 use Rattle.fr_shape.specs.declared.shape.Field.{Field}
+use Rattle.fr_shape.specs.declared.shape.ScalarKind.{ScalarKind}
 use Rattle.fr_shape.specs.Look.{Table, def_of, settled}
-use Rattle.fr_shape.specs.Val.{Val, Vals, product, no_vals, first}
-use Rattle.fr_shape.specs.Fits.{fits, all_fit, fields_fit, count_vals}
-use Rattle.fr_model.specs.Places.{child_shape, one_more, product_of}
-use Rattle.fr_model.specs.Tree.{Form, as_struct, as_array, Tree, Trees, no_trees, branch, tree_nth, change_nth, child_as, shapes_from, count_trees, holes, wholes}
-use Rattle.fr_model.specs.Complete.{made}
-use Rattle.fr_model.specs.Well.{IsFullAs, IsBegunAs, Suits, SuitAll}
+use Rattle.fr_shape.specs.Val.{Val, Vals, no_vals, first}
+use Rattle.fr_shape.specs.Fits.{fits, all_fit, fields_fit, fields_of_variant, points_at, count_vals}
+use Rattle.fr_shape.specs.Tokens.{occurs, vals_occur}
+use Rattle.fr_model.specs.Places.{child_shape, shape_or_zero, vals_nth, one_more, product_of}
+use Rattle.fr_model.specs.Tree.{Form, as_struct, as_array, as_variant, as_some, as_ok, as_err, as_pointer, Tree, Trees, no_trees, branch, tree_nth, change_nth, child_as, shapes_from, count_trees, holes, wholes}
+use Rattle.fr_model.specs.Complete.{value_as, made}
+use Rattle.fr_model.specs.Relation.{HasParts}
+use Rattle.fr_model.specs.Well.{HasFieldsOf, HasContent, HasSide, PointsTo, HasPointee, IsFullAs, IsBegunAs, Suits, SuitAll}
 use Rattle.fr_model.proofs.Templates.{both_true}
 
 -- definitions that stand for themselves
@@ -29,6 +35,30 @@ pub settled_option : (table : Table) (s : ℕ) (t : ShapeId) → def_of table s 
     → settled table s ≡ Def.Option t
 settled_option [] s t e = cc
 settled_option (shape ∷ shapes) s t e = rw e refl
+
+pub settled_str : (table : Table) (s : ℕ) → def_of table s ≡ Def.Str → settled table s ≡ Def.Str
+settled_str [] s e = cc
+settled_str (shape ∷ shapes) s e = rw e refl
+
+pub settled_scalar : (table : Table) (s : ℕ) (kind : ScalarKind) → def_of table s ≡ Def.Scalar kind
+    → settled table s ≡ Def.Scalar kind
+settled_scalar [] s kind e = cc
+settled_scalar (shape ∷ shapes) s kind e = rw e refl
+
+pub settled_enum : (table : Table) (s : ℕ) (enumeration : EnumDef) → def_of table s ≡ Def.Enum enumeration
+    → settled table s ≡ Def.Enum enumeration
+settled_enum [] s enumeration e = cc
+settled_enum (shape ∷ shapes) s enumeration e = rw e refl
+
+pub settled_result : (table : Table) (s : ℕ) (t u : ShapeId) → def_of table s ≡ Def.Result t u
+    → settled table s ≡ Def.Result t u
+settled_result [] s t u e = cc
+settled_result (shape ∷ shapes) s t u e = rw e refl
+
+pub settled_pointer : (table : Table) (s : ℕ) (pointer : PointerDef) → def_of table s ≡ Def.Pointer pointer
+    → settled table s ≡ Def.Pointer pointer
+settled_pointer [] s pointer e = cc
+settled_pointer (shape ∷ shapes) s pointer e = rw e refl
 
 -- the fields from number i on, as a list of their own
 abbrev pub AreFrom : List Field → ℕ → List Field → Type 0
@@ -60,18 +90,19 @@ one_more_is (Some v) (Some ws) vs e = record { head = v; tail = ws; head_is = re
 one_more_is (Some v) None vs e = cc
 one_more_is None os vs e = cc
 
-pub record ProductOf (os : Option Vals) (v : Val) : Type 0 where
-  pub parts : Vals
-  pub parts_are : os ≡ Some parts
-  pub same : v ≡ product parts
+-- the children of a place begun so have the shapes of these fields
+abbrev pub ShapesAre : Table → ℕ → Form → List Field → Type 0
+ShapesAre table s form fields =
+    (i : ℕ) (field : Field) → slice_get fields i ≡ Some field → child_as table s form i ≡ field.shape.0
 
-pub product_is : (os : Option Vals) (v : Val) → product_of os ≡ Some v → ProductOf os v
-product_is (Some vs) v e = record { parts = vs; parts_are = refl; same = cc }
-product_is None v e = cc
+pub struct_shapes : (table : Table) (s : ℕ) (struct : StructDef) → def_of table s ≡ Def.Struct struct
+    → ShapesAre table s as_struct struct.fields
+struct_shapes table s struct is i field e = rw (is, e) refl
 
-field_shape : (table : Table) (s : ℕ) (struct : StructDef) (i : ℕ) (field : Field) → def_of table s ≡ Def.Struct struct
-    → slice_get struct.fields i ≡ Some field → child_shape table s i ≡ field.shape.0
-field_shape table s struct i field is e = rw (is, e) refl
+pub variant_shapes : (table : Table) (s k : ℕ) (enumeration : EnumDef) (variant : VariantDef)
+    → def_of table s ≡ Def.Enum enumeration → slice_get enumeration.variants k ≡ Some variant
+    → ShapesAre table s (as_variant k) variant.fields
+variant_shapes table s k enumeration variant is there i field e = rw (is, there, e) refl
 
 -- children that fit, of a place of shape s that is begun so, from number i on
 abbrev pub ChildrenFit : Table → ℕ → Form → ℕ → Vals → Type 0
@@ -79,18 +110,17 @@ ChildrenFit table s form i no_vals = Unit {0}
 ChildrenFit table s form i (first v vs) =
     (fits table (child_as table s form i) v ≡ true) × ChildrenFit table s form (suc i) vs
 
-fields_all_fit : (table : Table) (s : ℕ) (struct : StructDef) → def_of table s ≡ Def.Struct struct
-    → (i : ℕ) (fields : List Field) (vs : Vals) → AreFrom struct.fields i fields → count_vals vs ≡ length fields
-    → ChildrenFit table s as_struct i vs → fields_fit table fields vs ≡ true
-fields_all_fit table s struct is i [] no_vals from count fit = refl
-fields_all_fit table s struct is i [] (first v vs) from count fit = absurd (omega arith)
-fields_all_fit table s struct is i (field ∷ fields) no_vals from count fit = absurd (omega arith)
-fields_all_fit table s struct is i (field ∷ fields) (first v vs) from count fit =
-    let shape : child_shape table s i ≡ field.shape.0
-    = field_shape table s struct i field is (first_is struct.fields i field fields from) in
+fields_all_fit : (table : Table) (s : ℕ) (form : Form) (all : List Field) → ShapesAre table s form all
+    → (i : ℕ) (fields : List Field) (vs : Vals) → AreFrom all i fields → count_vals vs ≡ length fields
+    → ChildrenFit table s form i vs → fields_fit table fields vs ≡ true
+fields_all_fit table s form all shapes i [] no_vals from count fit = refl
+fields_all_fit table s form all shapes i [] (first v vs) from count fit = absurd (omega arith)
+fields_all_fit table s form all shapes i (field ∷ fields) no_vals from count fit = absurd (omega arith)
+fields_all_fit table s form all shapes i (field ∷ fields) (first v vs) from count fit =
+    let shape : child_as table s form i ≡ field.shape.0 = shapes i field (first_is all i field fields from) in
     let here : fits table field.shape.0 v ≡ true = rw shape at fit.0 in
     let others : fields_fit table fields vs ≡ true
-    = fields_all_fit table s struct is (suc i) fields vs (next_are struct.fields i field fields from) (omega arith) fit.1 in
+    = fields_all_fit table s form all shapes (suc i) fields vs (next_are all i field fields from) (omega arith) fit.1 in
     rw (here, others) refl
 
 elements_all_fit : (table : Table) (s : ℕ) (t : ShapeId) (n : ℕ) → def_of table s ≡ Def.Array t n → (i : ℕ) (vs : Vals)
@@ -102,29 +132,104 @@ elements_all_fit table s t n is i (first v vs) fit =
     let others : all_fit table t.0 vs ≡ true = elements_all_fit table s t n is (suc i) vs fit.1 in
     rw (here, others) refl
 
--- what a struct or an array makes of its children's values
-pub made_product : (form : Form) (values : Option Vals) → made form values ≡ product_of values
-made_product as_struct values = refl
-made_product as_array values = refl
+-- what a place makes of its children's values
+pub record MadeOf (form : Form) (os : Option Vals) (v : Val) : Type 0 where
+  pub parts : Vals
+  pub parts_are : os ≡ Some parts
+  pub same : v ≡ value_as form parts
+
+pub made_is : (form : Form) (os : Option Vals) (v : Val) → made form os ≡ Some v → MadeOf form os v
+made_is form (Some vs) v e = record { parts = vs; parts_are = refl; same = cc }
+made_is form None v e = cc
+
+-- a struct or an array makes their product
+pub made_product : (form : Form) (values : Option Vals) → HasParts form → made form values ≡ product_of values
+made_product as_struct (Some vs) parts = refl
+made_product as_struct None parts = refl
+made_product as_array (Some vs) parts = refl
+made_product as_array None parts = refl
+made_product _ values parts = absurd parts
+
+-- a place that holds one value has one child
+content_once : (def : Def) (count : ℕ) → HasContent def count → count ≡ 1
+content_once (Def.Option t) count has = has
+content_once _ count has = absurd has
+
+side_once : (def : Def) (count : ℕ) → HasSide def count → count ≡ 1
+side_once (Def.Result t e) count has = has
+side_once _ count has = absurd has
+
+points_once : (pointee : Option ShapeId) (count : ℕ) → PointsTo pointee count → count ≡ 1
+points_once (Some t) count has = has
+points_once None count has = absurd has
+
+pointee_once : (def : Def) (count : ℕ) → HasPointee def count → count ≡ 1
+pointee_once (Def.Pointer pointer) count has = points_once pointer.pointee count has
+pointee_once _ count has = absurd has
+
+one_holds : (vs : Vals) (t : ℕ) → count_vals vs ≡ 1 → occurs (vals_nth vs 0) t ≡ vals_occur vs t
+one_holds no_vals t one = absurd (omega arith)
+one_holds (first v no_vals) t one = omega arith
+one_holds (first v (first w ws)) t one = absurd (omega arith)
+
+-- fitting children, as many as there have to be, make a value that fits
+pub value_fits : (table : Table) (s : ℕ) (form : Form) (vs : Vals) → IsFullAs (def_of table s) form (count_vals vs)
+    → ChildrenFit table s form 0 vs → fits table s (value_as form vs) ≡ true
+value_fits table s form vs count fit = go form (def_of table s) refl vs count fit
+  where
+    of_variant : (k : ℕ) (enumeration : EnumDef) (found : Option VariantDef) → def_of table s ≡ Def.Enum enumeration
+        → slice_get enumeration.variants k ≡ found → (vs : Vals) → HasFieldsOf found (count_vals vs)
+        → ChildrenFit table s (as_variant k) 0 vs → fields_of_variant found (λ fields. fields_fit table fields vs) ≡ true
+    of_variant k enumeration (Some variant) is there vs count fit =
+        fields_all_fit table s (as_variant k) variant.fields (variant_shapes table s k enumeration variant is there) 0
+        variant.fields vs (all_from variant.fields) count fit
+    of_variant k enumeration None is there vs count fit = absurd count
+
+    pointed : (pointer : PointerDef) (pointee : Option ShapeId) → def_of table s ≡ Def.Pointer pointer
+        → pointer.pointee ≡ pointee → (v : Val) → fits table (shape_or_zero pointee) v ≡ true → (n : ℕ) → PointsTo pointee n
+        → points_at pointee (λ t. fits table t v) ≡ true
+    pointed pointer (Some t) is to v fit n one = fit
+    pointed pointer None is to v fit n one = absurd one
+
+    go : (form : Form) (def : Def) → def_of table s ≡ def → (vs : Vals) → IsFullAs def form (count_vals vs)
+        → ChildrenFit table s form 0 vs → fits table s (value_as form vs) ≡ true
+    go as_struct (Def.Struct struct) is vs count fit =
+        rw (settled_struct table s struct is)
+        (fields_all_fit table s as_struct struct.fields (struct_shapes table s struct is) 0 struct.fields vs
+        (all_from struct.fields) count fit)
+    go as_array (Def.Array t n) is vs count fit =
+        rw (settled_array table s t n is, eq-eqb (count_vals vs) n count, elements_all_fit table s t n is 0 vs fit) refl
+    go (as_variant k) (Def.Enum enumeration) is vs count fit =
+        rw (settled_enum table s enumeration is)
+        (of_variant k enumeration (slice_get enumeration.variants k) is refl vs count fit)
+    go as_some (Def.Option t) is (first v no_vals) count fit = rw (settled_option table s t is) (rw is at fit.0)
+    go as_some (Def.Option t) is no_vals count fit = absurd (omega arith)
+    go as_some (Def.Option t) is (first v (first w ws)) count fit = absurd (omega arith)
+    go as_ok (Def.Result t e) is (first v no_vals) count fit = rw (settled_result table s t e is) (rw is at fit.0)
+    go as_ok (Def.Result t e) is no_vals count fit = absurd (omega arith)
+    go as_ok (Def.Result t e) is (first v (first w ws)) count fit = absurd (omega arith)
+    go as_err (Def.Result t e) is (first v no_vals) count fit = rw (settled_result table s t e is) (rw is at fit.0)
+    go as_err (Def.Result t e) is no_vals count fit = absurd (omega arith)
+    go as_err (Def.Result t e) is (first v (first w ws)) count fit = absurd (omega arith)
+    go as_pointer (Def.Pointer pointer) is (first v vs) count fit =
+        rw (settled_pointer table s pointer is)
+        (pointed pointer pointer.pointee is refl v (rw is at fit.0) (suc (count_vals vs)) count)
+    go as_pointer (Def.Pointer pointer) is no_vals count fit = absurd (omega (arith, points_once pointer.pointee 0 count))
+    go _ _ is vs count fit = absurd count
+
+-- and it holds what they hold
+pub value_holds : (def : Def) (form : Form) (vs : Vals) → IsFullAs def form (count_vals vs) → (t : ℕ)
+    → occurs (value_as form vs) t ≡ vals_occur vs t
+value_holds def as_struct vs count t = refl
+value_holds def as_array vs count t = refl
+value_holds def (as_variant k) vs count t = refl
+value_holds def as_some vs count t = one_holds vs t (content_once def (count_vals vs) count)
+value_holds def as_ok vs count t = one_holds vs t (side_once def (count_vals vs) count)
+value_holds def as_err vs count t = one_holds vs t (side_once def (count_vals vs) count)
+value_holds def as_pointer vs count t = one_holds vs t (pointee_once def (count_vals vs) count)
 
 pub begun_full : (def : Def) (form : Form) (count : ℕ) → IsBegunAs def form count → IsFullAs def form count
-begun_full (Def.Struct struct) as_struct count begun_as = begun_as.0
-begun_full (Def.Array t n) as_array count begun_as = begun_as.0
-begun_full _ _ count begun_as = absurd begun_as.0
-
--- fitting children, one for each field or element, make a value that fits
-pub product_fits : (table : Table) (s : ℕ) (form : Form) (vs : Vals) → IsFullAs (def_of table s) form (count_vals vs)
-    → ChildrenFit table s form 0 vs → fits table s (product vs) ≡ true
-product_fits table s form vs count fit = go (def_of table s) form refl count fit
-  where
-    go : (def : Def) (form : Form) → def_of table s ≡ def → IsFullAs def form (count_vals vs)
-        → ChildrenFit table s form 0 vs → fits table s (product vs) ≡ true
-    go (Def.Struct struct) as_struct is count fit =
-        rw (settled_struct table s struct is)
-        (fields_all_fit table s struct is 0 struct.fields vs (all_from struct.fields) count fit)
-    go (Def.Array t n) as_array is count fit =
-        rw (settled_array table s t n is, eq-eqb (count_vals vs) n count, elements_all_fit table s t n is 0 vs fit) refl
-    go _ _ is count fit = absurd count
+begun_full def form count begun_as = begun_as.0
 
 -- the trees suit the shapes of the children from number i on, of a place of shape s that is begun so
 abbrev pub SuitFrom : Table → ℕ → Form → ℕ → Trees → Type 0
@@ -161,7 +266,7 @@ wholes_suit table s struct is i (field ∷ fields) (first v vs) from fit =
     let rest : WholesSuit table s (suc i) fields vs
     = wholes_suit table s struct is (suc i) fields vs (next_are struct.fields i field fields from) both.1 in
     let shape : child_shape table s i ≡ field.shape.0
-    = field_shape table s struct i field is (first_is struct.fields i field fields from) in
+    = struct_shapes table s struct is i field (first_is struct.fields i field fields from) in
     record { count = ap suc rest.count; suit = (rw shape both.0, rest.suit) }
 
 -- one child, and all of them with one changed

@@ -1,20 +1,25 @@
 -- What a checked table's presets and defaults give: values that fit and hold no token.
-use Rattle.std.proofs.Common.{◌≡◌, ℕ, Bool, true, false, ◌&&◌, List, [], ◌∷◌, slice_get, Option, Some, None, option_to_list, zero, suc, refl, sym, ◌∙◌, ap}
-use Rattle.std.specs.List.{list_all}
+use Rattle.std.proofs.Common.{◌≡◌, ℕ, Bool, true, false, ◌&&◌, List, [], ◌∷◌, ◌++◌, slice_get, Option, Some, None, is_some, Result, Ok, option_to_list, zero, suc, refl, sym, ◌∙◌, ap, subst}
+use Rattle.std.specs.List.{list_all, flat_map}
 use Rattle.fr_shape.specs.declared.shape.Shape.{Shape}
 use Rattle.fr_shape.specs.declared.shape.Def.{Def}
 use Rattle.fr_shape.specs.declared.shape.StructDef.{StructDef}
 use Rattle.fr_shape.specs.declared.shape.Field.{Field}
 use Rattle.fr_shape.specs.declared.shape.DefaultSource.{DefaultSource}
+use Rattle.fr_shape.specs.declared.shape.ShapeId.{ShapeId}
+use Rattle.fr_shape.specs.declared.shape.VariantDef.{VariantDef}
+use Rattle.fr_shape.specs.declared.error.Operation.{Operation}
+use Rattle.fr_shape.specs.declared.error.ReflectErrorKind.{ReflectErrorKind}
 use Rattle.fr_shape.specs.Checked.{IsChecked, fields_of, is_template, default_is_template, is_none_val}
 use Rattle.fr_shape.specs.Fills.{preset_in, preset_of, has_default, strict_by_mark, takes_shape_default, by_strict_rule, deferred_by_mark, takes_deferred_default, by_deferred_rule}
-use Rattle.fr_shape.specs.Look.{Table, def_or_other, def_of, field_in}
+use Rattle.fr_shape.specs.Look.{Table, def_or_other, def_of, field_of_variant, field_in}
 use Rattle.fr_shape.specs.Lists.{is_nil}
 use Rattle.fr_shape.specs.Val.{Val, none}
 use Rattle.fr_shape.specs.Fits.{fits}
 use Rattle.fr_shape.specs.Tokens.{tokens, times, occurs}
 use Rattle.fr_shape.specs.TokenLaws.{occurs_times}
-use Rattle.fr_model.specs.Places.{Column, strict_column, deferred_column, child_shape, fill_by, fill_of_field, fill_at}
+use Rattle.fr_model.specs.Places.{Column, strict_column, deferred_column, child_shape, shape_of_field, shape_of_child, fill_by, fill_of_field, fill_in, fill_at}
+use Rattle.fr_model.specs.Step.{operation_failed, default_or, default_by_mark, field_default}
 
 -- lists and tests
 
@@ -108,62 +113,131 @@ struct_at table s struct e = go (slice_get table s) refl e
     go (Some shape) is e = record { shape = shape; is = is; def = e }
     go None is e = cc
 
-default_template : (table : Table) (s : ℕ) (struct : StructDef) (i : ℕ) (field : Field) (v : Val)
-    → IsChecked table → def_of table s ≡ Def.Struct struct → slice_get struct.fields i ≡ Some field
-    → field.default ≡ Some (DefaultSource.Custom v) → IsTemplate table field.shape.0 v
-default_template table s struct i field v checked is at marked =
-    tested_template table field.shape.0 v (rw marked at each)
+-- fields of a struct or of a variant
+
+pub all_of_both : {X : Type 0} (test : X → Bool) (xs ys : List X) → list_all test (xs ++ ys) ≡ true
+    → (list_all test xs ≡ true) × (list_all test ys ≡ true)
+all_of_both test [] ys all = (refl, all)
+all_of_both test (x ∷ xs) ys all =
+    let here = both_true (test x) (list_all test (xs ++ ys)) all in
+    let rest = all_of_both test xs ys here.1 in
+    (rw (here.0, rest.0) refl, rest.1)
+
+variant_field_passes : (test : Field → Bool) (variants : List VariantDef) (k i : ℕ) (field : Field)
+    → list_all test (flat_map (λ (variant : VariantDef). variant.fields) variants) ≡ true
+    → field_of_variant (slice_get variants k) i ≡ Some field → test field ≡ true
+variant_field_passes test [] k i field all at = cc
+variant_field_passes test (variant ∷ variants) zero i field all at =
+    each_passes test variant.fields i field
+    (all_of_both test variant.fields (flat_map (λ (other : VariantDef). other.fields) variants) all).0 at
+variant_field_passes test (variant ∷ variants) (suc k) i field all at =
+    variant_field_passes test variants k i field
+    (all_of_both test variant.fields (flat_map (λ (other : VariantDef). other.fields) variants) all).1 at
+
+-- what is true of all fields of a definition is true of the one of this number
+pub field_passes : (test : Field → Bool) (def : Def) (selected : Option ℕ) (i : ℕ) (field : Field)
+    → list_all test (fields_of def) ≡ true → field_in def selected i ≡ Some field → test field ≡ true
+field_passes test (Def.Struct struct) None i field all at = each_passes test struct.fields i field all at
+field_passes test (Def.Struct struct) (Some k) i field all at = cc
+field_passes test (Def.Enum enumeration) (Some k) i field all at =
+    variant_field_passes test enumeration.variants k i field all at
+field_passes test (Def.Enum enumeration) None i field all at = cc
+field_passes test _ selected i field all at = cc
+
+default_template : (table : Table) (s : ℕ) (selected : Option ℕ) (i : ℕ) (field : Field) (v : Val) → IsChecked table
+    → field_in (def_of table s) selected i ≡ Some field → field.default ≡ Some (DefaultSource.Custom v)
+    → IsTemplate table field.shape.0 v
+default_template table s selected i field v checked at marked = go (slice_get table s) refl at
   where
-    here : IsStructAt table s struct
-    here = struct_at table s struct is
+    go : (found : Option Shape) → slice_get table s ≡ found → field_in (def_or_other found) selected i ≡ Some field
+        → IsTemplate table field.shape.0 v
+    go (Some shape) is at =
+        let each : default_is_template table field.shape.0 field.default ≡ true
+        = field_passes (λ (f : Field). default_is_template table f.shape.0 f.default) shape.def selected i field
+        (both_true (list_all (is_template table s) (option_to_list shape.preset))
+        (list_all (λ (f : Field). default_is_template table f.shape.0 f.default) (fields_of shape.def))
+        (checked.templates s shape is)).1 at in
+        tested_template table field.shape.0 v (rw marked at each)
+    go None is at = cc
 
-    each : default_is_template table field.shape.0 field.default ≡ true
-    each =
-        each_passes (λ (f : Field). default_is_template table f.shape.0 f.default) struct.fields i field
-        (rw here.def at (both_true (list_all (is_template table s) (option_to_list here.shape.preset))
-        (list_all (λ (f : Field). default_is_template table f.shape.0 f.default) (fields_of here.shape.def))
-        (checked.templates s here.shape here.is)).1) at
-
-field_template : (column : Column) (table : Table) (s : ℕ) (struct : StructDef) (i : ℕ) (field : Field) (v : Val)
-    → IsChecked table → def_of table s ≡ Def.Struct struct → slice_get struct.fields i ≡ Some field
-    → fill_by column table s false field ≡ Some v → IsTemplate table field.shape.0 v
-field_template strict_column table s struct i field v checked is at e =
-    go field.default (takes_shape_default table s false field) refl e
+field_template : (column : Column) (table : Table) (s : ℕ) (selected : Option ℕ) (i : ℕ) (field : Field) (v : Val)
+    → IsChecked table → field_in (def_of table s) selected i ≡ Some field
+    → fill_by column table s (is_some selected) field ≡ Some v → IsTemplate table field.shape.0 v
+field_template strict_column table s selected i field v checked at e =
+    go field.default (takes_shape_default table s (is_some selected) field) refl e
   where
     go : (mark : Option DefaultSource) (unmarked : Bool) → field.default ≡ mark
         → by_strict_rule table field (strict_by_mark mark unmarked) ≡ Some v → IsTemplate table field.shape.0 v
     go (Some (DefaultSource.Custom value)) unmarked marked e =
         let same : value ≡ v = cc in
-        rw (← same) (default_template table s struct i field value checked is at marked)
+        rw (← same) (default_template table s selected i field value checked at marked)
     go (Some DefaultSource.FromTrait) unmarked marked e = preset_template table field.shape.0 v checked e
     go None true marked e = preset_template table field.shape.0 v checked e
     go None false marked e = cc
-field_template deferred_column table s struct i field v checked is at e =
+field_template deferred_column table s selected i field v checked at e =
     go field.default (has_default table field.shape.0) (takes_deferred_default table s field) refl e
   where
     go : (mark : Option DefaultSource) (has unmarked : Bool) → field.default ≡ mark
         → by_deferred_rule table field (deferred_by_mark mark has unmarked) ≡ Some v → IsTemplate table field.shape.0 v
     go (Some (DefaultSource.Custom value)) has unmarked marked e =
         let same : value ≡ v = cc in
-        rw (← same) (default_template table s struct i field value checked is at marked)
+        rw (← same) (default_template table s selected i field value checked at marked)
     go (Some DefaultSource.FromTrait) true unmarked marked e = preset_template table field.shape.0 v checked e
     go (Some DefaultSource.FromTrait) false unmarked marked e = cc
     go None has true marked e = preset_template table field.shape.0 v checked e
     go None has false marked e = cc
 
--- what a hole takes
+-- a field's default by its mark, and by that of its shape
+abbrev default_by : Table → ShapeId → (preset : Option Val) → Option DefaultSource → Result Val ReflectErrorKind
+default_by table shape preset (Some (DefaultSource.Custom v)) = Ok v
+default_by table shape preset (Some DefaultSource.FromTrait) =
+    default_or preset (operation_failed shape.0 Operation.NoDefault)
+default_by table shape preset None = default_or preset (ReflectErrorKind.DefaultAttrButNoDefaultImpl shape)
+
+default_same : (table : Table) (shape : ShapeId) (mark : Option DefaultSource)
+    → default_by table shape (preset_of table shape.0) mark ≡ default_by_mark table shape mark
+default_same table shape (Some (DefaultSource.Custom v)) = refl
+default_same table shape (Some DefaultSource.FromTrait) = refl
+default_same table shape None = refl
+
+-- what a hole takes, as a field of a struct or of the selected variant
+pub fill_in_template : (column : Column) (table : Table) (s : ℕ) (selected : Option ℕ) (i : ℕ) (v : Val) → IsChecked table
+    → fill_in column table s selected i ≡ Some v
+    → IsTemplate table (shape_of_field (field_in (def_of table s) selected i)) v
+fill_in_template column table s selected i v checked e = go (field_in (def_of table s) selected i) refl e
+  where
+    go : (found : Option Field) → field_in (def_of table s) selected i ≡ found
+        → fill_of_field column table s (is_some selected) found ≡ Some v → IsTemplate table (shape_of_field found) v
+    go (Some field) at e = field_template column table s selected i field v checked at e
+    go None at e = cc
+
+-- a struct's field has the shape of the child of its number
+struct_field : (def : Def) (i : ℕ) (v : Val) (column : Column) (table : Table) (s : ℕ)
+    → fill_of_field column table s false (field_in def None i) ≡ Some v
+    → shape_of_field (field_in def None i) ≡ shape_of_child def i
+struct_field (Def.Struct struct) i v column table s e = refl
+struct_field _ i v column table s e = cc
+
 pub fill_template : (column : Column) (table : Table) (s i : ℕ) (v : Val) → IsChecked table
     → fill_at column table s i ≡ Some v → IsTemplate table (child_shape table s i) v
-fill_template column table s i v checked e = go (def_of table s) refl e
-  where
-    of_field : (struct : StructDef) (found : Option Field) → def_of table s ≡ Def.Struct struct
-        → slice_get struct.fields i ≡ found → fill_of_field column table s false found ≡ Some v
-        → IsTemplate table (child_shape table s i) v
-    of_field struct (Some field) is at e =
-        rw (is, at) (field_template column table s struct i field v checked is at e)
-    of_field struct None is at e = cc
+fill_template column table s i v checked e =
+    subst (λ (shape : ℕ). IsTemplate table shape v) (struct_field (def_of table s) i v column table s e)
+    (fill_in_template column table s None i v checked e)
 
-    go : (def : Def) → def_of table s ≡ def → fill_of_field column table s false (field_in def None i) ≡ Some v
-        → IsTemplate table (child_shape table s i) v
-    go (Def.Struct struct) is e = of_field struct (slice_get struct.fields i) is refl e
-    go _ is e = cc
+-- the default to which a field is set
+pub field_default_template : (table : Table) (s : ℕ) (selected : Option ℕ) (i : ℕ) (field : Field) (v : Val) → IsChecked table
+    → field_in (def_of table s) selected i ≡ Some field → field_default table field ≡ Ok v → IsTemplate table field.shape.0 v
+field_default_template table s selected i field v checked at e =
+    go field.default (preset_of table field.shape.0) refl refl (default_same table field.shape field.default ∙ e)
+  where
+    go : (mark : Option DefaultSource) (preset : Option Val) → field.default ≡ mark → preset_of table field.shape.0 ≡ preset
+        → default_by table field.shape preset mark ≡ Ok v → IsTemplate table field.shape.0 v
+    go (Some (DefaultSource.Custom value)) preset marked is e =
+        let same : value ≡ v = cc in
+        rw (← same) (default_template table s selected i field value checked at marked)
+    go (Some DefaultSource.FromTrait) (Some u) marked is e =
+        let same : u ≡ v = cc in preset_template table field.shape.0 v checked (is ∙ ap Some same)
+    go (Some DefaultSource.FromTrait) None marked is e = cc
+    go None (Some u) marked is e =
+        let same : u ≡ v = cc in preset_template table field.shape.0 v checked (is ∙ ap Some same)
+    go None None marked is e = cc

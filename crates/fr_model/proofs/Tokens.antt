@@ -5,15 +5,15 @@ use Rattle.fr_shape.specs.Fills.{is_empty_struct}
 use Rattle.fr_shape.specs.Look.{Table, def_of}
 use Rattle.fr_shape.specs.Val.{Vals, product, no_vals, first}
 use Rattle.fr_shape.specs.Tokens.{vals_occur}
-use Rattle.fr_model.specs.Places.{Place, child_count, child_shape}
-use Rattle.fr_model.specs.Tree.{Form, form_of, fresh, Tree, hole, entered, whole, begun, Trees, no_trees, branch, tree_nth, change_nth, tree_at, change_child, change_at, count_trees, holes, wholes, tree_occurs, trees_occur, Mode}
+use Rattle.fr_model.specs.Places.{Place, child_count}
+use Rattle.fr_model.specs.Tree.{Form, form_of, form_at, fresh, Tree, hole, entered, whole, begun, Trees, no_trees, branch, tree_nth, change_nth, child_as, tree_at, change_child, change_at, count_trees, holes, wholes, tree_occurs, trees_occur, Mode}
 use Rattle.fr_model.specs.Step.{opened_as, enter, enter_child}
 use Rattle.fr_model.specs.Well.{Leads}
 use Rattle.fr_model.proofs.Agreement.{leads_within, leads_child}
 
 -- a child is entered
 
-holes_hold : (n t : ℕ) → trees_occur (holes n) t ≡ 0
+pub holes_hold : (n t : ℕ) → trees_occur (holes n) t ≡ 0
 holes_hold zero t = refl
 holes_hold (suc n) t = let rest = holes_hold n t in omega arith
 
@@ -21,7 +21,7 @@ pub wholes_hold : (vs : Vals) (t : ℕ) → trees_occur (wholes vs) t ≡ vals_o
 wholes_hold no_vals t = refl
 wholes_hold (first v vs) t = let rest = wholes_hold vs t in omega arith
 
-opened_holds : (form : Form) (count : ℕ) (tree : Tree) (t : ℕ)
+pub opened_holds : (form : Form) (count : ℕ) (tree : Tree) (t : ℕ)
     → tree_occurs (opened_as form count tree) t ≡ tree_occurs tree t
 opened_holds form count entered t = holes_hold count t
 opened_holds form count (whole (product vs)) t = wholes_hold vs t
@@ -53,12 +53,13 @@ enter_in_holds def i _ t = refl
 pub enter_child_holds : (table : Table) (s i : ℕ) (tree : Tree) (t : ℕ)
     → tree_occurs (enter_child table s i tree) t ≡ tree_occurs tree t
 enter_child_holds table s i tree t =
-    enter_in_holds (def_of table (child_shape table s i)) i (opened_as (form_of (def_of table s)) (child_count table s) tree) t
+    enter_in_holds (def_of table (child_as table s (form_at (def_of table s) tree) i)) i
+    (opened_as (form_of (def_of table s)) (child_count table s) tree) t
     ∙ opened_holds (form_of (def_of table s)) (child_count table s) tree t
 
 -- a change at the cursor
 
-nth_holds : (i : ℕ) (change : Tree → Tree) (trees : Trees) (t : ℕ) → i < count_trees trees
+pub nth_holds : (i : ℕ) (change : Tree → Tree) (trees : Trees) (t : ℕ) → i < count_trees trees
     → trees_occur (change_nth i change trees) t + tree_occurs (tree_nth i trees) t
     ≡ trees_occur trees t + tree_occurs (change (tree_nth i trees)) t
 nth_holds i change no_trees t within = absurd (omega arith)

@@ -1,5 +1,5 @@
 -- Calls of the builder as plain data.
-use Rattle.std.specs.Prelude.{ℕ, List, map}
+use Rattle.std.specs.Prelude.{ℕ, ℤ, List, [], ◌∷◌, map}
 use Rattle.fr_shape.specs.Val.{Val}
 use Rattle.fr_shape.specs.View.{view}
 use Rattle.fr_model.specs.declared.command.Command.{Command}
@@ -8,8 +8,16 @@ use Rattle.fr_model.specs.declared.command.Command.{Command}
 pub data Call : Type 0 where
   BeginField : (name : List ℕ) → Call
   BeginNthField : ℕ → Call
+  SetNthFieldToDefault : ℕ → Call
   Set : ℕ → Val → Call
   SetDefault : Call
+  BeginSome : Call
+  BeginOk : Call
+  BeginErr : Call
+  BeginSmartPtr : Call
+  SelectNthVariant : ℕ → Call
+  SelectVariantNamed : (name : List ℕ) → Call
+  SelectVariant : (discriminant : ℤ) → Call
   End : Call
   BeginDeferred : Call
   FinishDeferred : Call
@@ -18,8 +26,16 @@ pub data Call : Type 0 where
 abbrev pub call_of : Command → Call
 call_of (Command.BeginField name) = Call.BeginField name
 call_of (Command.BeginNthField i) = Call.BeginNthField i
+call_of (Command.SetNthFieldToDefault i) = Call.SetNthFieldToDefault i
 call_of (Command.Set shape v) = Call.Set shape.0 (view v)
 call_of Command.SetDefault = Call.SetDefault
+call_of Command.BeginSome = Call.BeginSome
+call_of Command.BeginOk = Call.BeginOk
+call_of Command.BeginErr = Call.BeginErr
+call_of Command.BeginSmartPtr = Call.BeginSmartPtr
+call_of (Command.SelectNthVariant i) = Call.SelectNthVariant i
+call_of (Command.SelectVariantNamed name) = Call.SelectVariantNamed name
+call_of (Command.SelectVariant discriminant) = Call.SelectVariant discriminant
 call_of Command.End = Call.End
 call_of Command.BeginDeferred = Call.BeginDeferred
 call_of Command.FinishDeferred = Call.FinishDeferred
@@ -27,3 +43,25 @@ call_of Command.FinishDeferred = Call.FinishDeferred
 -- what a script stands for
 abbrev pub calls_of : List Command → List Call
 calls_of script = map call_of script
+
+-- the calls that field scripts are made of: fields and elements are entered, set and left, in either mode
+abbrev pub IsFieldCall : Call → Type 0
+IsFieldCall (Call.BeginField name) = Unit {0}
+IsFieldCall (Call.BeginNthField i) = Unit {0}
+IsFieldCall (Call.SetNthFieldToDefault i) = ⊥
+IsFieldCall (Call.Set shape v) = Unit {0}
+IsFieldCall Call.SetDefault = Unit {0}
+IsFieldCall Call.BeginSome = ⊥
+IsFieldCall Call.BeginOk = ⊥
+IsFieldCall Call.BeginErr = ⊥
+IsFieldCall Call.BeginSmartPtr = ⊥
+IsFieldCall (Call.SelectNthVariant i) = ⊥
+IsFieldCall (Call.SelectVariantNamed name) = ⊥
+IsFieldCall (Call.SelectVariant discriminant) = ⊥
+IsFieldCall Call.End = Unit {0}
+IsFieldCall Call.BeginDeferred = Unit {0}
+IsFieldCall Call.FinishDeferred = Unit {0}
+
+abbrev pub IsFieldScript : List Call → Type 0
+IsFieldScript [] = Unit {0}
+IsFieldScript (command ∷ commands) = IsFieldCall command × IsFieldScript commands

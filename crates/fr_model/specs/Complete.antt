@@ -1,7 +1,7 @@
 -- Completing a place: the value that it makes by the rules of either column, and what it lacks first in strict mode. What fails at
 -- the end of deferred mode is said in Failing.
 use Rattle.std.specs.Prelude.{ℕ, zero, suc, List, [], ◌∷◌, Option, Some, None, if◌then◌else◌}
-use Rattle.std.specs.Option.{option_or}
+use Rattle.std.specs.Option.{option_map, option_or}
 use Rattle.fr_shape.specs.declared.shape.Def.{Def}
 use Rattle.fr_shape.specs.declared.shape.Field.{Field}
 use Rattle.fr_shape.specs.declared.shape.ValidatorDef.{ValidatorDef}
@@ -9,23 +9,23 @@ use Rattle.fr_shape.specs.declared.error.ReflectErrorKind.{ReflectErrorKind}
 use Rattle.fr_shape.specs.Fills.{preset_of}
 use Rattle.fr_shape.specs.Hooks.{Meanings}
 use Rattle.fr_shape.specs.Look.{Table, def_of, field_in}
-use Rattle.fr_shape.specs.Val.{Val, Vals, none, no_vals}
+use Rattle.fr_shape.specs.Val.{Val, Vals, product, variant, none, some, ok, err, ptr, no_vals}
 use Rattle.fr_shape.specs.Validators.{passes_at, message}
-use Rattle.fr_model.specs.Places.{Column, strict_column, child_count, one_more, product_of, each_child, fill_at}
-use Rattle.fr_model.specs.Tree.{Form, as_struct, as_array, Tree, hole, entered, whole, begun, Trees, no_trees, branch, for_hole, child_as}
+use Rattle.fr_model.specs.Places.{Column, strict_column, child_count, vals_nth, one_more, each_child, fill_in, fill_at}
+use Rattle.fr_model.specs.Tree.{Form, as_struct, as_array, as_variant, as_some, as_ok, as_err, as_pointer, Tree, hole, entered, whole, begun, Trees, no_trees, branch, for_hole, child_as}
 
--- the refusals
+-- the refusals, of field i of a struct of shape s, or of the variant that is selected at an enum of shape s
 
-abbrev pub missing_field : ℕ → ℕ → ReflectErrorKind
-missing_field s i =
-    ReflectErrorKind.UninitializedField (record { shape = record { 0 = s }; variant = None; index = i })
+abbrev pub missing_field : ℕ → (selected : Option ℕ) → ℕ → ReflectErrorKind
+missing_field s selected i =
+    ReflectErrorKind.UninitializedField (record { shape = record { 0 = s }; variant = selected; index = i })
 
 abbrev pub missing_value : ℕ → ReflectErrorKind
 missing_value s = ReflectErrorKind.UninitializedValue (record { 0 = s })
 
-abbrev pub invalid_field : ℕ → ℕ → List ℕ → ReflectErrorKind
-invalid_field s i text =
-    ReflectErrorKind.ValidationFailed (record { shape = record { 0 = s }; variant = None; index = i }) text
+abbrev pub invalid_field : ℕ → (selected : Option ℕ) → ℕ → List ℕ → ReflectErrorKind
+invalid_field s selected i text =
+    ReflectErrorKind.ValidationFailed (record { shape = record { 0 = s }; variant = selected; index = i }) text
 
 abbrev pub unless_there : Option Val → ReflectErrorKind → Option ReflectErrorKind
 unless_there (Some v) kind = None
@@ -33,24 +33,34 @@ unless_there None kind = Some kind
 
 -- validators of a field's value
 
--- the first validator, in their order, that the value doesn't pass, as a refusal of field i of shape s
-abbrev pub first_failing : Meanings → Def → ℕ → ℕ → List ValidatorDef → Val → Option ReflectErrorKind
-first_failing hooks def s i [] v = None
-first_failing hooks def s i (validator ∷ validators) v =
-    if passes_at hooks.check def validator v then first_failing hooks def s i validators v
-    else Some (invalid_field s i (message validator v))
+-- the first validator, in their order, that the value doesn't pass, as a refusal of field i
+abbrev pub first_failing : Meanings → Def → ℕ → (selected : Option ℕ) → ℕ → List ValidatorDef → Val → Option ReflectErrorKind
+first_failing hooks def s selected i [] v = None
+first_failing hooks def s selected i (validator ∷ validators) v =
+    if passes_at hooks.check def validator v then first_failing hooks def s selected i validators v
+    else Some (invalid_field s selected i (message validator v))
 
-abbrev pub failing_field : Meanings → Table → ℕ → ℕ → Option Field → Option Val → Option ReflectErrorKind
-failing_field hooks table s i (Some field) (Some v) =
-    first_failing hooks (def_of table field.shape.0) s i field.validators v
-failing_field hooks table s i (Some field) None = None
-failing_field hooks table s i None value = None
+abbrev pub failing_field : Meanings → Table → ℕ → (selected : Option ℕ) → ℕ → Option Field → Option Val → Option ReflectErrorKind
+failing_field hooks table s selected i (Some field) (Some v) =
+    first_failing hooks (def_of table field.shape.0) s selected i field.validators v
+failing_field hooks table s selected i (Some field) None = None
+failing_field hooks table s selected i None value = None
 
--- of child i of a place of shape s that is begun so: the first validator that its value, if it has one, doesn't pass. An
--- element of an array has none.
+-- the same of the field that a struct, or the selected variant, has under this number
+abbrev pub failing_field_in : Meanings → Table → ℕ → (selected : Option ℕ) → ℕ → Option Val → Option ReflectErrorKind
+failing_field_in hooks table s selected i value =
+    failing_field hooks table s selected i (field_in (def_of table s) selected i) value
+
+-- of child i of a place of shape s that is begun so: the first validator that its value, if it has one, doesn't pass. Only fields
+-- have any.
 abbrev pub failing_child : Meanings → Table → ℕ → Form → ℕ → Option Val → Option ReflectErrorKind
-failing_child hooks table s as_struct i value = failing_field hooks table s i (field_in (def_of table s) None i) value
+failing_child hooks table s as_struct i value = failing_field_in hooks table s None i value
+failing_child hooks table s (as_variant k) i value = failing_field_in hooks table s (Some k) i value
 failing_child hooks table s as_array i value = None
+failing_child hooks table s as_some i value = None
+failing_child hooks table s as_ok i value = None
+failing_child hooks table s as_err i value = None
+failing_child hooks table s as_pointer i value = None
 
 -- the value, unless there is something to refuse
 abbrev pub unless_failing : Option ReflectErrorKind → Option Val → Option Val
@@ -61,20 +71,39 @@ unless_failing None value = value
 abbrev pub valid_child : Meanings → Table → ℕ → Form → ℕ → Option Val → Option Val
 valid_child hooks table s form i value = unless_failing (failing_child hooks table s form i value) value
 
--- what a hole takes as child i of a place of shape s that is begun so; an element of an array takes nothing
+-- what a hole takes as child i of a place of shape s that is begun so: a field its fill, if it has one; anything else nothing
 abbrev pub hole_takes : Column → Table → ℕ → Form → ℕ → Option Val
 hole_takes column table s as_struct i = fill_at column table s i
+hole_takes column table s (as_variant k) i = fill_in column table s (Some k) i
 hole_takes column table s as_array i = None
+hole_takes column table s as_some i = None
+hole_takes column table s as_ok i = None
+hole_takes column table s as_err i = None
+hole_takes column table s as_pointer i = None
 
--- what a begun place lacks where child i is a hole that takes nothing: a struct that field, an array its value
+-- what a begun place lacks where child i is a hole that takes nothing: a struct or a variant that field, any other its value
 abbrev pub missing_child : ℕ → Form → ℕ → ReflectErrorKind
-missing_child s as_struct i = missing_field s i
+missing_child s as_struct i = missing_field s None i
+missing_child s (as_variant k) i = missing_field s (Some k) i
 missing_child s as_array i = missing_value s
+missing_child s as_some i = missing_value s
+missing_child s as_ok i = missing_value s
+missing_child s as_err i = missing_value s
+missing_child s as_pointer i = missing_value s
 
--- what a place begun so makes of the values of its children, where each has one: a struct or an array their product
+-- the value that a place begun so makes of those of its children: their product, their variant, or the one value held so
+abbrev pub value_as : Form → Vals → Val
+value_as as_struct vs = product vs
+value_as as_array vs = product vs
+value_as (as_variant k) vs = variant k vs
+value_as as_some vs = some (vals_nth vs 0)
+value_as as_ok vs = ok (vals_nth vs 0)
+value_as as_err vs = err (vals_nth vs 0)
+value_as as_pointer vs = ptr (vals_nth vs 0)
+
+-- the same, where each child has a value
 abbrev pub made : Form → (values : Option Vals) → Option Val
-made as_struct values = product_of values
-made as_array values = product_of values
+made form values = option_map (value_as form) values
 
 -- The value of an entered place
 

@@ -1,5 +1,5 @@
 -- Worked examples, computed from the definitions.
-use Rattle.std.specs.Prelude.{◌≡◌, pos, [], ◌∷◌, List, Err, codes}
+use Rattle.std.specs.Prelude.{◌≡◌, pos, [], ◌∷◌, List, None, Err, codes}
 use Rattle.fr_shape.specs.declared.shape.Def.{Def}
 use Rattle.fr_shape.specs.declared.shape.ScalarKind.{ScalarKind}
 use Rattle.fr_shape.specs.declared.shape.StructKind.{StructKind}
@@ -32,4 +32,4 @@ set_to_one =
 abbrev pub EndRunsValidators : Type 0
 EndRunsValidators =
     full_run no_hooks at_least_five 1 set_to_one
-    ≡ Err (record { number = 4; kind = invalid_field 1 0 (message (ValidatorDef.Min (pos 5)) (nat 1)); path = [] })
+    ≡ Err (record { number = 4; kind = invalid_field 1 None 0 (message (ValidatorDef.Min (pos 5)) (nat 1)); path = [] })

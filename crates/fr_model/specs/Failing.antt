@@ -12,7 +12,7 @@ use Rattle.fr_path.specs.Order.{walk_order}
 use Rattle.fr_model.specs.Complete.{complete, failing_child, hole_takes, lack_by, missing_child, missing_value, unless_there}
 use Rattle.fr_model.specs.Paths.{step_as}
 use Rattle.fr_model.specs.Places.{deferred_column, child_count}
-use Rattle.fr_model.specs.Tree.{Form, as_struct, as_array, Tree, hole, entered, whole, begun, Trees, no_trees, branch, for_hole, child_as, holes}
+use Rattle.fr_model.specs.Tree.{Form, as_struct, as_array, as_variant, as_some, as_ok, as_err, as_pointer, Tree, hole, entered, whole, begun, Trees, no_trees, branch, for_hole, child_as, holes}
 
 -- What one place lacks, its children being complete.
 
@@ -29,7 +29,12 @@ unmet_mark_of table s None = None
 -- child i of a place of shape s that is begun so, a hole, is marked to take a default that there isn't
 abbrev pub unmet_mark : Table → ℕ → Form → ℕ → Option ReflectErrorKind
 unmet_mark table s as_struct i = unmet_mark_of table s (field_in (def_of table s) None i)
+unmet_mark table s (as_variant k) i = unmet_mark_of table s (field_in (def_of table s) (Some k) i)
 unmet_mark table s as_array i = None
+unmet_mark table s as_some i = None
+unmet_mark table s as_ok i = None
+unmet_mark table s as_err i = None
+unmet_mark table s as_pointer i = None
 
 -- the first hole among the children from number i on that is marked so
 abbrev pub first_unmet : Table → ℕ → Form → ℕ → Trees → Option ReflectErrorKind

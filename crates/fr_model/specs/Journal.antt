@@ -294,13 +294,21 @@ finish_rule table root run (deferred start) = finishes_with run (finish_notes ta
 -- that may be entered, notes that the child was entered, and goes there; `begin_field` at a struct that declares the name does so
 -- with the first such field; `set` of the place's own shape notes the value; `set_default` at a shape with a preset notes the
 -- preset; `end` below the root goes up, in strict mode noting the place's value; `begin_deferred` in strict mode changes the mode
--- alone; `finish_deferred` in deferred mode notes what was left, and the mode is strict again. Where no rule fits the command, the
--- run is over and makes nothing.
+-- alone; `finish_deferred` in deferred mode notes what was left, and the mode is strict again. Where no rule fits the command, as
+-- none fits the calls that no field script has, the run is over and makes nothing.
 abbrev pub rule_at : Table → (root s : ℕ) → Progress → Call → Option Progress
 rule_at table root s run (Call.BeginField name) = goes_to_found table s run (field_named name (def_of table s))
 rule_at table root s run (Call.BeginNthField i) = goes_to_found table s run (Some i)
+rule_at table root s run (Call.SetNthFieldToDefault i) = None
 rule_at table root s run (Call.Set given v) = writes run (if s == given then Some v else None)
 rule_at table root s run Call.SetDefault = writes run (preset_of table s)
+rule_at table root s run Call.BeginSome = None
+rule_at table root s run Call.BeginOk = None
+rule_at table root s run Call.BeginErr = None
+rule_at table root s run Call.BeginSmartPtr = None
+rule_at table root s run (Call.SelectNthVariant i) = None
+rule_at table root s run (Call.SelectVariantNamed name) = None
+rule_at table root s run (Call.SelectVariant discriminant) = None
 rule_at table root s run Call.End = end_rule table s run run.mode
 rule_at table root s run Call.BeginDeferred = begin_deferred_rule run run.mode
 rule_at table root s run Call.FinishDeferred = finish_rule table root run run.mode

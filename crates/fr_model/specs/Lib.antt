@@ -1,11 +1,16 @@
 pub mod Agree
 pub mod Commands
 pub mod Complete
+pub mod ContentExamples
+pub mod Contents
 pub mod Covering
+pub mod DefaultExamples
+pub mod DefaultLaws
 pub mod Examples
 pub mod Failing
 pub mod FailingLaws
 pub mod Finish
+pub mod FinishExamples
 pub mod FinishLaws
 pub mod Finishing
 pub mod Journal
@@ -21,4 +26,5 @@ pub mod Settled
 pub mod StateCode
 pub mod Step
 pub mod Tree
+pub mod Variants
 pub mod Well

@@ -7,20 +7,48 @@ use Rattle.fr_path.specs.declared.path_steps.PathStep.{PathStep}
 use Rattle.fr_model.specs.Finish.{finished}
 use Rattle.fr_model.specs.Paths.{step_as, steps_in, path_of}
 use Rattle.fr_model.specs.Places.{Place}
-use Rattle.fr_model.specs.Step.{enters, puts, puts_and_leaves, leaves}
-use Rattle.fr_model.specs.Tree.{Tree, form_of, State, cursor_shape}
+use Rattle.fr_model.specs.Step.{enters, puts, puts_child, puts_and_leaves, leaves, enters_content, option_kept, content_kept, selects}
+use Rattle.fr_model.specs.Tree.{Form, as_some, Tree, form_at, State, cursor_shape, cursor_tree}
 use Rattle.fr_model.specs.Well.{Leads, IsInOrder}
 
 -- the path has one step for each place below the root on the way to the cursor, so that only the root has none
 abbrev pub PathIsAsDeep : Type 0
 PathIsAsDeep = (state : State) → length (path_of state) ≡ length state.cursor
 
--- entering child i, from a state in order, adds the step to that child: to a field, or to an element of an array
+-- entering field or element i, from a state in order, adds the step to it
 abbrev pub EnteringAddsAStep : Type 0
 EnteringAddsAStep =
     (table : Table) (root : ℕ) (state : State) (i : ℕ) → IsInOrder table root state
     → path_of (enters table (cursor_shape table root state) state i)
-    ≡ path_of state ++ step_as (form_of (def_of table (cursor_shape table root state))) i ∷ []
+    ≡ path_of state ++ step_as (form_at (def_of table (cursor_shape table root state)) (cursor_tree state)) i ∷ []
+
+-- entering child 0 of a place that is begun in a form, kept or anew, adds that form's step: either side of a result, and what a
+-- pointer points to, are entered so
+abbrev pub EnteringContentAddsAStep : Type 0
+EnteringContentAddsAStep =
+    (table : Table) (root : ℕ) (state : State) (form : Form) → IsInOrder table root state
+    → path_of (enters_content table (cursor_shape table root state) state form (content_kept state form))
+    ≡ path_of state ++ step_as form 0 ∷ []
+
+-- entering the content of an option adds the step to it
+abbrev pub EnteringSomeAddsAStep : Type 0
+EnteringSomeAddsAStep =
+    (table : Table) (root : ℕ) (state : State) → IsInOrder table root state
+    → path_of (enters_content table (cursor_shape table root state) state as_some
+    (option_kept table (cursor_shape table root state) state))
+    ≡ path_of state ++ step_as as_some 0 ∷ []
+
+-- selecting a variant keeps the path
+abbrev pub SelectingKeepsThePath : Type 0
+SelectingKeepsThePath =
+    (table : Table) (s : ℕ) (state : State) (k : ℕ) → Leads state.mode state.cursor state.tree
+    → path_of (selects table s state k) ≡ path_of state
+
+-- setting a field of the place to its default keeps the path
+abbrev pub DefaultingKeepsThePath : Type 0
+DefaultingKeepsThePath =
+    (table : Table) (s : ℕ) (state : State) (i : ℕ) (v : Val) → Leads state.mode state.cursor state.tree
+    → path_of (puts_child table s state i v) ≡ path_of state
 
 -- putting a value at a place to which the cursor leads keeps the path
 abbrev pub PuttingKeepsThePath : Type 0

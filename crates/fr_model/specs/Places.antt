@@ -2,6 +2,7 @@
 use Rattle.std.specs.Prelude.{ℕ, zero, suc, Bool, true, false, List, [], ◌∷◌, length, slice_get, Option, Some, None, is_some}
 use Rattle.fr_shape.specs.declared.shape.Def.{Def}
 use Rattle.fr_shape.specs.declared.shape.Field.{Field}
+use Rattle.fr_shape.specs.declared.shape.ShapeId.{ShapeId}
 use Rattle.fr_shape.specs.Fills.{strict_fill, deferred_fill}
 use Rattle.fr_shape.specs.Look.{Table, def_of, field_in}
 use Rattle.fr_shape.specs.Val.{Val, Vals, unit, bool, char, int, nat, text, token, product, variant, none, some, ok, err, list_of, map_of, set_of, ptr, dyn, no_vals, first}
@@ -23,7 +24,8 @@ up [] = []
 up (i ∷ []) = []
 up (i ∷ j ∷ place) = i ∷ up (j ∷ place)
 
--- how many children a place of a definition has: one for each field of a struct, one for each element of an array
+-- How many children a struct's or an array's place has: one for each field, one for each element. None is counted of any other
+-- definition: a variant's fields, and the one thing that an option, a result or a pointer holds, are counted by what is begun.
 abbrev pub count_children : Def → ℕ
 count_children (Def.Struct struct) = length struct.fields
 count_children (Def.Array t n) = n
@@ -72,6 +74,27 @@ shape_of_child Def.Other i = 0
 abbrev pub child_shape : Table → ℕ → ℕ → ℕ
 child_shape table s i = shape_of_child (def_of table s) i
 
+-- the shape of what an option holds, of either side of a result, and of what a pointer points to (0 where there is none)
+abbrev pub content_shape : Def → ℕ
+content_shape (Def.Option t) = t.0
+content_shape _ = 0
+
+abbrev pub ok_shape : Def → ℕ
+ok_shape (Def.Result t e) = t.0
+ok_shape _ = 0
+
+abbrev pub err_shape : Def → ℕ
+err_shape (Def.Result t e) = e.0
+err_shape _ = 0
+
+abbrev pub shape_or_zero : Option ShapeId → ℕ
+shape_or_zero (Some t) = t.0
+shape_or_zero None = 0
+
+abbrev pub pointee_shape : Def → ℕ
+pointee_shape (Def.Pointer pointer) = shape_or_zero pointer.pointee
+pointee_shape _ = 0
+
 -- The two columns of rules by which a place completes: the one of strict mode, and the one of the end of deferred mode.
 pub data Column : Type 0 where
   strict_column : Column
@@ -96,7 +119,8 @@ fill_in column table s selected i = fill_of_field column table s (is_some select
 abbrev pub fill_at : Column → Table → ℕ → ℕ → Option Val
 fill_at column table s i = fill_in column table s None i
 
--- the shape of the place that this way leads to, from a place of shape s
+-- The shape of the place that this way leads to, from a place of shape s, through structs and arrays alone: shape_in goes by
+-- what is begun, and so through any place.
 abbrev pub shape_at : Table → ℕ → Place → ℕ
 shape_at table s [] = s
 shape_at table s (i ∷ place) = shape_at table (child_shape table s i) place

@@ -7,7 +7,7 @@ use Rattle.fr_shape.specs.Look.{Table, def_of}
 use Rattle.fr_shape.specs.Val.{product, no_vals}
 use Rattle.fr_model.specs.Places.{Place, shape_at}
 use Rattle.fr_model.specs.Journal.{Held, in_parts, written, just_entered, untouched, held, Progress}
-use Rattle.fr_model.specs.Tree.{Tree, hole, entered, whole, begun, count_trees, tree_nth, tree_at, State}
+use Rattle.fr_model.specs.Tree.{Form, as_struct, as_array, as_variant, as_some, as_ok, as_err, as_pointer, Tree, hole, entered, whole, begun, count_trees, tree_nth, tree_at, State}
 use Rattle.fr_model.specs.Well.{IsFullAs}
 
 -- a place of a tree: a way from the top through begun places leads to it
@@ -18,12 +18,22 @@ HasPlace (i ∷ place) entered = ⊥
 HasPlace (i ∷ place) (whole v) = ⊥
 HasPlace (i ∷ place) (begun form children) = (i < count_trees children) × HasPlace place (tree_nth i children)
 
+-- a place that is begun so has parts to which the journal writes: as a struct or an array
+abbrev pub HasParts : Form → Type 0
+HasParts as_struct = Unit {0}
+HasParts as_array = Unit {0}
+HasParts (as_variant k) = ⊥
+HasParts as_some = ⊥
+HasParts as_ok = ⊥
+HasParts as_err = ⊥
+HasParts as_pointer = ⊥
+
 -- a place is begun, as a struct or an array with all its children, as its definition says
 abbrev pub IsBegun : Def → Tree → Type 0
 IsBegun def hole = ⊥
 IsBegun def entered = ⊥
 IsBegun def (whole v) = ⊥
-IsBegun def (begun form children) = IsFullAs def form (count_trees children)
+IsBegun def (begun form children) = HasParts form × IsFullAs def form (count_trees children)
 
 -- What stands in the tree at a place of this definition, by what the journal holds of it. A hole stands exactly where the
 -- journal holds nothing. Where the place was only entered it is entered, but a struct without fields is whole with the

@@ -4,15 +4,33 @@ use Rattle.std.specs.Coded.{Coded, code_by, coded×, coded_ℕ, coded_list}
 use mathlib.Core.Path.{ap, ◌∙◌}
 use Rattle.fr_shape.specs.Code.{val_code}
 use Rattle.fr_shape.specs.Val.{Val, Vals, unit, bool, char, int, nat, text, token, product, variant, none, some, ok, err, list_of, map_of, set_of, ptr, dyn, no_vals, first}
-use Rattle.fr_model.specs.Tree.{as_struct, as_array, Tree, hole, entered, whole, begun, Trees, no_trees, branch, Mode, strict, deferred, State}
+use Rattle.fr_model.specs.Tree.{Form, as_struct, as_array, as_variant, as_some, as_ok, as_err, as_pointer, form_number, Tree, hole, entered, whole, begun, Trees, no_trees, branch, Mode, strict, deferred, State}
+
+-- the form that has a number
+abbrev pub form_numbered : ℕ → Form
+form_numbered zero = as_struct
+form_numbered (suc zero) = as_array
+form_numbered (suc (suc zero)) = as_some
+form_numbered (suc (suc (suc zero))) = as_ok
+form_numbered (suc (suc (suc (suc zero)))) = as_err
+form_numbered (suc (suc (suc (suc (suc zero))))) = as_pointer
+form_numbered (suc (suc (suc (suc (suc (suc k)))))) = as_variant k
+
+abbrev pub form_comes_back : (form : Form) → form_numbered (form_number form) ≡ form
+form_comes_back as_struct = refl
+form_comes_back as_array = refl
+form_comes_back (as_variant k) = refl
+form_comes_back as_some = refl
+form_comes_back as_ok = refl
+form_comes_back as_err = refl
+form_comes_back as_pointer = refl
 
 abbrev mutual
   pub stored : Tree → Val
   stored hole = none
   stored entered = unit
   stored (whole v) = some v
-  stored (begun as_struct ts) = product (all_stored ts)
-  stored (begun as_array ts) = list_of (all_stored ts)
+  stored (begun form ts) = variant (form_number form) (all_stored ts)
 
   pub all_stored : Trees → Vals
   all_stored no_trees = no_vals
@@ -22,8 +40,9 @@ abbrev mutual
   pub restored : Val → Tree
   restored none = hole
   restored (some v) = whole v
-  restored (product vs) = begun as_struct (all_restored vs)
-  restored (list_of vs) = begun as_array (all_restored vs)
+  restored (variant number vs) = begun (form_numbered number) (all_restored vs)
+  restored (product vs) = entered
+  restored (list_of vs) = entered
   restored unit = entered
   restored (bool b) = entered
   restored (char c) = entered
@@ -31,7 +50,6 @@ abbrev mutual
   restored (nat n) = entered
   restored (text codes) = entered
   restored (token t) = entered
-  restored (variant index vs) = entered
   restored (ok v) = entered
   restored (err v) = entered
   restored (map_of es) = entered
@@ -48,8 +66,9 @@ abbrev mutual
   stored_comes_back hole = refl
   stored_comes_back entered = refl
   stored_comes_back (whole v) = refl
-  stored_comes_back (begun as_struct ts) = ap (begun as_struct) (all_stored_come_back ts)
-  stored_comes_back (begun as_array ts) = ap (begun as_array) (all_stored_come_back ts)
+  stored_comes_back (begun form ts) =
+      ap (λ (known : Form). begun known (all_restored (all_stored ts))) (form_comes_back form)
+      ∙ ap (begun form) (all_stored_come_back ts)
 
   pub all_stored_come_back : (ts : Trees) → all_restored (all_stored ts) ≡ ts
   all_stored_come_back no_trees = refl

@@ -1,19 +1,26 @@
 -- What each command does to a builder's state, or which refusal it meets: one function for each command. The words
 -- here mean what they say at tables that are served.
-use Rattle.std.specs.Prelude.{ℕ, ◌==◌, [], ◌∷◌, ◌++◌, List, length, nat_lt, nat_le, Option, Some, None, Result, Ok, Err, if◌then◌else◌}
+use Rattle.std.specs.Prelude.{ℕ, ℤ, ◌==◌, Bool, true, false, ◌&&◌, ◌||◌, [], ◌∷◌, ◌++◌, List, length, nat_lt, nat_le, Option, Some, None, is_some, unwrap_or, Result, Ok, Err, if◌then◌else◌}
 use Rattle.std.specs.Option.{option_or}
 use Rattle.fr_shape.specs.declared.shape.Def.{Def}
+use Rattle.fr_shape.specs.declared.shape.DefaultSource.{DefaultSource}
+use Rattle.fr_shape.specs.declared.shape.Field.{Field}
+use Rattle.fr_shape.specs.declared.shape.ScalarKind.{ScalarKind}
+use Rattle.fr_shape.specs.declared.shape.ShapeId.{ShapeId}
+use Rattle.fr_shape.specs.declared.shape.VariantDef.{VariantDef}
+use Rattle.fr_shape.specs.declared.error.Expected.{Expected}
 use Rattle.fr_shape.specs.declared.error.ReflectErrorKind.{ReflectErrorKind}
 use Rattle.fr_shape.specs.declared.error.Operation.{Operation}
 use Rattle.fr_shape.specs.declared.error.Invariant.{Invariant}
-use Rattle.fr_shape.specs.Fills.{preset_of}
+use Rattle.fr_shape.specs.Fills.{preset_of, is_option}
 use Rattle.fr_shape.specs.Hooks.{Meanings}
-use Rattle.fr_shape.specs.Look.{Table, def_of}
+use Rattle.fr_shape.specs.Look.{Table, def_of, field_in, variants_of}
 use Rattle.fr_shape.specs.Val.{Val, Vals}
 use Rattle.fr_model.specs.Commands.{Call}
-use Rattle.fr_shape.specs.Named.{field_named}
-use Rattle.fr_model.specs.Places.{strict_column, is_root, up, array_limit, count_children, child_shape, parts_of}
-use Rattle.fr_model.specs.Tree.{Form, form_of, Tree, hole, entered, whole, begun, for_hole, wholes, holes, fresh, change_child, change_at, Mode, strict, deferred, State, cursor_shape, cursor_tree, one_more_call}
+use Rattle.fr_model.specs.Contents.{is_result, pointer_refusal, variant_anew, content_anew, kept_so, kept_in, kept_option}
+use Rattle.fr_model.specs.Places.{strict_column, is_root, up, array_limit, count_children, content_shape, parts_of}
+use Rattle.fr_model.specs.Tree.{Form, as_variant, as_some, as_ok, as_err, as_pointer, form_of, form_at, selected, Tree, hole, entered, whole, begun, for_hole, wholes, holes, fresh, child_as, change_child, change_at, Mode, strict, deferred, State, cursor_shape, cursor_tree, one_more_call}
+use Rattle.fr_model.specs.Variants.{is_enum, variant_fields, field_found, variant_numbered, variant_named, variant_told_by, selection_refusal}
 use Rattle.fr_model.specs.Complete.{complete, lack, missing_value}
 use Rattle.fr_model.specs.Finish.{finished, finish_cause}
 
@@ -32,6 +39,9 @@ abbrev pub at_shape : ℕ → Option Operation → Option ReflectErrorKind
 at_shape s (Some operation) = Some (operation_failed s operation)
 at_shape s None = None
 
+abbrev pub was_not_a : Expected → ℕ → ReflectErrorKind
+was_not_a expected s = ReflectErrorKind.WasNotA expected (record { 0 = s })
+
 -- Entering a child
 
 -- the elements of a whole array can't be entered
@@ -41,13 +51,19 @@ element_refusal hole = None
 element_refusal entered = None
 element_refusal (begun form children) = None
 
--- begin_nth_field is refused but at a struct with a field of that number, and at an array with such an element that has
--- no more elements than the limit and isn't whole. Of several refusals of an array the first in this order is given: there
--- is no such element; the array is too large; it is whole.
+-- of an enum, a field of the variant that is selected
+abbrev pub variant_field_refusal : Def → (selected : Option ℕ) → ℕ → Option Operation
+variant_field_refusal def None i = Some Operation.FieldOfUnselectedVariant
+variant_field_refusal def (Some k) i =
+    if nat_lt i (length (variant_fields def k)) then None else Some Operation.VariantFieldIndexOutOfBounds
+
+-- begin_nth_field is refused but at a struct, or a begun enum, with a field of that number, and at an array with such an element that
+-- has no more elements than the limit and isn't whole. Of several refusals of an array the first in this order is given: there is no
+-- such element; the array is too large; it is whole.
 abbrev pub field_refusal : Def → Tree → ℕ → Option Operation
 field_refusal (Def.Struct struct) tree i =
     if nat_lt i (length struct.fields) then None else Some Operation.FieldIndexOutOfBounds
-field_refusal (Def.Enum enumeration) tree i = Some Operation.FieldOfUnselectedVariant
+field_refusal (Def.Enum enumeration) tree i = variant_field_refusal (Def.Enum enumeration) (selected tree) i
 field_refusal (Def.Array item n) tree i =
     option_or (if nat_lt i n then None else Some Operation.ArrayIndexOutOfBounds)
     (option_or (if nat_le n array_limit then None else Some Operation.ArrayTooLarge) (element_refusal tree))
@@ -65,24 +81,25 @@ field_refusal Def.Dynamic tree i = Some Operation.FieldOfOther
 field_refusal Def.Undefined tree i = Some Operation.FieldOfOther
 field_refusal Def.Other tree i = Some Operation.FieldOfOther
 
--- begin_field is refused but at a struct
-abbrev pub named_refusal : Def → Option Operation
-named_refusal (Def.Struct struct) = None
-named_refusal (Def.Enum enumeration) = Some Operation.NamedFieldOfUnselectedVariant
-named_refusal Def.Undefined = Some Operation.NamedFieldOfUndefined
-named_refusal (Def.Scalar kind) = Some Operation.NamedFieldOfPrimitive
-named_refusal Def.Str = Some Operation.NamedFieldOfPrimitive
-named_refusal (Def.Array item n) = Some Operation.NamedFieldOfSequence
-named_refusal (Def.Slice item) = Some Operation.NamedFieldOfSequence
-named_refusal Def.Opaque = Some Operation.NamedFieldOfOpaque
-named_refusal (Def.Pointer pointer) = Some Operation.NamedFieldOfPointer
-named_refusal (Def.Option t) = Some Operation.FieldOfOther
-named_refusal (Def.Result t e) = Some Operation.FieldOfOther
-named_refusal (Def.List t) = Some Operation.FieldOfOther
-named_refusal (Def.Map key item) = Some Operation.FieldOfOther
-named_refusal (Def.Set t) = Some Operation.FieldOfOther
-named_refusal Def.Dynamic = Some Operation.FieldOfOther
-named_refusal Def.Other = Some Operation.FieldOfOther
+-- begin_field is refused but at a struct and at a begun enum
+abbrev pub named_refusal : Def → Tree → Option Operation
+named_refusal (Def.Struct struct) tree = None
+named_refusal (Def.Enum enumeration) tree =
+    if is_some (selected tree) then None else Some Operation.NamedFieldOfUnselectedVariant
+named_refusal Def.Undefined tree = Some Operation.NamedFieldOfUndefined
+named_refusal (Def.Scalar kind) tree = Some Operation.NamedFieldOfPrimitive
+named_refusal Def.Str tree = Some Operation.NamedFieldOfPrimitive
+named_refusal (Def.Array item n) tree = Some Operation.NamedFieldOfSequence
+named_refusal (Def.Slice item) tree = Some Operation.NamedFieldOfSequence
+named_refusal Def.Opaque tree = Some Operation.NamedFieldOfOpaque
+named_refusal (Def.Pointer pointer) tree = Some Operation.NamedFieldOfPointer
+named_refusal (Def.Option t) tree = Some Operation.FieldOfOther
+named_refusal (Def.Result t e) tree = Some Operation.FieldOfOther
+named_refusal (Def.List t) tree = Some Operation.FieldOfOther
+named_refusal (Def.Map key item) tree = Some Operation.FieldOfOther
+named_refusal (Def.Set t) tree = Some Operation.FieldOfOther
+named_refusal Def.Dynamic tree = Some Operation.FieldOfOther
+named_refusal Def.Other tree = Some Operation.FieldOfOther
 
 -- a whole place begun with whole children, if its value has any
 abbrev pub opened_value : Form → Val → (parts : Option Vals) → Tree
@@ -108,7 +125,7 @@ enter def tree = for_hole tree (fresh def) tree
 -- the place of shape s with its child i entered
 abbrev pub enter_child : Table → ℕ → ℕ → Tree → Tree
 enter_child table s i t =
-    change_child i (enter (def_of table (child_shape table s i))) (opened (def_of table s) t)
+    change_child i (enter (def_of table (child_as table s (form_at (def_of table s) t) i))) (opened (def_of table s) t)
 
 -- child i of the cursor's place is entered, and the cursor goes there
 abbrev pub enters : Table → ℕ → State → ℕ → State
@@ -133,7 +150,8 @@ begins_named table s state None found = enters_named table s state found
 -- begin_field enters the first field that is declared under the name, and is refused where there is none
 abbrev pub begin_field : Table → ℕ → State → (name : List ℕ) → Result State ReflectErrorKind
 begin_field table s state name =
-    begins_named table s state (at_shape s (named_refusal (def_of table s))) (field_named name (def_of table s))
+    begins_named table s state (at_shape s (named_refusal (def_of table s) (cursor_tree state)))
+    (field_found name (def_of table s) (selected (cursor_tree state)))
 
 -- Putting a value
 
@@ -144,13 +162,46 @@ puts state v = record state {
   calls = one_more_call state.calls;
 }
 
--- set is refused but with a value of the place's own shape
-abbrev pub set_refusal : ℕ → ℕ → Option ReflectErrorKind
-set_refusal s given =
-    if s == given then None else Some (ReflectErrorKind.WrongShape (record { 0 = s }) (record { 0 = given }))
+abbrev pub is_str : Def → Bool
+is_str Def.Str = true
+is_str _ = false
 
-abbrev pub set : ℕ → State → ℕ → Val → Result State ReflectErrorKind
-set s state given v = unless_refused (set_refusal s given) (puts state v)
+-- a text that may be borrowed is none
+abbrev pub is_owned_string_kind : ScalarKind → Bool
+is_owned_string_kind ScalarKind.String = true
+is_owned_string_kind ScalarKind.CowStr = false
+is_owned_string_kind ScalarKind.Bool = false
+is_owned_string_kind ScalarKind.Char = false
+is_owned_string_kind ScalarKind.I8 = false
+is_owned_string_kind ScalarKind.I16 = false
+is_owned_string_kind ScalarKind.I32 = false
+is_owned_string_kind ScalarKind.I64 = false
+is_owned_string_kind ScalarKind.I128 = false
+is_owned_string_kind ScalarKind.ISize = false
+is_owned_string_kind ScalarKind.U8 = false
+is_owned_string_kind ScalarKind.U16 = false
+is_owned_string_kind ScalarKind.U32 = false
+is_owned_string_kind ScalarKind.U64 = false
+is_owned_string_kind ScalarKind.U128 = false
+is_owned_string_kind ScalarKind.USize = false
+
+-- an owned text
+abbrev pub is_owned_string : Def → Bool
+is_owned_string (Def.Scalar kind) = is_owned_string_kind kind
+is_owned_string _ = false
+
+-- set takes a value of the place's own shape, and at a `str` an owned text
+abbrev pub takes_shape : Table → (s given : ℕ) → Bool
+takes_shape table s given = s == given || (is_str (def_of table s) && is_owned_string (def_of table given))
+
+-- set is refused with any other value
+abbrev pub set_refusal : Table → ℕ → ℕ → Option ReflectErrorKind
+set_refusal table s given =
+    if takes_shape table s given then None
+    else Some (ReflectErrorKind.WrongShape (record { 0 = s }) (record { 0 = given }))
+
+abbrev pub set : Table → ℕ → State → ℕ → Val → Result State ReflectErrorKind
+set table s state given v = unless_refused (set_refusal table s given) (puts state v)
 
 abbrev pub puts_default : ℕ → State → Option Val → Result State ReflectErrorKind
 puts_default s state (Some v) = Ok (puts state v)
@@ -159,6 +210,119 @@ puts_default s state None = Err (operation_failed s Operation.NoDefault)
 -- set_default puts the default of the place's shape, and is refused where it has none
 abbrev pub set_default : Table → ℕ → State → Result State ReflectErrorKind
 set_default table s state = puts_default s state (preset_of table s)
+
+-- A field's default
+
+abbrev pub default_or : Option Val → ReflectErrorKind → Result Val ReflectErrorKind
+default_or (Some v) kind = Ok v
+default_or None kind = Err kind
+
+abbrev pub default_by_mark : Table → (shape : ShapeId) → Option DefaultSource → Result Val ReflectErrorKind
+default_by_mark table shape (Some (DefaultSource.Custom v)) = Ok v
+default_by_mark table shape (Some DefaultSource.FromTrait) =
+    default_or (preset_of table shape.0) (operation_failed shape.0 Operation.NoDefault)
+default_by_mark table shape None =
+    default_or (preset_of table shape.0) (ReflectErrorKind.DefaultAttrButNoDefaultImpl shape)
+
+-- What a field is set to by its default, or why it can't be: its own template, where it is marked with one; else the default of its
+-- shape. Where its shape has none, a marked field is refused as `set_default` is, and any other for want of either default.
+abbrev pub field_default : Table → Field → Result Val ReflectErrorKind
+field_default table field = default_by_mark table field.shape field.default
+
+-- the place with its child i whole with the value, whatever stood there
+abbrev pub put_child : Def → ℕ → Val → Tree → Tree
+put_child def i v t = change_child i (λ old. whole v) (opened def t)
+
+-- field i of the cursor's place is entered, whole with the value, and left
+abbrev pub puts_child : Table → ℕ → State → ℕ → Val → State
+puts_child table s state i v = record state {
+  tree = change_at state.cursor (put_child (def_of table s) i v) state.tree;
+  calls = one_more_call state.calls;
+}
+
+abbrev pub puts_child_default : Table → ℕ → State → ℕ → Result Val ReflectErrorKind → Result State ReflectErrorKind
+puts_child_default table s state i (Ok v) = Ok (puts_child table s state i v)
+puts_child_default table s state i (Err kind) = Err kind
+
+abbrev pub defaults_field : Table → ℕ → State → ℕ → Option ReflectErrorKind → Option Field → Result State ReflectErrorKind
+defaults_field table s state i (Some kind) field = Err kind
+defaults_field table s state i None (Some field) = puts_child_default table s state i (field_default table field)
+defaults_field table s state i None None = Err (operation_failed s Operation.FieldIndexOutOfBounds)
+
+-- set_nth_field_to_default is refused where begin_field is, whatever the name; where there is no such field; and where that field
+-- has no default. It is one call.
+abbrev pub set_nth_field_to_default : Table → ℕ → State → ℕ → Result State ReflectErrorKind
+set_nth_field_to_default table s state i =
+    defaults_field table s state i (at_shape s (named_refusal (def_of table s) (cursor_tree state)))
+    (field_in (def_of table s) (selected (cursor_tree state)) i)
+
+-- Contents, sides, pointees and variants
+
+-- what is kept of the cursor's place stands there; where nothing is, it starts anew
+abbrev pub becomes : State → (kept : Option Tree) → (anew : Tree) → State
+becomes state kept anew = record state {
+  tree = change_at state.cursor (λ old. unwrap_or kept anew) state.tree;
+  calls = one_more_call state.calls;
+}
+
+-- the same, and the content, side or pointee is entered
+abbrev pub enters_content : Table → ℕ → State → Form → (kept : Option Tree) → State
+enters_content table s state form kept =
+    record (becomes state kept (content_anew table s form)) { cursor = state.cursor ++ 0 ∷ [] }
+
+-- what begin_some keeps of the option at the cursor
+abbrev pub option_kept : Table → ℕ → State → Option Tree
+option_kept table s state = kept_option state.mode (def_of table (content_shape (def_of table s))) (cursor_tree state)
+
+-- what begin_ok, begin_err and begin_smart_ptr keep of the cursor's place
+abbrev pub content_kept : State → Form → Option Tree
+content_kept state form = kept_in state.mode form (cursor_tree state)
+
+-- begin_some: at an option alone
+abbrev pub begin_some : Table → ℕ → State → Result State ReflectErrorKind
+begin_some table s state =
+    if is_option (def_of table s) then Ok (enters_content table s state as_some (option_kept table s state))
+    else Err (was_not_a Expected.Option s)
+
+-- begin_ok and begin_err: at a result alone
+abbrev pub begin_side : Table → ℕ → State → (side : Form) → Result State ReflectErrorKind
+begin_side table s state side =
+    if is_result (def_of table s) then Ok (enters_content table s state side (content_kept state side))
+    else Err (was_not_a Expected.Result s)
+
+-- begin_smart_ptr: at a pointer that can be built
+abbrev pub begin_smart_ptr : Table → ℕ → State → Result State ReflectErrorKind
+begin_smart_ptr table s state =
+    unless_refused (at_shape s (pointer_refusal table (def_of table s)))
+    (enters_content table s state as_pointer (content_kept state as_pointer))
+
+-- what selecting a variant keeps of the enum at the cursor: that it is begun as that variant
+abbrev pub variant_kept : State → ℕ → Option Tree
+variant_kept state k = kept_so (as_variant k) (cursor_tree state)
+
+abbrev pub selects : Table → ℕ → State → ℕ → State
+selects table s state k = becomes state (variant_kept state k) (variant_anew (def_of table s) k)
+
+abbrev pub select_found : Table → ℕ → State → Option ℕ → (unknown : Operation) → Result State ReflectErrorKind
+select_found table s state (Some k) unknown =
+    unless_refused (at_shape s (selection_refusal (def_of table s) k)) (selects table s state k)
+select_found table s state None unknown = Err (operation_failed s unknown)
+
+-- A variant is selected at an enum alone, by its number, by its name or by its discriminant.
+abbrev pub select : Table → ℕ → State → (find : List VariantDef → Option ℕ) → (unknown : Operation) → Result State ReflectErrorKind
+select table s state find unknown =
+    if is_enum (def_of table s) then select_found table s state (find (variants_of (def_of table s))) unknown
+    else Err (was_not_a Expected.Enum s)
+
+abbrev pub select_nth_variant : Table → ℕ → State → ℕ → Result State ReflectErrorKind
+select_nth_variant table s state i = select table s state (variant_numbered i) Operation.VariantIndexOutOfBounds
+
+abbrev pub select_variant_named : Table → ℕ → State → (name : List ℕ) → Result State ReflectErrorKind
+select_variant_named table s state name = select table s state (variant_named name) Operation.VariantNameUnknown
+
+abbrev pub select_variant : Table → ℕ → State → (discriminant : ℤ) → Result State ReflectErrorKind
+select_variant table s state discriminant =
+    select table s state (variant_told_by discriminant) Operation.DiscriminantUnknown
 
 -- Ending
 
@@ -229,8 +393,16 @@ finish_deferred hooks table root state = finish_in hooks table root state state.
 abbrev pub step_at : Meanings → Table → (root s : ℕ) → State → Call → Result State ReflectErrorKind
 step_at hooks table root s state (Call.BeginField name) = begin_field table s state name
 step_at hooks table root s state (Call.BeginNthField i) = begin_nth_field table s state i
-step_at hooks table root s state (Call.Set given v) = set s state given v
+step_at hooks table root s state (Call.SetNthFieldToDefault i) = set_nth_field_to_default table s state i
+step_at hooks table root s state (Call.Set given v) = set table s state given v
 step_at hooks table root s state Call.SetDefault = set_default table s state
+step_at hooks table root s state Call.BeginSome = begin_some table s state
+step_at hooks table root s state Call.BeginOk = begin_side table s state as_ok
+step_at hooks table root s state Call.BeginErr = begin_side table s state as_err
+step_at hooks table root s state Call.BeginSmartPtr = begin_smart_ptr table s state
+step_at hooks table root s state (Call.SelectNthVariant i) = select_nth_variant table s state i
+step_at hooks table root s state (Call.SelectVariantNamed name) = select_variant_named table s state name
+step_at hooks table root s state (Call.SelectVariant discriminant) = select_variant table s state discriminant
 step_at hooks table root s state Call.End = end hooks table s state
 step_at hooks table root s state Call.BeginDeferred = begin_deferred state
 step_at hooks table root s state Call.FinishDeferred = finish_deferred hooks table root state

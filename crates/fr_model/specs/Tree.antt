@@ -1,18 +1,48 @@
 -- What is being built, as one tree, and the state of a builder.
-use Rattle.std.specs.Prelude.{ℕ, zero, suc, ◌+◌, min, List, [], ◌∷◌, if◌then◌else◌}
+use Rattle.std.specs.Prelude.{ℕ, zero, suc, ◌+◌, ◌==◌, min, Bool, List, [], ◌∷◌, Option, Some, None, if◌then◌else◌}
 use Rattle.fr_shape.specs.declared.shape.Def.{Def}
 use Rattle.fr_shape.specs.Val.{Val, Vals, product, no_vals, first}
 use Rattle.fr_shape.specs.Tokens.{occurs}
 use Rattle.fr_shape.specs.Fills.{is_empty_struct}
-use Rattle.fr_shape.specs.Look.{Table, def_of}
-use Rattle.fr_model.specs.Places.{Place, child_shape}
+use Rattle.fr_shape.specs.Look.{Table, def_of, field_in}
+use Rattle.fr_model.specs.Places.{Place, child_shape, shape_of_field, content_shape, ok_shape, err_shape, pointee_shape}
 
--- as what a place is begun
+-- As what a place is begun: as a struct or an array, as the variant of this number of an enum, as an option with a content, as
+-- either side of a result, or as a pointer with what it points to. The children are the fields or elements; a content, a side or a
+-- pointee is the one child.
 pub data Form : Type 0 where
   as_struct : Form
   as_array : Form
+  as_variant : ℕ → Form
+  as_some : Form
+  as_ok : Form
+  as_err : Form
+  as_pointer : Form
 
--- as what a place of this definition is begun by entering a child
+-- a number for each form
+abbrev pub form_number : Form → ℕ
+form_number as_struct = 0
+form_number as_array = 1
+form_number as_some = 2
+form_number as_ok = 3
+form_number as_err = 4
+form_number as_pointer = 5
+form_number (as_variant k) = suc (suc (suc (suc (suc (suc k)))))
+
+abbrev pub same_form : Form → Form → Bool
+same_form one other = form_number one == form_number other
+
+-- the variant as which a place is begun, if it is begun as one
+abbrev pub variant_of : Form → Option ℕ
+variant_of (as_variant k) = Some k
+variant_of as_struct = None
+variant_of as_array = None
+variant_of as_some = None
+variant_of as_ok = None
+variant_of as_err = None
+variant_of as_pointer = None
+
+-- as what a place of this definition is begun by entering a field or an element
 abbrev pub form_of : Def → Form
 form_of (Def.Array t n) = as_array
 form_of (Def.Scalar kind) = as_struct
@@ -42,6 +72,20 @@ mutual
   pub data Trees : Type 0 where
     no_trees : Trees
     branch : Tree → Trees → Trees
+
+-- the variant that is selected at a place
+abbrev pub selected : Tree → Option ℕ
+selected hole = None
+selected entered = None
+selected (whole v) = None
+selected (begun form children) = variant_of form
+
+-- as what a place of this definition is begun once a field or an element of it is entered: a begun one stays what it is
+abbrev pub form_at : Def → Tree → Form
+form_at def hole = form_of def
+form_at def entered = form_of def
+form_at def (whole v) = form_of def
+form_at def (begun form children) = form
 
 -- the first of two for a hole, the second for anything else
 abbrev pub for_hole : {T : Type 0} → Tree → (of_hole of_other : T) → T
@@ -88,6 +132,11 @@ change_at (i ∷ place) change t = change_child i (λ child. change_at place cha
 abbrev pub child_as : Table → ℕ → Form → ℕ → ℕ
 child_as table s as_struct i = child_shape table s i
 child_as table s as_array i = child_shape table s i
+child_as table s (as_variant k) i = shape_of_field (field_in (def_of table s) (Some k) i)
+child_as table s as_some i = content_shape (def_of table s)
+child_as table s as_ok i = ok_shape (def_of table s)
+child_as table s as_err i = err_shape (def_of table s)
+child_as table s as_pointer i = pointee_shape (def_of table s)
 
 -- the shapes of so many of its children, number i first
 abbrev pub shapes_from : Table → ℕ → Form → (count i : ℕ) → List ℕ

@@ -1,44 +1,101 @@
 -- The states that a builder can be in.
-use Rattle.std.specs.Prelude.{◌≡◌, ℕ, zero, suc, ◌<◌, ◌≤◌, true, false, List, [], ◌∷◌, length}
+use Rattle.std.specs.Prelude.{◌≡◌, ℕ, zero, suc, ◌<◌, ◌≤◌, true, false, List, [], ◌∷◌, length, slice_get, Option, Some, None}
 use Rattle.fr_shape.specs.declared.shape.Def.{Def}
+use Rattle.fr_shape.specs.declared.shape.ShapeId.{ShapeId}
+use Rattle.fr_shape.specs.declared.shape.VariantDef.{VariantDef}
 use Rattle.fr_shape.specs.Look.{Table, def_of}
 use Rattle.fr_shape.specs.Fits.{fits}
 use Rattle.fr_shape.specs.Fills.{is_empty_struct}
+use Rattle.fr_model.specs.Contents.{pointer_refusal}
 use Rattle.fr_model.specs.Places.{Place, array_limit}
-use Rattle.fr_model.specs.Tree.{Form, as_struct, as_array, Tree, hole, entered, whole, begun, Trees, no_trees, branch, shapes_as, count_trees, tree_occurs, Mode, strict, deferred, State}
+use Rattle.fr_model.specs.Tree.{Form, as_struct, as_array, as_variant, as_some, as_ok, as_err, as_pointer, Tree, hole, entered, whole, begun, Trees, no_trees, branch, shapes_as, count_trees, tree_occurs, Mode, strict, deferred, State}
+use Rattle.fr_model.specs.Variants.{selection_refusal}
 
--- a place of this definition has all its children, begun so: a struct one for each field, an array one for each element
+-- Each word says of a definition that a place of it has so many children, begun in one way.
+
+abbrev pub HasFields : Def → ℕ → Type 0
+HasFields (Def.Struct struct) count = count ≡ length struct.fields
+HasFields _ count = ⊥
+
+abbrev pub HasElements : Def → ℕ → Type 0
+HasElements (Def.Array item n) count = count ≡ n
+HasElements _ count = ⊥
+
+abbrev pub HasFieldsOf : Option VariantDef → ℕ → Type 0
+HasFieldsOf (Some variant) count = count ≡ length variant.fields
+HasFieldsOf None count = ⊥
+
+abbrev pub HasVariantFields : Def → ℕ → ℕ → Type 0
+HasVariantFields (Def.Enum enumeration) k count = HasFieldsOf (slice_get enumeration.variants k) count
+HasVariantFields _ k count = ⊥
+
+abbrev pub HasContent : Def → ℕ → Type 0
+HasContent (Def.Option t) count = count ≡ 1
+HasContent _ count = ⊥
+
+abbrev pub HasSide : Def → ℕ → Type 0
+HasSide (Def.Result t e) count = count ≡ 1
+HasSide _ count = ⊥
+
+abbrev pub PointsTo : Option ShapeId → ℕ → Type 0
+PointsTo (Some pointee) count = count ≡ 1
+PointsTo None count = ⊥
+
+abbrev pub HasPointee : Def → ℕ → Type 0
+HasPointee (Def.Pointer pointer) count = PointsTo pointer.pointee count
+HasPointee _ count = ⊥
+
+-- a place of this definition has all its children, begun so: a struct or a variant one for each field, an array one for each
+-- element, an option, a result or a pointer one
 abbrev pub IsFullAs : Def → Form → ℕ → Type 0
-IsFullAs (Def.Struct struct) as_struct count = count ≡ length struct.fields
-IsFullAs (Def.Struct struct) as_array count = ⊥
-IsFullAs (Def.Array item n) as_array count = count ≡ n
-IsFullAs (Def.Array item n) as_struct count = ⊥
-IsFullAs (Def.Scalar kind) form count = ⊥
-IsFullAs Def.Str form count = ⊥
-IsFullAs Def.Opaque form count = ⊥
-IsFullAs (Def.Enum enumeration) form count = ⊥
-IsFullAs (Def.Option t) form count = ⊥
-IsFullAs (Def.Result t e) form count = ⊥
-IsFullAs (Def.List t) form count = ⊥
-IsFullAs (Def.Map key item) form count = ⊥
-IsFullAs (Def.Set t) form count = ⊥
-IsFullAs (Def.Pointer pointer) form count = ⊥
-IsFullAs (Def.Slice t) form count = ⊥
-IsFullAs Def.Dynamic form count = ⊥
-IsFullAs Def.Undefined form count = ⊥
-IsFullAs Def.Other form count = ⊥
+IsFullAs def as_struct count = HasFields def count
+IsFullAs def as_array count = HasElements def count
+IsFullAs def (as_variant k) count = HasVariantFields def k count
+IsFullAs def as_some count = HasContent def count
+IsFullAs def as_ok count = HasSide def count
+IsFullAs def as_err count = HasSide def count
+IsFullAs def as_pointer count = HasPointee def count
 
 -- a struct is begun only with at least one child, an array only with no more than the limit
 abbrev pub MayBegin : Form → ℕ → Type 0
 MayBegin as_struct count = 0 < count
 MayBegin as_array count = count ≤ array_limit
+MayBegin (as_variant k) count = Unit {0}
+MayBegin as_some count = Unit {0}
+MayBegin as_ok count = Unit {0}
+MayBegin as_err count = Unit {0}
+MayBegin as_pointer count = Unit {0}
 
 -- a place of this definition may be begun so, with that many children: all that it has, if it may be begun with them
 abbrev pub IsBegunAs : Def → Form → ℕ → Type 0
 IsBegunAs def form count = IsFullAs def form count × MayBegin form count
 
--- Each node suits its shape: what is whole fits it, and what is begun has one child for each field or element, which suits
--- the shape of that. What is entered isn't a struct without fields, which is whole as soon as it is entered.
+-- what stands there is no hole
+abbrev pub IsTouched : Tree → Type 0
+IsTouched hole = ⊥
+IsTouched entered = Unit {0}
+IsTouched (whole v) = Unit {0}
+IsTouched (begun form children) = Unit {0}
+
+-- the one child is there: a hole stands only as a field or an element
+abbrev pub IsContent : Trees → Type 0
+IsContent no_trees = ⊥
+IsContent (branch t ts) = IsTouched t
+
+-- A place of shape s is rightly begun so: a variant only where it may be selected, a pointer only where it may be begun, and an
+-- option, a result or a pointer with its content.
+abbrev pub IsBegunRightly : Table → ℕ → Form → Trees → Type 0
+IsBegunRightly table s as_struct children = Unit {0}
+IsBegunRightly table s as_array children = Unit {0}
+IsBegunRightly table s (as_variant k) children = selection_refusal (def_of table s) k ≡ None
+IsBegunRightly table s as_some children = IsContent children
+IsBegunRightly table s as_ok children = IsContent children
+IsBegunRightly table s as_err children = IsContent children
+IsBegunRightly table s as_pointer children = IsContent children × (pointer_refusal table (def_of table s) ≡ None)
+
+-- Each node suits its shape: what is whole fits it, and what is begun is so rightly and has one child for each field or element, or
+-- the one that it holds, which suits the shape of that. What is entered isn't a struct without fields, which is whole as soon as it
+-- is entered.
 abbrev mutual
   pub Suits : Table → ℕ → Tree → Type 0
   Suits table s hole = Unit {0}
@@ -46,6 +103,7 @@ abbrev mutual
   Suits table s (whole v) = fits table s v ≡ true
   Suits table s (begun form ts) =
       IsBegunAs (def_of table s) form (count_trees ts) × SuitAll table (shapes_as table s form (count_trees ts)) ts
+      × IsBegunRightly table s form ts
 
   -- trees suit shapes, one each
   pub SuitAll : Table → List ℕ → Trees → Type 0

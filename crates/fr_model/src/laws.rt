@@ -1,16 +1,20 @@
 //! Laws of the definitions: each is the contract of a function that does nothing.
 ghost use Rattle.fr_model.specs.Agree.{MachineAgrees, StartIsRelated, StepKeepsRelated};
+ghost use Rattle.fr_model.specs.ContentExamples.{OptionExamples, PointerExamples, ResultExamples, SelectionExamples, VariantExamples};
 ghost use Rattle.fr_model.specs.Covering.{ScanAgrees, WaysAgree};
+ghost use Rattle.fr_model.specs.DefaultExamples.{DefaultExamples, ValidatorExamples};
+ghost use Rattle.fr_model.specs.DefaultLaws.{DefaultIsThreeCalls};
 ghost use Rattle.fr_model.specs.Examples.{EndRunsValidators};
 ghost use Rattle.fr_model.specs.FailingLaws.{FailuresLieThere, FinishesOrRefuses, FinishOfDone, FirstByWalkIs, LackingFails, NothingFailsOfDone};
+ghost use Rattle.fr_model.specs.FinishExamples.{FinishExamples};
 ghost use Rattle.fr_model.specs.FinishLaws.{ClosingKeepsCompletion, ClosingKeepsFailures, ClosingKeepsFailuresOff, ClosingKeepsFinish};
 ghost use Rattle.fr_model.specs.Finishing.{NotesWhatIsDue, StuckOrNoted};
 ghost use Rattle.fr_model.specs.Laws.{BuildKeepsTokens, CompletesOrFails, CompletesOrLacks, CompletingFits, CompletingKeepsTokens, StartIsWell, StepKeepsDistinct, StepKeepsOrder, StepKeepsTokens};
-ghost use Rattle.fr_model.specs.PathLaws.{EnteringAddsAStep, FinishingKeepsThePath, LeavingAsItIs, LeavingDropsAStep, PathIsAsDeep, PuttingKeepsThePath};
+ghost use Rattle.fr_model.specs.PathLaws.{DefaultingKeepsThePath, EnteringAddsAStep, EnteringContentAddsAStep, EnteringSomeAddsAStep, FinishingKeepsThePath, LeavingAsItIs, LeavingDropsAStep, PathIsAsDeep, PuttingKeepsThePath, SelectingKeepsThePath};
 
-/// For every script of fitting values over a table that is plain for the root, whatever the hooks mean, the run of the
-/// commands gives a value exactly where the journal completes, and the same one. At the start, and after each command
-/// that is admitted, what stands at each place of the tree is what the journal holds of it.
+/// For every field script of fitting values over a table that is plain for the root, whatever the hooks mean, the run of the
+/// commands gives a value exactly where the journal completes, and the same one. At the start, and after each fitting call
+/// of a field script that is admitted, what stands at each place of the tree is what the journal holds of it.
 pub fn law_agree()
     ensures agree { MachineAgrees }
     ensures start { StartIsRelated }
@@ -41,9 +45,22 @@ pub fn law_completes()
     ensures tokens { CompletingKeepsTokens }
 {}
 
+/// In a state that is in order, setting a field to its default is entering it, setting it to that and leaving it, made as one call.
+pub fn law_default()
+    ensures default { DefaultIsThreeCalls }
+{}
+
 /// Scripts computed through the definitions.
 pub fn law_examples()
     ensures validators { EndRunsValidators }
+    ensures variants { VariantExamples }
+    ensures selection { SelectionExamples }
+    ensures options { OptionExamples }
+    ensures results { ResultExamples }
+    ensures pointers { PointerExamples }
+    ensures defaults { DefaultExamples }
+    ensures checks { ValidatorExamples }
+    ensures finishes { FinishExamples }
 {}
 
 /// What fails at the end of deferred mode is half done and lies off the way, and a place that lacks something by itself fails, its
@@ -65,11 +82,16 @@ pub fn law_finishing()
 {}
 
 /// The path of the place at which a builder works, from state to state. Entering a child, from a state that is in order,
-/// adds the step to that child. Putting a value keeps the path, or takes its last step away where the cursor goes up. Leaving a
-/// place as it is takes it away too, and the end of deferred mode keeps the path.
+/// adds the step to that child, and so does entering what an option, a side of a result or a pointer holds. Selecting a variant
+/// and setting a field to its default keep the path. Putting a value keeps it, or takes its last step away where the cursor goes
+/// up. Leaving a place as it is takes it away too, and the end of deferred mode keeps the path.
 /// There are as many steps as the place lies deep, so that only the root has none.
 pub fn law_paths()
     ensures enter { EnteringAddsAStep }
+    ensures enter_content { EnteringContentAddsAStep }
+    ensures enter_some { EnteringSomeAddsAStep }
+    ensures select { SelectingKeepsThePath }
+    ensures default { DefaultingKeepsThePath }
     ensures put { PuttingKeepsThePath }
     ensures leave { LeavingDropsAStep }
     ensures leave_as_it_is { LeavingAsItIs }

@@ -6,6 +6,6 @@ mod laws;
 
 pub use command::{Command, Script};
 pub use laws::{
-    law_agree, law_closing, law_completes, law_covering, law_examples, law_failing, law_finishing,
-    law_paths, law_removed, law_well,
+    law_agree, law_closing, law_completes, law_covering, law_default, law_examples, law_failing,
+    law_finishing, law_paths, law_removed, law_well,
 };

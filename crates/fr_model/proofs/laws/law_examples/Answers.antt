@@ -1,5 +1,172 @@
 use Rattle.std.proofs.Common.{refl}
 use Rattle.fr_model.proofs.laws.law_examples.Goals as goal
 
-pub returns : goal.returns
-returns c = record { validators = refl }
+pub returns-clause-validators : goal.returns-clause-validators
+returns-clause-validators c = refl
+
+pub returns-clause-variants : goal.returns-clause-variants
+returns-clause-variants c = record {
+  none_selected = refl;
+  empty_variant = refl;
+  missing = refl;
+  switched = refl;
+  drops_fields = refl;
+  keeps_fields = refl;
+  selected_again = refl;
+  whole_has_no_fields = refl;
+  whole_starts_anew = refl;
+  unselected = refl;
+  unselected_name = refl;
+  no_such_field = refl;
+  no_such_name = refl;
+  named = refl;
+  path = refl;
+  left_and_entered_again = refl;
+  left_unselected = refl;
+  left_half_done = refl;
+}
+
+pub returns-clause-selection : goal.returns-clause-selection
+returns-clause-selection c = record {
+  no_enum_numbered = refl;
+  no_enum_named = refl;
+  no_enum_told = refl;
+  by_number = refl;
+  no_such_number = refl;
+  by_effective_name = refl;
+  not_by_declared_name = refl;
+  not_the_other = refl;
+  the_other_by_number = refl;
+  by_discriminant = refl;
+  no_such_discriminant = refl;
+  no_discriminant = refl;
+  rust_layout = refl;
+  rust_npo_layout = refl;
+  no_variant_of_rust = refl;
+}
+
+pub returns-clause-options : goal.returns-clause-options
+returns-clause-options c = record {
+  no_option = refl;
+  content = refl;
+  missing = refl;
+  left_missing = refl;
+  begun_anew = refl;
+  begun_again = refl;
+  anew_drops = refl;
+  again_drops_none = refl;
+  list_in_place = refl;
+  list_in_place_deferred = refl;
+  struct_anew = refl;
+  struct_in_place = refl;
+  enum_anew = refl;
+  enum_in_place = refl;
+  enum_is_whole = refl;
+  number_anew = refl;
+  number_anew_deferred = refl;
+  whole_drops = refl;
+  enum_anew_drops = refl;
+  in_place_drops_none = refl;
+  none_anew = refl;
+}
+
+pub returns-clause-results : goal.returns-clause-results
+returns-clause-results c = record {
+  both_sides = refl;
+  entered_again = refl;
+  ok_of_no_result = refl;
+  err_of_no_result = refl;
+  path_to_ok = refl;
+  path_to_err = refl;
+  same_side_anew = refl;
+  other_side = refl;
+  other_side_deferred = refl;
+  other_side_anew = refl;
+  whole_anew = refl;
+  same_side_drops = refl;
+  same_side_deferred_drops_none = refl;
+  other_side_drops = refl;
+  whole_drops = refl;
+}
+
+pub returns-clause-pointers : goal.returns-clause-pointers
+returns-clause-pointers c = record {
+  fields_by_name = refl;
+  owned_text = refl;
+  path = refl;
+  begun_anew = refl;
+  begun_again = refl;
+  whole_anew = refl;
+  anew_drops = refl;
+  again_drops_none = refl;
+  whole_drops = refl;
+  no_pointer = refl;
+  not_constructible = refl;
+  no_pointee = refl;
+  borrowed_text = refl;
+  unknown_text = refl;
+  borrowed_slice = refl;
+  no_number = refl;
+  no_other_text = refl;
+  own_shape = refl;
+  no_str_at_string = refl;
+}
+
+pub returns-clause-defaults : goal.returns-clause-defaults
+returns-clause-defaults c = record {
+  own = refl;
+  of_shape = refl;
+  unmarked = refl;
+  of_shape_deferred = refl;
+  in_place_of_another = refl;
+  of_whole = refl;
+  marked_without = refl;
+  unmarked_without = refl;
+  no_such_field = refl;
+  of_a_number = refl;
+  of_an_option = refl;
+  unselected = refl;
+  of_variant = refl;
+  no_such_variant_field = refl;
+  no_fill_by_preset = refl;
+  no_fill_by_preset_deferred = refl;
+  fill_by_attribute = refl;
+  no_fill_by_attribute = refl;
+  marked_hole = refl;
+  own_of_variant = refl;
+  own_of_variant_deferred = refl;
+  marked_of_variant = refl;
+  marked_of_variant_deferred = refl;
+  skipped_of_variant = refl;
+  skipped_of_variant_deferred = refl;
+  drops_child = refl;
+  keeps_other = refl;
+  drops_part = refl;
+  keeps_other_part = refl;
+  refused_drops = refl;
+}
+
+pub returns-clause-checks : goal.returns-clause-checks
+returns-clause-checks c = record {
+  large = refl;
+  large_deferred = refl;
+  small = refl;
+  small_deferred = refl;
+  small_fill = refl;
+  small_fill_deferred = refl;
+  small_default = refl;
+}
+
+pub returns-clause-finishes : goal.returns-clause-finishes
+returns-clause-finishes c = record {
+  content_is_deeper = refl;
+  pointee_is_deeper = refl;
+  first_field_is_told = refl;
+  cursor_is_last = refl;
+  inside_option = refl;
+  inside_side = refl;
+  inside_side_whole = refl;
+  inside_pointer = refl;
+  inside_option_half_done = refl;
+  above_starts_anew = refl;
+}

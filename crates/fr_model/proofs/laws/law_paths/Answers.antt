@@ -1,4 +1,5 @@
-use Rattle.fr_model.proofs.Paths.{as_deep, enter_adds, leave_as_it_is, leave_drops, put_keeps}
+use Rattle.fr_model.proofs.Paths.{as_deep, content_adds, default_keeps, enter_adds, leave_as_it_is, leave_drops, put_keeps, select_keeps, some_adds}
+use Rattle.fr_model.specs.Tree.{cursor_shape}
 use Rattle.fr_model.proofs.Finishes.{finish_keeps_path}
 use Rattle.fr_model.proofs.laws.law_paths.Goals as goal
 
@@ -19,3 +20,16 @@ returns-clause-leave_as_it_is c state before last leads is = leave_as_it_is stat
 
 pub returns-clause-finish : goal.returns-clause-finish
 returns-clause-finish c hooks table s cursor tree next is = finish_keeps_path hooks table s cursor tree next is
+
+pub returns-clause-enter_content : goal.returns-clause-enter_content
+returns-clause-enter_content c table root state form order =
+    content_adds table (cursor_shape table root state) state form order.leads
+
+pub returns-clause-enter_some : goal.returns-clause-enter_some
+returns-clause-enter_some c table root state order = some_adds table (cursor_shape table root state) state order.leads
+
+pub returns-clause-select : goal.returns-clause-select
+returns-clause-select c table s state k leads = select_keeps table s state k leads
+
+pub returns-clause-default : goal.returns-clause-default
+returns-clause-default c table s state i v leads = default_keeps table s state i v leads

@@ -1,0 +1,40 @@
+-- Setting a field to its default is three calls made as one.
+use Rattle.std.specs.Prelude.{◌≡◌, ℕ, Some, Result, Ok, Err}
+use Rattle.fr_shape.specs.declared.error.ReflectErrorKind.{ReflectErrorKind}
+use Rattle.fr_shape.specs.declared.shape.Field.{Field}
+use Rattle.fr_shape.specs.Hooks.{Meanings}
+use Rattle.fr_shape.specs.Look.{Table, def_of, field_in}
+use Rattle.fr_shape.specs.Val.{Val}
+use Rattle.fr_model.specs.Commands.{Call}
+use Rattle.fr_model.specs.Step.{field_default, step}
+use Rattle.fr_model.specs.Tree.{selected, State, cursor_shape, cursor_tree}
+use Rattle.fr_model.specs.Well.{IsInOrder}
+
+-- a command after another, unless that one was refused
+abbrev pub and_step : Meanings → Table → (root : ℕ) → Result State ReflectErrorKind → Call → Result State ReflectErrorKind
+and_step hooks table root (Ok state) command = step hooks table root state command
+and_step hooks table root (Err kind) command = Err kind
+
+-- field i is entered, set to a value of this shape, and left
+abbrev pub three_calls : Meanings → Table → (root : ℕ) → State → (i shape : ℕ) → Val → Result State ReflectErrorKind
+three_calls hooks table root state i shape v =
+    and_step hooks table root
+    (and_step hooks table root (step hooks table root state (Call.BeginNthField i)) (Call.Set shape v)) Call.End
+
+-- both end with the same tree, at the same place and in the same mode, however many calls are counted; or with the same refusal
+abbrev pub AreSameButCalls : Result State ReflectErrorKind → Result State ReflectErrorKind → Type 0
+AreSameButCalls (Ok one) (Ok other) = (one.tree ≡ other.tree) × (one.cursor ≡ other.cursor) × (one.mode ≡ other.mode)
+AreSameButCalls (Ok one) (Err kind) = ⊥
+AreSameButCalls (Err kind) (Ok other) = ⊥
+AreSameButCalls (Err kind) (Err other) = kind ≡ other
+
+-- From a state in order, where field i has a default to be set to: `set_nth_field_to_default` is as entering the field, setting it to
+-- that, and leaving it.
+abbrev pub DefaultIsThreeCalls : Type 0
+DefaultIsThreeCalls =
+    (hooks : Meanings) (table : Table) (root : ℕ) (state : State) (i : ℕ) (field : Field) (v : Val)
+    → IsInOrder table root state
+    → field_in (def_of table (cursor_shape table root state)) (selected (cursor_tree state)) i ≡ Some field
+    → field_default table field ≡ Ok v
+    → AreSameButCalls (step hooks table root state (Call.SetNthFieldToDefault i))
+    (three_calls hooks table root state i field.shape.0 v)
