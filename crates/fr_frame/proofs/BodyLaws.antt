@@ -1,40 +1,128 @@
 -- What a place comes to, and its tokens.
-use Rattle.std.proofs.Common.{◌≡◌, ℕ, zero, suc, ◌+◌, List, replicate, option_map, Option, Some, None, IsSome, refl, sym, ◌∙◌, ap, subst, arith}
+use Rattle.std.proofs.Common.{◌≡◌, ℕ, zero, suc, ◌+◌, Bool, true, false, List, [], ◌∷◌, length, replicate, option_map, Option, Some, None, IsSome, refl, sym, ◌∙◌, ap, subst, arith}
+use Rattle.std.specs.Prelude.{if◌then◌else◌}
+use Rattle.fr_shape.specs.declared.shape.Def.{Def}
+use Rattle.fr_shape.specs.declared.shape.ShapeId.{ShapeId}
+use Rattle.fr_shape.specs.declared.value.Value.{Value}
+use Rattle.fr_shape.specs.View.{vals_view}
 use Rattle.fr_shape.specs.Tokens.{occurs, vals_occur}
-use Rattle.fr_shape.specs.Val.{Val, Vals, product, no_vals, first}
-use Rattle.fr_model.specs.Complete.{made}
-use Rattle.fr_model.specs.Places.{parts_of, product_of}
-use Rattle.fr_model.specs.Tree.{Form, as_struct, as_array}
-use Rattle.fr_frame.specs.Bodies.{Body, entered_body, whole_body, begun_body, body_occurs, opened, opened_by, value_of, cells_of_vals, HasAllChildren}
-use Rattle.fr_frame.specs.Cells.{Cell, absent, cells_occur, values_of}
+use Rattle.fr_shape.specs.Val.{Val, Vals, product, some, no_vals, first}
+use Rattle.fr_model.specs.Complete.{made, value_as}
+use Rattle.fr_model.specs.Contents.{content_of}
+use Rattle.fr_model.specs.Places.{parts_of, vals_nth}
+use Rattle.fr_model.specs.Tree.{Form, as_struct, as_array, as_variant, as_some, as_ok, as_err, as_pointer}
+use Rattle.fr_model.specs.Well.{IsFullAs, PointsTo}
+use Rattle.fr_frame.specs.Bodies.{Body, entered_body, whole_body, begun_body, body_occurs, can_make, is_around, is_one, opened, opened_around, opened_by, opened_some, value_of, cells_of_vals, HasAllChildren}
+use Rattle.fr_frame.specs.Cells.{Cell, absent, given, placed, cells_occur, values_of}
 use Rattle.fr_frame.proofs.CellLaws.{values_occur}
-
-pub product_of_struct : (form : Form) (values : Option Vals) → made form values ≡ product_of values
-product_of_struct as_struct values = refl
-product_of_struct as_array values = refl
 
 -- a place with a value lacks no child
 pub value_has_all : (body : Body) → IsSome (value_of body) → HasAllChildren body
 value_has_all entered_body h = tt
 value_has_all (whole_body v) h = tt
-value_has_all (begun_body form cells) h =
-    go (values_of cells) (subst (λ (o : Option Val). IsSome o) (product_of_struct form (values_of cells)) h)
+value_has_all (begun_body form cells) h = go (can_make form cells) (values_of cells) h
   where
-    go : (values : Option Vals) → IsSome (product_of values) → IsSome values
-    go (Some vs) h = refl
-    go None h = absurd (cc)
+    go : (can : Bool) (values : Option Vals) → IsSome (if can then made form values else None) → IsSome values
+    go true (Some vs) h = refl
+    go true None h = absurd (cc)
+    go false values h = absurd (cc)
+
+-- a place whose children can make a value, and are all there, has that value
+pub value_made : (form : Form) (cells : List Cell) → can_make form cells ≡ true → value_of (begun_body form cells) ≡ made form (values_of cells)
+value_made form cells can = ap (λ (b : Bool). if b then made form (values_of cells) else None) can
+
+one_is : (cells : List Cell) → length cells ≡ 1 → is_one cells ≡ true
+one_is [] h = absurd (omega arith)
+one_is (c ∷ []) h = refl
+one_is (c ∷ d ∷ cs) h = absurd (omega arith)
+
+-- a place that has all its children can
+pub full_makes : (def : Def) (form : Form) (cells : List Cell) → IsFullAs def form (length cells) → can_make form cells ≡ true
+full_makes def as_struct cells h = refl
+full_makes def as_array cells h = refl
+full_makes def (as_variant k) cells h = refl
+full_makes (Def.Option t) as_some cells h = one_is cells h
+full_makes _ as_some cells h = absurd h
+full_makes (Def.Result t e) as_ok cells h = one_is cells h
+full_makes _ as_ok cells h = absurd h
+full_makes (Def.Result t e) as_err cells h = one_is cells h
+full_makes _ as_err cells h = absurd h
+full_makes (Def.Pointer pointer) as_pointer cells h = go pointer.pointee h
+  where
+    go : (pointee : Option ShapeId) → PointsTo pointee (length cells) → is_one cells ≡ true
+    go (Some t) h = one_is cells h
+    go None h = absurd h
+full_makes _ as_pointer cells h = absurd h
+
+pub full_value : (def : Def) (form : Form) (cells : List Cell) → IsFullAs def form (length cells)
+    → value_of (begun_body form cells) ≡ made form (values_of cells)
+full_value def form cells h = value_made form cells (full_makes def form cells h)
+
+-- around one child there is one value
+pub one_listed : (form : Form) (cells : List Cell) (items : List Value) → is_around form ≡ true → IsSome (value_of (begun_body form cells))
+    → values_of cells ≡ Some (vals_view items) → length items ≡ 1
+one_listed form cells items around there are = go cells are (able (is_one cells) refl (can (is_around form) around there))
+  where
+    can : (around : Bool) → around ≡ true → IsSome (if (if around then is_one cells else true) then made form (values_of cells) else None)
+        → IsSome (if is_one cells then made form (values_of cells) else None)
+    can true e h = h
+    can false e h = absurd (cc)
+
+    able : (one : Bool) → is_one cells ≡ one → IsSome (if one then made form (values_of cells) else None) → is_one cells ≡ true
+    able true e h = e
+    able false e h = absurd (cc)
+
+    single : (v : Val) (xs : List Value) → first v no_vals ≡ vals_view xs → length xs ≡ 1
+    single v [] e = absurd (cc)
+    single v (x ∷ []) e = refl
+    single v (x ∷ y ∷ xs) e = absurd (cc)
+
+    go : (cs : List Cell) → values_of cs ≡ Some (vals_view items) → is_one cs ≡ true → length items ≡ 1
+    go [] e h = absurd (cc)
+    go (absent ∷ []) e h = let no : None ≡ Some (vals_view items) = e in absurd (cc)
+    go (placed n ∷ []) e h = let no : None ≡ Some (vals_view items) = e in absurd (cc)
+    go (given v ∷ []) e h =
+        let is : Some (first v no_vals) ≡ Some (vals_view items) = e in
+        let same : first v no_vals ≡ vals_view items = cc in
+        single v items same
+    go (c ∷ d ∷ cs) e h = absurd (cc)
+
+-- one child's value is the first of all
+one_occurs : (cells : List Cell) (vs : Vals) (t : ℕ) → is_one cells ≡ true → values_of cells ≡ Some vs
+    → cells_occur cells t ≡ occurs (vals_nth vs 0) t
+one_occurs [] vs t can e = absurd (cc)
+one_occurs (absent ∷ []) vs t can e = let no : None ≡ Some vs = e in absurd (cc)
+one_occurs (placed n ∷ []) vs t can e = let no : None ≡ Some vs = e in absurd (cc)
+one_occurs (given v ∷ []) vs t can e =
+    let is : Some (first v no_vals) ≡ Some vs = e in
+    let same : first v no_vals ≡ vs = cc in
+    let held : occurs v t ≡ occurs (vals_nth vs 0) t = ap (λ (x : Vals). occurs (vals_nth x 0) t) same in
+    omega arith
+one_occurs (c ∷ d ∷ cs) vs t can e = absurd (cc)
+
+made_occurs : (form : Form) (cells : List Cell) (vs : Vals) (t : ℕ) → can_make form cells ≡ true → values_of cells ≡ Some vs
+    → cells_occur cells t ≡ occurs (value_as form vs) t
+made_occurs as_struct cells vs t can e = values_occur cells vs t e
+made_occurs as_array cells vs t can e = values_occur cells vs t e
+made_occurs (as_variant k) cells vs t can e = values_occur cells vs t e
+made_occurs as_some cells vs t can e = one_occurs cells vs t can e
+made_occurs as_ok cells vs t can e = one_occurs cells vs t can e
+made_occurs as_err cells vs t can e = one_occurs cells vs t can e
+made_occurs as_pointer cells vs t can e = one_occurs cells vs t can e
 
 pub value_occurs_same : (body : Body) (v : Val) (t : ℕ) → value_of body ≡ Some v → body_occurs body t ≡ occurs v t
 value_occurs_same entered_body v t e = cc
 value_occurs_same (whole_body w) v t e = let same : w ≡ v = cc in ap (λ (x : Val). occurs x t) same
-value_occurs_same (begun_body form cells) v t e = go (values_of cells) refl (sym (product_of_struct form (values_of cells)) ∙ e)
+value_occurs_same (begun_body form cells) v t e = go (can_make form cells) (values_of cells) refl refl e
   where
-    go : (o : Option Vals) → values_of cells ≡ o → product_of (values_of cells) ≡ Some v → cells_occur cells t ≡ occurs v t
-    go None h p = let no : None ≡ Some v = sym (ap product_of h) ∙ p in cc
-    go (Some vs) h p =
-        let is : Some (product vs) ≡ Some v = sym (ap product_of h) ∙ p in
-        let same : product vs ≡ v = cc in
-        values_occur cells vs t h ∙ ap (λ (x : Val). occurs x t) same
+    go : (can : Bool) (values : Option Vals) → can_make form cells ≡ can → values_of cells ≡ values
+        → (if can then made form values else None) ≡ Some v → cells_occur cells t ≡ occurs v t
+    go true (Some vs) able are is =
+        let some : Some (value_as form vs) ≡ Some v = is in
+        let same : value_as form vs ≡ v = cc in
+        made_occurs form cells vs t able are ∙ ap (λ (x : Val). occurs x t) same
+    go true None able are is = absurd (cc)
+    go false values able are is = absurd (cc)
 
 vals_cells : (vs : Vals) (t : ℕ) → cells_occur (cells_of_vals vs) t ≡ vals_occur vs t
 vals_cells no_vals t = refl
@@ -63,3 +151,12 @@ pub opened_occurs : (form : Form) (count : ℕ) (body : Body) (t : ℕ) → body
 opened_occurs form count entered_body t = none_occur count t
 opened_occurs form count (whole_body v) t = opened_value form v t
 opened_occurs form count (begun_body as_before cells) t = refl
+
+opened_content : (v : Val) (t : ℕ) → body_occurs (opened_around v (content_of v)) t ≡ occurs v t
+opened_content (some held) t = let one : occurs held t + 0 ≡ occurs held t = omega arith in one
+opened_content _ t = refl
+
+pub opened_some_occurs : (body : Body) (t : ℕ) → body_occurs (opened_some body) t ≡ body_occurs body t
+opened_some_occurs entered_body t = refl
+opened_some_occurs (whole_body v) t = opened_content v t
+opened_some_occurs (begun_body form cells) t = refl

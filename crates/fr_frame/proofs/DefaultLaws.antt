@@ -7,29 +7,26 @@ use Rattle.fr_shape.specs.declared.shape.Def.{Def}
 use Rattle.fr_shape.specs.declared.shape.FieldRef.{FieldRef}
 use Rattle.fr_shape.specs.Checked.{IsChecked}
 use Rattle.fr_shape.specs.Fills.{preset_of}
-use Rattle.fr_shape.specs.Look.{Table, def_of, field_in}
-use Rattle.fr_shape.specs.Tokens.{tokens}
+use Rattle.fr_shape.specs.Look.{Table, def_of, field_at}
 use Rattle.fr_shape.specs.Val.{Val, Vals}
 use Rattle.fr_model.specs.Complete.{hole_takes, made, missing_child, missing_value}
 use Rattle.fr_model.specs.Failing.{first_unmet}
 use Rattle.fr_model.specs.Places.{deferred_column, child_count, count_children, one_more}
-use Rattle.fr_model.specs.Tree.{Form, as_struct, as_array, hole, Trees, branch, holes}
+use Rattle.fr_model.specs.Tree.{Form, as_struct, hole, Trees, branch, holes}
 use Rattle.fr_model.specs.Well.{IsFullAs}
 use Rattle.fr_plan.specs.declared.plans.FieldPlan.{FieldPlan}
 use Rattle.fr_plan.specs.TypePlan.{Plan}
-use Rattle.fr_frame.specs.Bodies.{Body, entered_body, whole_body, begun_body, body_occurs, trees_of, AreUnplaced, IsClosed}
+use Rattle.fr_frame.specs.declared.places.Parts.{Parts}
+use Rattle.fr_frame.specs.Bodies.{Body, entered_body, whole_body, begun_body, as_fields, body_occurs, trees_of, AreUnplaced, IsClosed}
 use Rattle.fr_frame.specs.Cells.{Cell, absent, given, placed, value_of_cell, value_at, values_of, cell_occurs, cells_occur}
 use Rattle.fr_frame.specs.Completing.{IsFull}
 use Rattle.fr_frame.specs.Defaults.{defaulted, defaulted_by, defaulted_cell, defaulted_cells, defaulted_struct, first_absent}
-use Rattle.fr_frame.specs.FieldDefaults.{unmet_child, defaulted_nth, defaulted_first, NamesField}
+use Rattle.fr_frame.specs.FieldDefaults.{unmet_child, defaulted_nth, defaulted_first}
 use Rattle.fr_frame.specs.Filling.{IsTold}
-use Rattle.fr_frame.proofs.FillLaws.{fill_light, light_occurs, none_occur, none_placed, preset_light}
+use Rattle.fr_frame.specs.Heap.{parts_in}
+use Rattle.fr_frame.proofs.FormLaws.{field_missing, others_missing, others_take, others_unmarked}
+use Rattle.fr_frame.proofs.FillLaws.{light_occurs, none_occur, none_placed, preset_light, takes_light}
 use Rattle.fr_frame.proofs.LackLaws.{first_none}
-
-pub takes_light : (table : Table) (s : ℕ) (form : Form) (i : ℕ) (v : Val) → IsChecked table
-    → hole_takes deferred_column table s form i ≡ Some v → tokens v ≡ []
-takes_light table s as_struct i v checked e = fill_light deferred_column table s i v checked e
-takes_light table s as_array i v checked e = absurd (cc)
 
 pub later_there : (v : Val) (cs : List Cell) → IsSome (values_of (given v ∷ cs)) → IsSome (values_of cs)
 later_there v cs h = go (values_of cs) h
@@ -121,7 +118,7 @@ module _ (table : Table) (s : ℕ) (form : Form) where
   cell_same checked i c t = go (takes i) refl c
     where
       go : (fill : Option Val) → takes i ≡ fill → (c : Cell) → cell_occurs (defaulted_cell fill c) t ≡ cell_occurs c t
-      go (Some v) e absent = light_occurs v t (takes_light table s form i v checked e)
+      go (Some v) e absent = light_occurs v t (takes_light deferred_column table s form i v checked e)
       go None e absent = refl
       go (Some v) e (given w) = refl
       go None e (given w) = refl
@@ -217,12 +214,12 @@ module _ (s : ℕ) (form : Form) where
       go (Some vs) h = refl
       go None h = absurd (cc)
 
-pub element_absent : (s i : ℕ) (cs : List Cell) → AreUnplaced cs → values_of cs ≡ None
-    → first_absent s as_array i cs ≡ Some (missing_value s)
-element_absent s i [] closed h = absurd (cc)
-element_absent s i (absent ∷ cs) closed h = refl
-element_absent s i (placed n ∷ cs) closed h = absurd closed.0
-element_absent s i (given v ∷ cs) closed h = element_absent s (suc i) cs closed.1 (go (values_of cs) h)
+pub other_absent : (s : ℕ) (form : Form) → parts_in form ≡ Parts.Others → (i : ℕ) (cs : List Cell) → AreUnplaced cs → values_of cs ≡ None
+    → first_absent s form i cs ≡ Some (missing_value s)
+other_absent s form others i [] closed h = absurd (cc)
+other_absent s form others i (absent ∷ cs) closed h = ap Some (others_missing s form others i)
+other_absent s form others i (placed n ∷ cs) closed h = absurd closed.0
+other_absent s form others i (given v ∷ cs) closed h = other_absent s form others (suc i) cs closed.1 (go (values_of cs) h)
   where
     go : (vs : Option Vals) → one_more (Some v) vs ≡ None → vs ≡ None
     go (Some vs) h = absurd (cc)
@@ -230,74 +227,92 @@ element_absent s i (given v ∷ cs) closed h = element_absent s (suc i) cs close
 
 -- Fields, as a plan tells them.
 
-module _ (table : Table) (plan : Plan) (s i : ℕ) (one : FieldPlan) (is : IsTold table plan s i one) where
-  pub names_field : NamesField table one.field
-  names_field = record {
-    of_struct = ap (λ (meant : FieldRef). meant.variant) is.meant;
-    there =
-        subst IsSome
-        (sym (ap (λ (meant : FieldRef). field_in (def_of table meant.shape.0) meant.variant meant.index) is.meant ∙ is.here)) refl;
-  }
+module _ (table : Table) (plan : Plan) (s : ℕ) (selected : Option ℕ) (i : ℕ) (one : FieldPlan) (is : IsTold table plan s selected i one) where
+  abbrev fields : Form
+  fields = as_fields selected
 
-  pub its_fill : hole_takes deferred_column table one.field.shape.0 as_struct one.field.index ≡ hole_takes deferred_column table s as_struct i
-  its_fill = ap (λ (meant : FieldRef). hole_takes deferred_column table meant.shape.0 as_struct meant.index) is.meant
+  pub names_field : IsSome (field_at table one.field)
+  names_field = subst (λ (meant : FieldRef). IsSome (field_at table meant)) (sym is.meant) (subst IsSome (sym is.here) refl)
 
-  pub its_name : ReflectErrorKind.UninitializedField one.field ≡ missing_child s as_struct i
-  its_name = ap (λ (meant : FieldRef). ReflectErrorKind.UninitializedField meant) is.meant
+  pub its_fill : hole_takes deferred_column table one.field.shape.0 (as_fields one.field.variant) one.field.index
+      ≡ hole_takes deferred_column table s fields i
+  its_fill =
+      ap (λ (meant : FieldRef). hole_takes deferred_column table meant.shape.0 (as_fields meant.variant) meant.index) is.meant
 
-  its_mark : (own : Option Val) → unmet_child table one.field.shape.0 as_struct one.field.index own ≡ unmet_child table s as_struct i own
-  its_mark own = ap (λ (meant : FieldRef). unmet_child table meant.shape.0 as_struct meant.index own) is.meant
+  pub its_name : ReflectErrorKind.UninitializedField one.field ≡ missing_child s fields i
+  its_name = ap (λ (meant : FieldRef). ReflectErrorKind.UninitializedField meant) is.meant ∙ sym (field_missing s selected i)
+
+  abbrev its_own : Option Val → Option ReflectErrorKind
+  its_own own = unmet_child table one.field.shape.0 (as_fields one.field.variant) one.field.index own
+
+  pub its_mark : (own : Option Val) → its_own own ≡ unmet_child table s fields i own
+  its_mark own = ap (λ (meant : FieldRef). unmet_child table meant.shape.0 (as_fields meant.variant) meant.index own) is.meant
 
   marks_left : (cs : List Cell) (own : Option Val) → i < length cs → own ≡ value_at cs i
-      → first_unmet table s as_struct i (trees_of (drop i cs))
-      ≡ option_or (unmet_child table one.field.shape.0 as_struct one.field.index own)
-      (first_unmet table s as_struct (suc i) (trees_of (drop (suc i) cs)))
+      → first_unmet table s fields i (trees_of (drop i cs))
+      ≡ option_or (its_own own)
+      (first_unmet table s fields (suc i) (trees_of (drop (suc i) cs)))
   marks_left cs own h e =
-      unmet_next table s as_struct cs i i h
-      ∙ ap (λ (o : Option ReflectErrorKind). option_or o (first_unmet table s as_struct (suc i) (trees_of (drop (suc i) cs))))
-      (ap (unmet_child table s as_struct i) (sym e) ∙ sym (its_mark own))
+      unmet_next table s fields cs i i h
+      ∙ ap (λ (o : Option ReflectErrorKind). option_or o (first_unmet table s fields (suc i) (trees_of (drop (suc i) cs))))
+      (ap (unmet_child table s fields i) (sym e) ∙ sym (its_mark own))
 
   pub marks_preserved : (cs : List Cell) (own : Option Val) → i < length cs → own ≡ value_at cs i
-      → unmet_child table one.field.shape.0 as_struct one.field.index own ≡ None
-      → first_unmet table s as_struct i (trees_of (drop i cs)) ≡ first_unmet table s as_struct (i + 1) (trees_of (drop (i + 1) cs))
+      → its_own own ≡ None
+      → first_unmet table s fields i (trees_of (drop i cs)) ≡ first_unmet table s fields (i + 1) (trees_of (drop (i + 1) cs))
   marks_preserved cs own h e met =
       let next : suc i ≡ i + 1 = omega arith in
       marks_left cs own h e
-      ∙ first_none (unmet_child table one.field.shape.0 as_struct one.field.index own)
-      (first_unmet table s as_struct (suc i) (trees_of (drop (suc i) cs))) met
-      ∙ ap (λ (k : ℕ). first_unmet table s as_struct k (trees_of (drop k cs))) next
+      ∙ first_none (its_own own)
+      (first_unmet table s fields (suc i) (trees_of (drop (suc i) cs))) met
+      ∙ ap (λ (k : ℕ). first_unmet table s fields k (trees_of (drop k cs))) next
 
   pub marks_cause : (cs : List Cell) (own : Option Val) → i < length cs → own ≡ value_at cs i → (kind : ReflectErrorKind)
-      → unmet_child table one.field.shape.0 as_struct one.field.index own ≡ Some kind
-      → first_unmet table s as_struct i (trees_of (drop i cs)) ≡ Some kind
+      → its_own own ≡ Some kind
+      → first_unmet table s fields i (trees_of (drop i cs)) ≡ Some kind
   marks_cause cs own h e kind unmet =
       marks_left cs own h e
-      ∙ ap (λ (o : Option ReflectErrorKind). option_or o (first_unmet table s as_struct (suc i) (trees_of (drop (suc i) cs)))) unmet
+      ∙ ap (λ (o : Option ReflectErrorKind). option_or o (first_unmet table s fields (suc i) (trees_of (drop (suc i) cs)))) unmet
 
   pub absent_cause : (cs : List Cell) → i < length cs → AreUnplaced cs → value_at cs i ≡ None
-      → first_absent s as_struct i (drop i cs) ≡ Some (ReflectErrorKind.UninitializedField one.field)
-  absent_cause cs h closed none = absent_here s as_struct cs i i h closed none ∙ ap Some (sym its_name)
+      → first_absent s fields i (drop i cs) ≡ Some (ReflectErrorKind.UninitializedField one.field)
+  absent_cause cs h closed none = absent_here s fields cs i i h closed none ∙ ap Some (sym its_name)
 
-pub absent_preserved : (s i : ℕ) (cs : List Cell) → IsSome (value_at cs i)
-    → first_absent s as_struct i (drop i cs) ≡ first_absent s as_struct (i + 1) (drop (i + 1) cs)
-absent_preserved s i cs h =
+pub absent_preserved : (s : ℕ) (form : Form) (i : ℕ) (cs : List Cell) → IsSome (value_at cs i)
+    → first_absent s form i (drop i cs) ≡ first_absent s form (i + 1) (drop (i + 1) cs)
+absent_preserved s form i cs h =
     let next : suc i ≡ i + 1 = omega arith in
-    absent_next s as_struct cs i i h ∙ ap (λ (k : ℕ). first_absent s as_struct k (drop k cs)) next
+    absent_next s form cs i i h ∙ ap (λ (k : ℕ). first_absent s form k (drop k cs)) next
 
 -- Places.
 
--- an array's elements take nothing
-pub elements_stay : (table : Table) (s i : ℕ) (cs : List Cell) → cs ≡ defaulted_cells table s as_array i cs
-elements_stay table s i [] = refl
-elements_stay table s i (absent ∷ cs) = ap (λ (ds : List Cell). absent ∷ ds) (elements_stay table s (suc i) cs)
-elements_stay table s i (given v ∷ cs) = ap (λ (ds : List Cell). given v ∷ ds) (elements_stay table s (suc i) cs)
-elements_stay table s i (placed n ∷ cs) = ap (λ (ds : List Cell). placed n ∷ ds) (elements_stay table s (suc i) cs)
+-- children that aren't fields take nothing
+module _ (table : Table) (s : ℕ) (form : Form) (others : parts_in form ≡ Parts.Others) where
+  other_stays : (i : ℕ) (c : Cell) → c ≡ defaulted_cell (hole_takes deferred_column table s form i) c
+  other_stays i c = go c ∙ ap (λ (fill : Option Val). defaulted_cell fill c) (sym (others_take table s deferred_column form others i))
+    where
+      go : (c : Cell) → c ≡ defaulted_cell None c
+      go absent = refl
+      go (given v) = refl
+      go (placed n) = refl
 
-pub elements_met : (table : Table) (s i : ℕ) (cs : List Cell) → first_unmet table s as_array i (trees_of cs) ≡ None
-elements_met table s i [] = refl
-elements_met table s i (absent ∷ cs) = elements_met table s (suc i) cs
-elements_met table s i (given v ∷ cs) = elements_met table s (suc i) cs
-elements_met table s i (placed n ∷ cs) = elements_met table s (suc i) cs
+  pub others_stay : (i : ℕ) (cs : List Cell) → cs ≡ defaulted_cells table s form i cs
+  others_stay i [] = refl
+  others_stay i (c ∷ cs) =
+      ap (λ (ds : List Cell). c ∷ ds) (others_stay (suc i) cs)
+      ∙ ap (λ (d : Cell). d ∷ defaulted_cells table s form (suc i) cs) (other_stays i c)
+
+  pub others_met : (i : ℕ) (cs : List Cell) → first_unmet table s form i (trees_of cs) ≡ None
+  others_met i [] = refl
+  others_met i (absent ∷ cs) =
+      ap (λ (o : Option ReflectErrorKind). option_or o (first_unmet table s form (suc i) (trees_of cs)))
+      (others_unmarked table s form others i)
+      ∙ others_met (suc i) cs
+  others_met i (given v ∷ cs) = others_met (suc i) cs
+  others_met i (placed n ∷ cs) =
+      ap (λ (o : Option ReflectErrorKind). option_or o (first_unmet table s form (suc i) (trees_of cs)))
+      (others_unmarked table s form others i)
+      ∙ others_met (suc i) cs
 
 pub holes_are : (n : ℕ) → trees_of (replicate n absent) ≡ holes n
 holes_are zero = refl
@@ -359,8 +374,7 @@ module _ (table : Table) (s : ℕ) where
       subst (IsFullAs (def_of table s) form) (sym (all_count table s form 0 cells)) h
 
 pub made_of_values : (form : Form) (values : Option Vals) → IsSome values → IsSome (made form values)
-made_of_values as_struct (Some vs) h = refl
-made_of_values as_array (Some vs) h = refl
+made_of_values form (Some vs) h = refl
 made_of_values form None h = absurd (cc)
 
 -- Results.

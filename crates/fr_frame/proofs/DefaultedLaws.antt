@@ -1,5 +1,5 @@
 -- A place in a slot that has taken its fills: what is left of it, and what that says of the place as it was.
-use Rattle.std.proofs.Common.{◌≡◌, ◌⊎◌, ℕ, true, List, Option, Some, None, IsSome, IsSomeAnd, refl, sym, ◌∙◌, subst}
+use Rattle.std.proofs.Common.{◌≡◌, ◌⊎◌, ℕ, true, List, Option, Some, None, IsSomeAnd, refl, sym, ◌∙◌, subst}
 use Rattle.fr_shape.specs.declared.error.ReflectErrorKind.{ReflectErrorKind}
 use Rattle.fr_shape.specs.Checked.{IsChecked}
 use Rattle.fr_shape.specs.Hooks.{Meanings}
@@ -7,15 +7,15 @@ use Rattle.fr_shape.specs.Look.{Table}
 use Rattle.fr_model.specs.Places.{deferred_column}
 use Rattle.fr_plan.specs.TypePlan.{Plan}
 use Rattle.fr_frame.specs.declared.places.Slot.{Slot}
-use Rattle.fr_frame.specs.Bodies.{Body, value_of}
+use Rattle.fr_frame.specs.Bodies.{Body, HasAllChildren}
 use Rattle.fr_frame.specs.Changes.{Becomes, IfInUse}
 use Rattle.fr_frame.specs.Completing.{shape_of, takes_template, FillsAt, IsPlanFor, MayComplete}
-use Rattle.fr_frame.specs.Defaults.{defaulted, invalid, left_out, unmet, WhyNotDefault}
+use Rattle.fr_frame.specs.Defaults.{defaulted, invalid, left_out, unmet, KeepsForm, WhyNotDefault}
 use Rattle.fr_frame.specs.Filling.{IsCauseOf}
 use Rattle.fr_frame.specs.Heap.{Node, heap_of}
 use Rattle.fr_frame.proofs.HeapLaws.{with_here}
 use Rattle.fr_frame.proofs.DefaultLaws.{closed_after, full_after}
-use Rattle.fr_frame.proofs.WhyDefaultLaws.{filled_after, there_after, why_invalid, why_left, why_unmet}
+use Rattle.fr_frame.proofs.WhyDefaultLaws.{filled_after, keeps_form, there_after, why_invalid, why_left, why_unmet}
 
 -- of a place that is there
 
@@ -94,6 +94,11 @@ module _ (table : Table) (plan : Plan) (before after : List Slot) (n : ℕ) (is 
   pub may_after : IfInUse after n (MayComplete table plan)
   may_after = in_use after n at_then (MayComplete table plan) now may_then
 
+  pub form_so : IfInUse before n (λ (at : Node). IfInUse after n (λ (x : Node). KeepsForm at.body x.body))
+  form_so =
+      in_use before n is.at (λ (at : Node). IfInUse after n (λ (x : Node). KeepsForm at.body x.body)) is.was
+      (in_use after n at_then (λ (x : Node). KeepsForm is.at.body x.body) now (keeps_form table s is.at.body))
+
   nothing_left : IfInUse after n (λ at. left_out (shape_of plan at.node) at.body ≡ None) → left_out s then ≡ None
   nothing_left full = of_it after n at_then (λ x. left_out (shape_of plan x.node) x.body ≡ None) now full
 
@@ -105,10 +110,10 @@ module _ (table : Table) (plan : Plan) (before after : List Slot) (n : ℕ) (is 
         (why_left means table s is.at.body is.may.closed kind is.met
         (of_it after n at_then (λ x. left_out (shape_of plan x.node) x.body ≡ Some kind) now left))
 
-    pub value_so : IfInUse after n (λ at. left_out (shape_of plan at.node) at.body ≡ None)
-        → IfInUse after n (λ at. IsSome (value_of at.body))
-    value_so full =
-        in_use after n at_then (λ x. IsSome (value_of x.body)) now
+    pub there_so : IfInUse after n (λ at. left_out (shape_of plan at.node) at.body ≡ None)
+        → IfInUse after n (λ at. HasAllChildren at.body)
+    there_so full =
+        in_use after n at_then (λ x. HasAllChildren x.body) now
         (there_after means table s is.at.body is.may.closed (nothing_left full))
 
     pub invalid_so : (kind : ReflectErrorKind) → IsChecked table → IsPlanFor table plan
@@ -133,7 +138,7 @@ module _ (table : Table) (plan : Plan) (before after : List Slot) (n : ℕ) (is 
         (record {
           body = then;
           filled =
-              filled_after means table s is.at.body is.may.closed is.met (nothing_left full)
+              filled_after means table s is.at.body is.may.closed is.may.full is.met (nothing_left full)
               (of_it after n at_then
               (λ x. (t : Table) → IsChecked t → IsPlanFor t plan → MayComplete t plan x
               → invalid means t (shape_of plan x.node) x.body ≡ None)

@@ -1,6 +1,6 @@
 -- Filling the children that aren't there, one after the other.
-use Rattle.std.proofs.Common.{◌≡◌, ℕ, zero, suc, ◌+◌, ◌<◌, ◌≤◌, Bool, true, false, ◌&&◌, List, [], ◌∷◌, length, replicate, Option, Some, None, IsSome, slice_get, set, refl, sym, ◌∙◌, ap, subst, arith, below_more}
-use Rattle.std.specs.List.{list_all}
+use Rattle.std.proofs.Common.{◌≡◌, ℕ, zero, suc, ◌+◌, ◌<◌, ◌≤◌, Bool, true, false, ◌&&◌, List, [], ◌∷◌, ◌++◌, length, replicate, Option, Some, None, IsSome, slice_get, set, refl, sym, ◌∙◌, ap, subst, arith, below_more}
+use Rattle.std.specs.List.{list_all, flat_map}
 use Rattle.std.specs.Option.{option_or, option_map, option_copied}
 use Rattle.std.specs.Borrow.{Bor}
 use Rattle.std.specs.Prelude.{option_to_list, is_some}
@@ -8,20 +8,25 @@ use Rattle.fr_shape.specs.declared.value.Value.{Value}
 use Rattle.fr_shape.specs.declared.shape.Shape.{Shape}
 use Rattle.fr_shape.specs.declared.shape.Def.{Def}
 use Rattle.fr_shape.specs.declared.shape.Field.{Field}
+use Rattle.fr_shape.specs.declared.shape.VariantDef.{VariantDef}
 use Rattle.fr_shape.specs.declared.shape.DefaultSource.{DefaultSource}
 use Rattle.fr_shape.specs.Checked.{IsChecked, is_template, default_is_template, fields_of}
 use Rattle.fr_shape.specs.Fills.{preset_of, has_default, strict_fill, takes_shape_default, deferred_fill, takes_deferred_default}
 use Rattle.fr_shape.specs.Fits.{fits}
 use Rattle.fr_shape.specs.Lists.{is_nil}
-use Rattle.fr_shape.specs.Look.{Table, def_of}
+use Rattle.fr_shape.specs.Look.{Table, def_or_other, field_in, field_of_variant}
 use Rattle.fr_shape.specs.Tokens.{tokens, times, occurs}
 use Rattle.fr_shape.specs.TokenLaws.{occurs_times}
 use Rattle.fr_shape.specs.Val.{Val, Vals}
-use Rattle.fr_model.specs.Places.{Column, strict_column, deferred_column, fill_by, fill_at, one_more}
-use Rattle.fr_model.specs.Tree.{Form, as_struct, as_array}
+use Rattle.fr_model.specs.Places.{Column, strict_column, deferred_column, fill_by, fill_in, fill_of_field, one_more}
+use Rattle.fr_model.specs.Complete.{hole_takes}
+use Rattle.fr_model.specs.Tree.{Form, as_struct, as_array, as_variant, as_some, as_ok, as_err, as_pointer}
+use Rattle.fr_frame.specs.declared.places.Parts.{Parts}
 use Rattle.fr_frame.specs.Bodies.{AreUnplaced}
 use Rattle.fr_frame.specs.Cells.{Cell, absent, given, placed, value_of_cell, value_at, values_of, value_occurs, cells_occur}
 use Rattle.fr_frame.specs.Filling.{child_value, filled, IsLightFill}
+use Rattle.fr_frame.specs.Heap.{parts_in}
+use Rattle.fr_frame.proofs.FormLaws.{others_take}
 use Rattle.fr_frame.proofs.CellLaws.{occur_taken}
 
 -- Templates of a checked table hold no token.
@@ -68,22 +73,22 @@ preset_light table s v checked e = go (slice_get table s) refl
         (checked.templates s shape h)).0
         (rw h at e)
 
-module _ (table : Table) (s : ℕ) (field : Field) (v : Val) (checked : IsChecked table)
+module _ (table : Table) (s : ℕ) (of_variant : Bool) (field : Field) (v : Val) (checked : IsChecked table)
     (own : default_is_template table field.shape.0 field.default ≡ true) where
   own_light : (w : Val) → field.default ≡ Some (DefaultSource.Custom w) → Some w ≡ Some v → tokens v ≡ []
   own_light w mark is =
       let same : w ≡ v = cc in
       subst (λ (u : Val). tokens u ≡ []) same (template_light table field.shape.0 w (rw mark at own))
 
-  strict_light : strict_fill table s false field ≡ Some v → tokens v ≡ []
+  strict_light : strict_fill table s of_variant field ≡ Some v → tokens v ≡ []
   strict_light e = go field.default refl
     where
-      unmarked : (takes : Bool) → field.default ≡ None → takes_shape_default table s false field ≡ takes → tokens v ≡ []
+      unmarked : (takes : Bool) → field.default ≡ None → takes_shape_default table s of_variant field ≡ takes → tokens v ≡ []
       unmarked true mark takes = preset_light table field.shape.0 v checked (rw (mark, takes) at e)
       unmarked false mark takes = let none : None ≡ Some v = rw (mark, takes) at e in absurd (cc)
 
       go : (mark : Option DefaultSource) → field.default ≡ mark → tokens v ≡ []
-      go None mark = unmarked (takes_shape_default table s false field) mark refl
+      go None mark = unmarked (takes_shape_default table s of_variant field) mark refl
       go (Some DefaultSource.FromTrait) mark = preset_light table field.shape.0 v checked (rw mark at e)
       go (Some (DefaultSource.Custom w)) mark = own_light w mark (rw mark at e)
 
@@ -103,17 +108,55 @@ module _ (table : Table) (s : ℕ) (field : Field) (v : Val) (checked : IsChecke
       go (Some DefaultSource.FromTrait) mark = marked (has_default table field.shape.0) mark refl
       go (Some (DefaultSource.Custom w)) mark = own_light w mark (rw mark at e)
 
-  field_light : (column : Column) → fill_by column table s false field ≡ Some v → tokens v ≡ []
+  field_light : (column : Column) → fill_by column table s of_variant field ≡ Some v → tokens v ≡ []
   field_light strict_column e = strict_light e
   field_light deferred_column e = deferred_light e
 
--- what a child takes where it is a hole
-pub fill_light : (column : Column) (table : Table) (s i : ℕ) (v : Val) → IsChecked table → fill_at column table s i ≡ Some v → tokens v ≡ []
-fill_light column table s i v checked e = go (slice_get table s) refl
+-- every field of a struct, and of every variant of an enum, is asked
+
+all_both : {X : Type 0} (p : X → Bool) (xs ys : List X) → list_all p (xs ++ ys) ≡ true → (list_all p xs ≡ true) × (list_all p ys ≡ true)
+all_both p [] ys h = (refl, h)
+all_both p (x ∷ xs) ys h =
+    let here : (p x ≡ true) × (list_all p (xs ++ ys) ≡ true) = both_true (p x) (list_all p (xs ++ ys)) h in
+    let rest : (list_all p xs ≡ true) × (list_all p ys ≡ true) = all_both p xs ys here.1 in
+    (ap (λ (b : Bool). b && list_all p xs) here.0 ∙ rest.0, rest.1)
+
+all_of_variant : (p : Field → Bool) (variants : List VariantDef) (k : ℕ) (variant : VariantDef)
+    → list_all p (flat_map (λ (v : VariantDef). v.fields) variants) ≡ true → slice_get variants k ≡ Some variant
+    → list_all p variant.fields ≡ true
+all_of_variant p [] k variant h e = absurd (cc)
+all_of_variant p (v ∷ variants) zero variant h e =
+    let same : v ≡ variant = cc in
+    ap (λ (x : VariantDef). list_all p x.fields) (sym same)
+    ∙ (all_both p v.fields (flat_map (λ (x : VariantDef). x.fields) variants) h).0
+all_of_variant p (v ∷ variants) (suc k) variant h e =
+    all_of_variant p variants k variant (all_both p v.fields (flat_map (λ (x : VariantDef). x.fields) variants) h).1 e
+
+field_asked : (p : Field → Bool) (def : Def) (selected : Option ℕ) (i : ℕ) (field : Field) → list_all p (fields_of def) ≡ true
+    → field_in def selected i ≡ Some field → p field ≡ true
+field_asked p (Def.Struct struct) None i field h e = all_at p struct.fields i field h e
+field_asked p (Def.Struct struct) (Some k) i field h e = absurd (cc)
+field_asked p (Def.Enum enumeration) None i field h e = absurd (cc)
+field_asked p (Def.Enum enumeration) (Some k) i field h e = go (slice_get enumeration.variants k) refl e
+  where
+    go : (found : Option VariantDef) → slice_get enumeration.variants k ≡ found → field_of_variant found i ≡ Some field → p field ≡ true
+    go None at e = absurd (cc)
+    go (Some variant) at e = all_at p variant.fields i field (all_of_variant p enumeration.variants k variant h at) e
+field_asked p _ selected i field h e = absurd (cc)
+
+-- what a field takes where it is a hole
+fill_light : (column : Column) (table : Table) (s : ℕ) (selected : Option ℕ) (i : ℕ) (v : Val) → IsChecked table
+    → fill_in column table s selected i ≡ Some v → tokens v ≡ []
+fill_light column table s selected i v checked e = go (slice_get table s) refl
   where
     go : (found : Option Shape) → slice_get table s ≡ found → tokens v ≡ []
-    go None h = let none : fill_at column table s i ≡ None = rw h refl in absurd (cc)
-    go (Some shape) h = at_def shape.def refl
+    go None h = let none : fill_in column table s selected i ≡ None = rw h refl in absurd (cc)
+    go (Some shape) h =
+        at_field (field_in shape.def selected i) refl
+        (subst
+        (λ (found : Option Shape).
+        fill_of_field column table s (is_some selected) (field_in (def_or_other found) selected i) ≡ Some v)
+        h e)
       where
         defaults : list_all (λ (field : Field). default_is_template table field.shape.0 field.default) (fields_of shape.def) ≡ true
         defaults =
@@ -121,21 +164,24 @@ fill_light column table s i v checked e = go (slice_get table s) refl
             (list_all (λ (field : Field). default_is_template table field.shape.0 field.default) (fields_of shape.def))
             (checked.templates s shape h)).1
 
-        at_def : (def : Def) → shape.def ≡ def → tokens v ≡ []
-        at_def (Def.Struct struct) is = at_field (slice_get struct.fields i) refl
-          where
-            def : def_of table s ≡ Def.Struct struct
-            def = rw (h, is) refl
+        at_field : (found : Option Field) → field_in shape.def selected i ≡ found
+            → fill_of_field column table s (is_some selected) found ≡ Some v → tokens v ≡ []
+        at_field None at fill = absurd (cc)
+        at_field (Some field) at fill =
+            let own : default_is_template table field.shape.0 field.default ≡ true
+            = field_asked (λ (x : Field). default_is_template table x.shape.0 x.default) shape.def selected i field defaults at in
+            field_light table s (is_some selected) field v checked own column fill
 
-            at_field : (found : Option Field) → slice_get struct.fields i ≡ found → tokens v ≡ []
-            at_field None at = let none : fill_at column table s i ≡ None = rw (def, at) refl in absurd (cc)
-            at_field (Some field) at =
-                let fill : fill_by column table s false field ≡ Some v = rw (def, at) at e in
-                let own : default_is_template table field.shape.0 field.default ≡ true
-                = all_at (λ (field : Field). default_is_template table field.shape.0 field.default) struct.fields i field
-                (rw is at defaults) at in
-                field_light table s field v checked own column fill
-        at_def _ is = let none : fill_at column table s i ≡ None = rw (h, is) refl in absurd (cc)
+-- what a child takes where it is a hole
+pub takes_light : (column : Column) (table : Table) (s : ℕ) (form : Form) (i : ℕ) (v : Val) → IsChecked table
+    → hole_takes column table s form i ≡ Some v → tokens v ≡ []
+takes_light column table s as_struct i v checked e = fill_light column table s None i v checked e
+takes_light column table s (as_variant k) i v checked e = fill_light column table s (Some k) i v checked e
+takes_light column table s as_array i v checked e = absurd (cc)
+takes_light column table s as_some i v checked e = absurd (cc)
+takes_light column table s as_ok i v checked e = absurd (cc)
+takes_light column table s as_err i v checked e = absurd (cc)
+takes_light column table s as_pointer i v checked e = absurd (cc)
 
 -- What the children are filled to.
 
@@ -144,45 +190,45 @@ both_there (Some v) (Some vs) h = (refl, refl)
 both_there (Some v) None h = absurd (cc)
 both_there None values h = absurd (cc)
 
-module _ (table : Table) (s : ℕ) where
+module _ (table : Table) (s : ℕ) (form : Form) where
   -- a child that isn't there has a fill, where all are filled
-  fill_there : (cs : List Cell) (j k : ℕ) → k < length cs → IsSome (filled table s as_struct j cs) → value_at cs k ≡ None
-      → IsSome (fill_at strict_column table s (j + k))
+  fill_there : (cs : List Cell) (j k : ℕ) → k < length cs → IsSome (filled table s form j cs) → value_at cs k ≡ None
+      → IsSome (hole_takes strict_column table s form (j + k))
   fill_there [] j k h there none = absurd (omega arith)
   fill_there (c ∷ cs) j zero h there none =
       let here : j ≡ j + 0 = omega arith in
-      let own : IsSome (child_value table s as_struct j (value_of_cell c))
-      = (both_there (child_value table s as_struct j (value_of_cell c)) (filled table s as_struct (suc j) cs) there).0 in
-      subst (λ (n : ℕ). IsSome (fill_at strict_column table s n)) here
-      (subst (λ (o : Option Val). IsSome (option_or o (fill_at strict_column table s j))) none own)
+      let own : IsSome (child_value table s form j (value_of_cell c))
+      = (both_there (child_value table s form j (value_of_cell c)) (filled table s form (suc j) cs) there).0 in
+      subst (λ (n : ℕ). IsSome (hole_takes strict_column table s form n)) here
+      (subst (λ (o : Option Val). IsSome (option_or o (hole_takes strict_column table s form j))) none own)
   fill_there (c ∷ cs) j (suc k) h there none =
       let here : suc j + k ≡ j + suc k = omega arith in
-      subst (λ (n : ℕ). IsSome (fill_at strict_column table s n)) here
+      subst (λ (n : ℕ). IsSome (hole_takes strict_column table s form n)) here
       (fill_there cs (suc j) k (omega arith)
-      (both_there (child_value table s as_struct j (value_of_cell c)) (filled table s as_struct (suc j) cs) there).1 none)
+      (both_there (child_value table s form j (value_of_cell c)) (filled table s form (suc j) cs) there).1 none)
 
   -- putting its fill there changes nothing of that
-  filled_set : (cs : List Cell) (j k : ℕ) (v : Val) → k < length cs → value_at cs k ≡ None → fill_at strict_column table s (j + k) ≡ Some v
-      → filled table s as_struct j (set cs k (given v)) ≡ filled table s as_struct j cs
+  filled_set : (cs : List Cell) (j k : ℕ) (v : Val) → k < length cs → value_at cs k ≡ None → hole_takes strict_column table s form (j + k) ≡ Some v
+      → filled table s form j (set cs k (given v)) ≡ filled table s form j cs
   filled_set [] j k v h none takes = absurd (omega arith)
   filled_set (c ∷ cs) j zero v h none takes =
       let here : j + 0 ≡ j = omega arith in
-      ap (λ (o : Option Val). one_more o (filled table s as_struct (suc j) cs))
-      (sym takes ∙ ap (fill_at strict_column table s) here ∙ sym (ap (λ (o : Option Val). option_or o (fill_at strict_column table s j)) none))
+      ap (λ (o : Option Val). one_more o (filled table s form (suc j) cs))
+      (sym takes ∙ ap (hole_takes strict_column table s form) here ∙ sym (ap (λ (o : Option Val). option_or o (hole_takes strict_column table s form j)) none))
   filled_set (c ∷ cs) j (suc k) v h none takes =
       let here : suc j + k ≡ j + suc k = omega arith in
-      ap (one_more (child_value table s as_struct j (value_of_cell c)))
-      (filled_set cs (suc j) k v (omega arith) none (ap (fill_at strict_column table s) here ∙ takes))
+      ap (one_more (child_value table s form j (value_of_cell c)))
+      (filled_set cs (suc j) k v (omega arith) none (ap (hole_takes strict_column table s form) here ∙ takes))
 
   -- children that are all there are filled to their values
   filled_there : (cs : List Cell) (j : ℕ) → ((k : ℕ) → k < length cs → IsSome (value_at cs k))
-      → values_of cs ≡ filled table s as_struct j cs
+      → values_of cs ≡ filled table s form j cs
   filled_there [] j there = refl
   filled_there (c ∷ cs) j there =
       ap (one_more (value_of_cell c)) (filled_there cs (suc j) (λ k h. there (suc k) (omega arith)))
-      ∙ ap (λ (o : Option Val). one_more o (filled table s as_struct (suc j) cs)) (own (value_of_cell c) (there 0 (omega arith)))
+      ∙ ap (λ (o : Option Val). one_more o (filled table s form (suc j) cs)) (own (value_of_cell c) (there 0 (omega arith)))
     where
-      own : (o : Option Val) → IsSome o → o ≡ option_or o (fill_at strict_column table s j)
+      own : (o : Option Val) → IsSome o → o ≡ option_or o (hole_takes strict_column table s form j)
       own (Some v) h = refl
       own None h = absurd (cc)
 
@@ -204,22 +250,22 @@ none_placed zero = tt
 none_placed (suc n) = (tt, none_placed n)
 
 -- Filling in order: the children before i are there, and what all come to is the same as in the beginning.
-pub record Filling (table : Table) (s : ℕ) (initial now : List Cell) (i : ℕ) : Type 0 where
-  pub same : filled table s as_struct 0 now ≡ filled table s as_struct 0 initial
+pub record Filling (table : Table) (s : ℕ) (form : Form) (initial now : List Cell) (i : ℕ) : Type 0 where
+  pub same : filled table s form 0 now ≡ filled table s form 0 initial
   pub there : (k : ℕ) → k < i → IsSome (value_at now k)
   pub same_tokens : (t : ℕ) → cells_occur now t ≡ cells_occur initial t
   pub closed : AreUnplaced initial → AreUnplaced now
 
-pub filling_begins : (table : Table) (s : ℕ) (initial : List Cell) → Filling table s initial initial 0
-filling_begins table s initial = record {
+pub filling_begins : (table : Table) (s : ℕ) (form : Form) (initial : List Cell) → Filling table s form initial initial 0
+filling_begins table s form initial = record {
   same = refl;
   there = λ k h. absurd (omega arith);
   same_tokens = λ t. refl;
   closed = λ h. h;
 }
 
-module _ (table : Table) (s : ℕ) (initial now : List Cell) (i : ℕ) (so_far : Filling table s initial now i) where
-  pub filling_there : IsSome (value_at now i) → Filling table s initial now (i + 1)
+module _ (table : Table) (s : ℕ) (form : Form) (initial now : List Cell) (i : ℕ) (so_far : Filling table s form initial now i) where
+  pub filling_there : IsSome (value_at now i) → Filling table s form initial now (i + 1)
   filling_there here = record {
     same = so_far.same;
     there = below_more (λ (k : ℕ). IsSome (value_at now k)) i so_far.there here;
@@ -227,35 +273,35 @@ module _ (table : Table) (s : ℕ) (initial now : List Cell) (i : ℕ) (so_far :
     closed = so_far.closed;
   }
 
-  pub filling_light : IsChecked table → i < length now → IsSome (filled table s as_struct 0 initial) → value_at now i ≡ None
-      → IsLightFill (fill_at strict_column table s i)
-  filling_light checked h fills none = go (fill_at strict_column table s i) refl (fill_there table s now 0 i h (subst IsSome (sym so_far.same) fills) none)
+  pub filling_light : IsChecked table → i < length now → IsSome (filled table s form 0 initial) → value_at now i ≡ None
+      → IsLightFill (hole_takes strict_column table s form i)
+  filling_light checked h fills none = go (hole_takes strict_column table s form i) refl (fill_there table s form now 0 i h (subst IsSome (sym so_far.same) fills) none)
     where
-      go : (fill : Option Val) → fill_at strict_column table s i ≡ fill → IsSome (fill_at strict_column table s (0 + i)) → IsLightFill fill
-      go (Some v) e there = fill_light strict_column table s i v checked e
+      go : (fill : Option Val) → hole_takes strict_column table s form i ≡ fill → IsSome (hole_takes strict_column table s form (0 + i)) → IsLightFill fill
+      go (Some v) e there = takes_light strict_column table s form i v checked e
       go None e there =
           let here : 0 + i ≡ i = omega arith in
-          let none_there : fill_at strict_column table s (0 + i) ≡ None = ap (fill_at strict_column table s) here ∙ e in
+          let none_there : hole_takes strict_column table s form (0 + i) ≡ None = ap (hole_takes strict_column table s form) here ∙ e in
           absurd (cc)
 
-  pub filling_set : (v : Val) → IsChecked table → i < length now → value_at now i ≡ None → fill_at strict_column table s i ≡ Some v
-      → Filling table s initial (set now i (given v)) (i + 1)
+  pub filling_set : (v : Val) → IsChecked table → i < length now → value_at now i ≡ None → hole_takes strict_column table s form i ≡ Some v
+      → Filling table s form initial (set now i (given v)) (i + 1)
   filling_set v checked h none takes =
       let here : 0 + i ≡ i = omega arith in
       record {
-        same = filled_set table s now 0 i v h none (ap (fill_at strict_column table s) here ∙ takes) ∙ so_far.same;
+        same = filled_set table s form now 0 i v h none (ap (hole_takes strict_column table s form) here ∙ takes) ∙ so_far.same;
         there = λ k l. there_set now i v h k l (λ m. so_far.there k m);
         same_tokens = λ t.
-            let light : occurs v t ≡ 0 = light_occurs v t (fill_light strict_column table s i v checked takes) in
+            let light : occurs v t ≡ 0 = light_occurs v t (takes_light strict_column table s form i v checked takes) in
             let gone : value_occurs (value_at now i) t ≡ 0 = ap (λ (o : Option Val). value_occurs o t) none in
             omega (arith, occur_taken now i (given v) t h, so_far.same_tokens t);
         closed = λ l. unplaced_set now i v (so_far.closed l);
       }
 
-  pub filling_ends : length now ≤ i → values_of now ≡ filled table s as_struct 0 initial
-  filling_ends h = filled_there table s now 0 (λ k l. so_far.there k (omega arith)) ∙ so_far.same
+  pub filling_ends : length now ≤ i → values_of now ≡ filled table s form 0 initial
+  filling_ends h = filled_there table s form now 0 (λ k l. so_far.there k (omega arith)) ∙ so_far.same
 
--- children that are there already, and elements of arrays, take nothing
+-- children that are there already take nothing, nor do those for which there are no fills
 
 module _ (table : Table) (s : ℕ) where
   pub values_filled : (form : Form) (i : ℕ) (cs : List Cell) → IsSome (values_of cs) → values_of cs ≡ filled table s form i cs
@@ -265,11 +311,16 @@ module _ (table : Table) (s : ℕ) where
   values_filled form i (given v ∷ cs) h =
       ap (one_more (Some v)) (values_filled form (suc i) cs (both_there (Some v) (values_of cs) h).1)
 
-  pub elements_filled : (i : ℕ) (cs : List Cell) → values_of cs ≡ filled table s as_array i cs
-  elements_filled i [] = refl
-  elements_filled i (absent ∷ cs) = refl
-  elements_filled i (placed n ∷ cs) = refl
-  elements_filled i (given v ∷ cs) = ap (one_more (Some v)) (elements_filled (suc i) cs)
+  module _ (form : Form) (others : parts_in form ≡ Parts.Others) where
+    nothing_filled : (i : ℕ) (cs : List Cell) → None ≡ one_more (hole_takes strict_column table s form i) (filled table s form (suc i) cs)
+    nothing_filled i cs =
+        sym (ap (λ (o : Option Val). one_more o (filled table s form (suc i) cs)) (others_take table s strict_column form others i))
+
+    pub others_filled : (i : ℕ) (cs : List Cell) → values_of cs ≡ filled table s form i cs
+    others_filled i [] = refl
+    others_filled i (absent ∷ cs) = nothing_filled i cs
+    others_filled i (placed n ∷ cs) = nothing_filled i cs
+    others_filled i (given v ∷ cs) = ap (one_more (Some v)) (others_filled (suc i) cs)
 
 pub none_occur : (n t : ℕ) → cells_occur (replicate n absent) t ≡ 0
 none_occur zero t = refl

@@ -1,7 +1,7 @@
 -- What a place lacks and what it makes, by what each of its children lacks and makes.
 use Rattle.std.proofs.Common.{◌≡◌, ℕ, zero, suc, ◌+◌, ◌-◌, ◌<◌, Bool, true, false, ◌||◌, not, List, [], ◌∷◌, length, map, drop, replicate, Option, Some, None, IsSome, slice_get, get_or, inl, inr, refl, sym, ◌∙◌, ap, subst, arith}
 use Rattle.std.specs.List.{list_any}
-use Rattle.std.specs.Option.{option_or}
+use Rattle.std.specs.Option.{option_or, option_map_or}
 use Rattle.std.specs.Prelude.{Result, Ok, Err, IfErr, slice_index_or, if◌then◌else◌}
 use Rattle.fr_shape.specs.declared.error.ReflectErrorKind.{ReflectErrorKind}
 use Rattle.fr_shape.specs.declared.shape.Def.{Def}
@@ -9,26 +9,30 @@ use Rattle.fr_shape.specs.declared.shape.Field.{Field}
 use Rattle.fr_shape.specs.declared.shape.FieldRef.{FieldRef}
 use Rattle.fr_shape.specs.declared.shape.ScalarKind.{ScalarKind}
 use Rattle.fr_shape.specs.declared.shape.ValidatorDef.{ValidatorDef}
+use Rattle.fr_shape.specs.declared.shape.VariantDef.{VariantDef}
 use Rattle.fr_shape.specs.Fills.{preset_of}
 use Rattle.fr_shape.specs.Hooks.{Meanings}
 use Rattle.fr_shape.specs.Lists.{is_nil}
-use Rattle.fr_shape.specs.Look.{Table, def_of, field_in}
+use Rattle.fr_shape.specs.Look.{Table, def_of, field_in, field_of_variant}
 use Rattle.fr_shape.specs.Val.{Val, Vals}
 use Rattle.fr_shape.specs.Validators.{passes, passes_at, message, kind_of}
 use Rattle.fr_rules.specs.declared.validators.PrecomputedValidator.{PrecomputedValidator}
 use Rattle.fr_rules.specs.FillRules.{fill_told}
 use Rattle.fr_rules.specs.Pools.{part_of}
 use Rattle.fr_rules.specs.Validators.{passes_held, validator_of}
-use Rattle.fr_model.specs.Complete.{complete, complete_all, made, made_by, made_of_fills, lack, lack_among, lack_by, lack_of_hole, lack_of_holes, failing_child, failing_field, first_failing, valid_child, unless_failing, unless_there, missing_child, missing_field, missing_value}
+use Rattle.fr_model.specs.Complete.{complete, complete_all, made, made_by, made_of_fills, lack, lack_among, lack_by, lack_of_hole, lack_of_holes, failing_child, failing_field, first_failing, valid_child, unless_failing, unless_there, missing_child, missing_value}
 use Rattle.fr_model.specs.Places.{Column, strict_column, child_count, fill_at, one_more, each_child}
-use Rattle.fr_model.specs.Tree.{Form, as_struct, as_array}
+use Rattle.fr_model.specs.Tree.{Form, as_struct}
 use Rattle.fr_plan.specs.declared.plans.FieldPlan.{FieldPlan}
-use Rattle.fr_plan.specs.Fields.{has_validator, has_validators, own_fields}
+use Rattle.fr_plan.specs.Fields.{fields_in, has_validator, has_validators}
 use Rattle.fr_plan.specs.Plans.{precomputed, with_kind, kind_of as kind_in_plan}
 use Rattle.fr_plan.specs.TypePlan.{Plan}
-use Rattle.fr_frame.specs.Bodies.{Body, entered_body, whole_body, begun_body, own_tree, trees_of}
+use Rattle.fr_frame.specs.declared.places.Parts.{Parts}
+use Rattle.fr_frame.specs.Bodies.{Body, entered_body, whole_body, begun_body, as_fields, own_tree, trees_of}
 use Rattle.fr_frame.specs.Cells.{Cell, absent, given, placed, value_of_cell, value_at, values_of}
 use Rattle.fr_frame.specs.Filling.{IsTold, IsToldAt, AreTold, child_value, filled, filled_body, lack_of_child, first_refused, IsCauseOf}
+use Rattle.fr_frame.specs.Heap.{parts_in}
+use Rattle.fr_frame.proofs.FormLaws.{field_fails_by, field_missing, field_takes, others_missing, others_pass, others_take}
 
 -- What fails.
 
@@ -57,31 +61,31 @@ held_is kind ValidatorDef.Url = refl
 held_is kind (ValidatorDef.Regex pattern) = refl
 held_is kind (ValidatorDef.Contains needle) = refl
 
-abbrev meant_field : ℕ → ℕ → FieldRef
-meant_field s i = record { shape = record { 0 = s }; variant = None; index = i }
+abbrev meant_field : ℕ → (selected : Option ℕ) → ℕ → FieldRef
+meant_field s selected i = record { shape = record { 0 = s }; variant = selected; index = i }
 
-refused_is : (means : Meanings) (def : Def) (s i : ℕ) (validators : List ValidatorDef) (v : Val)
-    → first_refused means (meant_field s i) (map (precomputed (kind_in_plan def)) validators) v
-    ≡ first_failing means def s i validators v
-refused_is means def s i [] v = refl
-refused_is means def s i (validator ∷ validators) v =
+refused_is : (means : Meanings) (def : Def) (s : ℕ) (selected : Option ℕ) (i : ℕ) (validators : List ValidatorDef) (v : Val)
+    → first_refused means (meant_field s selected i) (map (precomputed (kind_in_plan def)) validators) v
+    ≡ first_failing means def s selected i validators v
+refused_is means def s selected i [] v = refl
+refused_is means def s selected i (validator ∷ validators) v =
     ap
     (λ (b : Bool).
-    if b then first_refused means (meant_field s i) (map (precomputed (kind_in_plan def)) validators) v
-    else Some (ReflectErrorKind.ValidationFailed (meant_field s i)
+    if b then first_refused means (meant_field s selected i) (map (precomputed (kind_in_plan def)) validators) v
+    else Some (ReflectErrorKind.ValidationFailed (meant_field s selected i)
     (message (validator_of (with_kind (kind_in_plan def) validator)) v)))
     (held_passes means.check (kind_in_plan def) validator v
     ∙ ap (λ (kind : ScalarKind). passes means.check kind validator v) (kinds_agree def))
     ∙ ap
     (λ (o : Option ReflectErrorKind).
     if passes_at means.check def validator v then o
-    else Some (ReflectErrorKind.ValidationFailed (meant_field s i)
+    else Some (ReflectErrorKind.ValidationFailed (meant_field s selected i)
     (message (validator_of (with_kind (kind_in_plan def) validator)) v)))
-    (refused_is means def s i validators v)
+    (refused_is means def s selected i validators v)
     ∙ ap
     (λ (d : ValidatorDef).
-    if passes_at means.check def validator v then first_failing means def s i validators v
-    else Some (ReflectErrorKind.ValidationFailed (meant_field s i) (message d v)))
+    if passes_at means.check def validator v then first_failing means def s selected i validators v
+    else Some (ReflectErrorKind.ValidationFailed (meant_field s selected i) (message d v)))
     (held_is (kind_in_plan def) validator)
 
 -- One child.
@@ -125,52 +129,58 @@ none_more None = refl
 
 -- Fields, as a plan tells them.
 
-module _ (means : Meanings) (table : Table) (plan : Plan) (s i : ℕ) (told : FieldPlan) (is : IsTold table plan s i told) where
-  pub field_value : (own : Option Val) → option_or own (fill_told table told.fill_rule) ≡ child_value table s as_struct i own
-  field_value own = ap (option_or own) is.fill
+module _ (means : Meanings) (table : Table) (plan : Plan) (s : ℕ) (selected : Option ℕ) (i : ℕ) (told : FieldPlan)
+    (is : IsTold table plan s selected i told) where
+  pub field_value : (own : Option Val)
+      → option_or own (fill_told table told.fill_rule) ≡ child_value table s (as_fields selected) i own
+  field_value own = ap (option_or own) (is.fill ∙ sym (field_takes strict_column table s selected i))
 
   pub field_fails : (v : Val)
       → first_refused means told.field (part_of plan.lists.validators told.validators) v
-      ≡ failing_child means table s as_struct i (Some v)
+      ≡ failing_child means table s (as_fields selected) i (Some v)
   field_fails v =
       ap (λ (meant : FieldRef). first_refused means meant (part_of plan.lists.validators told.validators) v) is.meant
-      ∙ ap (λ (validators : List PrecomputedValidator). first_refused means (meant_field s i) validators v) is.validators.names
-      ∙ refused_is means (def_of table is.field.shape.0) s i is.field.validators v
-      ∙ ap (λ (field : Option Field). failing_field means table s i field (Some v)) (sym is.here)
+      ∙ ap (λ (validators : List PrecomputedValidator). first_refused means (meant_field s selected i) validators v) is.validators.names
+      ∙ refused_is means (def_of table is.field.shape.0) s selected i is.field.validators v
+      ∙ ap (λ (field : Option Field). failing_field means table s selected i field (Some v)) (sym is.here)
+      ∙ sym (field_fails_by means table s selected i (Some v))
 
   -- where the field has this value it lacks what fails
   pub field_lacks : (own : Option Val) (v : Val) → option_or own (fill_told table told.fill_rule) ≡ Some v
       → first_refused means told.field (part_of plan.lists.validators told.validators) v
-      ≡ lack_of_child means table s as_struct i own
+      ≡ lack_of_child means table s (as_fields selected) i own
   field_lacks own v e =
       field_fails v
       ∙ ap
-      (λ (value : Option Val). option_or (unless_there value (missing_field s i)) (failing_child means table s as_struct i value))
+      (λ (value : Option Val).
+      option_or (unless_there value (missing_child s (as_fields selected) i)) (failing_child means table s (as_fields selected) i value))
       (sym e ∙ field_value own)
 
-pub told_here : (table : Table) (plan : Plan) (s i : ℕ) (told : List FieldPlan) (one : FieldPlan) → AreTold table plan s told
-    → slice_get told i ≡ Some one → IsTold table plan s i one
-told_here table plan s i told one are e = subst (IsToldAt table plan s i) e (are.each i)
+  -- and where it has none it lacks that
+  pub field_none : (own : Option Val) → option_or own (fill_told table told.fill_rule) ≡ None
+      → Some (ReflectErrorKind.UninitializedField told.field) ≡ lack_of_child means table s (as_fields selected) i own
+  field_none own e =
+      ap (λ (meant : FieldRef). Some (ReflectErrorKind.UninitializedField meant)) is.meant
+      ∙ ap Some (sym (field_missing s selected i))
+      ∙ ap
+      (λ (value : Option Val).
+      option_or (unless_there value (missing_child s (as_fields selected) i)) (failing_child means table s (as_fields selected) i value))
+      (sym e ∙ field_value own)
 
-shape_is : (table : Table) (plan : Plan) (s i : ℕ) (one : FieldPlan) → IsTold table plan s i one → one.field.shape.0 ≡ s
-shape_is table plan s i one is = ap (λ (meant : FieldRef). meant.shape.0) is.meant
+pub told_here : (table : Table) (plan : Plan) (s : ℕ) (selected : Option ℕ) (i : ℕ) (told : List FieldPlan) (one : FieldPlan)
+    → AreTold table plan s selected told → slice_get told i ≡ Some one → IsTold table plan s selected i one
+told_here table plan s selected i told one are e = subst (IsToldAt table plan s selected i) e (are.each i)
 
-number_is : (table : Table) (plan : Plan) (s i : ℕ) (one : FieldPlan) → IsTold table plan s i one → one.field.index ≡ i
-number_is table plan s i one is = ap (λ (meant : FieldRef). meant.index) is.meant
+module _ (table : Table) (plan : Plan) (s : ℕ) (selected : Option ℕ) (i : ℕ) (one : FieldPlan) (is : IsTold table plan s selected i one) where
+  -- the same, of what it names itself
+  pub told_itself : IsTold table plan one.field.shape.0 one.field.variant one.field.index one
+  told_itself = subst (λ (meant : FieldRef). IsTold table plan meant.shape.0 meant.variant meant.index one) (sym is.meant) is
 
--- the same, of the shape and number that it names itself
-pub told_itself : (table : Table) (plan : Plan) (s i : ℕ) (one : FieldPlan) → IsTold table plan s i one
-    → IsTold table plan one.field.shape.0 one.field.index one
-told_itself table plan s i one is =
-    subst (λ (n : ℕ). IsTold table plan n one.field.index one) (sym (shape_is table plan s i one is))
-    (subst (λ (k : ℕ). IsTold table plan s k one) (sym (number_is table plan s i one is)) is)
-
-pub lack_itself : (means : Meanings) (table : Table) (plan : Plan) (s i : ℕ) (one : FieldPlan) (own : Option Val)
-    → IsTold table plan s i one
-    → lack_of_child means table one.field.shape.0 as_struct one.field.index own ≡ lack_of_child means table s as_struct i own
-lack_itself means table plan s i one own is =
-    ap (λ (n : ℕ). lack_of_child means table n as_struct one.field.index own) (shape_is table plan s i one is)
-    ∙ ap (λ (k : ℕ). lack_of_child means table s as_struct k own) (number_is table plan s i one is)
+  pub lack_itself : (means : Meanings) (own : Option Val)
+      → lack_of_child means table one.field.shape.0 (as_fields one.field.variant) one.field.index own
+      ≡ lack_of_child means table s (as_fields selected) i own
+  lack_itself means own =
+      ap (λ (meant : FieldRef). lack_of_child means table meant.shape.0 (as_fields meant.variant) meant.index own) is.meant
 
 -- Children.
 
@@ -244,10 +254,10 @@ module _ (means : Meanings) (table : Table) (s : ℕ) (form : Form) where
   no_children_lack (suc count) i =
       ap (option_or (lack_of_hole means table s form i)) (no_children_lack count (suc i))
 
-pub holes_next : (means : Meanings) (table : Table) (s count left i : ℕ) → left ≡ suc count
-    → lack_of_holes means table s as_struct left i
-    ≡ option_or (lack_of_child means table s as_struct i None) (lack_of_holes means table s as_struct count (suc i))
-holes_next means table s count left i e = ap (λ (n : ℕ). lack_of_holes means table s as_struct n i) e
+pub holes_next : (means : Meanings) (table : Table) (s : ℕ) (form : Form) (count left i : ℕ) → left ≡ suc count
+    → lack_of_holes means table s form left i
+    ≡ option_or (lack_of_child means table s form i None) (lack_of_holes means table s form count (suc i))
+holes_next means table s form count left i e = ap (λ (n : ℕ). lack_of_holes means table s form n i) e
 
 -- Places.
 
@@ -284,13 +294,11 @@ module _ (means : Meanings) (table : Table) (s : ℕ) where
   made_up_is = ap (made as_struct) (no_children_made strict_column (child_count table s) 0)
 
   pub made_there : (form : Form) (values : Option Vals) → IsSome values → IsSome (made form values)
-  made_there as_struct (Some vs) h = refl
-  made_there as_array (Some vs) h = refl
+  made_there form (Some vs) h = refl
   made_there form None h = absurd (cc)
 
   pub made_none : (form : Form) → made form None ≡ None
-  made_none as_struct = refl
-  made_none as_array = refl
+  made_none form = refl
 
   -- a place that lacks nothing makes what it is filled to
   pub body_whole : (body : Body) → lack means table s (own_tree body) ≡ None
@@ -324,6 +332,10 @@ module _ (means : Meanings) (table : Table) (s : ℕ) where
 
 -- Children that are all there, of fields without validators.
 
+all_later : (v : Val) (vs : Option Vals) → IsSome (one_more (Some v) vs) → IsSome vs
+all_later v (Some vs) h = refl
+all_later v None h = absurd (cc)
+
 pub item_at : {X : Type 0} (xs : List X) (k : ℕ) → k < length xs → (x : X) × (slice_get xs k ≡ Some x)
 item_at [] k h = absurd (omega arith)
 item_at (x ∷ xs) zero h = (x, refl)
@@ -334,9 +346,18 @@ index_is [] k d x e = absurd (cc)
 index_is (y ∷ xs) zero d x e = cc
 index_is (y ∷ xs) (suc k) d x e = index_is xs k d x e
 
-own_field : (def : Def) (i : ℕ) (field : Field) → field_in def None i ≡ Some field → slice_get (own_fields def) i ≡ Some field
-own_field (Def.Struct struct) i field e = e
-own_field def i field e = let no : None ≡ Some field = e in absurd (cc)
+listed : (def : Def) (selected : Option ℕ) (i : ℕ) (field : Field) → field_in def selected i ≡ Some field
+    → slice_get (fields_in def selected) i ≡ Some field
+listed (Def.Struct struct) None i field e = e
+listed (Def.Struct struct) (Some k) i field e = absurd (cc)
+listed (Def.Enum enumeration) None i field e = absurd (cc)
+listed (Def.Enum enumeration) (Some k) i field e = go (slice_get enumeration.variants k) e
+  where
+    go : (found : Option VariantDef) → field_of_variant found i ≡ Some field
+        → slice_get (option_map_or (λ (variant : VariantDef). variant.fields) found []) i ≡ Some field
+    go (Some variant) e = e
+    go None e = absurd (cc)
+listed _ selected i field e = absurd (cc)
 
 nil_not : {X : Type 0} (xs : List X) → not (is_nil xs) ≡ false → xs ≡ []
 nil_not [] h = refl
@@ -354,54 +375,64 @@ none_in (f ∷ fields) zero field h e =
     ap has_validator (sym same) ∙ (neither (has_validator f) (list_any has_validator fields) h).0
 none_in (f ∷ fields) (suc i) field h e = none_in fields i field (neither (has_validator f) (list_any has_validator fields) h).1 e
 
-module _ (means : Meanings) (table : Table) (s : ℕ) (none : has_validators (def_of table s) None ≡ false) where
-  pub passes_all : (i : ℕ) (v : Val) → failing_child means table s as_struct i (Some v) ≡ None
-  passes_all i v = go (field_in (def_of table s) None i) refl
+module _ (means : Meanings) (table : Table) (s : ℕ) (selected : Option ℕ) (none : has_validators (def_of table s) selected ≡ false) where
+  pub passes_all : (i : ℕ) (v : Val) → failing_child means table s (as_fields selected) i (Some v) ≡ None
+  passes_all i v = field_fails_by means table s selected i (Some v) ∙ go (field_in (def_of table s) selected i) refl
     where
-      go : (found : Option Field) → field_in (def_of table s) None i ≡ found → failing_field means table s i found (Some v) ≡ None
+      go : (found : Option Field) → field_in (def_of table s) selected i ≡ found
+          → failing_field means table s selected i found (Some v) ≡ None
       go None e = refl
       go (Some field) e =
           let nil : field.validators ≡ []
-          = nil_not field.validators (none_in (own_fields (def_of table s)) i field none (own_field (def_of table s) i field e)) in
-          ap (λ (validators : List ValidatorDef). first_failing means (def_of table field.shape.0) s i validators v) nil
+          = nil_not field.validators
+          (none_in (fields_in (def_of table s) selected) i field none (listed (def_of table s) selected i field e)) in
+          ap (λ (validators : List ValidatorDef). first_failing means (def_of table field.shape.0) s selected i validators v) nil
 
   pub no_validator_lacks : (j : ℕ) (cs : List Cell) → IsSome (values_of cs)
-      → lack_among means table s as_struct j (trees_of cs) ≡ None
+      → lack_among means table s (as_fields selected) j (trees_of cs) ≡ None
   no_validator_lacks j [] there = refl
   no_validator_lacks j (absent ∷ cs) there = absurd (cc)
   no_validator_lacks j (placed n ∷ cs) there = absurd (cc)
   no_validator_lacks j (given v ∷ cs) there =
-      ap (λ (o : Option ReflectErrorKind). option_or o (lack_among means table s as_struct (suc j) (trees_of cs)))
+      ap (λ (o : Option ReflectErrorKind). option_or o (lack_among means table s (as_fields selected) (suc j) (trees_of cs)))
       (passes_all j v)
-      ∙ no_validator_lacks (suc j) cs (go (values_of cs) there)
+      ∙ no_validator_lacks (suc j) cs (all_later v (values_of cs) there)
+
+-- a place without fields lacks its value where a child isn't there, and else nothing
+
+module _ (means : Meanings) (table : Table) (s : ℕ) (form : Form) (others : parts_in form ≡ Parts.Others) where
+  pub others_there : (i : ℕ) (cs : List Cell) → IsSome (values_of cs) → lack_among means table s form i (trees_of cs) ≡ None
+  others_there i [] h = refl
+  others_there i (absent ∷ cs) h = absurd (cc)
+  others_there i (placed n ∷ cs) h = absurd (cc)
+  others_there i (given v ∷ cs) h =
+      ap (λ (o : Option ReflectErrorKind). option_or o (lack_among means table s form (suc i) (trees_of cs)))
+      (others_pass table s means form others i (Some v))
+      ∙ others_there (suc i) cs (all_later v (values_of cs) h)
+
+  hole_lacks : (i : ℕ) (cs : List Cell)
+      → option_or (lack_of_hole means table s form i) (lack_among means table s form (suc i) (trees_of cs)) ≡ Some (missing_value s)
+  hole_lacks i cs =
+      ap
+      (λ (fill : Option Val).
+      option_or (option_or (unless_there fill (missing_child s form i)) (failing_child means table s form i fill))
+      (lack_among means table s form (suc i) (trees_of cs)))
+      (others_take table s strict_column form others i)
+      ∙ ap Some (others_missing s form others i)
+
+  pub others_lack : (i : ℕ) (cs : List Cell) → values_of cs ≡ None
+      → lack_among means table s form i (trees_of cs) ≡ Some (missing_value s)
+  others_lack i [] h = absurd (cc)
+  others_lack i (absent ∷ cs) h = hole_lacks i cs
+  others_lack i (placed n ∷ cs) h = hole_lacks i cs
+  others_lack i (given v ∷ cs) h =
+      ap (λ (o : Option ReflectErrorKind). option_or o (lack_among means table s form (suc i) (trees_of cs)))
+      (others_pass table s means form others i (Some v))
+      ∙ others_lack (suc i) cs (go (values_of cs) h)
     where
-      go : (vs : Option Vals) → IsSome (one_more (Some v) vs) → IsSome vs
-      go (Some vs) h = refl
-      go None h = absurd (cc)
-
--- an array lacks its value where an element isn't there, and else nothing
-
-pub elements_there : (means : Meanings) (table : Table) (s i : ℕ) (cs : List Cell) → IsSome (values_of cs)
-    → lack_among means table s as_array i (trees_of cs) ≡ None
-elements_there means table s i [] h = refl
-elements_there means table s i (absent ∷ cs) h = absurd (cc)
-elements_there means table s i (placed n ∷ cs) h = absurd (cc)
-elements_there means table s i (given v ∷ cs) h = elements_there means table s (suc i) cs (go (values_of cs) h)
-  where
-    go : (vs : Option Vals) → IsSome (one_more (Some v) vs) → IsSome vs
-    go (Some vs) h = refl
-    go None h = absurd (cc)
-
-pub element_lacks : (means : Meanings) (table : Table) (s i : ℕ) (cs : List Cell) → values_of cs ≡ None
-    → lack_among means table s as_array i (trees_of cs) ≡ Some (missing_value s)
-element_lacks means table s i [] h = absurd (cc)
-element_lacks means table s i (absent ∷ cs) h = refl
-element_lacks means table s i (placed n ∷ cs) h = refl
-element_lacks means table s i (given v ∷ cs) h = element_lacks means table s (suc i) cs (go (values_of cs) h)
-  where
-    go : (vs : Option Vals) → one_more (Some v) vs ≡ None → vs ≡ None
-    go (Some vs) h = absurd (cc)
-    go None h = refl
+      go : (vs : Option Vals) → one_more (Some v) vs ≡ None → vs ≡ None
+      go (Some vs) h = absurd (cc)
+      go None h = refl
 
 -- Field by field.
 
@@ -414,52 +445,56 @@ pub err_so : {X E : Type 0} (r : Result X E) (P Q : E → Type 0) → ((kind : E
 err_so (Ok x) P Q so h = tt
 err_so (Err kind) P Q so h = so kind h
 
-module _ (means : Meanings) (table : Table) (plan : Plan) (s i : ℕ) (one : FieldPlan) (is : IsTold table plan s i one) where
+module _ (means : Meanings) (table : Table) (plan : Plan) (s : ℕ) (selected : Option ℕ) (i : ℕ) (one : FieldPlan)
+    (is : IsTold table plan s selected i one) where
+  abbrev form : Form
+  form = as_fields selected
+
   abbrev its_lack : Option Val → Option ReflectErrorKind
-  its_lack own = lack_of_child means table one.field.shape.0 as_struct one.field.index own
+  its_lack own = lack_of_child means table one.field.shape.0 (as_fields one.field.variant) one.field.index own
 
   holes_left : (n : ℕ) → i < n
-      → lack_of_holes means table s as_struct (n - i) i
-      ≡ option_or (its_lack None) (lack_of_holes means table s as_struct (n - (i + 1)) (suc i))
+      → lack_of_holes means table s form (n - i) i
+      ≡ option_or (its_lack None) (lack_of_holes means table s form (n - (i + 1)) (suc i))
   holes_left n h =
       let left : n - i ≡ suc (n - (i + 1)) = omega arith in
-      holes_next means table s (n - (i + 1)) (n - i) i left
-      ∙ ap (λ (o : Option ReflectErrorKind). option_or o (lack_of_holes means table s as_struct (n - (i + 1)) (suc i)))
-      (sym (lack_itself means table plan s i one None is))
+      holes_next means table s form (n - (i + 1)) (n - i) i left
+      ∙ ap (λ (o : Option ReflectErrorKind). option_or o (lack_of_holes means table s form (n - (i + 1)) (suc i)))
+      (sym (lack_itself table plan s selected i one is means None))
 
   pub holes_preserved : (n : ℕ) → i < n → its_lack None ≡ None
-      → lack_of_holes means table s as_struct (n - i) i ≡ lack_of_holes means table s as_struct (n - (i + 1)) (i + 1)
+      → lack_of_holes means table s form (n - i) i ≡ lack_of_holes means table s form (n - (i + 1)) (i + 1)
   holes_preserved n h passes =
       let next : suc i ≡ i + 1 = omega arith in
-      holes_left n h ∙ first_none (its_lack None) (lack_of_holes means table s as_struct (n - (i + 1)) (suc i)) passes
-      ∙ ap (λ (k : ℕ). lack_of_holes means table s as_struct (n - (i + 1)) k) next
+      holes_left n h ∙ first_none (its_lack None) (lack_of_holes means table s form (n - (i + 1)) (suc i)) passes
+      ∙ ap (λ (k : ℕ). lack_of_holes means table s form (n - (i + 1)) k) next
 
   pub holes_cause : (n : ℕ) → i < n → (kind : ReflectErrorKind) → IsCauseOf (its_lack None) kind
-      → IsCauseOf (lack_of_holes means table s as_struct (n - i) i) kind
+      → IsCauseOf (lack_of_holes means table s form (n - i) i) kind
   holes_cause n h kind cause =
       subst (λ (o : Option ReflectErrorKind). IsCauseOf o kind) (sym (holes_left n h))
-      (cause_first (its_lack None) (lack_of_holes means table s as_struct (n - (i + 1)) (suc i)) kind cause)
+      (cause_first (its_lack None) (lack_of_holes means table s form (n - (i + 1)) (suc i)) kind cause)
 
   fields_left : (cs : List Cell) (own : Option Val) → i < length cs → own ≡ value_at cs i
-      → lack_among means table s as_struct i (trees_of (drop i cs))
-      ≡ option_or (its_lack own) (lack_among means table s as_struct (suc i) (trees_of (drop (suc i) cs)))
+      → lack_among means table s form i (trees_of (drop i cs))
+      ≡ option_or (its_lack own) (lack_among means table s form (suc i) (trees_of (drop (suc i) cs)))
   fields_left cs own h e =
-      lack_next means table s as_struct cs i i h
+      lack_next means table s form cs i i h
       ∙ ap
-      (λ (o : Option ReflectErrorKind). option_or o (lack_among means table s as_struct (suc i) (trees_of (drop (suc i) cs))))
-      (ap (lack_of_child means table s as_struct i) (sym e) ∙ sym (lack_itself means table plan s i one own is))
+      (λ (o : Option ReflectErrorKind). option_or o (lack_among means table s form (suc i) (trees_of (drop (suc i) cs))))
+      (ap (lack_of_child means table s form i) (sym e) ∙ sym (lack_itself table plan s selected i one is means own))
 
   pub fields_preserved : (cs : List Cell) (own : Option Val) → i < length cs → own ≡ value_at cs i → its_lack own ≡ None
-      → lack_among means table s as_struct i (trees_of (drop i cs))
-      ≡ lack_among means table s as_struct (i + 1) (trees_of (drop (i + 1) cs))
+      → lack_among means table s form i (trees_of (drop i cs))
+      ≡ lack_among means table s form (i + 1) (trees_of (drop (i + 1) cs))
   fields_preserved cs own h e passes =
       let next : suc i ≡ i + 1 = omega arith in
       fields_left cs own h e
-      ∙ first_none (its_lack own) (lack_among means table s as_struct (suc i) (trees_of (drop (suc i) cs))) passes
-      ∙ ap (λ (k : ℕ). lack_among means table s as_struct k (trees_of (drop k cs))) next
+      ∙ first_none (its_lack own) (lack_among means table s form (suc i) (trees_of (drop (suc i) cs))) passes
+      ∙ ap (λ (k : ℕ). lack_among means table s form k (trees_of (drop k cs))) next
 
   pub fields_cause : (cs : List Cell) (own : Option Val) → i < length cs → own ≡ value_at cs i → (kind : ReflectErrorKind)
-      → IsCauseOf (its_lack own) kind → IsCauseOf (lack_among means table s as_struct i (trees_of (drop i cs))) kind
+      → IsCauseOf (its_lack own) kind → IsCauseOf (lack_among means table s form i (trees_of (drop i cs))) kind
   fields_cause cs own h e kind cause =
       subst (λ (o : Option ReflectErrorKind). IsCauseOf o kind) (sym (fields_left cs own h e))
-      (cause_first (its_lack own) (lack_among means table s as_struct (suc i) (trees_of (drop (suc i) cs))) kind cause)
+      (cause_first (its_lack own) (lack_among means table s form (suc i) (trees_of (drop (suc i) cs))) kind cause)

@@ -3,6 +3,7 @@ pub mod CellLaws
 pub mod DefaultLaws
 pub mod DefaultedLaws
 pub mod FillLaws
+pub mod FormLaws
 pub mod HeapLaws
 pub mod LackLaws
 pub mod OwnLackLaws

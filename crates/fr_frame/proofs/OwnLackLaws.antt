@@ -1,5 +1,5 @@
 -- What a place lacks and what it makes by the rules of the end of deferred mode, by what becomes of it as its holes take their fills.
-use Rattle.std.proofs.Common.{◌≡◌, ℕ, suc, false, List, [], ◌∷◌, replicate, Option, Some, None, IsSome, refl, sym, ◌∙◌, ap}
+use Rattle.std.proofs.Common.{◌≡◌, ℕ, suc, Bool, true, false, List, [], ◌∷◌, replicate, Option, Some, None, IsSome, refl, sym, ◌∙◌, ap, subst}
 use Rattle.std.specs.Option.{option_or}
 use Rattle.fr_shape.specs.declared.error.ReflectErrorKind.{ReflectErrorKind}
 use Rattle.fr_shape.specs.declared.shape.Def.{Def}
@@ -11,13 +11,16 @@ use Rattle.fr_shape.specs.Val.{Val, Vals}
 use Rattle.fr_model.specs.Complete.{complete, complete_all, failing_child, hole_takes, lack_by, made, made_by, made_of_fills, missing_child, missing_value, unless_failing, unless_there, valid_child}
 use Rattle.fr_model.specs.Failing.{first_invalid, first_missing, first_unmet, lack_of_begun, own_lack, unmet_by, unmet_mark, unmet_mark_of}
 use Rattle.fr_model.specs.Places.{deferred_column, child_count, fill_of_field, one_more}
-use Rattle.fr_model.specs.Tree.{Form, as_struct, as_array, Trees, holes}
+use Rattle.fr_model.specs.Tree.{Form, as_struct, as_array, as_variant, as_some, as_ok, as_err, as_pointer, Trees, holes}
+use Rattle.fr_model.specs.Well.{IsFullAs}
 use Rattle.fr_frame.specs.Bodies.{Body, entered_body, whole_body, begun_body, own_tree, trees_of, value_of, AreUnplaced, IsClosed}
 use Rattle.fr_frame.specs.Cells.{Cell, absent, given, placed, value_of_cell, values_of}
+use Rattle.fr_frame.specs.Completing.{IsFull}
 use Rattle.fr_frame.specs.Defaults.{defaulted, defaulted_by, defaulted_cell, defaulted_cells, defaulted_struct, first_absent, invalid, left_out, unmet, unmet_entered}
+use Rattle.fr_frame.proofs.BodyLaws.{full_value}
 use Rattle.fr_frame.proofs.FillLaws.{none_placed}
 use Rattle.fr_frame.proofs.LackLaws.{made_none, made_there, no_children_made, or_none}
-use Rattle.fr_frame.proofs.DefaultLaws.{all_closed, cell_closed, holes_are}
+use Rattle.fr_frame.proofs.DefaultLaws.{all_closed, all_count, cell_closed, holes_are}
 
 -- One child.
 
@@ -54,17 +57,26 @@ either None b kind P e here later = later e
 -- a field that is marked to take a default that there isn't takes nothing
 unmet_takes : (table : Table) (s : ℕ) (form : Form) (i : ℕ) (kind : ReflectErrorKind) → unmet_mark table s form i ≡ Some kind
     → hole_takes deferred_column table s form i ≡ None
-unmet_takes table s as_array i kind e = refl
-unmet_takes table s as_struct i kind e = at (field_in (def_of table s) None i) e
+unmet_takes table s form i kind e = go form e
   where
     by_rule : (field : Field) (rule : DeferredRule) → unmet_by field rule ≡ Some kind → by_deferred_rule table field rule ≡ None
     by_rule field (filled template) e = absurd (cc)
     by_rule field marked_without_default e = refl
     by_rule field missing e = refl
 
-    at : (found : Option Field) → unmet_mark_of table s found ≡ Some kind → fill_of_field deferred_column table s false found ≡ None
-    at (Some field) e = by_rule field (deferred_rule table s field) e
-    at None e = refl
+    at : (of_variant : Bool) (found : Option Field) → unmet_mark_of table s found ≡ Some kind
+        → fill_of_field deferred_column table s of_variant found ≡ None
+    at of_variant (Some field) e = by_rule field (deferred_rule table s field) e
+    at of_variant None e = refl
+
+    go : (form : Form) → unmet_mark table s form i ≡ Some kind → hole_takes deferred_column table s form i ≡ None
+    go as_struct e = at false (field_in (def_of table s) None i) e
+    go (as_variant k) e = at true (field_in (def_of table s) (Some k) i) e
+    go as_array e = refl
+    go as_some e = refl
+    go as_ok e = refl
+    go as_err e = refl
+    go as_pointer e = refl
 
 -- Children.
 
@@ -316,15 +328,20 @@ module _ (means : Meanings) (table : Table) (s : ℕ) where
   by_def_nothing _ preset kind e = refl
 
   -- a place that lacks nothing makes what it holds with its fills
-  pub own_whole : (body : Body) → IsClosed body → own_lack means table s (own_tree body) ≡ None
+  pub own_whole : (body : Body) → IsFull table s body → IsClosed body → own_lack means table s (own_tree body) ≡ None
       → (complete deferred_column means table s (own_tree body) ≡ value_of (defaulted table s body)) × IsSome (value_of (defaulted table s body))
-  own_whole entered_body closed e = by_def_whole (def_of table s) (preset_of table s) e
-  own_whole (whole_body v) closed e = (refl, refl)
-  own_whole (begun_body form cells) closed e =
+  own_whole entered_body full closed e = by_def_whole (def_of table s) (preset_of table s) e
+  own_whole (whole_body v) full closed e = (refl, refl)
+  own_whole (begun_body form cells) full closed e =
       let so : (complete_all deferred_column means table s form 0 (trees_of cells) ≡ values_of (defaulted_cells table s form 0 cells))
       × IsSome (values_of (defaulted_cells table s form 0 cells))
       = lacks_nothing means table s form cells closed e in
-      (ap (made form) so.0, made_there means table s form (values_of (defaulted_cells table s form 0 cells)) so.1)
+      let held : value_of (begun_body form (defaulted_cells table s form 0 cells)) ≡ made form (values_of (defaulted_cells table s form 0 cells))
+      = full_value (def_of table s) form (defaulted_cells table s form 0 cells)
+      (subst (IsFullAs (def_of table s) form) (sym (all_count table s form 0 cells)) full) in (
+        ap (made form) so.0 ∙ sym held,
+        subst IsSome (sym held) (made_there means table s form (values_of (defaulted_cells table s form 0 cells)) so.1),
+      )
 
   -- and one that lacks something makes nothing
   pub own_nothing : (body : Body) (kind : ReflectErrorKind) → IsClosed body → own_lack means table s (own_tree body) ≡ Some kind

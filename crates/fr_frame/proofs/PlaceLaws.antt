@@ -1,5 +1,5 @@
 -- A place that is changed in its slot.
-use Rattle.std.proofs.Common.{◌≡◌, ◌≢◌, ◌⊎◌, ℕ, zero, suc, ◌+◌, Bool, List, [], ◌∷◌, Option, Some, IsSomeAnd, slice_get, set, option_map, inl, inr, refl, sym, ◌∙◌, ap, subst}
+use Rattle.std.proofs.Common.{◌≡◌, ◌≢◌, ◌⊎◌, ℕ, zero, suc, ◌+◌, Bool, List, [], ◌∷◌, Option, Some, None, IsSomeAnd, slice_get, set, option_map, inl, inr, refl, sym, ◌∙◌, ap, subst}
 use Rattle.fr_frame.specs.declared.places.Piece.{Piece}
 use Rattle.fr_frame.specs.declared.places.Place.{Place}
 use Rattle.fr_frame.specs.declared.places.Slot.{Slot}
@@ -33,6 +33,13 @@ repieced at piece = record at { piece = piece }
 of_node : (found : Option Node) (at : Node) (So : Node → Type 0) → found ≡ Some at → So at → IsSomeAnd found So
 of_node found at So e so = subst (λ (o : Option Node). IsSomeAnd o So) (sym e) so
 
+pub in_use_so : (slots : List Slot) (n : ℕ) (P Q : Node → Type 0) → ((at : Node) → P at → Q at) → IfInUse slots n P → IfInUse slots n Q
+in_use_so slots n P Q so h = go (heap_of slots n) h
+  where
+    go : (found : Option Node) → IsSomeAnd found P → IsSomeAnd found Q
+    go (Some at) h = so at h
+    go None h = absurd h
+
 module _ (slots : List Slot) (n : ℕ) (at : Place) (was : slice_get slots n ≡ Some (Slot.Used at)) where
   pub of_place : (So : Node → Type 0) → So (node_of at) → IfInUse slots n So
   of_place So so = of_node (heap_of slots n) (node_of at) So (free_there slots n (Slot.Used at) was) so
@@ -51,6 +58,13 @@ module _ (slots : List Slot) (n : ℕ) (at : Place) (was : slice_get slots n ≡
 
   pub becomes : (piece : Piece) → Becomes slots (set slots n (Slot.Used (repieced at piece))) n (node_of at) (body_of piece)
   becomes piece = changes (repieced at piece)
+
+  -- what is so of the place with another piece is so of what is then in the slot
+  pub of_repieced : (piece : Piece) (So : Node → Type 0) → So (node_of (repieced at piece))
+      → IfInUse (set slots n (Slot.Used (repieced at piece))) n So
+  of_repieced piece So so =
+      of_node (heap_of (set slots n (Slot.Used (repieced at piece))) n) (node_of (repieced at piece)) So
+      (set_here slots n (Slot.Used at) (Slot.Used (repieced at piece)) was) so
 
   pub marks : (stored : Bool)
       → Shows (set slots n (Slot.Used (record at { stored = stored }))) (with_mark (heap_of slots) n stored)

@@ -5,16 +5,20 @@ use Rattle.fr_shape.specs.declared.error.ReflectErrorKind.{ReflectErrorKind}
 use Rattle.fr_shape.specs.Hooks.{Meanings}
 use Rattle.fr_shape.specs.Look.{Table, def_of}
 use Rattle.fr_shape.specs.Val.{Val}
-use Rattle.fr_model.specs.Complete.{failing_child}
+use Rattle.fr_model.specs.Complete.{complete, failing_child, hole_takes}
 use Rattle.fr_model.specs.Failing.{first_invalid}
-use Rattle.fr_model.specs.Tree.{Form, as_struct, as_array}
+use Rattle.fr_model.specs.Places.{deferred_column}
+use Rattle.fr_model.specs.Tree.{Form, child_as, for_hole}
 use Rattle.fr_plan.specs.declared.plans.FieldPlan.{FieldPlan}
 use Rattle.fr_plan.specs.Fields.{has_validators}
 use Rattle.fr_plan.specs.TypePlan.{Plan}
-use Rattle.fr_frame.specs.Bodies.{trees_of}
+use Rattle.fr_frame.specs.declared.places.Parts.{Parts}
+use Rattle.fr_frame.specs.Bodies.{as_fields, tree_of_cell, trees_of}
 use Rattle.fr_frame.specs.Cells.{Cell, absent, given, placed, value_at, values_of}
 use Rattle.fr_frame.specs.FieldDefaults.{refused_of}
 use Rattle.fr_frame.specs.Filling.{AreTold, IsCauseOf, IsTold}
+use Rattle.fr_frame.specs.Heap.{parts_in}
+use Rattle.fr_frame.proofs.FormLaws.{others_pass}
 use Rattle.fr_frame.proofs.LackLaws.{cause_first, field_fails, first_none, item_at, passes_all, told_here}
 use Rattle.fr_frame.proofs.DefaultLaws.{later_there}
 
@@ -38,37 +42,45 @@ invalid_next means table s form (given w ∷ cs) zero i v e =
     same
 invalid_next means table s form (c ∷ cs) (suc k) i v e = invalid_next means table s form cs k i v e
 
--- an array's elements have no validators
-pub elements_valid : (means : Meanings) (table : Table) (s i : ℕ) (cs : List Cell)
-    → first_invalid means table s as_array i (trees_of cs) ≡ None
-elements_valid means table s i [] = refl
-elements_valid means table s i (c ∷ cs) = elements_valid means table s (suc i) cs
+-- children that aren't fields have no validators
+pub others_valid : (means : Meanings) (table : Table) (s : ℕ) (form : Form) → parts_in form ≡ Parts.Others → (i : ℕ) (cs : List Cell)
+    → first_invalid means table s form i (trees_of cs) ≡ None
+others_valid means table s form others i [] = refl
+others_valid means table s form others i (c ∷ cs) =
+    ap (λ (o : Option ReflectErrorKind). option_or o (first_invalid means table s form (suc i) (trees_of cs)))
+    (others_pass table s means form others i
+    (for_hole (tree_of_cell c) (hole_takes deferred_column table s form i)
+    (complete deferred_column means table (child_as table s form i) (tree_of_cell c))))
+    ∙ others_valid means table s form others (suc i) cs
 
-module _ (means : Meanings) (table : Table) (plan : Plan) (s : ℕ) (told : List FieldPlan) (are : AreTold table plan s told)
-    (cs : List Cell) (count : length cs ≡ length told) (there : IsSome (values_of cs)) where
+module _ (means : Meanings) (table : Table) (plan : Plan) (s : ℕ) (selected : Option ℕ) (told : List FieldPlan)
+    (are : AreTold table plan s selected told) (cs : List Cell) (count : length cs ≡ length told) (there : IsSome (values_of cs)) where
+  abbrev form : Form
+  form = as_fields selected
+
   refused_is : (i : ℕ) (v : Val) → i < length cs → value_at cs i ≡ Some v
-      → refused_of means plan (slice_get told i) (value_at cs i) ≡ failing_child means table s as_struct i (Some v)
+      → refused_of means plan (slice_get told i) (value_at cs i) ≡ failing_child means table s form i (Some v)
   refused_is i v h e =
       let one : (x : FieldPlan) × (slice_get told i ≡ Some x) = item_at told i (omega arith) in
-      let is : IsTold table plan s i one.0 = told_here table plan s i told one.0 are one.1 in
+      let is : IsTold table plan s selected i one.0 = told_here table plan s selected i told one.0 are one.1 in
       ap (λ (found : Option FieldPlan). refused_of means plan found (value_at cs i)) one.1
-      ∙ ap (refused_of means plan (Some one.0)) e ∙ field_fails means table plan s i one.0 is v
+      ∙ ap (refused_of means plan (Some one.0)) e ∙ field_fails means table plan s selected i one.0 is v
 
   valid_left : (i : ℕ) → i < length cs
-      → first_invalid means table s as_struct i (trees_of (drop i cs))
+      → first_invalid means table s form i (trees_of (drop i cs))
       ≡ option_or (refused_of means plan (slice_get told i) (value_at cs i))
-      (first_invalid means table s as_struct (suc i) (trees_of (drop (suc i) cs)))
+      (first_invalid means table s form (suc i) (trees_of (drop (suc i) cs)))
   valid_left i h =
       let v : (v : Val) × (value_at cs i ≡ Some v) = value_there cs i there h in
-      invalid_next means table s as_struct cs i i v.0 v.1
+      invalid_next means table s form cs i i v.0 v.1
       ∙ ap
-      (λ (o : Option ReflectErrorKind). option_or o (first_invalid means table s as_struct (suc i) (trees_of (drop (suc i) cs))))
+      (λ (o : Option ReflectErrorKind). option_or o (first_invalid means table s form (suc i) (trees_of (drop (suc i) cs))))
       (sym (refused_is i v.0 h v.1))
 
   pub valid_preserved : (i : ℕ) (found : Option FieldPlan) (own : Option Val) → i < length cs → found ≡ slice_get told i
       → own ≡ value_at cs i → refused_of means plan found own ≡ None
-      → first_invalid means table s as_struct i (trees_of (drop i cs))
-      ≡ first_invalid means table s as_struct (i + 1) (trees_of (drop (i + 1) cs))
+      → first_invalid means table s form i (trees_of (drop i cs))
+      ≡ first_invalid means table s form (i + 1) (trees_of (drop (i + 1) cs))
   valid_preserved i found own h is value passes =
       let next : suc i ≡ i + 1 = omega arith in
       let here : refused_of means plan (slice_get told i) (value_at cs i) ≡ None
@@ -76,29 +88,30 @@ module _ (means : Meanings) (table : Table) (plan : Plan) (s : ℕ) (told : List
       ∙ ap (refused_of means plan found) (sym value) ∙ passes in
       valid_left i h
       ∙ first_none (refused_of means plan (slice_get told i) (value_at cs i))
-      (first_invalid means table s as_struct (suc i) (trees_of (drop (suc i) cs))) here
-      ∙ ap (λ (k : ℕ). first_invalid means table s as_struct k (trees_of (drop k cs))) next
+      (first_invalid means table s form (suc i) (trees_of (drop (suc i) cs))) here
+      ∙ ap (λ (k : ℕ). first_invalid means table s form k (trees_of (drop k cs))) next
 
   pub valid_cause : (i : ℕ) (found : Option FieldPlan) (own : Option Val) → i < length cs → found ≡ slice_get told i
-      → own ≡ value_at cs i → first_invalid means table s as_struct 0 (trees_of cs)
-      ≡ first_invalid means table s as_struct i (trees_of (drop i cs))
+      → own ≡ value_at cs i → first_invalid means table s form 0 (trees_of cs)
+      ≡ first_invalid means table s form i (trees_of (drop i cs))
       → (kind : ReflectErrorKind) → IsCauseOf (refused_of means plan found own) kind
-      → IsCauseOf (first_invalid means table s as_struct 0 (trees_of cs)) kind
+      → IsCauseOf (first_invalid means table s form 0 (trees_of cs)) kind
   valid_cause i found own h is value so_far kind cause =
       let here : refused_of means plan found own ≡ refused_of means plan (slice_get told i) (value_at cs i)
       = ap (λ (one : Option FieldPlan). refused_of means plan one own) is ∙ ap (refused_of means plan (slice_get told i)) value in
       subst (λ (o : Option ReflectErrorKind). IsCauseOf o kind) (sym (so_far ∙ valid_left i h))
       (cause_first (refused_of means plan (slice_get told i) (value_at cs i))
-      (first_invalid means table s as_struct (suc i) (trees_of (drop (suc i) cs))) kind
+      (first_invalid means table s form (suc i) (trees_of (drop (suc i) cs))) kind
       (subst (λ (o : Option ReflectErrorKind). IsCauseOf o kind) here cause))
 
-module _ (means : Meanings) (table : Table) (s : ℕ) (none : has_validators (def_of table s) None ≡ false) where
+module _ (means : Meanings) (table : Table) (s : ℕ) (selected : Option ℕ)
+    (none : has_validators (def_of table s) selected ≡ false) where
   -- where no field has a validator none fails
-  pub all_valid : (j : ℕ) (cs : List Cell) → IsSome (values_of cs) → first_invalid means table s as_struct j (trees_of cs) ≡ None
+  pub all_valid : (j : ℕ) (cs : List Cell) → IsSome (values_of cs) → first_invalid means table s (as_fields selected) j (trees_of cs) ≡ None
   all_valid j [] there = refl
   all_valid j (absent ∷ cs) there = absurd (cc)
   all_valid j (placed n ∷ cs) there = absurd (cc)
   all_valid j (given v ∷ cs) there =
-      ap (λ (o : Option ReflectErrorKind). option_or o (first_invalid means table s as_struct (suc j) (trees_of cs)))
-      (passes_all means table s none j v)
+      ap (λ (o : Option ReflectErrorKind). option_or o (first_invalid means table s (as_fields selected) (suc j) (trees_of cs)))
+      (passes_all means table s selected none j v)
       ∙ all_valid (suc j) cs (later_there v cs there)

@@ -1,31 +1,39 @@
 -- Why a place isn't completed by the rules of the end of deferred mode, and what it holds where it is.
-use Rattle.std.proofs.Common.{◌≡◌, ◌⊎◌, ℕ, true, Option, Some, None, IsSome, IsSomeAnd, inl, inr, refl, sym, ◌∙◌, ap, subst}
+use Rattle.std.proofs.Common.{◌≡◌, ◌⊎◌, ℕ, true, false, Option, Some, None, IsSome, IsSomeAnd, inl, inr, refl, sym, ◌∙◌, ap, subst}
 use Rattle.std.specs.Option.{option_or}
 use Rattle.fr_shape.specs.declared.error.ReflectErrorKind.{ReflectErrorKind}
+use Rattle.fr_shape.specs.declared.shape.Def.{Def}
+use Rattle.fr_shape.specs.Fills.{preset_of}
 use Rattle.fr_shape.specs.Hooks.{Meanings}
-use Rattle.fr_shape.specs.Look.{Table}
+use Rattle.fr_shape.specs.Look.{Table, def_of}
 use Rattle.fr_shape.specs.Val.{Val}
 use Rattle.fr_model.specs.Failing.{own_lack}
 use Rattle.fr_model.specs.Places.{deferred_column}
-use Rattle.fr_frame.specs.Bodies.{Body, entered_body, whole_body, begun_body, own_tree, value_of, IsClosed}
-use Rattle.fr_frame.specs.Cells.{values_of}
-use Rattle.fr_frame.specs.Completing.{takes_template, IsFilled, IsOfValidator}
-use Rattle.fr_frame.specs.Defaults.{defaulted, invalid, left_out, unmet, KeepsForm, WhyNotDefault}
+use Rattle.fr_frame.specs.Bodies.{Body, entered_body, whole_body, begun_body, own_tree, takes_box, value_of, HasAllChildren, IsClosed}
+use Rattle.fr_frame.specs.Completing.{takes_template, IsFilled, IsFull, IsOfValidator}
+use Rattle.fr_frame.specs.Defaults.{defaulted, defaulted_by, defaulted_struct, invalid, left_out, unmet, KeepsForm, WhyNotDefault}
 use Rattle.fr_frame.specs.Filling.{IsCauseOf}
 use Rattle.fr_frame.proofs.LackLaws.{first_none}
-use Rattle.fr_frame.proofs.DefaultLaws.{closed_after, none_absent_there, made_of_values}
+use Rattle.fr_frame.proofs.DefaultLaws.{all_count, closed_after, none_absent_there}
 use Rattle.fr_frame.proofs.OwnLackLaws.{own_lack_is, own_nothing, own_whole}
 
 pub keeps_form : (table : Table) (s : ℕ) (body : Body) → KeepsForm body (defaulted table s body)
-keeps_form table s entered_body = tt
+keeps_form table s entered_body = go (def_of table s) (preset_of table s)
+  where
+    go : (def : Def) (preset : Option Val) → takes_box (defaulted_by def preset (defaulted_struct table s)) ≡ false
+    go (Def.Struct struct) (Some v) = refl
+    go (Def.Struct struct) None = refl
+    go (Def.Option t) (Some v) = refl
+    go (Def.Option t) None = refl
+    go _ preset = refl
 keeps_form table s (whole_body v) = refl
-keeps_form table s (begun_body form cells) = refl
+keeps_form table s (begun_body form cells) = (refl, all_count table s form 0 cells)
 
--- a place that leaves nothing out has a value
-pub value_there : (s : ℕ) (body : Body) → IsClosed body → left_out s body ≡ None → IsSome (value_of body)
-value_there s entered_body closed e = absurd (cc)
-value_there s (whole_body v) closed e = refl
-value_there s (begun_body form cells) closed e = made_of_values form (values_of cells) (none_absent_there s form 0 cells closed e)
+-- a place that leaves nothing out has all its children
+pub all_there : (s : ℕ) (body : Body) → IsClosed body → left_out s body ≡ None → HasAllChildren body
+all_there s entered_body closed e = tt
+all_there s (whole_body v) closed e = tt
+all_there s (begun_body form cells) closed e = none_absent_there s form 0 cells closed e
 
 module _ (means : Meanings) (table : Table) (s : ℕ) (body : Body) (closed : IsClosed body) where
   abbrev then : Body
@@ -68,18 +76,18 @@ module _ (means : Meanings) (table : Table) (s : ℕ) (body : Body) (closed : Is
         needed = inr (subst (λ (o : Option ReflectErrorKind). IsSomeAnd o IsOfValidator) (sym (lacks_invalid met full)) h.1);
       })
 
-  pub filled_after : unmet table s body ≡ None → left_out s then ≡ None → invalid means table s then ≡ None
+  pub filled_after : IsFull table s body → unmet table s body ≡ None → left_out s then ≡ None → invalid means table s then ≡ None
       → IsFilled deferred_column means table s body then
-  filled_after met full valid =
-      go (value_of then) refl (own_whole means table s body closed (lacks_invalid met full ∙ valid)).1
+  filled_after all met full valid =
+      go (value_of then) refl (own_whole means table s body all closed (lacks_invalid met full ∙ valid)).1
     where
       go : (made : Option Val) → value_of then ≡ made → IsSome made → IsFilled deferred_column means table s body then
       go None e some = absurd (cc)
       go (Some v) e some = record {
         value = v;
-        meant = (own_whole means table s body closed (lacks_invalid met full ∙ valid)).0 ∙ e;
+        meant = (own_whole means table s body all closed (lacks_invalid met full ∙ valid)).0 ∙ e;
         held = e;
       }
 
-  pub there_after : left_out s then ≡ None → IsSome (value_of then)
-  there_after full = value_there s then (closed_after table s body closed) full
+  pub there_after : left_out s then ≡ None → HasAllChildren then
+  there_after full = all_there s then (closed_after table s body closed) full

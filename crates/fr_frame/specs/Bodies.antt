@@ -1,5 +1,5 @@
 -- What was put at a place, and what becomes of it where a child is entered or leaves.
-use Rattle.std.specs.Prelude.{ℕ, List, [], ◌∷◌, replicate, slice_get, slice_set, Option, Some, None, IsSome, nat_eq, if◌then◌else◌}
+use Rattle.std.specs.Prelude.{ℕ, Bool, true, false, List, [], ◌∷◌, replicate, slice_get, slice_set, Option, Some, None, IsSome, nat_eq, if◌then◌else◌}
 use Rattle.std.specs.Option.{option_and_then}
 use Rattle.fr_shape.specs.declared.shape.Def.{Def}
 use Rattle.fr_shape.specs.Fills.{is_empty_struct}
@@ -7,8 +7,9 @@ use Rattle.fr_shape.specs.Tokens.{occurs}
 use Rattle.fr_shape.specs.Val.{Val, Vals, product, no_vals, first}
 use Rattle.fr_path.specs.declared.path_steps.PathStep.{PathStep}
 use Rattle.fr_model.specs.Complete.{made}
+use Rattle.fr_model.specs.Contents.{content_of}
 use Rattle.fr_model.specs.Places.{parts_of}
-use Rattle.fr_model.specs.Tree.{Form, as_struct, as_array, Tree, hole, entered, whole, begun, Trees, no_trees, branch}
+use Rattle.fr_model.specs.Tree.{Form, as_struct, as_array, as_variant, as_some, as_ok, as_err, as_pointer, Tree, hole, entered, whole, begun, Trees, no_trees, branch}
 use Rattle.fr_frame.specs.Cells.{Cell, absent, given, placed, cells_occur, values_of}
 
 -- a place: entered, with nothing put in; holding a value; or begun, with its children
@@ -28,23 +29,46 @@ fresh_body def = if is_empty_struct def then whole_body (product no_vals) else e
 
 -- The child at a step.
 
--- the number of the child to which a step leads from a place that is begun so, if it leads to one: a struct's field, an
--- array's element
+-- the number that a step names where it leads to a field, or to an element
+abbrev pub field_number : PathStep → Option ℕ
+field_number (PathStep.Field i) = Some i
+field_number _ = None
+
+abbrev pub element_number : PathStep → Option ℕ
+element_number (PathStep.Index i) = Some i
+element_number _ = None
+
+-- the content of an option, of either side of a result, and what a pointer points to are child 0
+abbrev pub content_number : PathStep → Option ℕ
+content_number PathStep.OptionSome = Some 0
+content_number _ = None
+
+abbrev pub ok_number : PathStep → Option ℕ
+ok_number PathStep.ResultOk = Some 0
+ok_number _ = None
+
+abbrev pub err_number : PathStep → Option ℕ
+err_number PathStep.ResultErr = Some 0
+err_number _ = None
+
+abbrev pub pointee_number : PathStep → Option ℕ
+pointee_number PathStep.Deref = Some 0
+pointee_number _ = None
+
+-- the number of the child to which a step leads from a place that is begun so, if it leads to one
 abbrev pub child_number : Form → PathStep → Option ℕ
-child_number as_struct (PathStep.Field i) = Some i
-child_number as_array (PathStep.Field i) = None
-child_number as_struct (PathStep.Index i) = None
-child_number as_array (PathStep.Index i) = Some i
-child_number form PathStep.Deref = None
-child_number form PathStep.Inner = None
-child_number form PathStep.OptionSome = None
-child_number form PathStep.Proxy = None
-child_number form (PathStep.MapKey i) = None
-child_number form (PathStep.MapValue i) = None
-child_number form PathStep.ResultOk = None
-child_number form PathStep.ResultErr = None
-child_number form PathStep.SetItem = None
-child_number form (PathStep.Entry key) = None
+child_number as_struct step = field_number step
+child_number as_array step = element_number step
+child_number (as_variant k) step = field_number step
+child_number as_some step = content_number step
+child_number as_ok step = ok_number step
+child_number as_err step = err_number step
+child_number as_pointer step = pointee_number step
+
+-- as what a place is begun that has the fields of a struct as its children, or those of the variant that is selected
+abbrev pub as_fields : (selected : Option ℕ) → Form
+as_fields None = as_struct
+as_fields (Some k) = as_variant k
 
 -- the child at a step, where the place is begun and has it
 abbrev pub cell_at : Body → PathStep → Option Cell
@@ -114,13 +138,58 @@ MayOpen entered_body = Unit {0}
 MayOpen (whole_body v) = IsSome (parts_of v)
 MayOpen (begun_body form cells) = Unit {0}
 
+-- a whole `Some`
+abbrev pub HoldsSome : Body → Type 0
+HoldsSome entered_body = ⊥
+HoldsSome (whole_body v) = IsSome (content_of v)
+HoldsSome (begun_body form cells) = ⊥
+
+abbrev pub opened_around : Val → (content : Option Val) → Body
+opened_around v (Some held) = begun_body as_some (given held ∷ [])
+opened_around v None = whole_body v
+
+-- a whole `Some` is begun as an option around its content; any other place stays as it is
+abbrev pub opened_some : Body → Body
+opened_some entered_body = entered_body
+opened_some (whole_body v) = opened_around v (content_of v)
+opened_some (begun_body form cells) = begun_body form cells
+
+-- a place that is begun so, with so many children, none of which is there, whatever was there before
+abbrev pub restarted : Form → (count : ℕ) → Body → Body
+restarted form count before = begun_body form (replicate count absent)
+
 -- What a place comes to.
+
+-- a place is begun so around one child: a content, a side or a pointee
+abbrev pub is_around : Form → Bool
+is_around as_struct = false
+is_around as_array = false
+is_around (as_variant k) = false
+is_around as_some = true
+is_around as_ok = true
+is_around as_err = true
+is_around as_pointer = true
+
+-- the value of what is begun there goes into a box
+abbrev pub takes_box : Body → Bool
+takes_box entered_body = false
+takes_box (whole_body v) = false
+takes_box (begun_body form cells) = is_around form
+
+abbrev pub is_one : List Cell → Bool
+is_one [] = false
+is_one (c ∷ []) = true
+is_one (c ∷ d ∷ cs) = false
+
+-- so many children can make a value of a place that is begun so: around one child just that one, else any
+abbrev pub can_make : Form → List Cell → Bool
+can_make form cells = if is_around form then is_one cells else true
 
 -- the value of a place that is whole, or begun with each child's value there
 abbrev pub value_of : Body → Option Val
 value_of entered_body = None
 value_of (whole_body v) = Some v
-value_of (begun_body form cells) = made form (values_of cells)
+value_of (begun_body form cells) = if can_make form cells then made form (values_of cells) else None
 
 -- of the children of a begun place none is missing: the value of each is there. A place that is entered or whole has no
 -- children that could be missing.

@@ -1,5 +1,5 @@
 -- What becomes of one place by the rules of the end of deferred mode, its children being whole or not there.
-use Rattle.std.specs.Prelude.{◌≡◌, ◌⊎◌, ℕ, suc, true, List, [], ◌∷◌, replicate, Option, Some, None, IsSomeAnd}
+use Rattle.std.specs.Prelude.{◌≡◌, ◌⊎◌, ℕ, suc, true, false, List, [], ◌∷◌, length, replicate, Option, Some, None, IsSomeAnd}
 use Rattle.fr_shape.specs.declared.shape.Def.{Def}
 use Rattle.fr_shape.specs.declared.error.ReflectErrorKind.{ReflectErrorKind}
 use Rattle.fr_shape.specs.Fills.{preset_of}
@@ -10,7 +10,7 @@ use Rattle.fr_model.specs.Complete.{complete, hole_takes, missing_child, missing
 use Rattle.fr_model.specs.Failing.{first_unmet, first_invalid, own_lack}
 use Rattle.fr_model.specs.Places.{deferred_column, child_count}
 use Rattle.fr_model.specs.Tree.{Form, as_struct, holes}
-use Rattle.fr_frame.specs.Bodies.{Body, entered_body, whole_body, begun_body, own_tree, trees_of}
+use Rattle.fr_frame.specs.Bodies.{Body, entered_body, whole_body, begun_body, own_tree, takes_box, trees_of}
 use Rattle.fr_frame.specs.Cells.{Cell, absent, given, placed}
 use Rattle.fr_frame.specs.Completing.{IsOfValidator, takes_template}
 
@@ -127,10 +127,11 @@ pub record WantsMemory (means : Meanings) (table : Table) (s : ℕ) (body : Body
 abbrev pub WhyNotDefault : Meanings → Table → ℕ → Body → ReflectErrorKind → Type 0
 WhyNotDefault means table s body kind = IsLackingDefault means table s body kind ⊎ WantsMemory means table s body kind
 
--- a begun place stays begun in the same form, and a whole one as it is
+-- a begun place stays begun in the same form, with as many children, a whole one stays as it is, and an entered one comes to take no
+-- box
 abbrev pub KeepsForm : (old new : Body) → Type 0
-KeepsForm entered_body new = Unit {0}
+KeepsForm entered_body new = takes_box new ≡ false
 KeepsForm (whole_body v) new = new ≡ whole_body v
 KeepsForm (begun_body form cells) entered_body = ⊥
 KeepsForm (begun_body form cells) (whole_body v) = ⊥
-KeepsForm (begun_body form cells) (begun_body as_after others) = as_after ≡ form
+KeepsForm (begun_body form cells) (begun_body as_after others) = (as_after ≡ form) × (length others ≡ length cells)

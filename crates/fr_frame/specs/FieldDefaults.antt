@@ -1,31 +1,26 @@
 -- Completing a begun place by the rules of the end of deferred mode, child by child.
-use Rattle.std.specs.Prelude.{◌≡◌, ℕ, zero, suc, ◌+◌, ◌<◌, ◌≤◌, List, [], ◌∷◌, length, Option, Some, None, IsSome}
+use Rattle.std.specs.Prelude.{◌≡◌, ℕ, zero, suc, ◌+◌, ◌<◌, ◌≤◌, List, [], ◌∷◌, length, Option, Some, None}
 use Rattle.fr_shape.specs.declared.error.ReflectErrorKind.{ReflectErrorKind}
-use Rattle.fr_shape.specs.declared.shape.FieldRef.{FieldRef}
 use Rattle.fr_shape.specs.Checked.{IsChecked}
 use Rattle.fr_shape.specs.Hooks.{Meanings}
-use Rattle.fr_shape.specs.Look.{Table, def_of, field_at}
+use Rattle.fr_shape.specs.Look.{Table, def_of}
 use Rattle.fr_shape.specs.Val.{Val}
 use Rattle.fr_rules.specs.Pools.{part_of}
 use Rattle.fr_model.specs.Complete.{hole_takes}
 use Rattle.fr_model.specs.Failing.{unmet_mark}
 use Rattle.fr_model.specs.Places.{deferred_column}
-use Rattle.fr_model.specs.Tree.{Form, as_struct}
+use Rattle.fr_model.specs.Tree.{Form}
 use Rattle.fr_model.specs.Well.{IsFullAs}
 use Rattle.fr_plan.specs.declared.nodes.NodeId.{NodeId}
 use Rattle.fr_plan.specs.declared.plans.FieldPlan.{FieldPlan}
 use Rattle.fr_plan.specs.TypePlan.{Plan}
+use Rattle.fr_frame.specs.Bodies.{as_fields}
 use Rattle.fr_frame.specs.Cells.{Cell}
 use Rattle.fr_frame.specs.Completing.{shape_of, IsPlanFor}
 use Rattle.fr_frame.specs.Defaults.{defaulted_cell}
 use Rattle.fr_frame.specs.Filling.{first_refused}
 
 -- One child.
-
--- this names a field of a struct
-pub record NamesField (table : Table) (meant : FieldRef) : Type 0 where
-  pub of_struct : meant.variant ≡ None
-  pub there : IsSome (field_at table meant)
 
 -- child i isn't there, and is marked to take a default that there isn't
 abbrev pub unmet_child : Table → ℕ → Form → ℕ → (own : Option Val) → Option ReflectErrorKind
@@ -65,9 +60,10 @@ abbrev pub HasValidators : Plan → Option FieldPlan → Type 0
 HasValidators plan (Some told) = told.validators.start + told.validators.len ≤ length plan.lists.validators
 HasValidators plan None = Unit {0}
 
--- the plan is one of this checked table, and by its node a struct is built that has these children
-pub record IsStructOf (table : Table) (plan : Plan) (node : NodeId) (cells : List Cell) : Type 0 where
+-- the plan is one of this checked table, and by its node a struct is built that has these fields, or an enum whose variant of this
+-- number has them
+pub record HasTheseFields (table : Table) (plan : Plan) (node : NodeId) (selected : Option ℕ) (cells : List Cell) : Type 0 where
   pub checked : IsChecked table
   pub planned : IsPlanFor table plan
   pub inside : node.0 < length plan.nodes
-  pub full : IsFullAs (def_of table (shape_of plan node)) as_struct (length cells)
+  pub full : IsFullAs (def_of table (shape_of plan node)) (as_fields selected) (length cells)

@@ -14,36 +14,36 @@ use Rattle.fr_rules.specs.declared.validators.PrecomputedValidator.{PrecomputedV
 use Rattle.fr_rules.specs.FillRules.{fill_told}
 use Rattle.fr_rules.specs.Validators.{passes_held, validator_of}
 use Rattle.fr_model.specs.Complete.{failing_child, hole_takes, made, made_by, missing_child, unless_there}
-use Rattle.fr_model.specs.Places.{strict_column, child_count, fill_at, one_more}
+use Rattle.fr_model.specs.Places.{strict_column, child_count, fill_in, one_more}
 use Rattle.fr_model.specs.Tree.{Form, as_struct}
 use Rattle.fr_model.specs.Well.{IsFullAs}
 use Rattle.fr_plan.specs.declared.plans.FieldPlan.{FieldPlan}
 use Rattle.fr_plan.specs.Plans.{Names, validators_of}
 use Rattle.fr_plan.specs.TypePlan.{Plan}
 use Rattle.std.specs.Prelude.{length}
-use Rattle.fr_frame.specs.Bodies.{Body, entered_body, whole_body, begun_body}
+use Rattle.fr_frame.specs.Bodies.{Body, entered_body, whole_body, begun_body, as_fields}
 use Rattle.fr_frame.specs.Cells.{Cell, absent, value_of_cell}
 use Rattle.fr_frame.specs.Completing.{IsOfValidator}
 
 -- What a plan says of fields.
 
--- the plan says this of field i of the struct of shape s
-pub record IsTold (table : Table) (plan : Plan) (s i : ℕ) (told : FieldPlan) : Type 0 where
+-- the plan says this of field i of the struct of shape s, or of the variant of this number of an enum of shape s
+pub record IsTold (table : Table) (plan : Plan) (s : ℕ) (selected : Option ℕ) (i : ℕ) (told : FieldPlan) : Type 0 where
   pub field : Field
-  pub here : field_in (def_of table s) None i ≡ Some field
-  pub meant : told.field ≡ record { shape = record { 0 = s }; variant = None; index = i }
-  pub fill : fill_told table told.fill_rule ≡ fill_at strict_column table s i
+  pub here : field_in (def_of table s) selected i ≡ Some field
+  pub meant : told.field ≡ record { shape = record { 0 = s }; variant = selected; index = i }
+  pub fill : fill_told table told.fill_rule ≡ fill_in strict_column table s selected i
   pub validators : Names plan.lists.validators told.validators (validators_of table field)
 
 -- the same, or there is no such field
-abbrev pub IsToldAt : Table → Plan → ℕ → ℕ → Option FieldPlan → Type 0
-IsToldAt table plan s i (Some told) = IsTold table plan s i told
-IsToldAt table plan s i None = field_in (def_of table s) None i ≡ None
+abbrev pub IsToldAt : Table → Plan → ℕ → (selected : Option ℕ) → ℕ → Option FieldPlan → Type 0
+IsToldAt table plan s selected i (Some told) = IsTold table plan s selected i told
+IsToldAt table plan s selected i None = field_in (def_of table s) selected i ≡ None
 
--- the plan says this of all fields of shape s, in order (of none where it isn't a struct)
-pub record AreTold (table : Table) (plan : Plan) (s : ℕ) (fields : List FieldPlan) : Type 0 where
-  pub each : (i : ℕ) → IsToldAt table plan s i (slice_get fields i)
-  pub count : (n : ℕ) → IsFullAs (def_of table s) as_struct n → n ≡ length fields
+-- the plan says this of all fields of shape s, in order: of a struct, or of the variant of this number (of none where it has no such)
+pub record AreTold (table : Table) (plan : Plan) (s : ℕ) (selected : Option ℕ) (fields : List FieldPlan) : Type 0 where
+  pub each : (i : ℕ) → IsToldAt table plan s selected i (slice_get fields i)
+  pub count : (n : ℕ) → IsFullAs (def_of table s) (as_fields selected) n → n ≡ length fields
 
 -- a template that holds no token
 abbrev pub IsLightFill : Option Val → Type 0

@@ -4,10 +4,11 @@ use Rattle.std.specs.Option.{option_map, option_and_then}
 use Rattle.fr_shape.specs.declared.shape.Def.{Def}
 use Rattle.fr_shape.specs.View.{view}
 use Rattle.fr_path.specs.declared.path_steps.PathStep.{PathStep}
-use Rattle.fr_model.specs.Tree.{Form as TreeForm, as_struct, as_array}
+use Rattle.fr_model.specs.Tree.{Form as TreeForm, as_struct, as_array, as_variant, as_some, as_ok, as_err, as_pointer}
 use Rattle.fr_plan.specs.declared.nodes.NodeId.{NodeId}
 use Rattle.fr_frame.specs.declared.places.Form.{Form}
 use Rattle.fr_frame.specs.declared.places.FrameOwner.{FrameOwner}
+use Rattle.fr_frame.specs.declared.places.Parts.{Parts}
 use Rattle.fr_frame.specs.declared.places.Piece.{Piece}
 use Rattle.fr_frame.specs.declared.places.Place.{Place}
 use Rattle.fr_frame.specs.declared.places.Slot.{Slot}
@@ -29,6 +30,21 @@ Heap = ℕ → Option Node
 abbrev pub as_form : Form → TreeForm
 as_form Form.Struct = as_struct
 as_form Form.Array = as_array
+as_form (Form.Variant k) = as_variant k
+as_form Form.Some = as_some
+as_form Form.Ok = as_ok
+as_form Form.Err = as_err
+as_form Form.Pointer = as_pointer
+
+-- what the children of a place that is begun so are: fields, of a struct or of the variant that is selected, or something else
+abbrev pub parts_in : TreeForm → Parts
+parts_in as_struct = Parts.Fields None
+parts_in (as_variant k) = Parts.Fields (Some k)
+parts_in as_array = Parts.Others
+parts_in as_some = Parts.Others
+parts_in as_ok = Parts.Others
+parts_in as_err = Parts.Others
+parts_in as_pointer = Parts.Others
 
 abbrev pub body_of : Piece → Body
 body_of Piece.Entered = entered_body

@@ -1,11 +1,12 @@
 -- The tree that places in slots make up: each place knows its slot, and whether it is stored.
-use Rattle.std.specs.Prelude.{◌≡◌, ℕ, zero, suc, ◌+◌, ◌<◌, Bool, List, [], ◌∷◌, Option, Some, None, unwrap_or}
+use Rattle.std.specs.Prelude.{◌≡◌, ℕ, zero, suc, ◌+◌, ◌<◌, ◌≤◌, Bool, List, [], ◌∷◌, Option, Some, None, unwrap_or}
+use Rattle.std.specs.Option.{option_map}
 use Rattle.fr_shape.specs.Tokens.{occurs}
 use Rattle.fr_shape.specs.Val.{Val}
 use Rattle.fr_model.specs.Paths.{step_as}
-use Rattle.fr_model.specs.Tree.{Form, as_struct, as_array, Tree, hole, entered, whole, begun, Trees, no_trees, branch}
+use Rattle.fr_model.specs.Tree.{Form, as_struct, as_array, as_variant, as_some, as_ok, as_err, as_pointer, Tree, hole, entered, whole, begun, Trees, no_trees, branch}
 use Rattle.fr_plan.specs.declared.nodes.NodeId.{NodeId}
-use Rattle.fr_plan.specs.Lookups.{struct_field, list_item, by_id}
+use Rattle.fr_plan.specs.Lookups.{struct_field, enum_variant_field, list_item, option_inner, result_sides, pointer_pointee, by_id}
 use Rattle.fr_plan.specs.TypePlan.{Plan}
 use Rattle.fr_frame.specs.declared.places.FrameOwner.{FrameOwner}
 use Rattle.fr_frame.specs.Cells.{Cell, absent, given, placed}
@@ -91,10 +92,29 @@ kid_of heap slot = kid_from depth_limit heap slot
 
 -- What a heap holds.
 
--- the plan's node of child i of a place that is begun so (node 0 where there is none)
+-- the plan's node of child i of a place that is begun so, if there is one
+abbrev pub child_found : Plan → NodeId → Form → ℕ → Option NodeId
+child_found plan node as_struct i = by_id plan (λ parent. struct_field plan parent i) node
+child_found plan node as_array i = by_id plan (list_item plan) node
+child_found plan node (as_variant k) i = by_id plan (λ parent. enum_variant_field plan parent k i) node
+child_found plan node as_some i = by_id plan (option_inner plan) node
+child_found plan node as_ok i = option_map (λ (sides : NodeId × NodeId). sides.0) (by_id plan (result_sides plan) node)
+child_found plan node as_err i = option_map (λ (sides : NodeId × NodeId). sides.1) (by_id plan (result_sides plan) node)
+child_found plan node as_pointer i = by_id plan (pointer_pointee plan) node
+
+-- the same (node 0 where there is none)
 abbrev pub child_node : Plan → NodeId → Form → ℕ → NodeId
-child_node plan node as_struct i = unwrap_or (by_id plan (λ parent. struct_field plan parent i) node) (record { 0 = 0 })
-child_node plan node as_array i = unwrap_or (by_id plan (list_item plan) node) (record { 0 = 0 })
+child_node plan node form i = unwrap_or (child_found plan node form i) (record { 0 = 0 })
+
+-- a place that is begun so may have so many children: with a content, a side or a pointee but one
+abbrev pub MayHave : Form → ℕ → Type 0
+MayHave as_struct count = Unit {0}
+MayHave as_array count = Unit {0}
+MayHave (as_variant k) count = Unit {0}
+MayHave as_some count = count ≤ 1
+MayHave as_ok count = count ≤ 1
+MayHave as_err count = count ≤ 1
+MayHave as_pointer count = count ≤ 1
 
 abbrev pub child_owner : (slot : ℕ) → Form → ℕ → FrameOwner
 child_owner slot form i = FrameOwner.Child (record { 0 = slot }) (step_as form i)
@@ -114,9 +134,9 @@ abbrev mutual
   HoldsIn plan heap node slot depth (whole_plot v) = Unit {0}
   HoldsIn plan heap node slot depth (begun_plot form kids) = HoldsAll plan heap node slot form 0 depth kids
 
-  -- children from number i on
+  -- children from number i on, so many in all that there may be
   pub HoldsAll : Plan → Heap → NodeId → (slot : ℕ) → Form → (i : ℕ) → ℕ → Kids → Type 0
-  HoldsAll plan heap node slot form i depth no_kids = Unit {0}
+  HoldsAll plan heap node slot form i depth no_kids = MayHave form i
   HoldsAll plan heap node slot form i depth (kid k ks) =
       Holds plan heap (child_node plan node form i) (child_owner slot form i) depth k
       × HoldsAll plan heap node slot form (suc i) depth ks

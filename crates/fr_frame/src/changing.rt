@@ -3,12 +3,13 @@ ghost use Rattle.std.specs.Prelude.{◌≡◌, ℕ, ◌+◌, OnOk, OnErr, Some};
 ghost use Rattle.fr_shape.specs.Released.{Room, RoseBy};
 ghost use Rattle.fr_shape.specs.Tokens.{occurs};
 ghost use Rattle.fr_shape.specs.View.{view};
-ghost use Rattle.fr_frame.specs.Bodies.{body_occurs, cell_at, opened, whole_body, with_cell, MayOpen};
+ghost use Rattle.fr_frame.specs.Bodies.{body_occurs, cell_at, opened, opened_some, restarted, whole_body, with_cell, HoldsSome, MayOpen};
 ghost use Rattle.fr_frame.specs.Cells.{absent, given};
 ghost use Rattle.fr_frame.specs.Changes.{IfInUse, IsInUse, SameTokens, Shows};
 ghost use Rattle.fr_frame.specs.Heap.{as_form, heap_of, slots_occur, with_body};
 
-use crate::pieces::{open, put_child, release_piece};
+use crate::children::Children;
+use crate::pieces::{open, open_some, put_child, release_piece};
 use crate::places::{Form, Piece, SlotId};
 use crate::slots::Slots;
 use fr_path::PathStep;
@@ -46,6 +47,47 @@ impl SlotId {
         let alloc = slots.alloc();
         let place = slots.place_mut(self);
         open(alloc, &mut place.piece, form, count)
+    }
+
+    /// Begins a whole `Some` as an option around its content, so that this can be entered in place.
+    pub fn open_some(self, slots: &mut Slots) -> Result<(), OutOfMemory>
+        requires in_use { IsInUse slots.old self.0 }
+        requires holds_some { IfInUse slots.old self.0 (λ at. HoldsSome at.body) }
+        ensures opened { OnOk result (Shows slots.new
+            (with_body (heap_of slots.old) self.0 opened_some)) }
+        ensures refused { OnErr result (Shows slots.new (heap_of slots.old)) }
+        ensures tokens { SameTokens slots.old slots.new }
+    {
+        let alloc = slots.alloc();
+        let place = slots.place_mut(self);
+        open_some(alloc, &mut place.piece)
+    }
+
+    /// Begins the place anew, with so many children, none of which is there. The tokens of what was put at it are released, once
+    /// there is memory for the children. Children in slots of their own stay there.
+    pub fn restart(
+        self,
+        slots: &mut Slots,
+        form: Form,
+        count: usize,
+        ledger: &mut Ledger,
+    ) -> Result<(), OutOfMemory>
+        requires in_use { IsInUse slots.old self.0 }
+        requires room { IfInUse slots.old self.0 (λ at. Room (body_occurs at.body) ledger.old) }
+        ensures restarted { OnOk result (Shows slots.new
+            (with_body (heap_of slots.old) self.0 (restarted (as_form form) count))) }
+        ensures released { OnOk result (IfInUse slots.old self.0 (λ at.
+            RoseBy (body_occurs at.body) ledger.old ledger.new)) }
+        ensures tokens { OnOk result (IfInUse slots.old self.0 (λ at. (t : ℕ) →
+            slots_occur slots.old t ≡ slots_occur slots.new t + body_occurs at.body t)) }
+        ensures slots_kept { OnErr result (slots.new ≡ slots.old) }
+        ensures ledger_kept { OnErr result (ledger.new ≡ ledger.old) }
+    {
+        let children = Children::none_yet(slots.alloc(), count)?;
+        let place = slots.place_mut(self);
+        let before = std::mem::replace(&mut place.piece, Piece::Begun(form, children));
+        release_piece(before, ledger);
+        Ok(())
     }
 
     /// Puts a value at the child to which this step leads, which isn't there yet and is in no slot. Takes no memory.

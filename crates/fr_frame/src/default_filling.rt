@@ -1,24 +1,24 @@
 //! Filling the holes of a place by the rules of the end of deferred mode.
-ghost use Rattle.std.specs.Prelude.{◌≡◌, ◌⊎◌, ℕ, ◌<◌, length, true, None, Some, IfErr, IfOk, OnErr, OnOk};
+ghost use Rattle.std.specs.Prelude.{◌≡◌, ◌⊎◌, ℕ, ◌<◌, length, true, None, Some, IfErr, IfOk, IsSome, OnErr, OnOk};
 ghost use Rattle.fr_shape.specs.Checked.{IsChecked};
-ghost use Rattle.fr_shape.specs.Look.{def_of};
+ghost use Rattle.fr_shape.specs.Look.{def_of, field_at};
 ghost use Rattle.fr_shape.specs.declared.error.ReflectErrorKind.{ReflectErrorKind as Kind};
 ghost use Rattle.fr_model.specs.Complete.{hole_takes};
 ghost use Rattle.fr_model.specs.Failing.{first_unmet};
 ghost use Rattle.fr_model.specs.Places.{child_count, deferred_column};
 ghost use Rattle.fr_model.specs.Tree.{as_struct, holes};
 ghost use Rattle.fr_model.specs.Well.{IsFullAs};
-ghost use Rattle.fr_frame.specs.Bodies.{body_occurs, entered_body, trees_of, AreUnplaced, IsClosed};
+ghost use Rattle.fr_frame.specs.Bodies.{as_fields, body_occurs, entered_body, trees_of, AreUnplaced, IsClosed};
 ghost use Rattle.fr_frame.specs.Cells.{cells_occur, values_of};
 ghost use Rattle.fr_frame.specs.Completing.{shape_of, takes_template, IsFull, IsPlanFor};
 ghost use Rattle.fr_frame.specs.Defaults.{defaulted, defaulted_cells, defaulted_struct, unmet};
-ghost use Rattle.fr_frame.specs.FieldDefaults.{defaulted_nth, NamesField};
+ghost use Rattle.fr_frame.specs.FieldDefaults.{defaulted_nth};
 ghost use Rattle.fr_frame.specs.Heap.{body_of};
 
 use crate::children::Children;
 use crate::field_defaults::{copy_default, test_child_mark};
 use crate::field_plans::plans_of_fields;
-use crate::places::{Form, Piece};
+use crate::places::{Form, Parts, Piece};
 use fr_plan::{FieldPlan, NodeId, TypePlanCore};
 use fr_shape::{Def, OutOfMemory, ReflectErrorKind, ShapeTable, Value, clone_template};
 use std::alloc::Global;
@@ -28,19 +28,20 @@ fn test_marks(
     table: &ShapeTable,
     plan: &TypePlanCore,
     node: NodeId,
+    selected: Option<u32>,
     children: &Children,
 ) -> Result<(), ReflectErrorKind>
     requires checked { IsChecked table.now }
     requires planned { IsPlanFor table.now plan.now }
     requires inside { node.0 < length plan.now.nodes }
-    requires full { IsFullAs (def_of table.now (shape_of plan.now node)) as_struct
+    requires full { IsFullAs (def_of table.now (shape_of plan.now node)) (as_fields selected)
         (length children.now) }
-    ensures passing { OnOk result (first_unmet table.now (shape_of plan.now node) as_struct 0
-        (trees_of children.now) ≡ None) }
-    ensures failing { IfErr result (λ kind. first_unmet table.now (shape_of plan.now node) as_struct
-        0 (trees_of children.now) ≡ Some kind) }
+    ensures passing { OnOk result (first_unmet table.now (shape_of plan.now node)
+        (as_fields selected) 0 (trees_of children.now) ≡ None) }
+    ensures failing { IfErr result (λ kind. first_unmet table.now (shape_of plan.now node)
+        (as_fields selected) 0 (trees_of children.now) ≡ Some kind) }
 {
-    let told = plans_of_fields(table, plan, node);
+    let told = plans_of_fields(table, plan, node, selected);
     for i in 0..told.len() {
         test_child_mark(table, &told[i], children.value(i))?;
     }
@@ -56,12 +57,12 @@ fn fill_hole(
     children: &mut Children,
 ) -> Result<(), OutOfMemory>
     requires checked { IsChecked table.now }
-    requires named { NamesField table.now told.now.field }
+    requires named { IsSome (field_at table.now told.now.field) }
     requires inside { i < length children.old }
     requires closed { AreUnplaced children.old }
     ensures filled { OnOk result (children.new ≡ defaulted_nth
-        (hole_takes deferred_column table.now told.now.field.shape.0 as_struct told.now.field.index)
-        i children.old) }
+        (hole_takes deferred_column table.now told.now.field.shape.0
+        (as_fields told.now.field.variant) told.now.field.index) i children.old) }
     ensures refused { OnErr result (children.new ≡ children.old) }
 {
     if children.value(i).is_some() {
@@ -79,20 +80,21 @@ fn fill_holes(
     table: &ShapeTable,
     plan: &TypePlanCore,
     node: NodeId,
+    selected: Option<u32>,
     children: &mut Children,
 ) -> Result<(), OutOfMemory>
     requires checked { IsChecked table.now }
     requires planned { IsPlanFor table.now plan.now }
     requires inside { node.0 < length plan.now.nodes }
-    requires full { IsFullAs (def_of table.now (shape_of plan.now node)) as_struct
+    requires full { IsFullAs (def_of table.now (shape_of plan.now node)) (as_fields selected)
         (length children.old) }
     requires closed { AreUnplaced children.old }
     ensures filled { OnOk result (children.new
-        ≡ defaulted_cells table.now (shape_of plan.now node) as_struct 0 children.old) }
+        ≡ defaulted_cells table.now (shape_of plan.now node) (as_fields selected) 0 children.old) }
     ensures tokens { (t : ℕ) → cells_occur children.new t ≡ cells_occur children.old t }
     ensures closed { AreUnplaced children.new }
 {
-    let told = plans_of_fields(table, plan, node);
+    let told = plans_of_fields(table, plan, node, selected);
     for i in 0..told.len() {
         fill_hole(alloc, table, &told[i], i, children)?;
     }
@@ -106,22 +108,23 @@ fn default_fields(
     table: &ShapeTable,
     plan: &TypePlanCore,
     node: NodeId,
+    selected: Option<u32>,
     children: &mut Children,
 ) -> Result<(), ReflectErrorKind>
     requires checked { IsChecked table.now }
     requires planned { IsPlanFor table.now plan.now }
     requires inside { node.0 < length plan.now.nodes }
-    requires full { IsFullAs (def_of table.now (shape_of plan.now node)) as_struct
+    requires full { IsFullAs (def_of table.now (shape_of plan.now node)) (as_fields selected)
         (length children.old) }
     requires closed { AreUnplaced children.old }
     ensures filled { OnOk result (children.new
-        ≡ defaulted_cells table.now (shape_of plan.now node) as_struct 0 children.old) }
-    ensures met { OnOk result (first_unmet table.now (shape_of plan.now node) as_struct 0
-        (trees_of children.old) ≡ None) }
+        ≡ defaulted_cells table.now (shape_of plan.now node) (as_fields selected) 0 children.old) }
+    ensures met { OnOk result (first_unmet table.now (shape_of plan.now node)
+        (as_fields selected) 0 (trees_of children.old) ≡ None) }
     ensures why { IfErr result (λ kind.
         ((kind ≡ Kind.OutOfMemory) × (values_of children.old ≡ None))
-        ⊎ (first_unmet table.now (shape_of plan.now node) as_struct 0 (trees_of children.old)
-        ≡ Some kind)) }
+        ⊎ (first_unmet table.now (shape_of plan.now node) (as_fields selected) 0
+        (trees_of children.old) ≡ Some kind)) }
     ensures unchanged { IfErr result (λ kind. (kind ≡ Kind.OutOfMemory)
         ⊎ (children.new ≡ children.old)) }
     ensures tokens { (t : ℕ) → cells_occur children.new t ≡ cells_occur children.old t }
@@ -130,8 +133,8 @@ fn default_fields(
     if children.are_all_there() {
         return Ok(());
     }
-    test_marks(table, plan, node, children)?;
-    match fill_holes(alloc, table, plan, node, children) {
+    test_marks(table, plan, node, selected, children)?;
+    match fill_holes(alloc, table, plan, node, selected, children) {
         Ok(()) => Ok(()),
         Err(OutOfMemory) => Err(ReflectErrorKind::OutOfMemory),
     }
@@ -160,7 +163,7 @@ fn default_of_holes(
     let Ok(mut children) = Children::none_yet(alloc, count) else {
         return Err(ReflectErrorKind::OutOfMemory);
     };
-    default_fields(alloc, table, plan, node, &mut children)?;
+    default_fields(alloc, table, plan, node, None, &mut children)?;
     Ok(Piece::Begun(Form::Struct, children))
 }
 
@@ -233,9 +236,9 @@ pub(crate) fn default_piece(
             Ok(())
         }
         Piece::Whole(_) => Ok(()),
-        Piece::Begun(form, children) => match *form {
-            Form::Struct => default_fields(alloc, table, plan, node, children),
-            Form::Array => Ok(()),
+        Piece::Begun(form, children) => match form.parts() {
+            Parts::Fields(selected) => default_fields(alloc, table, plan, node, selected, children),
+            Parts::Others => Ok(()),
         },
     }
 }

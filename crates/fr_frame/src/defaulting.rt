@@ -82,8 +82,8 @@ impl SlotId {
         }
     }
 
-    /// Runs the validators of the fields of a begun struct whose children are all there, in index order. Any other place, be it
-    /// entered, whole or an array, has none to run, and passes. Only what is said of a value that fails takes memory.
+    /// Runs the validators of the fields of a begun struct or variant whose children are all there, in index order. Any other place,
+    /// be it entered, whole, an array, or begun around one child, has none to run, and passes. Only what is said of a value that fails takes memory.
     pub fn run_validators<H: Hooks>(
         self,
         slots: &Slots,

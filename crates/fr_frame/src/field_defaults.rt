@@ -1,13 +1,14 @@
-//! What the holes of a struct take by the rules of the end of deferred mode, field by field.
-ghost use Rattle.std.specs.Prelude.{◌≡◌, None, Some, IfErr, IfOk, OnOk};
+//! What the holes of a struct or of a variant take by the rules of the end of deferred mode, field by field.
+ghost use Rattle.std.specs.Prelude.{◌≡◌, None, Some, IfErr, IfOk, IsSome, OnOk};
 ghost use Rattle.std.specs.Option.{option_copied, option_map};
 ghost use Rattle.fr_shape.specs.Checked.{IsChecked};
+ghost use Rattle.fr_shape.specs.Look.{field_at};
 ghost use Rattle.fr_shape.specs.View.{view};
 ghost use Rattle.fr_model.specs.Complete.{hole_takes};
 ghost use Rattle.fr_model.specs.Failing.{unmet_mark};
 ghost use Rattle.fr_model.specs.Places.{deferred_column};
-ghost use Rattle.fr_model.specs.Tree.{as_struct};
-ghost use Rattle.fr_frame.specs.FieldDefaults.{unmet_child, NamesField};
+ghost use Rattle.fr_frame.specs.Bodies.{as_fields};
+ghost use Rattle.fr_frame.specs.FieldDefaults.{unmet_child};
 
 use fr_plan::FieldPlan;
 use fr_rules::{DeferredFill, deferred_fill};
@@ -18,9 +19,9 @@ use std::alloc::Global;
 
 /// The template that a field's hole takes, if it takes any.
 fn default_of(table: &ShapeTable, meant: FieldRef) -> Option<&Template>
-    requires named { NamesField table.now meant }
+    requires named { IsSome (field_at table.now meant) }
     ensures { option_copied result
-        ≡ hole_takes deferred_column table.now meant.shape.0 as_struct meant.index }
+        ≡ hole_takes deferred_column table.now meant.shape.0 (as_fields meant.variant) meant.index }
 {
     match deferred_fill(table, meant) {
         DeferredFill::Template(default) => default.template(table),
@@ -35,9 +36,9 @@ pub(crate) fn copy_default(
     meant: FieldRef,
 ) -> Result<Option<Value>, OutOfMemory>
     requires checked { IsChecked table.now }
-    requires named { NamesField table.now meant }
+    requires named { IsSome (field_at table.now meant) }
     ensures { IfOk result (λ copy. option_map view copy
-        ≡ hole_takes deferred_column table.now meant.shape.0 as_struct meant.index) }
+        ≡ hole_takes deferred_column table.now meant.shape.0 (as_fields meant.variant) meant.index) }
 {
     match default_of(table, meant) {
         Some(template) => Ok(Some(clone_template(alloc, template.value())?)),
@@ -47,11 +48,11 @@ pub(crate) fn copy_default(
 
 /// Tests that a field isn't marked to take a default that there isn't.
 fn test_mark(table: &ShapeTable, meant: FieldRef) -> Result<(), ReflectErrorKind>
-    requires named { NamesField table.now meant }
+    requires named { IsSome (field_at table.now meant) }
     ensures passing { OnOk result
-        (unmet_mark table.now meant.shape.0 as_struct meant.index ≡ None) }
+        (unmet_mark table.now meant.shape.0 (as_fields meant.variant) meant.index ≡ None) }
     ensures failing { IfErr result (λ kind.
-        unmet_mark table.now meant.shape.0 as_struct meant.index ≡ Some kind) }
+        unmet_mark table.now meant.shape.0 (as_fields meant.variant) meant.index ≡ Some kind) }
 {
     let Some(field) = table.field(meant) else {
         unreachable!()
@@ -70,11 +71,11 @@ pub(crate) fn test_child_mark(
     told: &FieldPlan,
     own: Option<&Value>,
 ) -> Result<(), ReflectErrorKind>
-    requires named { NamesField table.now told.now.field }
+    requires named { IsSome (field_at table.now told.now.field) }
     ensures passing { OnOk result (unmet_child table.now told.now.field.shape.0
-        as_struct told.now.field.index (option_map view (option_copied own.entry)) ≡ None) }
+        (as_fields told.now.field.variant) told.now.field.index (option_map view (option_copied own.entry)) ≡ None) }
     ensures failing { IfErr result (λ kind. unmet_child table.now told.now.field.shape.0
-        as_struct told.now.field.index (option_map view (option_copied own.entry)) ≡ Some kind) }
+        (as_fields told.now.field.variant) told.now.field.index (option_map view (option_copied own.entry)) ≡ Some kind) }
 {
     match own {
         Some(_) => Ok(()),

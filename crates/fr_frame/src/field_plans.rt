@@ -1,5 +1,5 @@
-//! What a plan says of the fields of a struct: what each takes where it is a hole, and its validators.
-ghost use Rattle.std.specs.Prelude.{◌≡◌, ◌<◌, length, None, Some, IfOk};
+//! What a plan says of the fields of a struct or of a variant: what each takes where it is a hole, and its validators.
+ghost use Rattle.std.specs.Prelude.{◌≡◌, ◌<◌, ℕ, length, slice_get, None, Some, IfOk};
 ghost use Rattle.std.specs.Option.{option_copied};
 ghost use Rattle.fr_shape.specs.Checked.{IsChecked};
 ghost use Rattle.fr_shape.specs.Look.{Table, def_of};
@@ -7,23 +7,23 @@ ghost use Rattle.fr_shape.specs.View.{view};
 ghost use Rattle.fr_plan.specs.Fields.{has_validators};
 ghost use Rattle.fr_rules.specs.FillRules.{fill_told};
 ghost use Rattle.fr_frame.specs.Completing.{shape_of, IsPlanFor};
+ghost use Rattle.fr_frame.specs.FieldDefaults.{HasValidators, IsPlanned};
 ghost use Rattle.fr_frame.specs.Filling.{AreTold, IsLightFill};
 
-use fr_plan::{FieldPlan, NodeId, TypePlanCore, law_plan_complete, law_plan_lookups};
+use fr_plan::{
+    FieldPlan, NodeId, TypePlanCore, VariantPlanMeta, law_plan_complete, law_plan_lookups,
+};
 use fr_rules::FillRule;
 use fr_shape::{OutOfMemory, ShapeTable, Template, Value, clone_template};
 use std::alloc::Global;
 
 /// The plans of the fields of a struct, in order. Of any other shape there are none.
-pub(crate) fn plans_of_fields<'a>(
-    table: &ShapeTable,
-    plan: &'a TypePlanCore,
-    node: NodeId,
-) -> &'a [FieldPlan]
-    requires checked { IsChecked table.now }
-    requires planned { IsPlanFor table.now plan.now }
-    requires inside { node.0 < length plan.now.nodes }
-    ensures { AreTold table.now plan.now (shape_of plan.now node) result.now }
+fn plans_of_struct(plan: &TypePlanCore, node: NodeId) -> &[FieldPlan]
+    requires { IsPlanned plan.now node }
+    ensures told { (table : Table) → IsChecked table → IsPlanFor table plan.now
+        → node.0 < length plan.now.nodes
+        → AreTold table plan.now (shape_of plan.now node) None result.now }
+    ensures validators { (i : ℕ) → HasValidators plan.now (slice_get result.now i) }
 {
     law_plan_lookups();
     match plan.struct_plan_by_id(node) {
@@ -32,14 +32,69 @@ pub(crate) fn plans_of_fields<'a>(
     }
 }
 
-/// Whether a field of the struct that a node builds has a validator. No field is looked at.
-pub(crate) fn has_validators(plan: &TypePlanCore, node: NodeId) -> bool
+/// What is told of the variant of this number, if there is one.
+fn told_at(variants: &[VariantPlanMeta], i: usize) -> Option<&VariantPlanMeta>
+    ensures { option_copied result ≡ slice_get variants.now i }
+{
+    variants.get(i)
+}
+
+/// The plans of the fields of an enum's variant, in order. Where there is no such variant there are none.
+fn plans_of_variant(plan: &TypePlanCore, node: NodeId, variant: u32) -> &[FieldPlan]
+    requires { IsPlanned plan.now node }
+    ensures told { (table : Table) → IsChecked table → IsPlanFor table plan.now
+        → node.0 < length plan.now.nodes
+        → AreTold table plan.now (shape_of plan.now node) (Some variant) result.now }
+    ensures validators { (i : ℕ) → HasValidators plan.now (slice_get result.now i) }
+{
+    law_plan_lookups();
+    let Some(described) = plan.enum_plan_by_id(node) else {
+        return &[];
+    };
+    match told_at(plan.variants(described.variants), variant as usize) {
+        Some(selected) => plan.fields(selected.fields),
+        None => &[],
+    }
+}
+
+/// The plans of the fields of a struct, or of the variant that is selected, in order. The plan says the same whichever table it is a
+/// plan of.
+pub(crate) fn fields_told(plan: &TypePlanCore, node: NodeId, selected: Option<u32>) -> &[FieldPlan]
+    requires { IsPlanned plan.now node }
+    ensures told { (table : Table) → IsChecked table → IsPlanFor table plan.now
+        → node.0 < length plan.now.nodes
+        → AreTold table plan.now (shape_of plan.now node) selected result.now }
+    ensures validators { (i : ℕ) → HasValidators plan.now (slice_get result.now i) }
+{
+    match selected {
+        None => plans_of_struct(plan, node),
+        Some(variant) => plans_of_variant(plan, node, variant),
+    }
+}
+
+/// The same, of the table at hand.
+pub(crate) fn plans_of_fields<'a>(
+    table: &ShapeTable,
+    plan: &'a TypePlanCore,
+    node: NodeId,
+    selected: Option<u32>,
+) -> &'a [FieldPlan]
+    requires checked { IsChecked table.now }
+    requires planned { IsPlanFor table.now plan.now }
+    requires inside { node.0 < length plan.now.nodes }
+    ensures { AreTold table.now plan.now (shape_of plan.now node) selected result.now }
+{
+    fields_told(plan, node, selected)
+}
+
+/// Whether a field of the struct that a node builds, or of the variant that is selected, has a validator. No field is looked at.
+pub(crate) fn has_validators(plan: &TypePlanCore, node: NodeId, selected: Option<u32>) -> bool
     requires { node.0 < length plan.now.nodes }
     ensures { (table : Table) → IsChecked table → IsPlanFor table plan.now
-        → result ≡ has_validators (def_of table (shape_of plan.now node)) None }
+        → result ≡ has_validators (def_of table (shape_of plan.now node)) selected }
 {
     law_plan_complete();
-    plan.has_validators(plan.node(node).shape, None)
+    plan.has_validators(plan.node(node).shape, selected)
 }
 
 /// The template that a hole takes by its field's rule, if any.

@@ -1,43 +1,46 @@
 //! Filling the holes of a place with copies of their templates.
-ghost use Rattle.std.specs.Prelude.{◌≡◌, ℕ, ◌<◌, length, None, IfOk, IsSome, OnErr, OnOk};
+ghost use Rattle.std.specs.Prelude.{◌≡◌, ℕ, ◌<◌, length, false, None, IfOk, IsSome, OnErr, OnOk};
 ghost use Rattle.fr_shape.specs.Checked.{IsChecked};
 ghost use Rattle.fr_shape.specs.Look.{def_of};
-ghost use Rattle.fr_model.specs.Tree.{as_struct};
 ghost use Rattle.fr_model.specs.Well.{IsFullAs};
-ghost use Rattle.fr_frame.specs.Bodies.{body_occurs, value_of, AreUnplaced, IsClosed};
+ghost use Rattle.fr_frame.specs.Bodies.{as_fields, body_occurs, takes_box, value_of, AreUnplaced, IsClosed};
 ghost use Rattle.fr_frame.specs.Cells.{cells_occur, values_of};
 ghost use Rattle.fr_frame.specs.Completing.{shape_of, IsFull, IsPlanFor};
+ghost use Rattle.fr_frame.specs.Defaults.{KeepsForm};
 ghost use Rattle.fr_frame.specs.Filling.{filled, filled_body, filled_entered};
 ghost use Rattle.fr_frame.specs.Heap.{body_of};
 
 use crate::children::Children;
 use crate::field_plans::{copy_fill, plans_of_fields};
-use crate::places::{Form, Piece};
+use crate::places::{Form, Parts, Piece};
 use fr_plan::{NodeId, TypePlanCore};
 use fr_shape::{Def, OutOfMemory, ShapeTable, Value, clone_template};
 use std::alloc::Global;
 
-/// Puts a copy of its template at each field that isn't there. Only these need memory.
+/// Puts a copy of its template at each field that isn't there, of a struct or of the variant that is selected. Only these need
+/// memory.
 fn fill_holes(
     alloc: Global,
     table: &ShapeTable,
     plan: &TypePlanCore,
     node: NodeId,
+    selected: Option<u32>,
     children: &mut Children,
 ) -> Result<(), OutOfMemory>
     requires checked { IsChecked table.now }
     requires planned { IsPlanFor table.now plan.now }
     requires inside { node.0 < length plan.now.nodes }
-    requires full { IsFullAs (def_of table.now (shape_of plan.now node)) as_struct
+    requires full { IsFullAs (def_of table.now (shape_of plan.now node)) (as_fields selected)
         (length children.old) }
-    requires fills { IsSome (filled table.now (shape_of plan.now node) as_struct 0 children.old) }
+    requires fills { IsSome
+        (filled table.now (shape_of plan.now node) (as_fields selected) 0 children.old) }
     ensures filled { OnOk result (values_of children.new
-        ≡ filled table.now (shape_of plan.now node) as_struct 0 children.old) }
+        ≡ filled table.now (shape_of plan.now node) (as_fields selected) 0 children.old) }
     ensures tokens { (t : ℕ) → cells_occur children.new t ≡ cells_occur children.old t }
     ensures count { length children.new ≡ length children.old }
     ensures closed { AreUnplaced children.old → AreUnplaced children.new }
 {
-    let told = plans_of_fields(table, plan, node);
+    let told = plans_of_fields(table, plan, node, selected);
     for i in 0..told.len() {
         if children.value(i).is_none() {
             let copy = copy_fill(alloc, table, told[i].fill_rule)?;
@@ -60,6 +63,7 @@ fn made_of_entered(
     requires fills { IsSome (filled_entered table.now (shape_of plan.now node)) }
     ensures filled { IfOk result (λ made. value_of (body_of made)
         ≡ filled_entered table.now (shape_of plan.now node)) }
+    ensures boxless { IfOk result (λ made. takes_box (body_of made) ≡ false) }
     ensures tokens { IfOk result (λ made. (t : ℕ) → body_occurs (body_of made) t ≡ 0) }
     ensures full { IfOk result (λ made.
         IsFull table.now (shape_of plan.now node) (body_of made)) }
@@ -75,7 +79,7 @@ fn made_of_entered(
         }
         (Def::Struct(described), None) => {
             let mut children = Children::none_yet(alloc, described.fields.len())?;
-            fill_holes(alloc, table, plan, node, &mut children)?;
+            fill_holes(alloc, table, plan, node, None, &mut children)?;
             Ok(Piece::Begun(Form::Struct, children))
         }
         (Def::Option(_), None) => unreachable!(),
@@ -101,6 +105,7 @@ pub(crate) fn fill(
     requires fills { IsSome (filled_body table.now (shape_of plan.now node) (body_of piece.old)) }
     ensures filled { OnOk result (value_of (body_of piece.new)
         ≡ filled_body table.now (shape_of plan.now node) (body_of piece.old)) }
+    ensures form { OnOk result (KeepsForm (body_of piece.old) (body_of piece.new)) }
     ensures tokens { (t : ℕ) →
         body_occurs (body_of piece.new) t ≡ body_occurs (body_of piece.old) t }
     ensures full { IsFull table.now (shape_of plan.now node) (body_of piece.new) }
@@ -113,10 +118,10 @@ pub(crate) fn fill(
             Ok(())
         }
         Piece::Whole(_) => Ok(()),
-        Piece::Begun(form, children) => match *form {
-            Form::Struct if children.are_all_there() => Ok(()),
-            Form::Struct => fill_holes(alloc, table, plan, node, children),
-            Form::Array => Ok(()),
+        Piece::Begun(form, children) => match form.parts() {
+            Parts::Fields(_) if children.are_all_there() => Ok(()),
+            Parts::Fields(selected) => fill_holes(alloc, table, plan, node, selected, children),
+            Parts::Others => Ok(()),
         },
     }
 }

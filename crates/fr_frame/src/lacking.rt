@@ -10,7 +10,7 @@ ghost use Rattle.fr_model.specs.Complete.{lack, lack_among, lack_of_entered, lac
 ghost use Rattle.fr_model.specs.Places.{child_count};
 ghost use Rattle.fr_model.specs.Tree.{as_struct};
 ghost use Rattle.fr_model.specs.Well.{IsFullAs};
-ghost use Rattle.fr_frame.specs.Bodies.{own_tree, trees_of};
+ghost use Rattle.fr_frame.specs.Bodies.{as_fields, own_tree, trees_of};
 ghost use Rattle.fr_frame.specs.Cells.{values_of};
 ghost use Rattle.fr_frame.specs.Completing.{shape_of, IsFull, IsPlanFor};
 ghost use Rattle.fr_frame.specs.Filling.{first_refused, lack_of_child, IsCauseOf, IsTold};
@@ -18,7 +18,7 @@ ghost use Rattle.fr_frame.specs.Heap.{body_of};
 
 use crate::children::Children;
 use crate::field_plans::{fill_of, has_validators, plans_of_fields};
-use crate::places::{Form, Piece};
+use crate::places::{Parts, Piece};
 use fr_plan::{FieldPlan, NodeId, TypePlanCore};
 use fr_rules::PrecomputedValidator;
 use fr_shape::{Def, FieldRef, Hooks, ReflectErrorKind, ShapeTable, Value};
@@ -61,7 +61,7 @@ fn value_for<'a>(
     }
 }
 
-/// Tests a struct's field, of which this is the value, if it is there: there has to be one, and it
+/// Tests a field of a struct or of a variant, of which this is the value, if it is there: there has to be one, and it
 /// has to be valid.
 fn test_field<H: Hooks>(
     alloc: Global,
@@ -71,13 +71,16 @@ fn test_field<H: Hooks>(
     told: &FieldPlan,
     own: Option<&Value>,
 ) -> Result<(), ReflectErrorKind>
-    requires told { IsTold table.now plan.now told.now.field.shape.0 told.now.field.index told.now }
+    requires told { IsTold table.now plan.now told.now.field.shape.0 told.now.field.variant
+        told.now.field.index told.now }
     ensures passing { OnOk result
-        (lack_of_child (H.means hooks.now) table.now told.now.field.shape.0 as_struct
-        told.now.field.index (option_map view (option_copied own.entry)) ≡ None) }
+        (lack_of_child (H.means hooks.now) table.now told.now.field.shape.0
+        (as_fields told.now.field.variant) told.now.field.index
+        (option_map view (option_copied own.entry)) ≡ None) }
     ensures failing { IfErr result (IsCauseOf
-        (lack_of_child (H.means hooks.now) table.now told.now.field.shape.0 as_struct
-        told.now.field.index (option_map view (option_copied own.entry)))) }
+        (lack_of_child (H.means hooks.now) table.now told.now.field.shape.0
+        (as_fields told.now.field.variant) told.now.field.index
+        (option_map view (option_copied own.entry)))) }
 {
     let Some(value) = value_for(table, told, own) else {
         return Err(ReflectErrorKind::UninitializedField { field: told.field });
@@ -111,38 +114,39 @@ fn test_holes<H: Hooks>(
         (lack_of_holes (H.means hooks.now) table.now (shape_of plan.now node) as_struct
         (child_count table.now (shape_of plan.now node)) 0)) }
 {
-    let told = plans_of_fields(table, plan, node);
+    let told = plans_of_fields(table, plan, node, None);
     for i in 0..told.len() {
         test_field(alloc, table, plan, hooks, &told[i], None)?;
     }
     Ok(())
 }
 
-/// Tests each field of a begun struct.
+/// Tests each field of a begun struct, or of the variant that is selected.
 fn test_fields<H: Hooks>(
     alloc: Global,
     table: &ShapeTable,
     plan: &TypePlanCore,
     hooks: &H,
     node: NodeId,
+    selected: Option<u32>,
     children: &Children,
 ) -> Result<(), ReflectErrorKind>
     requires checked { IsChecked table.now }
     requires planned { IsPlanFor table.now plan.now }
     requires inside { node.0 < length plan.now.nodes }
-    requires full { IsFullAs (def_of table.now (shape_of plan.now node)) as_struct
+    requires full { IsFullAs (def_of table.now (shape_of plan.now node)) (as_fields selected)
         (length children.now) }
     ensures passing { OnOk result
-        (lack_among (H.means hooks.now) table.now (shape_of plan.now node) as_struct 0
+        (lack_among (H.means hooks.now) table.now (shape_of plan.now node) (as_fields selected) 0
         (trees_of children.now) ≡ None) }
     ensures failing { IfErr result (IsCauseOf
-        (lack_among (H.means hooks.now) table.now (shape_of plan.now node) as_struct 0
+        (lack_among (H.means hooks.now) table.now (shape_of plan.now node) (as_fields selected) 0
         (trees_of children.now))) }
 {
-    if children.are_all_there() && !has_validators(plan, node) {
+    if children.are_all_there() && !has_validators(plan, node, selected) {
         return Ok(());
     }
-    let told = plans_of_fields(table, plan, node);
+    let told = plans_of_fields(table, plan, node, selected);
     for i in 0..told.len() {
         test_field(alloc, table, plan, hooks, &told[i], children.value(i))?;
     }
@@ -193,8 +197,8 @@ fn test_entered<H: Hooks>(
     }
 }
 
-/// Tests an array, each of whose elements is given or not there: all have to be there.
-pub(crate) fn test_elements(
+/// Tests a place whose children are elements, a content, a side or a pointee, each given or not there: all have to be there.
+pub(crate) fn test_others(
     plan: &TypePlanCore,
     node: NodeId,
     children: &Children,
@@ -235,9 +239,11 @@ pub(crate) fn test_piece<H: Hooks>(
     match piece {
         Piece::Entered => test_entered(alloc, table, plan, hooks, node),
         Piece::Whole(_) => Ok(()),
-        Piece::Begun(form, children) => match *form {
-            Form::Struct => test_fields(alloc, table, plan, hooks, node, children),
-            Form::Array => test_elements(plan, node, children),
+        Piece::Begun(form, children) => match form.parts() {
+            Parts::Fields(selected) => {
+                test_fields(alloc, table, plan, hooks, node, selected, children)
+            }
+            Parts::Others => test_others(plan, node, children),
         },
     }
 }

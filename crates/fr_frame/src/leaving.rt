@@ -1,9 +1,9 @@
 //! Leaving a slot: with the value of its place, or releasing what was put there.
-ghost use Rattle.std.specs.Prelude.{◌≡◌, ℕ, ◌+◌, IfOk, IsOk, IsSome, Some};
+ghost use Rattle.std.specs.Prelude.{◌≡◌, ℕ, ◌+◌, false, IfOk, IsOk, IsSome, OnErr, OnOk, Some};
 ghost use Rattle.fr_shape.specs.Released.{Room, RoseBy};
 ghost use Rattle.fr_shape.specs.Tokens.{occurs};
 ghost use Rattle.fr_shape.specs.View.{view};
-ghost use Rattle.fr_frame.specs.Bodies.{body_occurs, value_of};
+ghost use Rattle.fr_frame.specs.Bodies.{body_occurs, takes_box, value_of};
 ghost use Rattle.fr_frame.specs.Changes.{IfInUse, IsInUse, Shows};
 ghost use Rattle.fr_frame.specs.Heap.{body_of, heap_of, slots_occur, without};
 
@@ -28,21 +28,27 @@ impl SlotId {
     }
 
     /// The value of a place that is whole, or begun with each child there. Its slot is then free, and its owner has it in no
-    /// slot. Takes no memory so far.
+    /// slot. A content, a side or a pointee goes into a box; where there is no memory for that, what was put at the place is
+    /// released.
     pub fn into_value(self, slots: &mut Slots, ledger: &mut Ledger) -> Result<Value, OutOfMemory>
         requires complete { IfInUse slots.old self.0 (λ at. IsSome (value_of at.body)) }
+        requires room { IfInUse slots.old self.0 (λ at. Room (body_occurs at.body) ledger.old) }
         ensures value { IfOk result (λ v.
             IfInUse slots.old self.0 (λ at. value_of at.body ≡ Some (view v))) }
-        ensures memory { IsOk result }
+        ensures memory { IfInUse slots.old self.0 (λ at. takes_box at.body ≡ false → IsOk result) }
         ensures left { IfInUse slots.old self.0 (λ at.
             Shows slots.new (without (heap_of slots.old) self.0 at.owner)) }
-        ensures tokens { IfOk result (λ v. (t : ℕ) → slots_occur slots.old t
-            ≡ slots_occur slots.new t + occurs (view v) t) }
-        ensures ledger { ledger.new ≡ ledger.old }
+        ensures tokens { IfInUse slots.old self.0 (λ at. (t : ℕ) → slots_occur slots.old t
+            ≡ slots_occur slots.new t + body_occurs at.body t) }
+        ensures same_tokens { IfOk result (λ v. IfInUse slots.old self.0 (λ at. (t : ℕ) →
+            occurs (view v) t ≡ body_occurs at.body t)) }
+        ensures ledger { OnOk result (ledger.new ≡ ledger.old) }
+        ensures released { OnErr result (IfInUse slots.old self.0 (λ at.
+            RoseBy (body_occurs at.body) ledger.old ledger.new)) }
     {
-        let _ledger = ledger;
+        let alloc = slots.alloc();
         let piece = self.leave(slots);
-        Ok(value_of(piece))
+        value_of(alloc, piece, ledger)
     }
 
     /// Records the tokens of what was put at the place as released. Its slot is then free, and its owner has it in no slot.

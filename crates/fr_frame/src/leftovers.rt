@@ -2,42 +2,42 @@
 ghost use Rattle.std.specs.Prelude.{◌≡◌, ◌<◌, length, None, Some, IfErr, OnOk};
 ghost use Rattle.fr_shape.specs.Checked.{IsChecked};
 ghost use Rattle.fr_shape.specs.Look.{def_of};
-ghost use Rattle.fr_model.specs.Tree.{as_struct};
 ghost use Rattle.fr_model.specs.Well.{IsFullAs};
-ghost use Rattle.fr_frame.specs.Bodies.{AreUnplaced, IsClosed};
+ghost use Rattle.fr_frame.specs.Bodies.{as_fields, AreUnplaced, IsClosed};
 ghost use Rattle.fr_frame.specs.Completing.{shape_of, IsFull, IsPlanFor};
 ghost use Rattle.fr_frame.specs.Defaults.{first_absent, left_out};
 ghost use Rattle.fr_frame.specs.Heap.{body_of};
 
 use crate::children::Children;
 use crate::field_plans::plans_of_fields;
-use crate::lacking::test_elements;
-use crate::places::{Form, Piece};
+use crate::lacking::test_others;
+use crate::places::{Parts, Piece};
 use fr_plan::{NodeId, TypePlanCore};
 use fr_shape::{ReflectErrorKind, ShapeTable};
 
-/// Tests that each field of a struct is there.
+/// Tests that each field of a struct, or of the variant that is selected, is there.
 fn test_fields_there(
     table: &ShapeTable,
     plan: &TypePlanCore,
     node: NodeId,
+    selected: Option<u32>,
     children: &Children,
 ) -> Result<(), ReflectErrorKind>
     requires checked { IsChecked table.now }
     requires planned { IsPlanFor table.now plan.now }
     requires inside { node.0 < length plan.now.nodes }
-    requires full { IsFullAs (def_of table.now (shape_of plan.now node)) as_struct
+    requires full { IsFullAs (def_of table.now (shape_of plan.now node)) (as_fields selected)
         (length children.now) }
     requires closed { AreUnplaced children.now }
     ensures passing { OnOk result
-        (first_absent (shape_of plan.now node) as_struct 0 children.now ≡ None) }
+        (first_absent (shape_of plan.now node) (as_fields selected) 0 children.now ≡ None) }
     ensures failing { IfErr result (λ kind.
-        first_absent (shape_of plan.now node) as_struct 0 children.now ≡ Some kind) }
+        first_absent (shape_of plan.now node) (as_fields selected) 0 children.now ≡ Some kind) }
 {
     if children.are_all_there() {
         return Ok(());
     }
-    let told = plans_of_fields(table, plan, node);
+    let told = plans_of_fields(table, plan, node, selected);
     for i in 0..told.len() {
         if children.value(i).is_none() {
             return Err(ReflectErrorKind::UninitializedField {
@@ -70,9 +70,9 @@ pub(crate) fn test_full(
             shape: plan.node(node).shape,
         }),
         Piece::Whole(_) => Ok(()),
-        Piece::Begun(form, children) => match *form {
-            Form::Struct => test_fields_there(table, plan, node, children),
-            Form::Array => test_elements(plan, node, children),
+        Piece::Begun(form, children) => match form.parts() {
+            Parts::Fields(selected) => test_fields_there(table, plan, node, selected, children),
+            Parts::Others => test_others(plan, node, children),
         },
     }
 }

@@ -1,14 +1,16 @@
 //! What is put at one place, by itself.
-ghost use Rattle.std.specs.Prelude.{◌≡◌, ℕ, ◌+◌, ◌<◌, length, slice_get, Some, IfOk, IfErr, IfSome, IsSome, OnErr, OnOk};
+ghost use Rattle.std.specs.Prelude.{◌≡◌, ℕ, ◌+◌, ◌<◌, length, slice_get, Some, true, false, IfOk, IfErr, IfSome, IsOk, IsSome, OnErr, OnOk};
 ghost use Rattle.std.specs.Option.{option_map, option_and_then};
 ghost use Rattle.fr_shape.specs.Fills.{is_empty_struct};
 ghost use Rattle.fr_shape.specs.Look.{def_of};
 ghost use Rattle.fr_shape.specs.Released.{Room, RoseBy};
 ghost use Rattle.fr_shape.specs.Tokens.{occurs};
-ghost use Rattle.fr_shape.specs.Val.{Val, product};
+ghost use Rattle.fr_shape.specs.Val.{Val, product, first, no_vals};
 ghost use Rattle.fr_shape.specs.View.{view, vals_view};
+ghost use Rattle.fr_model.specs.Complete.{value_as};
+ghost use Rattle.fr_model.specs.Contents.{content_of};
 ghost use Rattle.fr_model.specs.Places.{parts_of};
-ghost use Rattle.fr_frame.specs.Bodies.{begun_body, body_occurs, cell_at, cells_of_vals, child_number, fresh_body, linked, opened, unlinked, value_of, whole_body, with_cell, MayOpen};
+ghost use Rattle.fr_frame.specs.Bodies.{begun_body, body_occurs, cell_at, cells_of_vals, child_number, fresh_body, is_around, linked, opened, opened_some, takes_box, unlinked, value_of, whole_body, with_cell, HoldsSome, MayOpen};
 ghost use Rattle.fr_frame.specs.Cells.{absent, given, cells_occur, held_value, slot_of_cell, value_occurs};
 ghost use Rattle.fr_frame.specs.Heap.{as_form, body_of};
 ghost use Rattle.fr_frame.specs.declared.places.SlotId.{SlotId as Number};
@@ -23,23 +25,31 @@ use std::alloc::Global;
 fn child_number(form: Form, step: &PathStep) -> Option<usize>
     ensures { result ≡ child_number (as_form form) step.now }
 {
-    match (form, step) {
-        (Form::Struct, PathStep::Field(i)) => Some(*i as usize),
-        (Form::Array, PathStep::Index(i)) => Some(*i as usize),
-        (Form::Struct, PathStep::Index(_)) | (Form::Array, PathStep::Field(_)) => None,
-        (
-            Form::Struct | Form::Array,
-            PathStep::Deref
-            | PathStep::Inner
-            | PathStep::OptionSome
-            | PathStep::Proxy
-            | PathStep::MapKey(_)
-            | PathStep::MapValue(_)
-            | PathStep::ResultOk
-            | PathStep::ResultErr
-            | PathStep::SetItem
-            | PathStep::Entry(_),
-        ) => None,
+    match form {
+        Form::Struct | Form::Variant(_) => match step {
+            PathStep::Field(i) => Some(*i as usize),
+            _ => None,
+        },
+        Form::Array => match step {
+            PathStep::Index(i) => Some(*i as usize),
+            _ => None,
+        },
+        Form::Some => match step {
+            PathStep::OptionSome => Some(0),
+            _ => None,
+        },
+        Form::Ok => match step {
+            PathStep::ResultOk => Some(0),
+            _ => None,
+        },
+        Form::Err => match step {
+            PathStep::ResultErr => Some(0),
+            _ => None,
+        },
+        Form::Pointer => match step {
+            PathStep::Deref => Some(0),
+            _ => None,
+        },
     }
 }
 
@@ -185,6 +195,43 @@ pub(crate) fn open(
     }
 }
 
+/// Takes the content out of a whole `Some`. Takes no memory.
+fn content_of(value: Value) -> Value
+    requires { IsSome (content_of (view value)) }
+    ensures { content_of (view value) ≡ Some (view result) }
+{
+    match value {
+        Value::Some(held) => Box::into_inner(held),
+        _ => unreachable!(),
+    }
+}
+
+/// The value of a place that is whole.
+fn held_in(piece: Piece) -> Value
+    requires { HoldsSome (body_of piece) }
+    ensures { body_of piece ≡ whole_body (view result) }
+{
+    match piece {
+        Piece::Whole(value) => value,
+        Piece::Entered | Piece::Begun(..) => unreachable!(),
+    }
+}
+
+/// Begins a whole `Some` in its stead, around its content. It stays as it was where there is no memory for that.
+pub(crate) fn open_some(alloc: Global, piece: &mut Piece) -> Result<(), OutOfMemory>
+    requires { HoldsSome (body_of piece.old) }
+    ensures opened { OnOk result (body_of piece.new ≡ opened_some (body_of piece.old)) }
+    ensures refused { OnErr result (body_of piece.new ≡ body_of piece.old) }
+    ensures tokens { (t : ℕ) →
+        body_occurs (body_of piece.new) t ≡ body_occurs (body_of piece.old) t }
+{
+    let mut children = Children::none_yet(alloc, 1)?;
+    let value = held_in(std::mem::replace(piece, Piece::Entered));
+    children.put(0, content_of(value));
+    *piece = Piece::Begun(Form::Some, children);
+    Ok(())
+}
+
 /// Whether a shape is a struct without fields.
 fn is_empty_struct(table: &ShapeTable, shape: ShapeId) -> bool
     ensures { result ≡ is_empty_struct (def_of table.now shape.0) }
@@ -206,21 +253,112 @@ pub(crate) fn fresh(alloc: Global, table: &ShapeTable, shape: ShapeId) -> Piece
     }
 }
 
-/// The value of a place that is whole, or begun with each child there. Takes no memory.
-pub(crate) fn value_of(piece: Piece) -> Value
-    requires { IsSome (value_of (body_of piece)) }
-    ensures { value_of (body_of piece) ≡ Some (view result) }
+/// The value that is made of those of the children of a place that is begun so, but not around one. Takes no memory.
+fn value_of_parts(form: Form, values: Vec<Value>) -> Value
+    requires { is_around (as_form form) ≡ false }
+    ensures { view result ≡ value_as (as_form form) (vals_view values.items) }
+{
+    match form {
+        Form::Struct | Form::Array => product_of(values),
+        Form::Variant(k) => Value::Variant(k, Items::from_vec(values)),
+        Form::Some | Form::Ok | Form::Err | Form::Pointer => unreachable!(),
+    }
+}
+
+/// The value that is made of that of the one child, in its box. Takes no memory.
+fn value_of_box(form: Form, held: Box<Value>) -> Value
+    requires { is_around (as_form form) ≡ true }
+    ensures { view result ≡ value_as (as_form form) (first (view held.value) no_vals) }
+{
+    match form {
+        Form::Some => Value::Some(held),
+        Form::Ok => Value::Ok(held),
+        Form::Err => Value::Err(held),
+        Form::Pointer => Value::Ptr(held),
+        Form::Struct | Form::Array | Form::Variant(_) => unreachable!(),
+    }
+}
+
+/// The only one of these.
+fn only(mut values: Vec<Value>) -> Value
+    requires { length values.items ≡ 1 }
+    ensures { vals_view values.items ≡ first (view result) no_vals }
+{
+    match values.pop() {
+        Some(value) => value,
+        None => unreachable!(),
+    }
+}
+
+/// The value of a place that is begun around one child, which is there. Where there is no memory for its box, the child's tokens
+/// are released.
+fn value_around(
+    alloc: Global,
+    form: Form,
+    children: Children,
+    ledger: &mut Ledger,
+) -> Result<Value, OutOfMemory>
+    requires around { is_around (as_form form) ≡ true }
+    requires there { IsSome (value_of (begun_body (as_form form) children)) }
+    requires room { Room (cells_occur children) ledger.old }
+    ensures value { IfOk result (λ v.
+        value_of (begun_body (as_form form) children) ≡ Some (view v)) }
+    ensures ledger { OnOk result (ledger.new ≡ ledger.old) }
+    ensures released { OnErr result (RoseBy (cells_occur children) ledger.old ledger.new) }
+{
+    let Ok(mut held) = Box::new(alloc, Value::Unit) else {
+        release_children(children, ledger);
+        return Err(OutOfMemory);
+    };
+    *held = only(children.into_values());
+    Ok(value_of_box(form, held))
+}
+
+/// The value of a place that is whole, or begun with each child there. A content, a side or a pointee goes into a box; where there
+/// is no memory for that, what was put at the place is released.
+pub(crate) fn value_of(
+    alloc: Global,
+    piece: Piece,
+    ledger: &mut Ledger,
+) -> Result<Value, OutOfMemory>
+    requires there { IsSome (value_of (body_of piece)) }
+    requires room { Room (body_occurs (body_of piece)) ledger.old }
+    ensures value { IfOk result (λ v. value_of (body_of piece) ≡ Some (view v)) }
+    ensures memory { takes_box (body_of piece) ≡ false → IsOk result }
+    ensures ledger { OnOk result (ledger.new ≡ ledger.old) }
+    ensures released { OnErr result
+        (RoseBy (body_occurs (body_of piece)) ledger.old ledger.new) }
 {
     match piece {
-        Piece::Whole(value) => value,
-        Piece::Begun(_, children) => product_of(children.into_values()),
+        Piece::Whole(value) => Ok(value),
+        Piece::Begun(form, children) => {
+            if form.is_around() {
+                value_around(alloc, form, children, ledger)
+            } else {
+                Ok(value_of_parts(form, children.into_values()))
+            }
+        }
         Piece::Entered => unreachable!(),
     }
 }
 
-/// Lets a place that is whole, or begun with each child there, be whole with its value. Takes no memory.
+/// The value of a place that is whole, or begun with each child there, but not around one. Takes no memory.
+fn unboxed_value(piece: Piece) -> Value
+    requires there { IsSome (value_of (body_of piece)) }
+    requires boxless { takes_box (body_of piece) ≡ false }
+    ensures { value_of (body_of piece) ≡ Some (view result) }
+{
+    match piece {
+        Piece::Whole(value) => value,
+        Piece::Begun(form, children) => value_of_parts(form, children.into_values()),
+        Piece::Entered => unreachable!(),
+    }
+}
+
+/// Lets a place that is whole, or begun with each child there, but not around one, be whole with its value. Takes no memory.
 pub(crate) fn make_whole(piece: &mut Piece)
-    requires { IsSome (value_of (body_of piece.old)) }
+    requires there { IsSome (value_of (body_of piece.old)) }
+    requires boxless { takes_box (body_of piece.old) ≡ false }
     ensures whole { (v : Val) → value_of (body_of piece.old) ≡ Some v
         → body_of piece.new ≡ whole_body v }
     ensures tokens { (t : ℕ) →
@@ -230,7 +368,7 @@ pub(crate) fn make_whole(piece: &mut Piece)
         return;
     }
     let before = std::mem::replace(piece, Piece::Entered);
-    *piece = Piece::Whole(value_of(before));
+    *piece = Piece::Whole(unboxed_value(before));
 }
 
 /// Records the tokens of children as released.

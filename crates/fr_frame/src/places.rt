@@ -1,6 +1,6 @@
 //! The places in slots.
 ghost use Rattle.std.specs.Borrow.{Lends, sem};
-ghost use Rattle.std.specs.Prelude.{◌≡◌, IsSome};
+ghost use Rattle.std.specs.Prelude.{◌≡◌, IsSome, Some, None};
 
 use crate::children::Children;
 use fr_arena::Idx;
@@ -35,11 +35,89 @@ pub enum FrameOwner {
     Child(SlotId, PathStep),
 }
 
-/// As what a place is begun.
+/// As what a place is begun: with the fields of a struct or of an enum's variant of this number, with the elements of an array, or
+/// around one child, which is the content of an option, of either side of a result, or what a pointer points to.
 #[derive(Clone, Copy)]
 pub enum Form {
     Struct,
     Array,
+    Variant(u32),
+    Some,
+    Ok,
+    Err,
+    Pointer,
+}
+
+/// What the children of a begun place are: the fields of a struct, or of the variant of this number, for which there are fills and
+/// validators; or something else, for which there are none.
+#[derive(Clone, Copy)]
+pub(crate) enum Parts {
+    Fields(Option<u32>),
+    Others,
+}
+
+impl Form {
+    ghost use Rattle.fr_model.specs.Paths.{step_as};
+    ghost use Rattle.fr_model.specs.Tree.{form_number, same_form};
+    ghost use Rattle.fr_frame.specs.Bodies.{is_around};
+    ghost use Rattle.fr_frame.specs.Heap.{as_form, parts_in};
+
+    /// The step to child `i` of a place that is begun so. A content, a side or a pointee is child 0.
+    pub fn step(self, i: u32) -> PathStep
+        ensures step { result ≡ step_as (as_form self) i }
+    {
+        match self {
+            Form::Struct | Form::Variant(_) => PathStep::Field(i),
+            Form::Array => PathStep::Index(i),
+            Form::Some => PathStep::OptionSome,
+            Form::Ok => PathStep::ResultOk,
+            Form::Err => PathStep::ResultErr,
+            Form::Pointer => PathStep::Deref,
+        }
+    }
+
+    /// A number for each form.
+    fn number(self) -> u64
+        ensures { result ≡ form_number (as_form self) }
+    {
+        match self {
+            Form::Struct => 0,
+            Form::Array => 1,
+            Form::Some => 2,
+            Form::Ok => 3,
+            Form::Err => 4,
+            Form::Pointer => 5,
+            Form::Variant(k) => 6 + k as u64,
+        }
+    }
+
+    /// Whether both are the same way to be begun.
+    pub fn is(self, other: Form) -> bool
+        ensures same { result ≡ same_form (as_form self) (as_form other) }
+    {
+        self.number() == other.number()
+    }
+
+    /// Whether a place that is begun so is begun around one child.
+    pub(crate) fn is_around(self) -> bool
+        ensures { result ≡ is_around (as_form self) }
+    {
+        match self {
+            Form::Struct | Form::Array | Form::Variant(_) => false,
+            Form::Some | Form::Ok | Form::Err | Form::Pointer => true,
+        }
+    }
+
+    /// What the children of a place are that is begun so.
+    pub(crate) fn parts(self) -> Parts
+        ensures { result ≡ parts_in (as_form self) }
+    {
+        match self {
+            Form::Struct => Parts::Fields(None),
+            Form::Variant(k) => Parts::Fields(Some(k)),
+            Form::Array | Form::Some | Form::Ok | Form::Err | Form::Pointer => Parts::Others,
+        }
+    }
 }
 
 /// What was put at a place so far.

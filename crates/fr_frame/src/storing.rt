@@ -1,9 +1,9 @@
 //! Places that are left half done and entered again: their mark, and the slot that a child is in.
-ghost use Rattle.std.specs.Prelude.{◌≡◌, ℕ, Some, IsSome};
+ghost use Rattle.std.specs.Prelude.{◌≡◌, ℕ, false, Some, IsSome};
 ghost use Rattle.std.specs.Option.{option_map};
 ghost use Rattle.fr_shape.specs.Released.{Room, RoseBy};
 ghost use Rattle.fr_shape.specs.Val.{Val};
-ghost use Rattle.fr_frame.specs.Bodies.{value_of, whole_body};
+ghost use Rattle.fr_frame.specs.Bodies.{takes_box, value_of, whole_body};
 ghost use Rattle.fr_frame.specs.Changes.{Becomes, IfInUse, IsInUse, SameTokens, Shows};
 ghost use Rattle.fr_frame.specs.Heap.{child_slot, heap_of, marked, slot_occurs, slots_occur, with_mark};
 ghost use Rattle.fr_frame.specs.declared.places.SlotId.{SlotId as Number};
@@ -43,9 +43,10 @@ impl SlotId {
         slot_at(&slots.place(self)?.piece, step)
     }
 
-    /// Lets a place that is whole, or begun with each child there, be whole with its value. Takes no memory.
+    /// Lets a place that is whole, or begun with each child there, but not around one, be whole with its value. Takes no memory.
     pub fn make_whole(self, slots: &mut Slots)
         requires complete { IfInUse slots.old self.0 (λ at. IsSome (value_of at.body)) }
+        requires boxless { IfInUse slots.old self.0 (λ at. takes_box at.body ≡ false) }
         ensures whole { IfInUse slots.old self.0 (λ at. (v : Val) → value_of at.body ≡ Some v
             → Becomes slots.old slots.new self.0 at (whole_body v)) }
         ensures tokens { SameTokens slots.old slots.new }

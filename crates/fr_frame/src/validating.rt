@@ -1,42 +1,26 @@
 //! Running the validators of a place whose children are all there. What a plan says of its fields is read without a table, and
 //! holds for every table that it is a plan of.
-ghost use Rattle.std.specs.Prelude.{◌≡◌, ◌<◌, ℕ, length, slice_get, None, IfErr, IsSome, OnOk};
+ghost use Rattle.std.specs.Prelude.{◌≡◌, ◌<◌, length, slice_get, None, IfErr, IsSome, OnOk};
 ghost use Rattle.std.specs.Option.{option_copied, option_map};
 ghost use Rattle.fr_shape.specs.Checked.{IsChecked};
 ghost use Rattle.fr_shape.specs.Look.{Table};
 ghost use Rattle.fr_shape.specs.View.{view};
 ghost use Rattle.fr_model.specs.Failing.{first_invalid};
-ghost use Rattle.fr_model.specs.Tree.{as_struct};
-ghost use Rattle.fr_frame.specs.Bodies.{trees_of, HasAllChildren};
+ghost use Rattle.fr_frame.specs.Bodies.{as_fields, trees_of, HasAllChildren};
 ghost use Rattle.fr_frame.specs.Cells.{values_of};
 ghost use Rattle.fr_frame.specs.Completing.{shape_of, IsFull, IsPlanFor};
 ghost use Rattle.fr_frame.specs.Defaults.{invalid};
-ghost use Rattle.fr_frame.specs.FieldDefaults.{refused_of, HasValidators, IsPlanned, IsStructOf};
-ghost use Rattle.fr_frame.specs.Filling.{AreTold, IsCauseOf};
+ghost use Rattle.fr_frame.specs.FieldDefaults.{refused_of, HasTheseFields, HasValidators, IsPlanned};
+ghost use Rattle.fr_frame.specs.Filling.{IsCauseOf};
 ghost use Rattle.fr_frame.specs.Heap.{body_of};
 
 use crate::children::Children;
-use crate::field_plans::has_validators;
+use crate::field_plans::{fields_told, has_validators};
 use crate::lacking::run_validators;
-use crate::places::{Form, Piece};
-use fr_plan::{FieldPlan, NodeId, TypePlanCore, law_plan_lookups};
+use crate::places::{Parts, Piece};
+use fr_plan::{FieldPlan, NodeId, TypePlanCore};
 use fr_shape::{Hooks, ReflectErrorKind, Value};
 use std::alloc::Global;
-
-/// The plans of the fields of a struct, as the plan has them.
-fn fields_told(plan: &TypePlanCore, node: NodeId) -> &[FieldPlan]
-    requires { IsPlanned plan.now node }
-    ensures told { (table : Table) → IsChecked table → IsPlanFor table plan.now
-        → node.0 < length plan.now.nodes
-        → AreTold table plan.now (shape_of plan.now node) result.now }
-    ensures validators { (i : ℕ) → HasValidators plan.now (slice_get result.now i) }
-{
-    law_plan_lookups();
-    match plan.struct_plan_by_id(node) {
-        Some(described) => plan.fields(described.fields),
-        None => &[],
-    }
-}
 
 /// What is told of the field of this number, if there is one.
 fn told_at(told: &[FieldPlan], i: usize) -> Option<&FieldPlan>
@@ -69,35 +53,38 @@ fn test_value<H: Hooks>(
     run_validators(alloc, hooks, validators, value, told.field)
 }
 
-/// Runs the validators of a struct's fields, all of which are there.
+/// Runs the validators of the fields of a struct, or of the variant that is selected, all of which are there.
 fn test_values<H: Hooks>(
     alloc: Global,
     plan: &TypePlanCore,
     hooks: &H,
     node: NodeId,
+    selected: Option<u32>,
     children: &Children,
 ) -> Result<(), ReflectErrorKind>
     requires planned { IsPlanned plan.now node }
     requires there { IsSome (values_of children.now) }
-    ensures passing { OnOk result ((table : Table) → IsStructOf table plan.now node children.now
-        → first_invalid (H.means hooks.now) table (shape_of plan.now node) as_struct 0
+    ensures passing { OnOk result ((table : Table)
+        → HasTheseFields table plan.now node selected children.now
+        → first_invalid (H.means hooks.now) table (shape_of plan.now node) (as_fields selected) 0
         (trees_of children.now) ≡ None) }
     ensures failing { IfErr result (λ kind. (table : Table)
-        → IsStructOf table plan.now node children.now
-        → IsCauseOf (first_invalid (H.means hooks.now) table (shape_of plan.now node) as_struct 0
-        (trees_of children.now)) kind) }
+        → HasTheseFields table plan.now node selected children.now
+        → IsCauseOf (first_invalid (H.means hooks.now) table (shape_of plan.now node)
+        (as_fields selected) 0 (trees_of children.now)) kind) }
 {
-    if !has_validators(plan, node) {
+    if !has_validators(plan, node, selected) {
         return Ok(());
     }
-    let told = fields_told(plan, node);
+    let told = fields_told(plan, node, selected);
     for i in 0..children.len() {
         test_value(alloc, plan, hooks, told_at(told, i), children.value(i))?;
     }
     Ok(())
 }
 
-/// Runs the validators of the fields of a place. Only a begun struct has any. Where no field has any, no child is looked at.
+/// Runs the validators of the fields of a place. Only a begun struct or variant has any. Where no field has any, no child is looked
+/// at.
 pub(crate) fn test_valid<H: Hooks>(
     alloc: Global,
     plan: &TypePlanCore,
@@ -119,9 +106,9 @@ pub(crate) fn test_valid<H: Hooks>(
 {
     match piece {
         Piece::Entered | Piece::Whole(_) => Ok(()),
-        Piece::Begun(form, children) => match *form {
-            Form::Struct => test_values(alloc, plan, hooks, node, children),
-            Form::Array => Ok(()),
+        Piece::Begun(form, children) => match form.parts() {
+            Parts::Fields(selected) => test_values(alloc, plan, hooks, node, selected, children),
+            Parts::Others => Ok(()),
         },
     }
 }

@@ -1,4 +1,6 @@
+pub mod ContentLaws
 pub mod EarlierLaws
+pub mod HeldTokens
 pub mod IndexLaws
 pub mod KeptLaws
 pub mod LastLaws
@@ -9,6 +11,8 @@ pub mod PlaceLaws
 pub mod PruneSteps
 pub mod PruneTurns
 pub mod QueueLaws
+pub mod ReleasedLaws
+pub mod RestartLaws
 pub mod RunLaws
 pub mod SetLaws
 pub mod SiblingLaws

@@ -1,5 +1,5 @@
 -- Lists of stored places with the same slots.
-use Rattle.std.proofs.Common.{◌≡◌, ℕ, zero, suc, ◌<◌, List, [], ◌∷◌, length, get_or, set, refl, sym, ◌∙◌, ap, arith}
+use Rattle.std.proofs.Common.{◌≡◌, ℕ, zero, suc, ◌<◌, List, [], ◌∷◌, length, get_or, set, refl, ap, arith}
 use Rattle.fr_store.specs.declared.turning.StoredPlace.{StoredPlace}
 use Rattle.fr_store.specs.Numbers.{slot_of, slots_of}
 

@@ -6,7 +6,7 @@ use Rattle.fr_frame.specs.declared.places.Slot.{Slot}
 use Rattle.fr_frame.specs.Heap.{heap_of}
 use Rattle.fr_frame.specs.Kids.{Kid}
 use Rattle.fr_store.specs.Places.{IsPlaced, slot_at}
-use Rattle.fr_store.specs.Stands.{IsOpen, Stands, cursor_shown, kid_here}
+use Rattle.fr_store.specs.Stands.{IsOpen, cursor_shown, kid_here}
 use Rattle.fr_store.specs.Turning.{OpenStayPut}
 use Rattle.fr_store.specs.Ways.{slots_along, Leads}
 use Rattle.fr_store.proofs.PlaceLaws.{along_nth, open_placed}

@@ -7,12 +7,12 @@ use Rattle.fr_model.specs.Tree.{Form}
 use Rattle.fr_frame.specs.Bodies.{Body, begun_body, body_occurs, unlinked}
 use Rattle.fr_frame.specs.Cells.{Cell, slot_at}
 use Rattle.fr_frame.specs.Heap.{Node, Heap, depth_limit, with_slot, without, marked, stored_in}
-use Rattle.fr_frame.specs.Kids.{Kid, at, Plot, entered_plot, whole_plot, begun_plot, Kids, no_kids, kid, cells_in, body_in, child_node, child_owner, Holds, HoldsIn}
-use Rattle.fr_store.specs.HoldLaws.{AgreeOn, holds_frame}
+use Rattle.fr_frame.specs.Kids.{Kid, at, Plot, entered_plot, whole_plot, begun_plot, Kids, no_kids, kid, MayHave, cells_in, body_in, child_node, child_owner, Holds, HoldsIn}
+use Rattle.fr_store.specs.HoldLaws.{AgreeOn, holds_frame, may_have_all}
 use Rattle.fr_store.specs.PruneLaws.{pruned_first, first_kids, depth_found, beneath_is, plot_uses, plot_marked, plot_cells, plot_tokens, first_uses, uses_first, tokens_first, pruned_slot, unlinked_first, kid_in_slot, cell_in_slot, held_nth}
 use Rattle.fr_store.specs.Prunes.{kids_in_plot, beneath, IsRooted, slotted_occurs, slotted_occur, pruned, IsPruned, cells_in_body, cells_found}
 use Rattle.fr_store.specs.TopLaws.{slot_here, slot_other, body_here, body_other}
-use Rattle.fr_store.specs.Ways.{kid_nth, counts_if, uses, uses_in, uses_among, AllMarked, AllMarkedAmong}
+use Rattle.fr_store.specs.Ways.{count_kids, kid_nth, counts_if, uses, uses_in, uses_among, AllMarked, AllMarkedAmong}
 use Rattle.fr_store.specs.WayLaws.{counts_same, counts_other, same_or_other}
 
 -- What lies beneath the place.
@@ -51,8 +51,14 @@ used_or_not (suc count) = inl (omega arith)
 pub record ChildHeld (heap : Heap) (n : ℕ) (rooted : IsRooted heap n) (i m : ℕ) (below : Plot) : Type 0 where
   pub form : Form
   pub body : rooted.found.body ≡ begun_body form (cells_in (beneath heap n))
+  pub may_have : MayHave form (count_kids (beneath heap n))
   pub holds : Holds rooted.plan heap (child_node rooted.plan rooted.found.node form i) (child_owner n form i)
       (suc rooted.found.depth) (at m true below)
+
+nth_within : (i m : ℕ) (ks : Kids) (plot : Plot) → kid_nth i ks ≡ at m true plot → i < count_kids ks
+nth_within i m no_kids plot is = absurd (cc)
+nth_within zero m (kid k ks) plot is = omega arith
+nth_within (suc i) m (kid k ks) plot is = let rest = nth_within i m ks plot is in omega arith
 
 child_held : (heap : Heap) (n : ℕ) (rooted : IsRooted heap n) (i m : ℕ) (below : Plot)
     → kid_nth i (beneath heap n) ≡ at m true below → ChildHeld heap n rooted i m below
@@ -68,6 +74,8 @@ child_held heap n rooted i m below is = go rooted.plot rooted.body rooted.holds 
         record {
           form = form;
           body = body ∙ ap (λ (ks : Kids). begun_body form (cells_in ks)) (sym e);
+          may_have = subst (λ (ks : Kids). MayHave form (count_kids ks)) (sym e)
+              (may_have_all rooted.plan heap rooted.found.node n form (suc rooted.found.depth) kids holds);
           holds = subst
               (λ (k : Kid). Holds rooted.plan heap (child_node rooted.plan rooted.found.node form i) (child_owner n form i)
               (suc rooted.found.depth) k) here
@@ -81,6 +89,7 @@ pub record Child (before mid : Heap) (n : ℕ) (rooted : IsRooted before n) (i m
   pub is : kid_nth i (beneath before n) ≡ at m true below.plot
   pub form : Form
   pub body : rooted.found.body ≡ begun_body form (cells_in (beneath before n))
+  pub may_have : MayHave form (count_kids (beneath before n))
   pub owner : below.found.owner ≡ child_owner n form i
   pub stored : below.found.stored ≡ true
   pub deeper : below.found.depth ≡ suc rooted.found.depth
@@ -131,6 +140,7 @@ module _ (before mid : Heap) (n : ℕ) (rooted : IsRooted before n) (i : ℕ)
         is = one.1;
         form = held.form;
         body = held.body;
+        may_have = held.may_have;
         owner = refl;
         stored = refl;
         deeper = refl;
@@ -207,7 +217,8 @@ module _ (before mid : Heap) (n : ℕ) (rooted : IsRooted before n) (i : ℕ)
             (slot_other late m None n (λ e. beneath_apart before n rooted m child_used (sym e)) ∙ above_here)
             ∙ ap (λ (b : Body). Some (record rooted.found { body = b }))
             (ap (λ (b : Body). unlinked m (step_as child.form i) (pruned_first i b)) child.body
-            ∙ unlinked_first child.form i m (cells_in (beneath before n))
+            ∙ unlinked_first child.form i m (count_kids (beneath before n)) (cells_in (beneath before n)) child.may_have
+            (nth_within i m (beneath before n) child.below.plot child.is)
             (cell_in_slot i m (beneath before n) child.below.plot child.is)
             ∙ ap (pruned_first (suc i)) (sym child.body))
 

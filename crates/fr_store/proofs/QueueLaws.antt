@@ -1,9 +1,9 @@
 -- The list of stored places as it is written down: what is in it, which places wait, and where the next open one comes.
-use Rattle.std.proofs.Common.{◌≡◌, ◌≢◌, ◌⊎◌, ℕ, zero, suc, ◌+◌, ◌-◌, ◌*◌, ◌<◌, ◌≤◌, Bool, true, false, cond, List, [], ◌∷◌, ◌++◌, map, length, length-append, get_or, append_assoc, nat_eq, inl, inr, refl, sym, ◌∙◌, ap, subst, arith}
+use Rattle.std.proofs.Common.{◌≡◌, ◌≢◌, ◌⊎◌, ℕ, ◌+◌, ◌-◌, ◌<◌, ◌≤◌, Bool, false, cond, List, [], ◌∷◌, ◌++◌, map, length, length-append, get_or, append_assoc, nat_eq, inl, inr, refl, sym, ◌∙◌, ap, subst, arith}
 use Rattle.std.specs.List.{All, Contains, filter}
 use Rattle.std.specs.List.Sorted.{IsNonDecreasingBy}
 use Rattle.std.proofs.lemmas.List.{append-nil, length-map, map-append}
-use Rattle.std.proofs.lemmas.List.Elements.{All-nil, All-cons, All-append, All-contains, All-filter, All-head, All-tail, filter-append, filter_passes, Contains-get_or}
+use Rattle.std.proofs.lemmas.List.Elements.{All-nil, All-append, All-contains, All-filter, All-head, All-tail, filter-append, filter_passes, Contains-get_or}
 use Rattle.fr_model.specs.Places.{Place}
 use Rattle.fr_frame.specs.Kids.{Kid}
 use Rattle.fr_store.specs.declared.turning.StoredPlace.{StoredPlace}

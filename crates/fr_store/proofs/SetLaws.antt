@@ -1,18 +1,16 @@
--- A whole value at the top, after all that is stored beneath it was released.
-use Rattle.std.proofs.Common.{◌≡◌, ◌≢◌, ◌⊎◌, ℕ, zero, suc, ◌<◌, ◌+◌, ◌≤◌, false, List, [], ◌∷◌, ◌++◌, append-nil, length, nat_eq, Option, Some, inl, inr, refl, sym, ◌∙◌, ap, subst, arith}
+-- A whole value at the top, or another place that has no child in a slot, after all that is stored beneath it was released.
+use Rattle.std.proofs.Common.{◌≡◌, ◌≢◌, ◌⊎◌, ℕ, zero, suc, ◌<◌, ◌+◌, ◌≤◌, true, false, List, [], ◌∷◌, ◌++◌, append-nil, length, nat_eq, Option, Some, inl, inr, refl, sym, ◌∙◌, ap, subst, arith}
 use Rattle.std.specs.Prelude.{is_some, IsSome, IsSomeAnd}
 use Rattle.fr_shape.specs.Released.{Room, RoseBy}
 use Rattle.fr_shape.specs.TokenLaws.{both, Room_same, Room_fewer, Room_risen, RoseBy_same, RoseBy_both}
-use Rattle.fr_shape.specs.Tokens.{occurs}
-use Rattle.fr_shape.specs.Val.{Val}
 use Rattle.fr_model.specs.Places.{Place}
-use Rattle.fr_model.specs.Tree.{Tree, whole, change_at, tree_occurs}
+use Rattle.fr_model.specs.Tree.{Tree, change_at, tree_occurs}
 use Rattle.fr_plan.specs.TypePlan.{Plan}
 use Rattle.fr_frame.specs.declared.places.Slot.{Slot}
-use Rattle.fr_frame.specs.Bodies.{whole_body, body_occurs}
+use Rattle.fr_frame.specs.Bodies.{body_occurs, IsClosed}
 use Rattle.fr_frame.specs.Changes.{IfInUse, IsInUse, Shows}
 use Rattle.fr_frame.specs.Heap.{Node, with_body, heap_of, slots_occur, marked, stored_in}
-use Rattle.fr_frame.specs.Kids.{Kid, at, Kids, whole_plot, cell_of, tree_of, body_in, kid_occurs, Holds, HoldsIn}
+use Rattle.fr_frame.specs.Kids.{Kid, at, Plot, Kids, cell_of, tree_of, tree_in, body_in, kid_occurs, plot_occurs, Holds, HoldsIn}
 use Rattle.fr_store.specs.HoldLaws.{AgreeBeside, Replaces}
 use Rattle.fr_store.specs.MoveLaws.{open_reach, open_top, top_slot, top_node, top_found, open_at_from}
 use Rattle.fr_store.specs.Moves.{IsOpenAt, cursor_in, tree_in_slots, tokens_here}
@@ -24,7 +22,7 @@ use Rattle.fr_store.specs.Stands.{Stands, IsOpen, kid_here, kid_shown}
 use Rattle.fr_store.specs.StayLaws.{stay_but_beneath}
 use Rattle.fr_store.specs.Staying.{StayPutButBeneath}
 use Rattle.fr_store.specs.Stored.{IsKept, StoresNoMore}
-use Rattle.fr_store.specs.TopLaws.{body_here, body_other, free_unused, top_uses, not_beside, top_held}
+use Rattle.fr_store.specs.TopLaws.{MayHaveIts, body_here, closed_holds, closed_marked, closed_uses, body_other, free_unused, top_uses, not_beside, top_held}
 use Rattle.fr_store.specs.Ways.{kid_at, put_at, slots_above, counts_if, uses, uses_in, uses_among, Leads, Reaches, node_along}
 use Rattle.fr_store.specs.WayLaws.{counts_same, same_or_other, leads_reach, uses_at, occurs_put_at, tree_put_at, tree_of_at, tree_tokens}
 use Rattle.fr_store.proofs.PruneSteps.{beneath_uses}
@@ -125,19 +123,20 @@ module _ (plan : Plan) (slots : List Slot) (stack : List ℕ) (open_now : IsOpen
         (RoseBy_both (slotted_occur (beneath (heap_of slots) n))
         (body_occurs (pruned (top_node plan slots stack open_now n last).body)) ledger now after rose so)
 
-    -- A value is put.
-    module _ (after : List Slot) (v : Val) (puts : Shows after (with_body (heap_of mid) n (λ old. whole_body v))) where
-      set_here : heap_of after n ≡ Some (record (top_node plan slots stack open_now n last) { body = whole_body v })
+    -- Something is put that has no child in a slot.
+    module _ (after : List Slot) (new : Plot) (may : MayHaveIts (body_in new)) (closed : IsClosed (body_in new))
+        (puts : Shows after (with_body (heap_of mid) n (λ old. body_in new))) where
+      set_here : heap_of after n ≡ Some (record (top_node plan slots stack open_now n last) { body = body_in new })
       set_here =
           puts n
-          ∙ body_here (heap_of mid) n (λ old. whole_body v)
+          ∙ body_here (heap_of mid) n (λ old. body_in new)
           (record (top_node plan slots stack open_now n last) {
             body = pruned (top_node plan slots stack open_now n last).body;
           })
           pruned_here
 
       set_other : (m : ℕ) → m ≢ n → heap_of after m ≡ heap_of mid m
-      set_other m ne = puts m ∙ body_other (heap_of mid) n (λ old. whole_body v) m ne
+      set_other m ne = puts m ∙ body_other (heap_of mid) n (λ old. body_in new) m ne
 
       -- marks
       set_marked : (m : ℕ) → marked (heap_of after) m ≡ marked (heap_of mid) m
@@ -157,7 +156,7 @@ module _ (plan : Plan) (slots : List Slot) (stack : List ℕ) (open_now : IsOpen
 
       -- what stands
       set_stands : Stands plan (heap_of after) stack (cursor_in slots stack)
-          (put_at (cursor_in slots stack) (at n false (whole_plot v)) (kid_shown (heap_of slots) stack))
+          (put_at (cursor_in slots stack) (at n false new) (kid_shown (heap_of slots) stack))
       unfolding top_node top_rooted
       set_stands =
           let top = open_top plan slots stack open_now in
@@ -175,20 +174,24 @@ module _ (plan : Plan) (slots : List Slot) (stack : List ℕ) (open_now : IsOpen
           set_other m ne
           ∙ is.rest m ne
           (omega (arith, beneath_uses (heap_of slots) n top_rooted m, all m, open_now.stands.once m)) in
-          let replaces : Replaces plan (heap_of slots) (heap_of after) (kid_at place k) (at n false (whole_plot v))
+          let replaces : Replaces plan (heap_of slots) (heap_of after) (kid_at place k) (at n false new)
           = λ node owner depth holds.
           let was = subst (λ (x : Kid). Holds plan (heap_of slots) node owner depth x) top.is holds in
-          let found = top_held plan (heap_of slots) stack place k open_now.stands top node owner depth holds in
-          (set_here ∙ sym (ap (λ (x : Node). Some (record x { body = whole_body v })) found), was.1, tt) in
-          let once : (m : ℕ) → uses k m + uses (at n false (whole_plot v)) m ≤ 1 + uses (kid_at place k) m
+          let found = top_held plan (heap_of slots) stack place k open_now.stands top node owner depth holds in (
+            set_here ∙ sym (ap (λ (x : Node). Some (record x { body = body_in new })) found),
+            was.1,
+            closed_holds plan (heap_of after) node n (suc depth) new may closed,
+          ) in
+          let once : (m : ℕ) → uses k m + uses (at n false new) m ≤ 1 + uses (kid_at place k) m
           = λ m.
           let here : counts_if (nat_eq top.slot m) ≡ counts_if (nat_eq n m) = ap (λ (x : ℕ). counts_if (nat_eq x m)) same in
-          omega (arith, open_now.stands.once m, all m, here) in
+          omega (arith, open_now.stands.once m, all m, here, closed_uses new m closed) in
           subst
-          (λ (p : Place). Stands plan (heap_of after) stack p (put_at place (at n false (whole_plot v)) k))
+          (λ (p : Place). Stands plan (heap_of after) stack p (put_at place (at n false new) k))
           (append-nil place)
-          (stands_change plan (heap_of slots) (heap_of after) stack stack place [] [] (at n false (whole_plot v)) k longer
-          (sym (ap cell_of top.is ∙ ap (λ (x : ℕ). cell_of (at x false top.plot)) same)) agree replaces once (refl, tt)
+          (stands_change plan (heap_of slots) (heap_of after) stack stack place [] [] (at n false new) k longer
+          (sym (ap cell_of top.is ∙ ap (λ (x : ℕ). cell_of (at x false top.plot)) same)) agree replaces once
+          (refl, closed_marked true new closed)
           (top.last ∙ ap (λ (x : ℕ). slots_above place k ++ x ∷ []) same))
 
       -- no place leaves its slot but those beneath
@@ -198,21 +201,21 @@ module _ (plan : Plan) (slots : List Slot) (stack : List ℕ) (open_now : IsOpen
           let k : Kid = kid_here slots stack in
           let top = open_top plan slots stack open_now in
           subst (λ (x : Kid). StayPutButBeneath place k x)
-          (sym (kid_is plan (heap_of after) stack place (put_at place (at n false (whole_plot v)) k) set_stands))
-          (stay_but_beneath place (at n false (whole_plot v)) k n false false top.plot (whole_plot v)
+          (sym (kid_is plan (heap_of after) stack place (put_at place (at n false new) k) set_stands))
+          (stay_but_beneath place (at n false new) k n false false top.plot new
           (open_reach plan slots stack open_now)
           (top.is ∙ ap (λ (x : ℕ). at x false top.plot) (top_slot plan slots stack open_now n last)) refl)
 
       -- each slot in use is that of a place
       set_all : AllServe (heap_of after)
-          (put_at (cursor_in slots stack) (at n false (whole_plot v)) (kid_shown (heap_of slots) stack))
+          (put_at (cursor_in slots stack) (at n false new) (kid_shown (heap_of slots) stack))
       unfolding top_node top_rooted
       set_all =
           let place : Place = cursor_in slots stack in
           let k : Kid = kid_shown (heap_of slots) stack in
           let reach : Reaches place k
           = leads_reach place [] k (subst (λ (p : Place). Leads p k) (sym (append-nil place)) open_now.stands.leads) in
-          all_changed (heap_of slots) (heap_of after) place (at n false (whole_plot v)) k reach open_now.all from
+          all_changed (heap_of slots) (heap_of after) place (at n false new) k reach open_now.all from
         where
           part : (m : ℕ) → uses (kid_at (cursor_in slots stack) (kid_shown (heap_of slots) stack)) m
               ≡ counts_if (nat_eq n m) + uses_among (beneath (heap_of slots) n) m
@@ -231,15 +234,15 @@ module _ (plan : Plan) (slots : List Slot) (stack : List ℕ) (open_now : IsOpen
               absurd (free_unused (heap_of mid) m (is.free m (omega (arith, e))) used)
 
           from : (m : ℕ) → IsSome (heap_of after m)
-              → (0 < uses (at n false (whole_plot v)) m)
+              → (0 < uses (at n false new) m)
               ⊎ (IsSome (heap_of slots m)
-              × (uses (kid_at (cursor_in slots stack) (kid_shown (heap_of slots) stack)) m ≤ uses (at n false (whole_plot v)) m))
+              × (uses (kid_at (cursor_in slots stack) (kid_shown (heap_of slots) stack)) m ≤ uses (at n false new) m))
           from m used = go (same_or_other m n)
             where
-              go : (m ≡ n) ⊎ (m ≢ n) → (0 < uses (at n false (whole_plot v)) m)
+              go : (m ≡ n) ⊎ (m ≢ n) → (0 < uses (at n false new) m)
                   ⊎ (IsSome (heap_of slots m)
                   × (uses (kid_at (cursor_in slots stack) (kid_shown (heap_of slots) stack)) m
-                  ≤ uses (at n false (whole_plot v)) m))
+                  ≤ uses (at n false new) m))
               go (inl e) =
                   let one : counts_if (nat_eq n m) ≡ 1 = ap (λ (y : ℕ). counts_if (nat_eq n y)) e ∙ counts_same n in
                   inl (omega (arith, one))
@@ -249,25 +252,25 @@ module _ (plan : Plan) (slots : List Slot) (stack : List ℕ) (open_now : IsOpen
                   inr (was.0, omega (arith, part m, was.1))
 
       pub set_open : ((t : ℕ) → slots_occur slots t ≡ slots_occur mid t + slotted_occur (beneath (heap_of slots) n) t)
-          → IfInUse mid n (λ (found : Node). (t : ℕ) → slots_occur mid t + occurs v t
+          → IfInUse mid n (λ (found : Node). (t : ℕ) → slots_occur mid t + plot_occurs new t
           ≡ slots_occur after t + body_occurs found.body t)
           → IsOpenAt plan after stack (cursor_in slots stack)
-          (change_at (cursor_in slots stack) (λ old. whole v) (tree_in_slots slots stack))
+          (change_at (cursor_in slots stack) (λ old. tree_in new) (tree_in_slots slots stack))
       set_open fell put =
           let place : Place = cursor_in slots stack in
           let k : Kid = kid_shown (heap_of slots) stack in
-          let so : (t : ℕ) → slots_occur mid t + occurs v t
+          let so : (t : ℕ) → slots_occur mid t + plot_occurs new t
           ≡ slots_occur after t + body_occurs (pruned (top_node plan slots stack open_now n last).body) t
           = subst
-          (λ (o : Option Node). IsSomeAnd o (λ (found : Node). (t : ℕ) → slots_occur mid t + occurs v t
+          (λ (o : Option Node). IsSomeAnd o (λ (found : Node). (t : ℕ) → slots_occur mid t + plot_occurs new t
           ≡ slots_occur after t + body_occurs found.body t)) pruned_here put in
           let reach : Reaches place k
           = leads_reach place [] k (subst (λ (p : Place). Leads p k) (sym (append-nil place)) open_now.stands.leads) in
           let here : (t : ℕ) → tokens_here slots stack t ≡ kid_occurs (kid_at place k) t
           = λ t. sym (ap (λ (tree : Tree). tree_occurs tree t) (tree_of_at place k)) ∙ sym (tree_tokens (kid_at place k) t) in
-          open_at_from plan after stack place (put_at place (at n false (whole_plot v)) k)
-          (change_at place (λ old. whole v) (tree_of k)) set_stands
+          open_at_from plan after stack place (put_at place (at n false new) k)
+          (change_at place (λ old. tree_in new) (tree_of k)) set_stands
           (λ t.
           omega
-          (arith, occurs_put_at place (at n false (whole_plot v)) k t reach, open_now.tokens t, fell t, so t, here t, tokens_both t, pruned_tokens (top_node plan slots stack open_now n last).body t))
-          set_all (tree_put_at place (at n false (whole_plot v)) k)
+          (arith, occurs_put_at place (at n false new) k t reach, open_now.tokens t, fell t, so t, here t, tokens_both t, pruned_tokens (top_node plan slots stack open_now n last).body t))
+          set_all (tree_put_at place (at n false new) k)

@@ -1,18 +1,18 @@
 -- The stored children of one place among sorted stored places.
-use Rattle.std.proofs.Common.{◌≡◌, ◌≢◌, ◌⊎◌, ℕ, zero, suc, ◌+◌, ◌-◌, ◌*◌, ◌<◌, ◌≤◌, Bool, true, false, List, [], ◌∷◌, ◌++◌, map, length, get_or, nat_eq, append_assoc, inl, inr, refl, sym, ◌∙◌, ap, subst, arith}
+use Rattle.std.proofs.Common.{◌≡◌, ◌≢◌, ◌⊎◌, ℕ, suc, ◌+◌, ◌-◌, ◌<◌, ◌≤◌, true, false, List, [], ◌∷◌, ◌++◌, map, length, get_or, nat_eq, append_assoc, inl, inr, refl, sym, ◌∙◌, ap, subst, arith}
 use Rattle.std.specs.List.{All, Contains, filter}
 use Rattle.std.specs.List.Sorted.{IsNonDecreasingBy}
-use Rattle.std.proofs.lemmas.List.Elements.{All-nil, All-cons, All-append, All-contains, All-contains_itself, All-filter, All-head, All-map, All-tail, filter_passes, Contains-append_left, Contains-append_right}
+use Rattle.std.proofs.lemmas.List.Elements.{All-cons, All-append, All-contains, All-contains_itself, All-filter, All-head, All-map, All-tail, filter_passes, Contains-append_left, Contains-append_right}
 use Rattle.fr_model.specs.Places.{Place}
 use Rattle.fr_frame.specs.Kids.{Kid}
 use Rattle.fr_store.specs.declared.turning.StoredPlace.{StoredPlace}
 use Rattle.fr_store.specs.Numbers.{slot_of, slots_of}
-use Rattle.fr_store.specs.Places.{Pairs, AreAllStored, AreOnce, ComesEarlier, IsNarrow, IsPlaced, IsStoredChildOf, IsStoredHere, child_of, counts_in, first_key, is_between, key_of, slot_at, stored_here}
+use Rattle.fr_store.specs.Places.{Pairs, AreAllStored, AreOnce, ComesEarlier, IsNarrow, IsPlaced, IsStoredChildOf, IsStoredHere, child_of, first_key, is_between, key_of, slot_at, stored_here}
 use Rattle.fr_store.specs.Ways.{counts_if, kid_at, uses, Leads}
 use Rattle.fr_store.specs.WayLaws.{counts_same, same_or_other}
 use Rattle.fr_store.proofs.EarlierLaws.{siblings}
 use Rattle.fr_store.proofs.PairLaws.{first_in, later_in, in_counted, in_filter, in_map, of_map, pairs_append, pairs_filter, pairs_map}
-use Rattle.fr_store.proofs.PlaceLaws.{open_placed, open_unstored, placed_above, same_place, stored_or_open}
+use Rattle.fr_store.proofs.PlaceLaws.{open_unstored, placed_above, same_place, stored_or_open}
 use Rattle.fr_store.proofs.RunLaws.{between_is, between_told}
 use Rattle.fr_store.proofs.SpreadLaws.{AreChildren, IsChild}
 

@@ -1,9 +1,9 @@
 -- The steps of the loop that writes down all stored places.
-use Rattle.std.proofs.Common.{◌≡◌, ◌≢◌, ◌⊎◌, ℕ, zero, suc, ◌+◌, ◌-◌, ◌*◌, ◌<◌, ◌≤◌, List, [], ◌∷◌, ◌++◌, length, length-append, get_or, map, slice_get, take, append_assoc, Option, Some, None, inl, inr, refl, sym, ◌∙◌, ap, subst, arith}
+use Rattle.std.proofs.Common.{◌≡◌, ◌≢◌, ◌⊎◌, ℕ, zero, suc, ◌+◌, ◌-◌, ◌<◌, ◌≤◌, List, [], ◌∷◌, ◌++◌, length, length-append, get_or, map, slice_get, take, append_assoc, Some, inl, inr, refl, sym, ◌∙◌, ap, subst, arith}
 use Rattle.std.specs.Prelude.{IsSomeAnd}
 use Rattle.std.specs.List.{Contains}
 use Rattle.std.specs.List.Sorted.{IsNonDecreasingBy}
-use Rattle.std.proofs.lemmas.List.{append-nil, get_or-take, length-map, length-take-le}
+use Rattle.std.proofs.lemmas.List.{get_or-take, length-map, length-take-le}
 use Rattle.std.proofs.lemmas.List.Elements.{All-contains}
 use Rattle.fr_model.specs.Places.{Place}
 use Rattle.fr_plan.specs.TypePlan.{Plan}
@@ -19,7 +19,7 @@ use Rattle.fr_store.specs.Stands.{IsOpen, cursor_shown, kid_shown}
 use Rattle.fr_store.specs.Ways.{slots_along, uses, Leads}
 use Rattle.fr_store.proofs.PairLaws.{fits, in_map, of_map}
 use Rattle.fr_store.proofs.PlaceLaws.{along_long, along_nth, open_placed}
-use Rattle.fr_store.proofs.QueueLaws.{IsQueue, OpenAhead, ahead_now, all_written, few_written, head_within, open_next, opened_more, queue_starts, stored_next}
+use Rattle.fr_store.proofs.QueueLaws.{IsQueue, OpenAhead, ahead_now, all_written, few_written, head_within, open_next, queue_starts, stored_next}
 use Rattle.fr_store.proofs.StoredLaws.{child_key, child_numbered}
 
 get_there : (xs : List ℕ) (i d : ℕ) → i < length xs → slice_get xs i ≡ Some (get_or xs i d)

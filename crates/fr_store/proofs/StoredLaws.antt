@@ -1,5 +1,5 @@
 -- What the slots say of stored places: where they belong.
-use Rattle.std.proofs.Common.{◌≡◌, ◌≢◌, ◌⊎◌, ◌↔◌, ℕ, zero, suc, ◌+◌, ◌-◌, ◌*◌, ◌<◌, ◌≤◌, Bool, true, false, List, [], ◌∷◌, ◌++◌, length, get_or, nat_eq, Some, None, Option, IsSome, inl, inr, refl, sym, ◌∙◌, ap, subst, arith}
+use Rattle.std.proofs.Common.{◌≡◌, ◌↔◌, ℕ, suc, ◌+◌, ◌-◌, ◌<◌, ◌≤◌, true, false, List, [], ◌∷◌, ◌++◌, length, get_or, nat_eq, Some, None, Option, IsSome, refl, sym, ◌∙◌, ap, subst, arith}
 use Rattle.std.specs.List.{All, Contains, sum_by}
 use Rattle.std.specs.List.Sorted.{IsPermutation}
 use Rattle.std.specs.Prelude.{IsSomeAnd}
@@ -9,36 +9,39 @@ use Rattle.std.proofs.lemmas.List.Sums.{sum_by-cons}
 use Rattle.fr_path.specs.Order.{number}
 use Rattle.fr_model.specs.Paths.{step_as}
 use Rattle.fr_model.specs.Places.{Place}
-use Rattle.fr_model.specs.Tree.{Form, as_struct, as_array}
+use Rattle.fr_model.specs.Tree.{Form, as_struct, as_array, as_variant, as_some, as_ok, as_err, as_pointer}
 use Rattle.fr_plan.specs.declared.nodes.NodeId.{NodeId}
 use Rattle.fr_plan.specs.TypePlan.{Plan}
 use Rattle.fr_frame.specs.declared.places.FrameOwner.{FrameOwner}
 use Rattle.fr_frame.specs.Heap.{Node, Heap, marked, stored_in}
 use Rattle.fr_frame.specs.Kids.{Kid, gone, there, at, entered_plot, whole_plot, begun_plot, Holds, child_owner}
 use Rattle.fr_store.specs.declared.turning.StoredPlace.{StoredPlace}
-use Rattle.fr_store.specs.HoldLaws.{holds_at}
+use Rattle.fr_store.specs.HoldLaws.{holds_at, may_have_all}
 use Rattle.fr_store.specs.LeaveLaws.{below_root, owner_append}
 use Rattle.fr_store.specs.Moves.{OwnerIsNumbered}
 use Rattle.fr_store.specs.Numbers.{slot_of, slots_of}
-use Rattle.fr_store.specs.Places.{counts_in, AreOnce, AreAllStored, BelongsTo, IsHere, IsKeyOf, IsNarrow, IsNoted, IsPlaced, IsStoredChildOf, IsStoredHere, first_key, slot_at, slot_here, stored_here}
+use Rattle.fr_store.specs.Places.{counts_in, AreOnce, AreAllStored, BelongsTo, IsHere, IsKeyOf, IsNarrow, IsNoted, IsPlaced, IsStoredChildOf, IsStoredHere, first_key, slot_at, slot_here}
 use Rattle.fr_store.specs.Stands.{Stands}
-use Rattle.fr_store.specs.Ways.{counts_if, kid_at, node_along, owner_along, owner_below, uses, Reaches}
+use Rattle.fr_store.specs.Ways.{count_kids, counts_if, kid_at, node_along, owner_along, owner_below, uses, Reaches}
+use Rattle.fr_store.specs.WayLaws.{number_of_step}
 use Rattle.fr_store.proofs.PairLaws.{in_map}
-use Rattle.fr_store.proofs.PlaceLaws.{mark_at, open_unstored, place_of, placed_child}
-
-number_as : (form : Form) (i : ℕ) → number (step_as form i) ≡ i
-number_as as_struct i = refl
-number_as as_array i = refl
+use Rattle.fr_store.proofs.PlaceLaws.{mark_at, open_unstored, place_of, placed_above, placed_child}
 
 -- The owner of a child.
 
-owner_over : (owner : FrameOwner) (i : ℕ) (k : Kid) → Reaches (i ∷ []) k
-    → (form : Form) × (owner_below owner i k ≡ child_owner (slot_here k) form i)
-owner_over owner i gone reach = absurd reach
-owner_over owner i (there v) reach = absurd reach
-owner_over owner i (at slot stored entered_plot) reach = absurd reach
-owner_over owner i (at slot stored (whole_plot v)) reach = absurd reach
-owner_over owner i (at slot stored (begun_plot form kids)) reach = (form, refl)
+-- (the step to the child tells its number)
+owner_over : (plan : Plan) (heap : Heap) (node : NodeId) (by : FrameOwner) (depth : ℕ) (owner : FrameOwner) (i : ℕ) (k : Kid)
+    → Holds plan heap node by depth k → Reaches (i ∷ []) k
+    → (form : Form) × (owner_below owner i k ≡ child_owner (slot_here k) form i) × (number (step_as form i) ≡ i)
+owner_over plan heap node by depth owner i gone holds reach = absurd reach
+owner_over plan heap node by depth owner i (there v) holds reach = absurd reach
+owner_over plan heap node by depth owner i (at slot stored entered_plot) holds reach = absurd reach
+owner_over plan heap node by depth owner i (at slot stored (whole_plot v)) holds reach = absurd reach
+owner_over plan heap node by depth owner i (at slot stored (begun_plot form kids)) holds reach = (
+  form,
+  refl,
+  number_of_step form (count_kids kids) i (may_have_all plan heap node slot form (suc depth) kids holds.2) reach.0,
+)
 
 found_in : (plan : Plan) (heap : Heap) (node : NodeId) (owner : FrameOwner) (depth : ℕ) (k : Kid)
     → Holds plan heap node owner depth k → IsHere k
@@ -55,14 +58,17 @@ module _ (plan : Plan) (heap : Heap) (stack : List ℕ) (cursor : Place) (k : Ki
   -- what is found in the slot of a child
   pub child_found : (above : Place) (i : ℕ) → IsPlaced k (above ++ i ∷ [])
       → (found : Node) × (form : Form) × (heap (slot_at k (above ++ i ∷ [])) ≡ Some found)
-      × (found.owner ≡ child_owner (slot_at k above) form i)
+      × (found.owner ≡ child_owner (slot_at k above) form i) × (number (step_as form i) ≡ i)
   child_found above i placed =
       let place : Place = above ++ i ∷ [] in
       let found = found_in plan heap (node_along plan plan.root place k) (owner_along FrameOwner.Root place k)
       (0 + length place) (kid_at place k) (holds_at plan heap plan.root FrameOwner.Root 0 place k stands.holds placed.reaches)
       placed.here in
-      let over = owner_over (owner_along FrameOwner.Root above k) i (kid_at above k) (placed_child above i k placed).reaches in
-      (found.0, over.0, found.1, found.2 ∙ owner_append FrameOwner.Root above i k ∙ over.1)
+      let over = owner_over plan heap (node_along plan plan.root above k) (owner_along FrameOwner.Root above k)
+      (0 + length above) (owner_along FrameOwner.Root above k) i (kid_at above k)
+      (holds_at plan heap plan.root FrameOwner.Root 0 above k stands.holds (placed_above above (i ∷ []) k placed).reaches)
+      (placed_child above i k placed).reaches in
+      (found.0, over.0, found.1, found.2 ∙ owner_append FrameOwner.Root above i k ∙ over.1, over.2)
 
   numbered_by : (slot : ℕ) (form : Form) (i : ℕ) (owner : FrameOwner) → owner ≡ child_owner slot form i → OwnerIsNumbered owner
   numbered_by slot form i owner e = subst OwnerIsNumbered (sym e) (go form)
@@ -70,8 +76,13 @@ module _ (plan : Plan) (heap : Heap) (stack : List ℕ) (cursor : Place) (k : Ki
       go : (form : Form) → OwnerIsNumbered (child_owner slot form i)
       go as_struct = tt
       go as_array = tt
+      go (as_variant k) = tt
+      go as_some = tt
+      go as_ok = tt
+      go as_err = tt
+      go as_pointer = tt
 
-  -- it is a field or an element
+  -- the step to it has a number
   pub child_numbered : (above : Place) (i : ℕ) → IsPlaced k (above ++ i ∷ [])
       → IsSomeAnd (heap (slot_at k (above ++ i ∷ []))) (λ (found : Node). OwnerIsNumbered found.owner)
   child_numbered above i placed =
@@ -88,7 +99,7 @@ module _ (plan : Plan) (heap : Heap) (stack : List ℕ) (cursor : Place) (k : Ki
       let here : IsKeyOf key told.0.owner
       = subst (λ (x : Option Node). IsSomeAnd x (λ (found : Node). IsKeyOf key found.owner)) told.2 is in
       let by : IsKeyOf key (child_owner (slot_at k above) told.1 i) = subst (λ (o : FrameOwner). IsKeyOf key o) told.3 here in
-      by ∙ ap (λ (n : ℕ). first_key (slot_at k above) + (4294967295 - n)) (number_as told.1 i)
+      by ∙ ap (λ (n : ℕ). first_key (slot_at k above) + (4294967295 - n)) told.4
 
   -- where it belongs
   child_belongs : (above : Place) (i : ℕ) (place : StoredPlace) → IsPlaced k (above ++ i ∷ [])
@@ -100,7 +111,7 @@ module _ (plan : Plan) (heap : Heap) (stack : List ℕ) (cursor : Place) (k : Ki
       = subst (λ (x : Option Node). IsSomeAnd x (λ (found : Node). BelongsTo place found.owner)) (ap heap same ∙ told.2) noted in
       let by : BelongsTo place (child_owner (slot_at k above) told.1 i)
       = subst (λ (o : FrameOwner). BelongsTo place o) told.3 here in
-      (by.0, by.1 ∙ number_as told.1 i)
+      (by.0, by.1 ∙ told.4)
 
   module _ (all : (n : ℕ) → IsSome (heap n) → 0 < uses k n) where
     marked_found : (x : Option Node) → stored_in x ≡ true → IsSome x

@@ -1,24 +1,24 @@
 -- Laws of beginning the top, for proofs.
-use Rattle.std.proofs.Common.{◌≡◌, ℕ, zero, suc, ◌+◌, List, [], ◌∷◌, replicate, false, Option, Some, None, refl, sym, ◌∙◌, ap, subst, arith}
+use Rattle.std.proofs.Common.{◌≡◌, ℕ, zero, suc, ◌+◌, List, [], ◌∷◌, length, replicate, false, Option, Some, None, refl, sym, ◌∙◌, ap, subst, arith}
 use Rattle.fr_shape.specs.Tokens.{occurs, vals_occur}
 use Rattle.fr_shape.specs.Val.{Val, Vals, no_vals, first, product}
 use Rattle.fr_model.specs.Places.{Place, parts_of}
 use Rattle.fr_model.specs.Step.{opened_as, opened_value}
-use Rattle.fr_model.specs.Tree.{Form, Tree, Trees, begun, branch, hole, whole, holes, wholes, change_at}
+use Rattle.fr_model.specs.Tree.{Form, as_struct, as_array, as_variant, as_some, as_ok, as_err, as_pointer, Tree, Trees, begun, branch, hole, whole, holes, wholes, change_at}
 use Rattle.fr_plan.specs.TypePlan.{Plan}
 use Rattle.fr_frame.specs.declared.places.Slot.{Slot}
 use Rattle.fr_frame.specs.Bodies.{begun_body, opened, opened_by, cells_of_vals, IsClosed, AreUnplaced}
 use Rattle.fr_frame.specs.Cells.{Cell, absent, given}
 use Rattle.fr_frame.specs.Changes.{SameTokens, Shows}
 use Rattle.fr_frame.specs.Heap.{with_body, heap_of}
-use Rattle.fr_frame.specs.Kids.{Kid, gone, there, at, Plot, entered_plot, whole_plot, begun_plot, Kids, no_kids, kid, tree_of, tree_in, trees_in, cells_in, body_in, plot_occurs, kids_occur}
+use Rattle.fr_frame.specs.Kids.{Kid, gone, there, at, Plot, entered_plot, whole_plot, begun_plot, Kids, no_kids, kid, MayHave, tree_of, tree_in, trees_in, cells_in, body_in, plot_occurs, kids_occur}
 use Rattle.fr_store.specs.MoveLaws.{open_reach, open_top, top_changed, top_stands}
-use Rattle.fr_store.specs.Moves.{IsOpenAt, cursor_in, tree_in_slots}
+use Rattle.fr_store.specs.Moves.{IsOpenAt, TakesMany, cursor_in, tree_in_slots}
 use Rattle.fr_store.specs.Numbers.{IsLast}
 use Rattle.fr_store.specs.Stands.{IsOpen, kid_here, kid_shown}
 use Rattle.fr_store.specs.StayLaws.{stay_all, stay_shown}
 use Rattle.fr_store.specs.Staying.{AllStayPut}
-use Rattle.fr_store.specs.TopLaws.{keeps_closed, keeps_same, KeepsChildren, LosesNone}
+use Rattle.fr_store.specs.TopLaws.{MayHaveIts, keeps_closed, keeps_same, KeepsChildren, LosesNone}
 use Rattle.fr_store.specs.Ways.{put_at}
 use Rattle.fr_store.specs.WayLaws.{tree_put_at, tree_change_at, tree_of_at}
 
@@ -39,7 +39,7 @@ opened_plot form count entered_plot = begun_plot form (gones count)
 opened_plot form count (whole_plot v) = opened_whole form v (parts_of v)
 opened_plot form count (begun_plot made kids) = begun_plot made kids
 
-gones_cells : (count : ℕ) → cells_in (gones count) ≡ replicate count absent
+pub gones_cells : (count : ℕ) → cells_in (gones count) ≡ replicate count absent
 gones_cells zero = refl
 gones_cells (suc count) = ap (λ (cs : List Cell). absent ∷ cs) (gones_cells count)
 
@@ -56,7 +56,7 @@ opened_body form count (whole_plot v) = go (parts_of v)
     go None = refl
 opened_body form count (begun_plot made kids) = refl
 
-gones_trees : (count : ℕ) → trees_in (gones count) ≡ holes count
+pub gones_trees : (count : ℕ) → trees_in (gones count) ≡ holes count
 gones_trees zero = refl
 gones_trees (suc count) = ap (λ (ts : Trees). branch hole ts) (gones_trees count)
 
@@ -73,7 +73,7 @@ opened_tree form count (whole_plot v) = go (parts_of v)
     go None = refl
 opened_tree form count (begun_plot made kids) = refl
 
-gones_unplaced : (count : ℕ) → AreUnplaced (cells_in (gones count))
+pub gones_unplaced : (count : ℕ) → AreUnplaced (cells_in (gones count))
 gones_unplaced zero = tt
 gones_unplaced (suc count) = (tt, gones_unplaced count)
 
@@ -81,22 +81,37 @@ theres_unplaced : (vs : Vals) → AreUnplaced (cells_in (theres vs))
 theres_unplaced no_vals = tt
 theres_unplaced (first v vs) = (tt, theres_unplaced vs)
 
-opened_keeps : (form : Form) (count : ℕ) (plot : Plot) → KeepsChildren plot (opened_plot form count plot)
-opened_keeps form count entered_plot = keeps_closed entered_plot (begun_plot form (gones count)) (gones_unplaced count)
-opened_keeps form count (whole_plot v) =
-    keeps_closed (whole_plot v) (opened_whole form v (parts_of v)) (go (parts_of v))
+many_have : (form : Form) (count : ℕ) → TakesMany form → MayHave form count
+many_have as_struct count many = tt
+many_have as_array count many = tt
+many_have (as_variant k) count many = tt
+many_have as_some count many = absurd many
+many_have as_ok count many = absurd many
+many_have as_err count many = absurd many
+many_have as_pointer count many = absurd many
+
+opened_keeps : (form : Form) (count : ℕ) (plot : Plot) → TakesMany form → KeepsChildren plot (opened_plot form count plot)
+opened_keeps form count entered_plot many =
+    keeps_closed entered_plot (begun_plot form (gones count)) (many_have form (length (cells_in (gones count))) many)
+    (gones_unplaced count)
+opened_keeps form count (whole_plot v) many =
+    keeps_closed (whole_plot v) (opened_whole form v (parts_of v)) (may (parts_of v)) (go (parts_of v))
   where
+    may : (parts : Option Vals) → MayHaveIts (body_in (opened_whole form v parts))
+    may (Some vs) = many_have form (length (cells_in (theres vs))) many
+    may None = tt
+
     go : (parts : Option Vals) → IsClosed (body_in (opened_whole form v parts))
     go (Some vs) = theres_unplaced vs
     go None = tt
-opened_keeps form count (begun_plot made kids) = keeps_same (begun_plot made kids)
+opened_keeps form count (begun_plot made kids) many = keeps_same (begun_plot made kids)
 
 opened_loses : (form : Form) (count : ℕ) (plot : Plot) → LosesNone plot (opened_plot form count plot)
 opened_loses form count entered_plot n = omega arith
 opened_loses form count (whole_plot v) n = omega arith
 opened_loses form count (begun_plot made kids) n = omega arith
 
-gones_tokens : (count t : ℕ) → kids_occur (gones count) t ≡ 0
+pub gones_tokens : (count t : ℕ) → kids_occur (gones count) t ≡ 0
 gones_tokens zero t = refl
 gones_tokens (suc count) t = omega (arith, gones_tokens count t)
 
@@ -123,11 +138,12 @@ opened_stay slot form count (begun_plot made kids) (i ∷ place) placed = (place
 
 -- the top is begun
 pub open_begun : (plan : Plan) (before after : List Slot) (stack : List ℕ) (open_now : IsOpen plan before stack) (n : ℕ)
-    → IsLast stack n → (form : Form) (count : ℕ) → Shows after (with_body (heap_of before) n (opened form count))
+    → IsLast stack n → (form : Form) (count : ℕ) → TakesMany form
+    → Shows after (with_body (heap_of before) n (opened form count))
     → SameTokens before after
     → IsOpenAt plan after stack (cursor_in before stack)
     (change_at (cursor_in before stack) (opened_as form count) (tree_in_slots before stack))
-open_begun plan before after stack open_now n last form count shows tokens =
+open_begun plan before after stack open_now n last form count many shows tokens =
     let place : Place = cursor_in before stack in
     let k : Kid = kid_shown (heap_of before) stack in
     let top = open_top plan before stack open_now in
@@ -139,20 +155,21 @@ open_begun plan before after stack open_now n last form count shows tokens =
     ∙ ap (opened_as form count) (ap tree_of (sym top.is) ∙ tree_of_at place k)) in
     subst (λ (t : Tree). IsOpenAt plan after stack place t) same
     (top_changed plan before after stack open_now n last (opened form count) new (opened_body form count top.plot)
-    (opened_keeps form count top.plot) (opened_loses form count top.plot) shows
+    (opened_keeps form count top.plot many) (opened_loses form count top.plot) shows
     (λ t. omega (arith, tokens t, opened_tokens form count top.plot t)))
 
 -- no place leaves its slot
 pub stay_begun : (plan : Plan) (before after : List Slot) (stack : List ℕ) (open_now : IsOpen plan before stack) (n : ℕ)
-    → IsLast stack n → (form : Form) (count : ℕ) → Shows after (with_body (heap_of before) n (opened form count))
+    → IsLast stack n → (form : Form) (count : ℕ) → TakesMany form
+    → Shows after (with_body (heap_of before) n (opened form count))
     → AllStayPut (kid_here before stack) (kid_here after stack)
-stay_begun plan before after stack open_now n last form count shows =
+stay_begun plan before after stack open_now n last form count many shows =
     let place : Place = cursor_in before stack in
     let k : Kid = kid_here before stack in
     let top = open_top plan before stack open_now in
     let new : Plot = opened_plot form count top.plot in
     stay_shown plan after stack place (put_at place (at top.slot false new) k) k
     (top_stands plan before after stack open_now n last (opened form count) new (opened_body form count top.plot)
-    (opened_keeps form count top.plot) shows)
+    (opened_keeps form count top.plot many) shows)
     (stay_all place (at top.slot false new) k (open_reach plan before stack open_now)
     (subst (λ (x : Kid). AllStayPut x (at top.slot false new)) (sym top.is) (opened_stay top.slot form count top.plot)))

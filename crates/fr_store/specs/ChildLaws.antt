@@ -9,8 +9,8 @@ use Rattle.fr_frame.specs.declared.places.FrameOwner.{FrameOwner}
 use Rattle.fr_frame.specs.Bodies.{begun_body, cell_at, IsUnplaced}
 use Rattle.fr_frame.specs.Cells.{slot_of_cell}
 use Rattle.fr_frame.specs.Heap.{Node, Heap, stored_in}
-use Rattle.fr_frame.specs.Kids.{Kid, gone, there, at, Plot, entered_plot, whole_plot, begun_plot, Kids, no_kids, kid, tree_in, trees_in, cell_of, cells_in, body_in, child_node, child_owner, Holds, HoldsIn, HoldsAll}
-use Rattle.fr_store.specs.HoldLaws.{holds_nth}
+use Rattle.fr_frame.specs.Kids.{Kid, gone, there, at, Plot, entered_plot, whole_plot, begun_plot, Kids, no_kids, kid, MayHave, tree_in, trees_in, cell_of, cells_in, body_in, child_node, child_owner, Holds, HoldsIn, HoldsAll}
+use Rattle.fr_store.specs.HoldLaws.{holds_nth, may_have_all}
 use Rattle.fr_store.specs.LeaveLaws.{cell_of_child}
 use Rattle.fr_store.specs.Moves.{HasChild}
 use Rattle.fr_store.specs.Stands.{Stands}
@@ -56,6 +56,10 @@ module _ (plan : Plan) (heap : Heap) (stack : List ℕ) (place : Place) (k : Kid
       subst (λ (p : Plot). HoldsIn plan heap (node_along plan plan.root place k) top.slot (suc (length place)) p) begun_now
       top.children
 
+  pub kids_may_have : MayHave form (count_kids kids)
+  kids_may_have =
+      may_have_all plan heap (node_along plan plan.root place k) top.slot form (suc (length place)) kids kids_held
+
   pub kids_stored : AllMarkedAmong true kids
   kids_stored = subst (λ (p : Plot). AllMarkedIn true p) begun_now top.stored
 
@@ -78,7 +82,8 @@ module _ (plan : Plan) (heap : Heap) (stack : List ℕ) (place : Place) (k : Kid
   pub child_cell : option_and_then (λ (x : Node). cell_at x.body (step_as form i)) (heap top.slot)
       ≡ Some (cell_of (kid_nth i kids))
   child_cell =
-      ap (option_and_then (λ (x : Node). cell_at x.body (step_as form i))) parent_is ∙ cell_of_child form i kids within
+      ap (option_and_then (λ (x : Node). cell_at x.body (step_as form i))) parent_is
+      ∙ cell_of_child form i kids kids_may_have within
 
   -- a child that isn't stored is in no slot
   pub unplaced_child : ((child : ℕ) → IsStoredChild heap top.slot (step_as form i) child → ⊥)

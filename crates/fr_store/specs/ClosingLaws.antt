@@ -10,8 +10,8 @@ use Rattle.fr_model.specs.FinishLaws.{Closes, closed_at, ClosingKeepsCompletion,
 use Rattle.fr_model.specs.Paths.{steps_in, step_as}
 use Rattle.fr_model.specs.Places.{Place, deferred_column}
 use Rattle.fr_model.specs.Relation.{HasPlace}
-use Rattle.fr_model.specs.Tree.{Form, Tree, hole, entered, whole, begun, Trees, no_trees, branch, tree_nth, change_nth, child_tree, tree_at, change_at, child_as, shapes_from, shape_in, shape_below, count_trees}
-use Rattle.fr_model.specs.Well.{Suits, SuitAll, IsBegunAs}
+use Rattle.fr_model.specs.Tree.{Form, as_struct, as_array, as_variant, as_some, as_ok, as_err, as_pointer, Tree, hole, entered, whole, begun, Trees, no_trees, branch, tree_nth, change_nth, child_tree, tree_at, change_at, child_as, shapes_from, shape_in, shape_below, count_trees}
+use Rattle.fr_model.specs.Well.{Suits, SuitAll, IsBegunAs, IsBegunRightly, IsContent, IsTouched}
 use Rattle.fr_store.specs.Turns.{CompletesAsBefore}
 use Rattle.fr_store.specs.WayLaws.{same_or_other}
 
@@ -229,16 +229,43 @@ suits_at table s (i ∷ place) (begun form ts) has suits =
     suits_at table (child_as table s form i) place (tree_nth i ts) has.1
     (suits_nth table s form 0 ts i i (omega arith) has.0 suits.1)
 
+-- where something stands at a place, something stands above it
+touched_change : (place : Place) (new tree : Tree) → HasPlace place tree → IsTouched new
+    → IsTouched (change_at place (λ old. new) tree)
+touched_change [] new tree has touched = touched
+touched_change (i ∷ place) new hole has touched = absurd has
+touched_change (i ∷ place) new entered has touched = absurd has
+touched_change (i ∷ place) new (whole v) has touched = absurd has
+touched_change (i ∷ place) new (begun form ts) has touched = tt
+
+content_change : (i : ℕ) (change : Tree → Tree) (ts : Trees) → IsTouched (change (tree_nth i ts)) → IsContent ts
+    → IsContent (change_nth i change ts)
+content_change i change no_trees touched content = content
+content_change zero change (branch t ts) touched content = touched
+content_change (suc i) change (branch t ts) touched content = content
+
+rightly_change : (table : Table) (s : ℕ) (form : Form) (i : ℕ) (change : Tree → Tree) (ts : Trees)
+    → IsTouched (change (tree_nth i ts)) → IsBegunRightly table s form ts → IsBegunRightly table s form (change_nth i change ts)
+rightly_change table s as_struct i change ts touched rightly = tt
+rightly_change table s as_array i change ts touched rightly = tt
+rightly_change table s (as_variant k) i change ts touched rightly = rightly
+rightly_change table s as_some i change ts touched rightly = content_change i change ts touched rightly
+rightly_change table s as_ok i change ts touched rightly = content_change i change ts touched rightly
+rightly_change table s as_err i change ts touched rightly = content_change i change ts touched rightly
+rightly_change table s as_pointer i change ts touched rightly = (content_change i change ts touched rightly.0, rightly.1)
+
 -- something else that suits the place's shape is put there
 pub suits_change : (table : Table) (s : ℕ) (place : Place) (new tree : Tree) → HasPlace place tree → Suits table s tree
-    → Suits table (shape_in table s place tree) new → Suits table s (change_at place (λ old. new) tree)
-suits_change table s [] new tree has suits is = is
-suits_change table s (i ∷ place) new hole has suits is = absurd has
-suits_change table s (i ∷ place) new entered has suits is = absurd has
-suits_change table s (i ∷ place) new (whole v) has suits is = absurd has
-suits_change table s (i ∷ place) new (begun form ts) has suits is = (
+    → IsTouched new → Suits table (shape_in table s place tree) new → Suits table s (change_at place (λ old. new) tree)
+suits_change table s [] new tree has suits touched is = is
+suits_change table s (i ∷ place) new hole has suits touched is = absurd has
+suits_change table s (i ∷ place) new entered has suits touched is = absurd has
+suits_change table s (i ∷ place) new (whole v) has suits touched is = absurd has
+suits_change table s (i ∷ place) new (begun form ts) has suits touched is = (
   subst (λ (n : ℕ). IsBegunAs (def_of table s) form n) (sym (count_changed i (λ t. change_at place (λ old. new) t) ts))
       suits.0,
   suit_all table s form 0 i i (λ t. change_at place (λ old. new) t) ts (omega arith) suits.1
-      (λ child. suits_change table (child_as table s form i) place new (tree_nth i ts) has.1 child is),
+      (λ child. suits_change table (child_as table s form i) place new (tree_nth i ts) has.1 child touched is),
+  rightly_change table s form i (λ t. change_at place (λ old. new) t) ts
+      (touched_change place new (tree_nth i ts) has.1 touched) suits.2,
 )

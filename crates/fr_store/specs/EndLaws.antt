@@ -1,22 +1,24 @@
 -- Laws of ending, for proofs: the top is left, and its value goes to the place above.
-use Rattle.std.proofs.Common.{◌≡◌, ◌≢◌, ℕ, zero, suc, ◌+◌, ◌<◌, ◌≤◌, false, List, [], ◌∷◌, ◌++◌, append-nil, length, nat_eq, Option, Some, None, refl, sym, ◌∙◌, ap, subst, arith}
-use Rattle.std.specs.Prelude.{is_some, IsSome, IsSomeAnd}
+use Rattle.std.proofs.Common.{◌≡◌, ◌≢◌, ℕ, zero, suc, ◌+◌, ◌≤◌, Bool, true, false, List, [], ◌∷◌, ◌++◌, append-nil, length, nat_eq, Option, Some, None, refl, sym, ◌∙◌, ap, subst, arith}
+use Rattle.std.specs.Prelude.{is_some, IsSome, IsSomeAnd, if◌then◌else◌}
+use Rattle.fr_shape.specs.Fits.{count_vals}
 use Rattle.fr_shape.specs.Tokens.{occurs, vals_occur}
-use Rattle.fr_shape.specs.Val.{Val, Vals, no_vals, first, product}
+use Rattle.fr_shape.specs.Val.{Val, Vals, no_vals, first}
 use Rattle.fr_path.specs.declared.path_steps.PathStep.{PathStep}
 use Rattle.fr_model.specs.Paths.{step_as}
-use Rattle.fr_model.specs.Complete.{made}
-use Rattle.fr_model.specs.Places.{Place, up, one_more}
-use Rattle.fr_model.specs.Tree.{Form, as_struct, as_array, whole, change_at}
+use Rattle.fr_model.specs.Complete.{made, value_as}
+use Rattle.fr_model.specs.Places.{Place, up, one_more, vals_nth}
+use Rattle.fr_model.specs.Tree.{Form, as_struct, as_array, as_variant, as_some, as_ok, as_err, as_pointer, whole, change_at}
 use Rattle.fr_plan.specs.TypePlan.{Plan}
 use Rattle.fr_frame.specs.declared.places.FrameOwner.{FrameOwner}
 use Rattle.fr_frame.specs.declared.places.Slot.{Slot}
-use Rattle.fr_frame.specs.Bodies.{Body, entered_body, whole_body, begun_body, value_of, body_occurs, cell_at, with_cell, AreUnplaced, IsClosed}
+use Rattle.fr_frame.specs.Bodies.{Body, entered_body, whole_body, begun_body, value_of, body_occurs, can_make, cell_at, with_cell, AreUnplaced, IsClosed}
 use Rattle.fr_frame.specs.Cells.{Cell, absent, given, placed, cells_occur, values_of}
 use Rattle.fr_frame.specs.Changes.{IfInUse, IsInUse, Shows}
 use Rattle.fr_frame.specs.Heap.{Node, with_body, without, heap_of, marked, stored_in, slots_occur}
-use Rattle.fr_frame.specs.Kids.{Kid, gone, there, at, Plot, begun_plot, Kids, no_kids, kid, tree_of, cell_of, cells_in, body_in, kid_occurs, plot_occurs, child_owner}
-use Rattle.fr_store.specs.LeaveLaws.{Above, above_of, gone_above, gone_is, left_top, owner_append, put_append, above_append, up_append, cell_of_child, with_child}
+use Rattle.fr_frame.specs.Kids.{Kid, gone, there, at, Plot, begun_plot, Kids, no_kids, kid, MayHave, tree_of, cell_of, cells_in, body_in, kid_occurs, plot_occurs, child_owner}
+use Rattle.fr_store.specs.HoldLaws.{may_have_at}
+use Rattle.fr_store.specs.LeaveLaws.{Above, above_of, gone_above, gone_is, left_top, owner_append, put_append, above_append, up_append, cell_of_child, may_have_put, with_child, within_put}
 use Rattle.fr_store.specs.MoveLaws.{same_last, same_front, open_at_from, open_strict}
 use Rattle.fr_store.specs.Moves.{IsOpenAt, IsStepTo, OwnerIsNumbered, cursor_in, tree_in_slots}
 use Rattle.fr_store.specs.Numbers.{IsLast}
@@ -25,9 +27,9 @@ use Rattle.fr_store.specs.Stands.{Stands, IsOpen, kid_here, kid_shown}
 use Rattle.fr_store.specs.StayLaws.{stay_but}
 use Rattle.fr_store.specs.Staying.{StayPutBut}
 use Rattle.fr_store.specs.Stored.{NothingStored}
-use Rattle.fr_store.specs.TopLaws.{Top, top_of, closed_top, keeps_closed, top_replaced, body_here, body_other, closed_occur, closed_uses, marked_body, unmarked_without, used_mapped, used_without}
-use Rattle.fr_store.specs.Ways.{kid_at, put_nth, put_below, put_at, slots_above, counts_if, uses, uses_in, NoneStored, Leads, Reaches, node_along, owner_along, owner_below}
-use Rattle.fr_store.specs.WayLaws.{counts_other, nth_put, count_put, leads_reach, occurs_put_at, tree_put_at, kid_put_at, put_at_twice, put_below_twice}
+use Rattle.fr_store.specs.TopLaws.{MayHaveIts, Top, cells_count, held_may_have, top_of, closed_top, keeps_closed, top_replaced, body_here, body_other, closed_occur, closed_uses, marked_body, unmarked_without, used_mapped, used_without}
+use Rattle.fr_store.specs.Ways.{count_kids, kid_at, put_nth, put_below, put_at, slots_above, counts_if, uses, uses_in, NoneStored, Leads, Reaches, node_along, owner_along, owner_below}
+use Rattle.fr_store.specs.WayLaws.{counts_other, nth_put, leads_reach, occurs_put_at, tree_put_at, kid_put_at, put_at_twice, put_below_twice}
 
 -- The value that a place comes to has its tokens.
 
@@ -45,19 +47,57 @@ values_tokens (given v ∷ cs) vs t e = go (values_of cs) refl e (λ us. values_
         let same : first v us ≡ vs = cc in
         ap (λ (n : ℕ). occurs v t + n) (more us is) ∙ ap (λ (ws : Vals). vals_occur ws t) same
 
-made_tokens : (form : Form) (values : Option Vals) (v : Val) → made form values ≡ Some v
-    → (vs : Vals) × (values ≡ Some vs) × (product vs ≡ v)
-made_tokens as_struct (Some vs) v e = (vs, refl, cc)
-made_tokens as_struct None v e = absurd (cc)
-made_tokens as_array (Some vs) v e = (vs, refl, cc)
-made_tokens as_array None v e = absurd (cc)
+-- what is made of some values has their tokens: of more than one only a struct, an array or a variant is made
+one_tokens : (vs : Vals) (t : ℕ) → count_vals vs ≤ 1 → vals_occur vs t ≡ occurs (vals_nth vs 0) t
+one_tokens no_vals t few = refl
+one_tokens (first v no_vals) t few = omega arith
+one_tokens (first v (first w vs)) t few = absurd (omega arith)
 
-pub value_tokens : (body : Body) (v : Val) (t : ℕ) → value_of body ≡ Some v → body_occurs body t ≡ occurs v t
-value_tokens entered_body v t e = absurd (cc)
-value_tokens (whole_body w) v t e = let same : w ≡ v = cc in ap (λ (x : Val). occurs x t) same
-value_tokens (begun_body form cells) v t e =
-    let is = made_tokens form (values_of cells) v e in
-    values_tokens cells is.0 t is.1 ∙ ap (λ (x : Val). occurs x t) is.2
+made_tokens : (form : Form) (vs : Vals) (t : ℕ) → MayHave form (count_vals vs) → vals_occur vs t ≡ occurs (value_as form vs) t
+made_tokens as_struct vs t may = refl
+made_tokens as_array vs t may = refl
+made_tokens (as_variant k) vs t may = refl
+made_tokens as_some vs t may = one_tokens vs t may
+made_tokens as_ok vs t may = one_tokens vs t may
+made_tokens as_err vs t may = one_tokens vs t may
+made_tokens as_pointer vs t may = one_tokens vs t may
+
+-- what is begun and has a value makes it of its children's
+pub made_value : (form : Form) (cells : List Cell) (v : Val) → value_of (begun_body form cells) ≡ Some v
+    → made form (values_of cells) ≡ Some v
+made_value form cells v e = go (can_make form cells) e
+  where
+    go : (can : Bool) → (if can then made form (values_of cells) else None) ≡ Some v → made form (values_of cells) ≡ Some v
+    go true e = e
+    go false e = absurd (cc)
+
+-- it has a value of each child
+pub made_of : (form : Form) (values : Option Vals) (v : Val) → made form values ≡ Some v
+    → (vs : Vals) × (values ≡ Some vs) × (value_as form vs ≡ v)
+made_of form (Some vs) v e = (vs, refl, cc)
+made_of form None v e = absurd (cc)
+
+pub more_is : (v : Val) (rest : Option Vals) (vs : Vals) → one_more (Some v) rest ≡ Some vs
+    → (us : Vals) × (rest ≡ Some us) × (first v us ≡ vs)
+more_is v (Some us) vs e = (us, refl, cc)
+more_is v None vs e = absurd (cc)
+
+pub values_count : (cells : List Cell) (vs : Vals) → values_of cells ≡ Some vs → count_vals vs ≡ length cells
+values_count [] vs e = let same : no_vals ≡ vs = cc in ap count_vals (sym same)
+values_count (absent ∷ cells) vs e = absurd (cc)
+values_count (placed n ∷ cells) vs e = absurd (cc)
+values_count (given v ∷ cells) vs e =
+    let rest = more_is v (values_of cells) vs e in
+    ap count_vals (sym rest.2) ∙ ap suc (values_count cells rest.0 rest.1)
+
+pub value_tokens : (body : Body) (v : Val) (t : ℕ) → MayHaveIts body → value_of body ≡ Some v → body_occurs body t ≡ occurs v t
+value_tokens entered_body v t may e = absurd (cc)
+value_tokens (whole_body w) v t may e = let same : w ≡ v = cc in ap (λ (x : Val). occurs x t) same
+value_tokens (begun_body form cells) v t may e =
+    let is = made_of form (values_of cells) v (made_value form cells v e) in
+    values_tokens cells is.0 t is.1
+    ∙ made_tokens form is.0 t (subst (λ (n : ℕ). MayHave form n) (sym (values_count cells is.0 is.1)) may)
+    ∙ ap (λ (x : Val). occurs x t) is.2
 
 unplaced_given : (i : ℕ) (v : Val) (ks : Kids) → AreUnplaced (cells_in ks) → AreUnplaced (cells_in (put_nth i (there v) ks))
 unplaced_given i v no_kids closed = tt
@@ -88,6 +128,16 @@ module _ (plan : Plan) (slots : List Slot) (stack : List ℕ) (open_now : IsOpen
 
   pub above_now : Above above i kid_now
   above_now = above_of above i kid_now stands_now.leads strict_now
+
+  above_may_have : MayHave above_now.form (count_kids above_now.kids)
+  above_may_have =
+      may_have_at plan (heap_of slots) plan.root FrameOwner.Root 0 above kid_now above_now.slot false above_now.form
+      above_now.kids stands_now.holds (leads_reach above (i ∷ []) kid_now stands_now.leads) above_now.is
+
+  top_may_have : MayHaveIts (body_in top_now.plot)
+  top_may_have =
+      held_may_have plan (heap_of slots) (node_along plan plan.root (above ++ i ∷ []) kid_now) top_now.slot
+      (suc (length (above ++ i ∷ []))) top_now.plot top_now.children
 
   pub owner_now : owner_along FrameOwner.Root (above ++ i ∷ []) kid_now ≡ child_owner above_now.slot above_now.form i
   owner_now =
@@ -161,6 +211,11 @@ module _ (plan : Plan) (slots : List Slot) (stack : List ℕ) (open_now : IsOpen
       go : (form : Form) → OwnerIsNumbered (child_owner above_now.slot form i)
       go as_struct = tt
       go as_array = tt
+      go (as_variant k) = tt
+      go as_some = tt
+      go as_ok = tt
+      go as_err = tt
+      go as_pointer = tt
 
   pub value_now : (n : ℕ) (v : Val) → top_now.slot ≡ n → IfInUse slots n (λ (found : Node). value_of found.body ≡ Some v)
       → value_of (body_in top_now.plot) ≡ Some v
@@ -201,7 +256,8 @@ module _ (plan : Plan) (slots : List Slot) (stack : List ℕ) (open_now : IsOpen
         (ap (λ (p : Plot). cell_at (body_in p) step) plot_left
         ∙ ap (cell_at (body_in (begun_plot above_now.form (put_nth i gone above_now.kids)))) told
         ∙ cell_of_child above_now.form i (put_nth i gone above_now.kids)
-        (subst (λ (count : ℕ). i < count) (sym (count_put i gone above_now.kids)) above_now.within)
+        (may_have_put above_now.form i gone above_now.kids above_may_have)
+        (within_put i gone above_now.kids above_now.within)
         ∙ ap (λ (x : Kid). Some (cell_of x)) (nth_put i gone above_now.kids above_now.within))
 
     pub in_use_left : (m : ℕ) → IsLast next m → IsInUse mid m
@@ -225,7 +281,8 @@ module _ (plan : Plan) (slots : List Slot) (stack : List ℕ) (open_now : IsOpen
         let changed : with_cell (body_in top_left.plot) step (given v) ≡ body_in new
         = ap (λ (p : Plot). with_cell (body_in p) step (given v)) plot_left
         ∙ ap (λ (s : PathStep). with_cell (begun_body above_now.form (cells_in rest)) s (given v)) told
-        ∙ with_child above_now.form i (there v) rest in
+        ∙ with_child above_now.form i (there v) rest (may_have_put above_now.form i gone above_now.kids above_may_have)
+        (within_put i gone above_now.kids above_now.within) in
         let here : heap_of after top_left.slot ≡ Some (record {
           node = node_along plan plan.root above (put_at (above ++ i ∷ []) gone kid_now);
           owner = owner_along FrameOwner.Root above (put_at (above ++ i ∷ []) gone kid_now);
@@ -255,7 +312,10 @@ module _ (plan : Plan) (slots : List Slot) (stack : List ℕ) (open_now : IsOpen
         ∙ body_other (heap_of mid) top_left.slot (λ old. with_cell old step (given v)) x ne in
         let ended = top_replaced plan (heap_of mid) (heap_of after) next above (put_at (above ++ i ∷ []) gone kid_now) new
         (stands_left mid next n last shows) top_left
-        (keeps_closed top_left.plot new (unplaced_given i v rest above_now.rest)) here beside in
+        (keeps_closed top_left.plot new
+        (subst (λ (n : ℕ). MayHave above_now.form n) (sym (cells_count (put_nth i (there v) rest)))
+        (may_have_put above_now.form i (there v) rest (may_have_put above_now.form i gone above_now.kids above_may_have)))
+        (unplaced_given i v rest above_now.rest)) here beside in
         let one : put_below i (there v) (gone_above above i kid_now above_now) ≡ at top_left.slot false new
         = ap (λ (x : ℕ). at x false new) (sym slot_left) in
         let two : put_below i (there v) (gone_above above i kid_now above_now)
@@ -331,7 +391,7 @@ module _ (plan : Plan) (slots : List Slot) (stack : List ℕ) (open_now : IsOpen
         let here : kid_occurs (kid_at (above ++ i ∷ []) kid_now) t ≡ plot_occurs top_now.plot t
         = ap (λ (x : Kid). kid_occurs x t) top_now.is in
         let now : slots_occur slots t ≡ kid_occurs kid_now t = open_now.tokens t in
-        let worth : body_occurs (body_in top_now.plot) t ≡ occurs v t = value_tokens (body_in top_now.plot) v t value in
+        let worth : body_occurs (body_in top_now.plot) t ≡ occurs v t = value_tokens (body_in top_now.plot) v t top_may_have value in
         let own : plot_occurs top_now.plot t ≡ body_occurs (body_in top_now.plot) t = closed_occur top_now.plot t closed_now in
         omega (arith, occurs_put_at (above ++ i ∷ []) (there v) kid_now t reach_now, own, worth, taken t, put t))
         (all_ended after m (λ old. with_cell old step (given v)) v puts) (tree_put_at (above ++ i ∷ []) (there v) kid_now) in

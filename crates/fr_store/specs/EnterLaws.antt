@@ -15,8 +15,8 @@ use Rattle.fr_frame.specs.declared.places.Slot.{Slot}
 use Rattle.fr_frame.specs.Changes.{SameTokens, Shows}
 use Rattle.fr_frame.specs.Bodies.{Body, entered_body, whole_body, begun_body, fresh_body, taken_over, linked, linked_by, IsUnplaced, IsClosed}
 use Rattle.fr_frame.specs.Heap.{heap_of, marked, stored_in, Node, Heap, with_entered, entered_node, links, held_by, depth_below, depth_above, depth_limit}
-use Rattle.fr_frame.specs.Kids.{Kid, gone, there, at, Plot, entered_plot, whole_plot, begun_plot, Kids, tree_of, tree_in, cell_of, cells_in, body_in, trees_in, kid_occurs, plot_occurs, kids_occur, child_node, child_owner, Holds}
-use Rattle.fr_store.specs.ChildLaws.{child_cell, kids_held, kids_stored, not_parent, parent_is, part_uses, plot_has, unplaced_child}
+use Rattle.fr_frame.specs.Kids.{Kid, gone, there, at, Plot, entered_plot, whole_plot, begun_plot, Kids, MayHave, tree_of, tree_in, cell_of, cells_in, body_in, trees_in, kid_occurs, plot_occurs, kids_occur, child_node, child_owner, Holds}
+use Rattle.fr_store.specs.ChildLaws.{child_cell, kids_held, kids_may_have, kids_stored, not_parent, parent_is, part_uses, plot_has, unplaced_child}
 use Rattle.fr_store.specs.HoldLaws.{Replaces, holds_put_nth, unused}
 use Rattle.fr_store.specs.LeaveLaws.{cell_of_child, with_child}
 use Rattle.fr_store.specs.MoveLaws.{open_at_from, open_top, tokens_kept, top_slot}
@@ -27,7 +27,7 @@ use Rattle.fr_store.specs.Stands.{Stands, IsOpen, kid_here, kid_shown}
 use Rattle.fr_store.specs.StayLaws.{stay_all, stay_shown, stay_unplaced}
 use Rattle.fr_store.specs.Staying.{AllStayPut}
 use Rattle.fr_store.specs.Stored.{IsKept, IsStoredChild}
-use Rattle.fr_store.specs.TopLaws.{slot_here, slot_other, body_here, body_other, closed_marked, closed_holds, closed_uses, marked_entered, not_beside, top_held, used_entered, Top}
+use Rattle.fr_store.specs.TopLaws.{MayHaveIts, slot_here, slot_other, body_here, body_other, closed_marked, closed_holds, closed_uses, marked_entered, not_beside, top_held, used_entered, Top}
 use Rattle.fr_store.specs.Ways.{count_kids, kid_nth, kid_at, put_nth, put_at, slots_along, slots_above, counts_if, uses, uses_in, uses_among, Leads, Reaches, node_along, owner_along}
 use Rattle.fr_store.specs.WayLaws.{counts_same, counts_other, same_or_other, nth_put, uses_at, uses_nth, uses_put_nth, occurs_put_nth, occurs_put_at, leads_reach, stored_but, tree_change_at, tree_put_nth, tree_of_nth, tree_of_at}
 
@@ -92,17 +92,28 @@ child_tokens def gone t u = fresh_tokens def t
 child_tokens def (there v) t u = refl
 child_tokens def (at slot stored plot) t u = absurd u
 
-linked_child : (form : Form) (i n : ℕ) (ks : Kids) (plot : Plot) → i < count_kids ks → IsUnplaced (cell_of (kid_nth i ks))
+-- it has no children yet
+child_may_have : (def : Def) (k : Kid) → MayHaveIts (body_in (child_plot def k))
+child_may_have def gone = go (is_empty_struct def)
+  where
+    go : (b : Bool) → MayHaveIts (body_in (if b then whole_plot (product no_vals) else entered_plot))
+    go true = tt
+    go false = tt
+child_may_have def (there v) = tt
+child_may_have def (at slot stored plot) = tt
+
+linked_child : (form : Form) (i n : ℕ) (ks : Kids) (plot : Plot) → MayHave form (count_kids ks) → i < count_kids ks
+    → IsUnplaced (cell_of (kid_nth i ks))
     → linked n (step_as form i) (begun_body form (cells_in ks)) ≡ begun_body form (cells_in (put_nth i (at n false plot) ks))
-linked_child form i n ks plot h unplaced =
-    ap (linked_by n (step_as form i) (begun_body form (cells_in ks))) (cell_of_child form i ks h)
+linked_child form i n ks plot may h unplaced =
+    ap (linked_by n (step_as form i) (begun_body form (cells_in ks))) (cell_of_child form i ks may h)
     ∙ go (kid_nth i ks) unplaced
   where
     go : (k : Kid) → IsUnplaced (cell_of k)
         → linked_by n (step_as form i) (begun_body form (cells_in ks)) (Some (cell_of k))
         ≡ begun_body form (cells_in (put_nth i (at n false plot) ks))
-    go gone u = with_child form i (at n false plot) ks
-    go (there v) u = with_child form i (at n false plot) ks
+    go gone u = with_child form i (at n false plot) ks may h
+    go (there v) u = with_child form i (at n false plot) ks may h
     go (at slot stored other) u = absurd u
 
 unplaced_kid : (k : Kid) (n : ℕ) → IsUnplaced (cell_of k) → uses k n ≡ 0
@@ -152,7 +163,8 @@ module _ (plan : Plan) (heap other : Heap) (stack : List ℕ) (place : Place) (k
         stored = false;
         depth = length place;
         body = b;
-      })) (linked_child form i n kids (child_plot def (kid_nth i kids)) within unplaced)
+      })) (linked_child form i n kids (child_plot def (kid_nth i kids))
+      (kids_may_have plan heap stack place k stands top form kids begun_now i within) within unplaced)
 
   depth_is : depth_below heap (child_owner top.slot form i) ≡ suc (length place)
   depth_is = ap depth_above top.here
@@ -226,7 +238,7 @@ module _ (plan : Plan) (heap other : Heap) (stack : List ℕ) (place : Place) (k
         child_now,
         subst (λ (d : ℕ). d < depth_limit) depth_is limit,
         closed_holds plan other (child_node plan (node_along plan plan.root place k) form i) n (suc (suc (length place)))
-            (child_plot def (kid_nth i kids)) (child_closed def (kid_nth i kids)),
+            (child_plot def (kid_nth i kids)) (child_may_have def (kid_nth i kids)) (child_closed def (kid_nth i kids)),
       ) in
       subst (λ (x : Node). Holds plan other x.node x.owner x.depth entered_kid) (sym same) (
         parent_now,

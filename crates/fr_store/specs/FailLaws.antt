@@ -59,6 +59,7 @@ none_left (x ∷ xs) ys e = absurd (cc)
 -- the place at its path lacks that by itself
 pub record TellsLack (hooks : Meanings) (table : Table) (s : ℕ) (path : List PathStep) (tree : Tree) (failure : Failure) : Type 0 where
   pub here : Place
+  pub place : HasPlace here tree
   pub path_is : failure.path ≡ path ++ steps_in here tree
   pub lacks : own_lack hooks table (shape_in table s here tree) (tree_at here tree) ≡ Some failure.kind
 
@@ -67,6 +68,7 @@ record TellsOfChild (hooks : Meanings) (table : Table) (s : ℕ) (form : Form) (
   j : ℕ
   number : ℕ
   counted : number ≡ i + j
+  within : j < count_trees ts
   tells : TellsLack hooks table (child_as table s form number) (path ++ step_as form number ∷ []) (tree_nth j ts) failure
 
 one_on : (hooks : Meanings) (table : Table) (s : ℕ) (form : Form) (i : ℕ) (path : List PathStep) (t : Tree) (ts : Trees)
@@ -76,13 +78,20 @@ one_on hooks table s form i path t ts failure told = record {
   j = suc told.j;
   number = told.number;
   counted = omega (arith, told.counted);
+  within = omega (arith, told.within);
   tells = told.tells;
 }
 
 this_one : (hooks : Meanings) (table : Table) (s : ℕ) (form : Form) (i : ℕ) (path : List PathStep) (t : Tree) (ts : Trees)
     (failure : Failure) → TellsLack hooks table (child_as table s form i) (path ++ step_as form i ∷ []) t failure
     → TellsOfChild hooks table s form i path (branch t ts) failure
-this_one hooks table s form i path t ts failure told = record { j = 0; number = i; counted = omega arith; tells = told }
+this_one hooks table s form i path t ts failure told = record {
+  j = 0;
+  number = i;
+  counted = omega arith;
+  within = omega arith;
+  tells = told;
+}
 
 of_begun : (hooks : Meanings) (table : Table) (s : ℕ) (form : Form) (path : List PathStep) (ts : Trees) (failure : Failure)
     → TellsOfChild hooks table s form 0 path ts failure → TellsLack hooks table s path (begun form ts) failure
@@ -94,6 +103,7 @@ of_begun hooks table s form path ts failure told =
     same told.tells in
     record {
       here = told.j ∷ child.here;
+      place = (told.within, child.place);
       path_is =
           child.path_is
           ∙ append_assoc path (step_as form told.j ∷ []) (steps_in child.here (tree_nth told.j ts));
@@ -106,7 +116,7 @@ mutual
   tells hooks table s path hole failure found = absurd (nothing_in failure found)
   tells hooks table s path entered failure found =
       let itself = at_itself path (own_lack hooks table s entered) failure found in
-      record { here = []; path_is = itself.0 ∙ sym (append-nil path); lacks = itself.1 }
+      record { here = []; place = tt; path_is = itself.0 ∙ sym (append-nil path); lacks = itself.1 }
   tells hooks table s path (whole v) failure found = absurd (nothing_in failure found)
   tells hooks table s path (begun form ts) failure found =
       go
@@ -120,7 +130,7 @@ mutual
       go (inl beneath) below = of_begun hooks table s form path ts failure (below beneath)
       go (inr here) below =
           let itself = at_itself path (lack_of_begun hooks table s form ts) failure here in
-          record { here = []; path_is = itself.0 ∙ sym (append-nil path); lacks = itself.1 }
+          record { here = []; place = tt; path_is = itself.0 ∙ sym (append-nil path); lacks = itself.1 }
 
   tells_among : (hooks : Meanings) (table : Table) (s : ℕ) (form : Form) (i : ℕ) (path : List PathStep) (ts : Trees)
       (failure : Failure) → Contains (failures_among hooks table s form i path ts) failure

@@ -14,7 +14,7 @@ use Rattle.fr_model.specs.Paths.{steps_in}
 use Rattle.fr_model.specs.Places.{Place}
 use Rattle.fr_model.specs.Relation.{HasPlace}
 use Rattle.fr_model.specs.Tree.{Form, Tree, hole, strict, change_at, shape_in, tree_at}
-use Rattle.fr_model.specs.Well.{Suits, Leads as LeadsIn}
+use Rattle.fr_model.specs.Well.{Leads as LeadsIn}
 use Rattle.fr_plan.specs.declared.nodes.NodeId.{NodeId}
 use Rattle.fr_plan.specs.TypePlan.{Plan}
 use Rattle.fr_frame.specs.declared.places.FrameOwner.{FrameOwner}
@@ -30,7 +30,7 @@ use Rattle.fr_store.specs.Stored.{NothingStored}
 use Rattle.fr_store.specs.Turning.{CameByTurns, FinishedHere, LacksHere, StoppedByTurns, Walked, kid_here, next_place}
 use Rattle.fr_store.specs.Turns.{IsFinished, IsHeldUp, KeepThoseLeft, root_shape}
 use Rattle.fr_store.specs.WalkedLaws.{stored_among}
-use Rattle.fr_store.specs.Walks.{IsStoredAt, AreInWalkOrder, AreStoredAt}
+use Rattle.fr_store.specs.Walks.{AreInWalkOrder, AreStoredAt}
 use Rattle.fr_store.specs.Ways.{kid_at, counts_if, uses, uses_in, uses_among, AllMarkedIn, AllMarkedAmong, Leads, NoneStored}
 use Rattle.fr_store.specs.WayLaws.{counts_other, leads_at, leads_reach, same_or_other, tree_of_at}
 

@@ -26,7 +26,7 @@ use Rattle.fr_store.specs.HeadLaws.{Head, later, head_closed}
 use Rattle.fr_store.specs.OffLaws.{marked_off, off_stored, reach_place}
 use Rattle.fr_store.specs.Walks.{IsStoredAt, ComesBefore, IsWalk}
 use Rattle.fr_store.specs.Ways.{count_kids, kid_nth, kid_at, AllMarked, AllMarkedIn, AllMarkedAmong, StoredBut, NoneStored, Leads, Reaches}
-use Rattle.fr_store.specs.WayLaws.{numbers_in, tree_of_at, tree_of_nth}
+use Rattle.fr_store.specs.WayLaws.{tree_of_at, tree_of_nth}
 
 -- Half done places.
 
@@ -181,7 +181,8 @@ mutual
 -- The first place of a walk, where it lacks something by itself.
 module _ (hooks : Meanings) (table : Table) (s : ℕ) (k : Kid) (cursor : Place) (leads : Leads cursor k) (n : ℕ) (rest : List ℕ)
     (walk : IsWalk k (n ∷ rest)) (head : Head k n rest walk.places) (kind : ReflectErrorKind)
-    (lacks : own_lack hooks table (shape_in table s head.place (tree_of k)) (tree_at head.place (tree_of k)) ≡ Some kind) where
+    (lacks : own_lack hooks table (shape_in table s head.place (tree_of k)) (tree_at head.place (tree_of k)) ≡ Some kind)
+    (told_by_numbers : (place : Place) → Reaches place k → map number (steps_in place (tree_of k)) ≡ place) where
   first_failure : Failure
   first_failure = record { path = [] ++ steps_in head.place (tree_of k); kind = kind }
 
@@ -220,8 +221,9 @@ module _ (hooks : Meanings) (table : Table) (s : ℕ) (k : Kid) (cursor : Place)
 
       same_place : told.here ≡ lies.here
       same_place =
-          sym (numbers_in told.here (tree_of k)) ∙ ap (map number) (sym told.path_is ∙ lies.at)
-          ∙ numbers_in lies.here (tree_of k)
+          sym (told_by_numbers told.here (place_reach told.here k told.place))
+          ∙ ap (map number) (sym told.path_is ∙ lies.at)
+          ∙ told_by_numbers lies.here (place_reach lies.here k lies.place)
 
       go : (head.place ≡ lies.here) ⊎ Contains head.places lies.here → IsOrAfter first_failure other
       go (inl e) =

@@ -1,18 +1,19 @@
 -- Laws of the place at which a builder works, for proofs: at the end of deferred mode, nothing being stored, it is finished.
-use Rattle.std.proofs.Common.{◌≡◌, ◌≢◌, ◌⊎◌, ℕ, ◌+◌, true, false, List, [], ◌∷◌, append-nil, Option, option_map, Some, None, inl, inr, refl, sym, ◌∙◌, ap, subst, arith}
+use Rattle.std.proofs.Common.{◌≡◌, ◌≢◌, ◌⊎◌, ℕ, suc, ◌+◌, ◌≤◌, length, true, false, List, [], ◌∷◌, append-nil, Option, option_map, Some, None, inl, inr, refl, sym, ◌∙◌, ap, subst, arith}
 use Rattle.std.specs.Prelude.{IsSome, IsSomeAnd, is_some}
 use Rattle.fr_shape.specs.declared.error.ReflectErrorKind.{ReflectErrorKind}
 use Rattle.fr_shape.specs.Checked.{IsChecked}
 use Rattle.fr_shape.specs.Hooks.{Meanings}
 use Rattle.fr_shape.specs.Look.{Table}
+use Rattle.fr_shape.specs.Fits.{count_vals}
 use Rattle.fr_shape.specs.Tokens.{occurs}
-use Rattle.fr_shape.specs.Val.{Val, Vals, no_vals, first, product}
-use Rattle.fr_model.specs.Complete.{complete, complete_all, made}
+use Rattle.fr_shape.specs.Val.{Val, Vals, no_vals, first, product, variant, some, ok, err, ptr}
+use Rattle.fr_model.specs.Complete.{complete, complete_all, hole_takes, valid_child, value_as}
 use Rattle.fr_model.specs.Failing.{own_lack}
 use Rattle.fr_model.specs.Finish.{begun_with, finished_here}
 use Rattle.fr_model.specs.Laws.{CompletingKeepsTokens}
-use Rattle.fr_model.specs.Places.{Place, deferred_column, one_more}
-use Rattle.fr_model.specs.Tree.{Form, as_struct, as_array, Tree, hole, whole, begun, Trees, branch, change_at, shape_in, tree_at, tree_occurs, wholes}
+use Rattle.fr_model.specs.Places.{Place, deferred_column, one_more, vals_nth}
+use Rattle.fr_model.specs.Tree.{Form, as_struct, as_array, as_variant, as_some, as_ok, as_err, as_pointer, Tree, hole, whole, begun, Trees, no_trees, branch, change_at, child_as, count_trees, for_hole, shape_in, tree_at, tree_occurs, wholes}
 use Rattle.fr_model.specs.Well.{Suits}
 use Rattle.fr_plan.specs.LookupLaws.{LookupsAgree, LookupPathsAgree}
 use Rattle.fr_plan.specs.TypePlan.{Plan}
@@ -23,19 +24,19 @@ use Rattle.fr_frame.specs.Changes.{Becomes, IfInUse, SameTokens, Shows}
 use Rattle.fr_frame.specs.Completing.{shape_of, FillsAt, IsPlanFor, MayComplete}
 use Rattle.fr_frame.specs.Defaults.{KeepsForm, WhyNotDefault}
 use Rattle.fr_frame.specs.Heap.{Node, heap_of, marked, slots_occur, stored_in, with_body, with_slot}
-use Rattle.fr_frame.specs.Kids.{Kid, gone, Plot, tree_of, tree_in, trees_in, cells_in, body_in, kids_in, plot_in, kid_occurs, plot_occurs}
-use Rattle.fr_store.specs.EndLaws.{value_tokens}
+use Rattle.fr_frame.specs.Kids.{Kid, gone, MayHave, Plot, tree_of, tree_in, trees_in, cells_in, body_in, kids_in, plot_in, kid_occurs, plot_occurs}
+use Rattle.fr_store.specs.EndLaws.{made_of, made_value, more_is, value_tokens, values_count}
 use Rattle.fr_store.specs.MoveLaws.{closed_open, open_top, so_top, top_changed, top_found, top_node, top_so}
 use Rattle.fr_store.specs.Moves.{IsOpenAt, cursor_in, tree_in_slots}
 use Rattle.fr_store.specs.Numbers.{IsLast}
 use Rattle.fr_store.specs.ShapeLaws.{Along}
 use Rattle.fr_store.specs.Stands.{IsOpen}
 use Rattle.fr_store.specs.Stored.{NothingStored}
-use Rattle.fr_store.specs.TopLaws.{closed_occur, closed_tree, keeps_closed, loses_none, slot_here, slot_other}
-use Rattle.fr_store.specs.TurnedLaws.{along_open, may_complete, shape_along}
+use Rattle.fr_store.specs.TopLaws.{MayHaveIts, closed_occur, held_may_have, closed_tree, keeps_closed, loses_none, slot_here, slot_other}
+use Rattle.fr_store.specs.TurnedLaws.{along_open, count_of, may_complete, shape_along}
 use Rattle.fr_store.specs.Turning.{FinishedHere, LacksHere, is_entered, kid_here}
 use Rattle.fr_store.specs.Turns.{root_shape}
-use Rattle.fr_store.specs.Ways.{kid_at, Leads, Reaches}
+use Rattle.fr_store.specs.Ways.{kid_at, node_along, Leads, Reaches}
 use Rattle.fr_store.specs.WayLaws.{leads_reach, same_or_other, tree_of_at, tree_tokens}
 
 -- Places none of whose children is in a slot.
@@ -67,10 +68,6 @@ tree_back (begun_body form cells) = ap (λ (ts : Trees). begun form ts) (trees_b
 
 -- Places that have a value.
 
-more_is : (v : Val) (rest : Option Vals) (vs : Vals) → one_more (Some v) rest ≡ Some vs → (us : Vals) × (rest ≡ Some us)
-more_is v (Some us) vs e = (us, refl)
-more_is v None vs e = absurd (cc)
-
 values_unplaced : (cells : List Cell) (vs : Vals) → values_of cells ≡ Some vs → AreUnplaced cells
 values_unplaced [] vs e = tt
 values_unplaced (absent ∷ cells) vs e = absurd (cc)
@@ -85,46 +82,94 @@ values_whole (absent ∷ cells) vs e = absurd (cc)
 values_whole (placed n ∷ cells) vs e = absurd (cc)
 values_whole (given v ∷ cells) vs e =
     let rest = more_is v (values_of cells) vs e in
-    let both : Some (first v rest.0) ≡ Some vs = sym (ap (one_more (Some v)) rest.1) ∙ e in
-    let same : first v rest.0 ≡ vs = cc in
-    ap (λ (ts : Trees). branch (whole v) ts) (values_whole cells rest.0 rest.1) ∙ ap wholes same
+    ap (λ (ts : Trees). branch (whole v) ts) (values_whole cells rest.0 rest.1) ∙ ap wholes rest.2
 
-made_of : (form : Form) (values : Option Vals) (v : Val) → made form values ≡ Some v
-    → (vs : Vals) × (values ≡ Some vs) × (product vs ≡ v)
-made_of as_struct (Some vs) v e = (vs, refl, cc)
-made_of as_struct None v e = absurd (cc)
-made_of as_array (Some vs) v e = (vs, refl, cc)
-made_of as_array None v e = absurd (cc)
+-- what completes has a value for each child
+completed_count : (means : Meanings) (table : Table) (s : ℕ) (form : Form) (i : ℕ) (ts : Trees) (vs : Vals)
+    → complete_all deferred_column means table s form i ts ≡ Some vs → count_vals vs ≡ count_trees ts
+completed_count means table s form i no_trees vs e = let same : no_vals ≡ vs = cc in ap count_vals (sym same)
+completed_count means table s form i (branch t ts) vs e =
+    go
+    (valid_child means table s form i
+    (for_hole t (hole_takes deferred_column table s form i)
+    (complete deferred_column means table (child_as table s form i) t))) e
+    (λ us is. completed_count means table s form (suc i) ts us is)
+  where
+    go : (value : Option Val) → one_more value (complete_all deferred_column means table s form (suc i) ts) ≡ Some vs
+        → ((us : Vals) → complete_all deferred_column means table s form (suc i) ts ≡ Some us → count_vals us ≡ count_trees ts)
+        → count_vals vs ≡ suc (count_trees ts)
+    go None e counted = absurd (cc)
+    go (Some v) e counted =
+        let rest = more_is v (complete_all deferred_column means table s form (suc i) ts) vs e in
+        ap count_vals (sym rest.2) ∙ ap suc (counted rest.0 rest.1)
 
-same_product : (some others : Vals) (v : Val) → product some ≡ v → product others ≡ v → some ≡ others
-same_product some others v e f =
-    let same : product some ≡ product others = e ∙ sym f in
-    cc
+same_one : (one others : Vals) → count_vals one ≡ count_vals others → count_vals one ≤ 1
+    → vals_nth one 0 ≡ vals_nth others 0 → one ≡ others
+same_one no_vals no_vals count few e = refl
+same_one no_vals (first v vs) count few e = absurd (omega arith)
+same_one (first v vs) no_vals count few e = absurd (omega arith)
+same_one (first v no_vals) (first w no_vals) count few e = ap (λ (x : Val). first x no_vals) e
+same_one (first v no_vals) (first w (first x ws)) count few e = absurd (omega arith)
+same_one (first v (first x vs)) (first w ws) count few e = absurd (omega arith)
+
+-- as many values of which the same is made, being so many as there may be, are the same
+same_made : (form : Form) (one others : Vals) (v : Val) → count_vals one ≡ count_vals others
+    → MayHave form (count_vals one) → value_as form one ≡ v → value_as form others ≡ v → one ≡ others
+same_made as_struct one others v count may e f = let same : product one ≡ product others = e ∙ sym f in cc
+same_made as_array one others v count may e f = let same : product one ≡ product others = e ∙ sym f in cc
+same_made (as_variant k) one others v count may e f =
+    let same : variant k one ≡ variant k others = e ∙ sym f in cc
+same_made as_some one others v count may e f =
+    let same : some (vals_nth one 0) ≡ some (vals_nth others 0) = e ∙ sym f in
+    same_one one others count may (cc)
+same_made as_ok one others v count may e f =
+    let same : ok (vals_nth one 0) ≡ ok (vals_nth others 0) = e ∙ sym f in
+    same_one one others count may (cc)
+same_made as_err one others v count may e f =
+    let same : err (vals_nth one 0) ≡ err (vals_nth others 0) = e ∙ sym f in
+    same_one one others count may (cc)
+same_made as_pointer one others v count may e f =
+    let same : ptr (vals_nth one 0) ≡ ptr (vals_nth others 0) = e ∙ sym f in
+    same_one one others count may (cc)
 
 value_closed : (body : Body) (v : Val) → value_of body ≡ Some v → IsClosed body
 value_closed entered_body v e = tt
 value_closed (whole_body w) v e = tt
 value_closed (begun_body form cells) v e =
-    let values = made_of form (values_of cells) v e in
+    let values = made_of form (values_of cells) v (made_value form cells v e) in
     values_unplaced cells values.0 values.1
 
 -- what a place that isn't just entered becomes, by the place that it was
 finished_as : (means : Meanings) (table : Table) (s : ℕ) (was now : Body) (v : Val) → is_entered was ≡ false
-    → KeepsForm was now → complete deferred_column means table s (own_tree was) ≡ Some v → value_of now ≡ Some v
+    → MayHaveIts was → KeepsForm was now → complete deferred_column means table s (own_tree was) ≡ Some v → value_of now ≡ Some v
     → finished_here means table s (own_tree was) ≡ Some (own_tree now)
-finished_as means table s entered_body now v e form makes held = absurd (cc)
-finished_as means table s (whole_body w) now v e form makes held =
+finished_as means table s entered_body now v e may form makes held = absurd (cc)
+finished_as means table s (whole_body w) now v e may form makes held =
     ap (λ (body : Body). Some (own_tree body)) (sym form)
-finished_as means table s (begun_body form cells) entered_body v e keeps makes held = absurd keeps
-finished_as means table s (begun_body form cells) (whole_body w) v e keeps makes held = absurd keeps
-finished_as means table s (begun_body form cells) (begun_body other others) v e keeps makes held =
+finished_as means table s (begun_body form cells) entered_body v e may keeps makes held = absurd keeps
+finished_as means table s (begun_body form cells) (whole_body w) v e may keeps makes held = absurd keeps
+finished_as means table s (begun_body form cells) (begun_body other others) v e may keeps makes held =
     let was = made_of form (complete_all deferred_column means table s form 0 (trees_of cells)) v makes in
-    let now = made_of other (values_of others) v held in
-    let same : was.0 ≡ now.0 = same_product was.0 now.0 v was.2 now.2 in
+    let now = made_of other (values_of others) v (made_value other others v held) in
+    let made_count : count_vals was.0 ≡ length cells
+    = completed_count means table s form 0 (trees_of cells) was.0 was.1 ∙ count_of cells in
+    let same : was.0 ≡ now.0
+    = same_made form was.0 now.0 v (made_count ∙ sym keeps.1 ∙ sym (values_count others now.0 now.1))
+    (subst (λ (n : ℕ). MayHave form n) (sym made_count) may) was.2
+    (ap (λ (f : Form). value_as f now.0) (sym keeps.0) ∙ now.2) in
     ap (option_map (begun_with form)) was.1
     ∙ ap (λ (vs : Vals). Some (begun form (wholes vs))) same
     ∙ ap (λ (ts : Trees). Some (begun form ts)) (sym (values_whole others now.0 now.1))
-    ∙ ap (λ (f : Form). Some (begun f (trees_of others))) (sym keeps)
+    ∙ ap (λ (f : Form). Some (begun f (trees_of others))) (sym keeps.0)
+
+-- it has as many children as before
+kept_may_have : (was now : Body) → is_entered was ≡ false → MayHaveIts was → KeepsForm was now → MayHaveIts now
+kept_may_have entered_body now e may keeps = absurd (cc)
+kept_may_have (whole_body v) now e may keeps = subst (λ (b : Body). MayHaveIts b) (sym keeps) tt
+kept_may_have (begun_body form cells) entered_body e may keeps = absurd keeps
+kept_may_have (begun_body form cells) (whole_body w) e may keeps = absurd keeps
+kept_may_have (begun_body form cells) (begun_body other others) e may keeps =
+    subst (λ (n : ℕ). MayHave other n) (sym keeps.1) (subst (λ (f : Form). MayHave f (length cells)) (sym keeps.0) may)
 
 entered_is : (body : Body) → is_entered body ≡ true → body ≡ entered_body
 entered_is entered_body e = refl
@@ -144,6 +189,13 @@ module _ (plan : Plan) (before : List Slot) (stack : List ℕ) (open_now : IsOpe
       let top = open_top plan before stack open_now in
       sym (closed_tree top.plot closed) ∙ ap tree_of (sym top.is)
       ∙ tree_of_at (cursor_in before stack) (kid_here before stack)
+
+  its_may_have : MayHaveIts (top_node plan before stack open_now n last).body
+  unfolding top_node
+  its_may_have =
+      let top = open_top plan before stack open_now in
+      held_may_have plan (heap_of before) (node_along plan plan.root (cursor_in before stack) (kid_here before stack)) top.slot
+      (suc (length (cursor_in before stack))) top.plot top.children
 
   shut : IsClosed (top_node plan before stack open_now n last).body
   unfolding top_node
@@ -229,7 +281,7 @@ module _ (plan : Plan) (before : List Slot) (stack : List ℕ) (open_now : IsOpe
 
       -- in the end it has this body, and all else is as it was
       module _ (keeps_tokens : CompletingKeepsTokens) (after : List Slot) (body : Body)
-          (valued : value_of body ≡ Some fills.filled.value)
+          (valued : value_of body ≡ Some fills.filled.value) (may : MayHaveIts body)
           (meant : finished_here means table (shape_of plan (top_node plan before stack open_now n last).node)
           (own_tree (top_node plan before stack open_now n last).body)
           ≡ Some (own_tree body))
@@ -262,7 +314,7 @@ module _ (plan : Plan) (before : List Slot) (stack : List ℕ) (open_now : IsOpe
             (subst IsClosed (sym back) (value_closed body fills.filled.value valued))
             ∙ ap (λ (b : Body). body_occurs b t) back in
             omega
-            (arith, tokens t, part, value, new, value_tokens body fills.filled.value t valued)
+            (arith, tokens t, part, value, new, value_tokens body fills.filled.value t may valued)
 
         finished_now : FinishedHere means table plan before stack after
         unfolding top_node
@@ -280,6 +332,7 @@ module _ (plan : Plan) (before : List Slot) (stack : List ℕ) (open_now : IsOpe
               (top_changed plan before after stack open_now n last (λ old. body) (closed_plot body)
               (body_back body (value_closed body fills.filled.value valued))
               (keeps_closed (open_top plan before stack open_now).plot (closed_plot body)
+              (subst (λ (b : Body). MayHaveIts b) (sym (body_back body (value_closed body fills.filled.value valued))) may)
               (subst IsClosed (sym (body_back body (value_closed body fills.filled.value valued)))
               (value_closed body fills.filled.value valued)))
               (loses_none (open_top plan before stack open_now).plot (closed_plot body) closed) changed tokens_there);
@@ -306,26 +359,35 @@ module _ (plan : Plan) (before : List Slot) (stack : List ℕ) (open_now : IsOpe
       module _ (keeps_tokens : CompletingKeepsTokens) (tokens : SameTokens before first)
           (form : IfInUse before n (λ (x : Node). IfInUse first n (λ (y : Node). KeepsForm x.body y.body)))
           (plain : IfInUse before n (λ (x : Node). false ≡ is_entered x.body)) where
+        kept_so : KeepsForm (top_node plan before stack open_now n last).body fills.body
+        kept_so =
+            subst
+            (λ (o : Option Node). IsSomeAnd o (λ (y : Node). KeepsForm (top_node plan before stack open_now n last).body y.body))
+            first_found
+            (top_so plan before stack open_now n last
+            (λ (x : Node). IfInUse first n (λ (y : Node). KeepsForm x.body y.body)) form)
+
+        not_entered : is_entered (top_node plan before stack open_now n last).body ≡ false
+        not_entered = sym (top_so plan before stack open_now n last (λ (x : Node). false ≡ is_entered x.body) plain)
+
+        it_may_have : MayHaveIts fills.body
+        it_may_have =
+            kept_may_have (top_node plan before stack open_now n last).body fills.body not_entered its_may_have kept_so
+
         as_it_was : finished_here means table (shape_of plan (top_node plan before stack open_now n last).node)
             (own_tree (top_node plan before stack open_now n last).body)
             ≡ Some (own_tree fills.body)
         as_it_was =
             finished_as means table (shape_of plan (top_node plan before stack open_now n last).node)
-            (top_node plan before stack open_now n last).body fills.body fills.filled.value
-            (sym (top_so plan before stack open_now n last (λ (x : Node). false ≡ is_entered x.body) plain))
-            (subst
-            (λ (o : Option Node). IsSomeAnd o (λ (y : Node). KeepsForm (top_node plan before stack open_now n last).body y.body))
-            first_found
-            (top_so plan before stack open_now n last
-            (λ (x : Node). IfInUse first n (λ (y : Node). KeepsForm x.body y.body)) form))
+            (top_node plan before stack open_now n last).body fills.body fills.filled.value not_entered its_may_have kept_so
             fills.filled.meant fills.filled.held
 
         pub finished_begun : FinishedHere means table plan before stack first
         finished_begun =
-            finished_now keeps_tokens first fills.body fills.filled.held as_it_was fills.becomes tokens
+            finished_now keeps_tokens first fills.body fills.filled.held it_may_have as_it_was fills.becomes tokens
 
         pub nothing_begun : NothingStored first
-        nothing_begun = nothing_now keeps_tokens first fills.body fills.filled.held as_it_was fills.becomes tokens
+        nothing_begun = nothing_now keeps_tokens first fills.body fills.filled.held it_may_have as_it_was fills.becomes tokens
 
       -- one that was just entered becomes whole
       module _ (keeps_tokens : CompletingKeepsTokens) (after : List Slot) (tokens : SameTokens before after)
@@ -380,7 +442,7 @@ module _ (plan : Plan) (before : List Slot) (stack : List ℕ) (open_now : IsOpe
             ∙ fills.filled.meant)
 
         pub finished_whole : FinishedHere means table plan before stack after
-        finished_whole = finished_now keeps_tokens after (whole_body fills.filled.value) refl as_entered shows_whole tokens
+        finished_whole = finished_now keeps_tokens after (whole_body fills.filled.value) refl tt as_entered shows_whole tokens
 
         pub nothing_whole : NothingStored after
-        nothing_whole = nothing_now keeps_tokens after (whole_body fills.filled.value) refl as_entered shows_whole tokens
+        nothing_whole = nothing_now keeps_tokens after (whole_body fills.filled.value) refl tt as_entered shows_whole tokens

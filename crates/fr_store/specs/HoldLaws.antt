@@ -1,19 +1,20 @@
 -- Laws of what heaps hold, for proofs: other heaps that hold the same, or the same with something else at one place.
-use Rattle.std.proofs.Common.{◌≡◌, ◌≢◌, ◌⊎◌, ℕ, zero, suc, ◌+◌, ◌<◌, false, List, [], ◌∷◌, ◌++◌, length, nat_eq, Option, Some, None, inl, inr, refl, sym, ◌∙◌, ap, subst, arith}
+use Rattle.std.proofs.Common.{◌≡◌, ◌≢◌, ◌⊎◌, ℕ, zero, suc, ◌+◌, ◌<◌, Bool, false, List, [], ◌∷◌, ◌++◌, length, map, nat_eq, Option, Some, None, inl, inr, refl, sym, ◌∙◌, ap, subst, arith}
 use Rattle.fr_path.specs.declared.path_steps.PathStep.{PathStep}
+use Rattle.fr_path.specs.Order.{number}
 use Rattle.fr_model.specs.Paths.{step_as, steps_in}
 use Rattle.fr_model.specs.Places.{Place}
-use Rattle.fr_model.specs.Tree.{Form, Tree}
+use Rattle.fr_model.specs.Tree.{Form, Tree, tree_nth}
 use Rattle.fr_plan.specs.declared.nodes.NodeId.{NodeId}
 use Rattle.fr_plan.specs.TypePlan.{Plan}
 use Rattle.fr_frame.specs.declared.places.FrameOwner.{FrameOwner}
 use Rattle.fr_frame.specs.Bodies.{begun_body}
 use Rattle.fr_frame.specs.Cells.{Cell}
 use Rattle.fr_frame.specs.Heap.{Node, Heap, depth_limit, marked, stored_in}
-use Rattle.fr_frame.specs.Kids.{Kid, gone, there, at, Plot, entered_plot, whole_plot, begun_plot, Kids, no_kids, kid, tree_of, cell_of, cells_in, body_in, kid_in, kids_in, plot_in, kid_by, kid_from, child_node, child_owner, Holds, HoldsIn, HoldsAll}
+use Rattle.fr_frame.specs.Kids.{Kid, gone, there, at, Plot, entered_plot, whole_plot, begun_plot, Kids, no_kids, kid, MayHave, tree_of, trees_in, cell_of, cells_in, body_in, kid_in, kids_in, plot_in, kid_by, kid_from, child_node, child_owner, Holds, HoldsIn, HoldsAll}
 use Rattle.fr_store.specs.Stands.{step_of_owner, step_to, steps_to}
 use Rattle.fr_store.specs.Ways.{count_kids, kid_nth, kid_at, put_nth, put_at, slots_along, counts_if, uses, uses_in, uses_among, AllMarkedIn, AllMarkedAmong, NoneStored, Leads, Reaches, node_along, owner_along}
-use Rattle.fr_store.specs.WayLaws.{counts_same, counts_other, same_or_other, leads_reach, leads_at, uses_nth, uses_at, tree_of_nth}
+use Rattle.fr_store.specs.WayLaws.{counts_same, counts_other, same_or_other, leads_reach, leads_at, number_of_step, uses_nth, uses_at, tree_of_nth}
 
 -- the other heap has the same under each number that serves in it
 abbrev pub AgreeOn : Heap → Heap → Kid → Type 0
@@ -42,7 +43,7 @@ mutual
   pub holds_frame_among : (plan : Plan) (heap other : Heap) (node : NodeId) (slot : ℕ) (form : Form) (i depth : ℕ) (ks : Kids)
       → HoldsAll plan heap node slot form i depth ks → ((n : ℕ) → 0 < uses_among ks n → other n ≡ heap n)
       → HoldsAll plan other node slot form i depth ks
-  holds_frame_among plan heap other node slot form i depth no_kids holds agree = tt
+  holds_frame_among plan heap other node slot form i depth no_kids holds agree = holds
   holds_frame_among plan heap other node slot form i depth (kid k ks) holds agree = (
     holds_frame plan heap other (child_node plan node form i) (child_owner slot form i) depth k holds.0
         (λ n h. agree n (omega arith)),
@@ -133,6 +134,47 @@ holds_at plan heap node owner depth (i ∷ place) (at slot stored (whole_plot v)
 holds_at plan heap node owner depth (i ∷ place) gone holds reach = absurd reach
 holds_at plan heap node owner depth (i ∷ place) (there v) holds reach = absurd reach
 
+-- a place that is held has no more children than it may
+pub may_have : (plan : Plan) (heap : Heap) (node : NodeId) (slot : ℕ) (form : Form) (first depth : ℕ) (ks : Kids) (count : ℕ)
+    → count ≡ first + count_kids ks → HoldsAll plan heap node slot form first depth ks → MayHave form count
+may_have plan heap node slot form first depth no_kids count e holds =
+    let same : first ≡ count = omega arith in
+    subst (λ (n : ℕ). MayHave form n) same holds
+may_have plan heap node slot form first depth (kid k ks) count e holds =
+    may_have plan heap node slot form (suc first) depth ks count (omega arith) holds.1
+
+pub may_have_all : (plan : Plan) (heap : Heap) (node : NodeId) (slot : ℕ) (form : Form) (depth : ℕ) (ks : Kids)
+    → HoldsAll plan heap node slot form 0 depth ks → MayHave form (count_kids ks)
+may_have_all plan heap node slot form depth ks holds =
+    may_have plan heap node slot form 0 depth ks (count_kids ks) (omega arith) holds
+
+-- of a place that is reached
+pub may_have_at : (plan : Plan) (heap : Heap) (node : NodeId) (owner : FrameOwner) (depth : ℕ) (place : Place) (k : Kid)
+    (slot : ℕ) (stored : Bool) (form : Form) (kids : Kids) → Holds plan heap node owner depth k → Reaches place k
+    → kid_at place k ≡ at slot stored (begun_plot form kids) → MayHave form (count_kids kids)
+may_have_at plan heap node owner depth place k slot stored form kids holds reach is =
+    let held = subst
+    (λ (x : Kid). Holds plan heap (node_along plan node place k) (owner_along owner place k) (depth + length place) x) is
+    (holds_at plan heap node owner depth place k holds reach) in
+    may_have_all plan heap (node_along plan node place k) slot form (suc (depth + length place)) kids held.2
+
+-- the numbers of the steps to a place are the place
+pub numbers_at : (plan : Plan) (heap : Heap) (node : NodeId) (owner : FrameOwner) (depth : ℕ) (place : Place) (k : Kid)
+    → Holds plan heap node owner depth k → Reaches place k → map number (steps_in place (tree_of k)) ≡ place
+numbers_at plan heap node owner depth [] k holds reach = refl
+numbers_at plan heap node owner depth (i ∷ place) (at slot stored (begun_plot form kids)) holds reach =
+    let child = holds_nth plan heap node slot form 0 (suc depth) kids i i (omega arith) reach.0 holds.2 in
+    ap (λ (n : ℕ). n ∷ map number (steps_in place (tree_nth i (trees_in kids))))
+    (number_of_step form (count_kids kids) i (may_have_all plan heap node slot form (suc depth) kids holds.2) reach.0)
+    ∙ ap (λ (t : Tree). i ∷ map number (steps_in place t)) (sym (tree_of_nth i kids))
+    ∙ ap (λ (more : Place). i ∷ more)
+    (numbers_at plan heap (child_node plan node form i) (child_owner slot form i) (suc depth) place (kid_nth i kids) child
+    reach.1)
+numbers_at plan heap node owner depth (i ∷ place) (at slot stored entered_plot) holds reach = absurd reach
+numbers_at plan heap node owner depth (i ∷ place) (at slot stored (whole_plot v)) holds reach = absurd reach
+numbers_at plan heap node owner depth (i ∷ place) gone holds reach = absurd reach
+numbers_at plan heap node owner depth (i ∷ place) (there v) holds reach = absurd reach
+
 -- Something else at one place.
 
 -- where one heap holds the old, the other holds the new
@@ -149,7 +191,7 @@ pub replaced_nth : (plan : Plan) (heap other : Heap) (node : NodeId) (slot : ℕ
     (i : ℕ) (new : Kid) → Replaces plan heap other (kid_nth i ks) new
     → ((n : ℕ) → uses (kid_nth i ks) n < uses_among ks n → other n ≡ heap n)
     → HoldsAll plan heap node slot form first depth ks → HoldsAll plan other node slot form first depth (put_nth i new ks)
-replaced_nth plan heap other node slot form first depth no_kids i new step agree holds = tt
+replaced_nth plan heap other node slot form first depth no_kids i new step agree holds = holds
 replaced_nth plan heap other node slot form first depth (kid k ks) zero new step agree holds = (
   step (child_node plan node form first) (child_owner slot form first) depth holds.0,
   holds_frame_among plan heap other node slot form (suc first) depth ks holds.1 (λ n h. agree n (omega arith)),
@@ -166,7 +208,7 @@ pub holds_put_nth : (plan : Plan) (heap other : Heap) (node : NodeId) (slot : �
     → HoldsAll plan heap node slot form first depth ks
     → Holds plan other (child_node plan node form m) (child_owner slot form m) depth new
     → HoldsAll plan other node slot form first depth (put_nth i new ks)
-holds_put_nth plan heap other node slot form first depth no_kids i m new e agree holds is = tt
+holds_put_nth plan heap other node slot form first depth no_kids i m new e agree holds is = holds
 holds_put_nth plan heap other node slot form first depth (kid k ks) zero m new e agree holds is =
     let same : m ≡ first = omega arith in (
       subst (λ (j : ℕ). Holds plan other (child_node plan node form j) (child_owner slot form j) depth new) same is,

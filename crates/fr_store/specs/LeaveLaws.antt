@@ -1,23 +1,24 @@
 -- Laws of leaving the top, for proofs: its slot is free again, and its owner hasn't that child.
-use Rattle.std.proofs.Common.{◌≡◌, ◌≢◌, ◌⊎◌, ℕ, zero, suc, ◌+◌, ◌<◌, ◌≤◌, Bool, true, false, List, [], ◌∷◌, ◌++◌, append-nil, nat_eq, Some, None, slice_get, set, inl, inr, refl, sym, ◌∙◌, ap, subst, arith}
+use Rattle.std.proofs.Common.{◌≡◌, ◌≢◌, ◌⊎◌, ℕ, zero, suc, ◌+◌, ◌<◌, ◌≤◌, Bool, true, false, List, [], ◌∷◌, ◌++◌, append-nil, nat_eq, Option, Some, None, slice_get, set, inl, inr, refl, sym, ◌∙◌, ap, subst, arith}
+use Rattle.std.specs.Option.{option_and_then}
 use Rattle.std.specs.Prelude.{if◌then◌else◌}
 use Rattle.std.proofs.lemmas.Grind.{common_steps}
 use Rattle.std.proofs.lemmas.Bool.Decides.{nat_tests}
 use Rattle.fr_model.specs.Paths.{step_as}
 use Rattle.fr_model.specs.Places.{Place, is_root, up}
-use Rattle.fr_model.specs.Tree.{Form, as_struct, as_array}
+use Rattle.fr_model.specs.Tree.{Form, as_struct, as_array, as_variant, as_some, as_ok, as_err, as_pointer}
 use Rattle.fr_plan.specs.TypePlan.{Plan}
 use Rattle.fr_frame.specs.declared.places.FrameOwner.{FrameOwner}
-use Rattle.fr_frame.specs.Bodies.{Body, begun_body, cell_at, with_cell, unlinked, unlinked_by, child_number, AreUnplaced}
+use Rattle.fr_frame.specs.Bodies.{Body, begun_body, cell_at, with_cell, with_nth, unlinked, unlinked_by, child_number, AreUnplaced}
 use Rattle.fr_frame.specs.Cells.{Cell, absent, placed}
 use Rattle.fr_frame.specs.Heap.{Heap, with_slot, with_body, without}
-use Rattle.fr_frame.specs.Kids.{Kid, gone, there, at, Plot, entered_plot, whole_plot, begun_plot, Kids, no_kids, kid, cell_of, cells_in, child_owner, Holds}
-use Rattle.fr_store.specs.HoldLaws.{AgreeBeside, Replaces}
+use Rattle.fr_frame.specs.Kids.{Kid, gone, there, at, Plot, entered_plot, whole_plot, begun_plot, Kids, no_kids, kid, MayHave, cell_of, cells_in, child_owner, Holds}
+use Rattle.fr_store.specs.HoldLaws.{AgreeBeside, Replaces, may_have_all}
 use Rattle.fr_store.specs.StandLaws.{stands_change}
 use Rattle.fr_store.specs.Stands.{Stands}
 use Rattle.fr_store.specs.TopLaws.{slot_other, body_here, body_other, unplaced_uses, unplaced_holds, unplaced_by_marks, closed_marked, Top}
 use Rattle.fr_store.specs.Ways.{count_kids, kid_nth, kid_below, kid_at, put_nth, put_below, put_at, slots_above, counts_if, uses, uses_in, uses_among, AllMarked, AllMarkedAmong, StoredBut, NoneStored, Leads, owner_along, owner_below}
-use Rattle.fr_store.specs.WayLaws.{counts_same, same_or_other, leads_reach, leads_at, marked_at, uses_at, uses_nth}
+use Rattle.fr_store.specs.WayLaws.{count_put, counts_same, only_one, same_or_other, leads_reach, leads_at, marked_at, uses_at, uses_nth}
 
 -- Ways in two parts.
 
@@ -76,30 +77,46 @@ cells_put zero new (kid k ks) = refl
 cells_put (suc i) new (kid k ks) = ap (λ (cs : List Cell). cell_of k ∷ cs) (cells_put i new ks)
 
 -- the step of a child leads to it
-pub number_of_child : (form : Form) (i : ℕ) → child_number form (step_as form i) ≡ Some i
-number_of_child as_struct i = refl
-number_of_child as_array i = refl
+pub number_of_child : (form : Form) (count i : ℕ) → MayHave form count → i < count → child_number form (step_as form i) ≡ Some i
+number_of_child as_struct count i may h = refl
+number_of_child as_array count i may h = refl
+number_of_child (as_variant k) count i may h = refl
+number_of_child as_some count i may h = ap (λ (n : ℕ). Some n) (only_one count i may h)
+number_of_child as_ok count i may h = ap (λ (n : ℕ). Some n) (only_one count i may h)
+number_of_child as_err count i may h = ap (λ (n : ℕ). Some n) (only_one count i may h)
+number_of_child as_pointer count i may h = ap (λ (n : ℕ). Some n) (only_one count i may h)
 
-pub cell_of_child : (form : Form) (i : ℕ) (ks : Kids) → i < count_kids ks
+pub cell_of_child : (form : Form) (i : ℕ) (ks : Kids) → MayHave form (count_kids ks) → i < count_kids ks
     → cell_at (begun_body form (cells_in ks)) (step_as form i) ≡ Some (cell_of (kid_nth i ks))
-cell_of_child as_struct i ks h = cells_nth i ks h
-cell_of_child as_array i ks h = cells_nth i ks h
+cell_of_child form i ks may h =
+    ap (option_and_then (slice_get (cells_in ks))) (number_of_child form (count_kids ks) i may h) ∙ cells_nth i ks h
 
-pub with_child : (form : Form) (i : ℕ) (new : Kid) (ks : Kids)
+pub with_child : (form : Form) (i : ℕ) (new : Kid) (ks : Kids) → MayHave form (count_kids ks) → i < count_kids ks
     → with_cell (begun_body form (cells_in ks)) (step_as form i) (cell_of new) ≡ begun_body form (cells_in (put_nth i new ks))
-with_child as_struct i new ks = ap (begun_body as_struct) (cells_put i new ks)
-with_child as_array i new ks = ap (begun_body as_array) (cells_put i new ks)
+with_child form i new ks may h =
+    ap (λ (found : Option ℕ). begun_body form (with_nth (cells_in ks) (cell_of new) found))
+    (number_of_child form (count_kids ks) i may h)
+    ∙ ap (begun_body form) (cells_put i new ks)
 
-pub unlinked_child : (form : Form) (i n : ℕ) (ks : Kids) → i < count_kids ks → cell_of (kid_nth i ks) ≡ placed n
+-- as many children as before
+pub may_have_put : (form : Form) (i : ℕ) (new : Kid) (ks : Kids) → MayHave form (count_kids ks)
+    → MayHave form (count_kids (put_nth i new ks))
+may_have_put form i new ks may = subst (λ (n : ℕ). MayHave form n) (sym (count_put i new ks)) may
+
+pub within_put : (i : ℕ) (new : Kid) (ks : Kids) → i < count_kids ks → i < count_kids (put_nth i new ks)
+within_put i new ks h = subst (λ (n : ℕ). i < n) (sym (count_put i new ks)) h
+
+pub unlinked_child : (form : Form) (i n : ℕ) (ks : Kids) → MayHave form (count_kids ks) → i < count_kids ks
+    → cell_of (kid_nth i ks) ≡ placed n
     → unlinked n (step_as form i) (begun_body form (cells_in ks)) ≡ begun_body form (cells_in (put_nth i gone ks))
-unlinked_child form i n ks h is =
+unlinked_child form i n ks may h is =
     let e : nat_eq n n ≡ true = grind (arith, common_steps, nat_tests) in
     ap (unlinked_by n (step_as form i) (begun_body form (cells_in ks)))
-    (cell_of_child form i ks h ∙ ap (λ (c : Cell). Some c) is)
+    (cell_of_child form i ks may h ∙ ap (λ (c : Cell). Some c) is)
     ∙ ap
     (λ (b : Bool). if b then with_cell (begun_body form (cells_in ks)) (step_as form i) absent
     else begun_body form (cells_in ks)) e
-    ∙ with_child form i gone ks
+    ∙ with_child form i gone ks may h
 
 -- The place above the top.
 
@@ -243,10 +260,14 @@ left_top plan heap other stack next above i k n stands top found same shows alon
                 stored = false;
                 depth = depth;
                 body = b;
-              })) (unlinked_child found.form i n found.kids found.within
+              })) (unlinked_child found.form i n found.kids (may_have_all plan heap node found.slot found.form (suc depth) found.kids was.2)
+              found.within
               (ap cell_of child ∙ ap (λ (x : ℕ). placed x) same)),
           was.1,
-          unplaced_holds plan other node found.slot found.form 0 (suc depth) rest found.rest,
+          unplaced_holds plan other node found.slot found.form 0 (suc depth) rest (count_kids rest) (omega arith)
+              (may_have_put found.form i gone found.kids
+              (may_have_all plan heap node found.slot found.form (suc depth) found.kids was.2))
+              found.rest,
         )
 
     once : (m : ℕ) → uses k m + uses new m ≤ 1 + uses (kid_at above k) m

@@ -245,5 +245,5 @@ module _ (plan : Plan) (before : List Slot) (stack : List ℕ) (open_now : IsOpe
       (λ (found : Node). (t : ℕ) → slots_occur before t + occurs v t
       ≡ slots_occur after t + body_occurs found.body t) tokens in
       top_changed plan before after stack open_now n last (λ old. whole_body v) (whole_plot v) refl
-      (keeps_closed top.plot (whole_plot v) tt) (loses_none top.plot (whole_plot v) closed) shows
+      (keeps_closed top.plot (whole_plot v) tt tt) (loses_none top.plot (whole_plot v) closed) shows
       (λ t. omega (arith, so t, closed_occur top.plot t closed))

@@ -1,8 +1,10 @@
 -- What the moves of a builder do, as contracts see it.
-use Rattle.std.specs.Prelude.{◌≡◌, ℕ, ◌<◌, List}
+use Rattle.std.specs.Prelude.{◌≡◌, ℕ, ◌<◌, List, Option, Some, None}
+use Rattle.fr_shape.specs.Val.{Val}
 use Rattle.fr_path.specs.declared.path_steps.PathStep.{PathStep}
+use Rattle.fr_model.specs.Contents.{around, content_of}
 use Rattle.fr_model.specs.Places.{Place}
-use Rattle.fr_model.specs.Tree.{Form, Tree, hole, entered, whole, begun, count_trees, change_at, tree_at, tree_occurs}
+use Rattle.fr_model.specs.Tree.{Form, as_struct, as_array, as_variant, as_some, as_ok, as_err, as_pointer, Tree, hole, entered, whole, begun, count_trees, change_at, tree_at, tree_occurs}
 use Rattle.fr_plan.specs.declared.nodes.NodeId.{NodeId}
 use Rattle.fr_plan.specs.TypePlan.{Plan}
 use Rattle.fr_frame.specs.declared.places.FrameOwner.{FrameOwner}
@@ -57,24 +59,46 @@ abbrev pub OwnerIsIn : ℕ → FrameOwner → Type 0
 OwnerIsIn n FrameOwner.Root = ⊥
 OwnerIsIn n (FrameOwner.Child parent step) = n ≡ parent.0
 
+-- the step leads to a field or an element, or, as to number 0, to a content, a side or a pointee
 abbrev pub IsNumberedStep : PathStep → Type 0
 IsNumberedStep (PathStep.Field i) = Unit {0}
 IsNumberedStep (PathStep.Index i) = Unit {0}
-IsNumberedStep PathStep.Deref = ⊥
+IsNumberedStep PathStep.Deref = Unit {0}
 IsNumberedStep PathStep.Inner = ⊥
-IsNumberedStep PathStep.OptionSome = ⊥
+IsNumberedStep PathStep.OptionSome = Unit {0}
 IsNumberedStep PathStep.Proxy = ⊥
 IsNumberedStep (PathStep.MapKey i) = ⊥
 IsNumberedStep (PathStep.MapValue i) = ⊥
-IsNumberedStep PathStep.ResultOk = ⊥
-IsNumberedStep PathStep.ResultErr = ⊥
+IsNumberedStep PathStep.ResultOk = Unit {0}
+IsNumberedStep PathStep.ResultErr = Unit {0}
 IsNumberedStep PathStep.SetItem = ⊥
 IsNumberedStep (PathStep.Entry key) = ⊥
 
--- a place of this owner is a field or an element of the one above
+-- such a step leads to a place of this owner from the one above
 abbrev pub OwnerIsNumbered : FrameOwner → Type 0
 OwnerIsNumbered FrameOwner.Root = ⊥
 OwnerIsNumbered (FrameOwner.Child parent step) = IsNumberedStep step
+
+-- a place that is begun so may have any number of children
+abbrev pub TakesMany : Form → Type 0
+TakesMany as_struct = Unit {0}
+TakesMany as_array = Unit {0}
+TakesMany (as_variant k) = Unit {0}
+TakesMany as_some = ⊥
+TakesMany as_ok = ⊥
+TakesMany as_err = ⊥
+TakesMany as_pointer = ⊥
+
+abbrev pub around_content : (content : Option Val) → (old : Tree) → Tree
+around_content (Some v) old = around as_some (whole v)
+around_content None old = old
+
+-- a whole `Some`, begun with its content as it is; any other place stays as it is
+abbrev pub around_some : Tree → Tree
+around_some hole = hole
+around_some entered = entered
+around_some (whole v) = around_content (content_of v) (whole v)
+around_some (begun form ts) = begun form ts
 
 -- the place is begun so, and has a child of this number
 abbrev pub HasChild : Form → ℕ → Tree → Type 0

@@ -6,15 +6,16 @@ use Rattle.std.proofs.lemmas.Grind.{common_steps}
 use Rattle.std.proofs.lemmas.Bool.Decides.{nat_tests}
 use Rattle.fr_shape.specs.Released.{RoseBy}
 use Rattle.fr_model.specs.Paths.{step_as}
-use Rattle.fr_model.specs.Tree.{Form, as_struct, as_array}
+use Rattle.fr_model.specs.Tree.{Form}
 use Rattle.fr_plan.specs.declared.nodes.NodeId.{NodeId}
 use Rattle.fr_plan.specs.TypePlan.{Plan}
 use Rattle.fr_frame.specs.declared.places.FrameOwner.{FrameOwner}
 use Rattle.fr_frame.specs.declared.places.Slot.{Slot}
-use Rattle.fr_frame.specs.Bodies.{Body, entered_body, whole_body, begun_body, body_occurs, cell_at, with_cell, unlinked, unlinked_by, IsClosed, AreUnplaced}
+use Rattle.fr_frame.specs.Bodies.{Body, entered_body, whole_body, begun_body, body_occurs, cell_at, with_cell, with_nth, unlinked, unlinked_by, IsClosed, AreUnplaced}
 use Rattle.fr_frame.specs.Cells.{Cell, absent, given, placed, cells_occur, slot_at, slot_of_cell}
 use Rattle.fr_frame.specs.Heap.{Node, Heap, depth_limit, heap_of, slots_occur}
-use Rattle.fr_frame.specs.Kids.{Kid, gone, there, at, Plot, entered_plot, whole_plot, begun_plot, Kids, no_kids, kid, cell_of, cells_in, body_in, kid_in, kids_in, plot_in, kid_by, kid_from, child_node, child_owner, Holds, HoldsIn, HoldsAll, plot_occurs, kids_occur}
+use Rattle.fr_frame.specs.Kids.{Kid, gone, there, at, Plot, entered_plot, whole_plot, begun_plot, Kids, no_kids, kid, MayHave, cell_of, cells_in, body_in, kid_in, kids_in, plot_in, kid_by, kid_from, child_node, child_owner, Holds, HoldsIn, HoldsAll, plot_occurs, kids_occur}
+use Rattle.fr_store.specs.LeaveLaws.{number_of_child}
 use Rattle.fr_store.specs.Prunes.{kids_in_plot, kids_below, beneath, IsRooted, slotted_occurs, slotted_occur, emptied, pruned, IsPruned, cells_in_body}
 use Rattle.fr_store.specs.Stored.{IsKept, StoresNoMore}
 use Rattle.fr_store.specs.Ways.{kid_nth, uses, uses_in, uses_among, AllMarkedIn, AllMarkedAmong}
@@ -234,28 +235,28 @@ pruned_slot i entered_body = refl
 pruned_slot i (whole_body v) = refl
 pruned_slot i (begun_body form cells) = ap (option_and_then slot_of_cell) (emptied_get i cells)
 
-unlinked_at : (form : Form) (i m : ℕ) (cells : List Cell) → slice_get cells i ≡ Some (placed m)
+unlinked_at : (form : Form) (i m count : ℕ) (cells : List Cell) → MayHave form count → i < count
+    → slice_get cells i ≡ Some (placed m)
     → unlinked m (step_as form i) (begun_body form cells) ≡ begun_body form (set cells i absent)
-unlinked_at form i m cells is =
+unlinked_at form i m count cells may h is =
     let e : nat_eq m m ≡ true = grind (arith, common_steps, nat_tests) in
-    ap (unlinked_by m (step_as form i) (begun_body form cells)) (here form is)
+    ap (unlinked_by m (step_as form i) (begun_body form cells)) here
     ∙ ap (λ (b : Bool). if b then with_cell (begun_body form cells) (step_as form i) absent else begun_body form cells) e
-    ∙ there_too form
+    ∙ there_too
   where
-    here : (form : Form) → slice_get cells i ≡ Some (placed m)
-        → cell_at (begun_body form cells) (step_as form i) ≡ Some (placed m)
-    here as_struct is = is
-    here as_array is = is
+    here : cell_at (begun_body form cells) (step_as form i) ≡ Some (placed m)
+    here = ap (option_and_then (slice_get cells)) (number_of_child form count i may h) ∙ is
 
-    there_too : (form : Form) → with_cell (begun_body form cells) (step_as form i) absent ≡ begun_body form (set cells i absent)
-    there_too as_struct = refl
-    there_too as_array = refl
+    there_too : with_cell (begun_body form cells) (step_as form i) absent ≡ begun_body form (set cells i absent)
+    there_too =
+        ap (λ (found : Option ℕ). begun_body form (with_nth cells absent found)) (number_of_child form count i may h)
 
 -- one more child leaves its slot
-pub unlinked_first : (form : Form) (i m : ℕ) (cells : List Cell) → slice_get cells i ≡ Some (placed m)
+pub unlinked_first : (form : Form) (i m count : ℕ) (cells : List Cell) → MayHave form count → i < count
+    → slice_get cells i ≡ Some (placed m)
     → unlinked m (step_as form i) (pruned_first i (begun_body form cells)) ≡ pruned_first (suc i) (begun_body form cells)
-unlinked_first form i m cells is =
-    unlinked_at form i m (emptied_first i cells) (emptied_get i cells ∙ is)
+unlinked_first form i m count cells may h is =
+    unlinked_at form i m count (emptied_first i cells) may h (emptied_get i cells ∙ is)
     ∙ ap (begun_body form) (emptied_set i m cells is)
 
 unplaced_emptied : (cs : List Cell) → AreUnplaced cs → map emptied cs ≡ cs

@@ -4,16 +4,16 @@ use Rattle.fr_shape.specs.declared.shape.Def.{Def}
 use Rattle.fr_shape.specs.declared.shape.Field.{Field}
 use Rattle.fr_shape.specs.declared.shape.Shape.{Shape}
 use Rattle.fr_shape.specs.declared.shape.ShapeId.{ShapeId}
-use Rattle.fr_shape.specs.declared.shape.StructDef.{StructDef}
+use Rattle.fr_shape.specs.declared.shape.VariantDef.{VariantDef}
 use Rattle.fr_shape.specs.Checked.{IsChecked}
 use Rattle.fr_shape.specs.Look.{Table, IsIn, def_of, def_or_other}
 use Rattle.fr_model.specs.Places.{Place, child_shape}
-use Rattle.fr_model.specs.Tree.{Form, as_struct, as_array, Tree, Trees, no_trees, branch, tree_nth, tree_at, child_as, shapes_from, shape_in, count_trees}
-use Rattle.fr_model.specs.Well.{IsFullAs, Suits, SuitAll}
+use Rattle.fr_model.specs.Tree.{Form, as_struct, as_array, as_variant, as_some, as_ok, as_err, as_pointer, Tree, Trees, no_trees, branch, tree_nth, tree_at, child_as, shapes_from, shape_in, count_trees}
+use Rattle.fr_model.specs.Well.{HasContent, HasElements, HasFields, HasFieldsOf, HasPointee, HasSide, HasVariantFields, IsFullAs, PointsTo, Suits, SuitAll}
 use Rattle.fr_plan.specs.declared.nodes.NodeId.{NodeId}
 use Rattle.fr_plan.specs.declared.nodes.TypePlanNode.{TypePlanNode}
 use Rattle.fr_plan.specs.Lookups.{node_at}
-use Rattle.fr_plan.specs.LookupLaws.{Step, struct_field_step, list_item_step, looked_up, child_in, shape_at, LookupsAgree, LookupPathsAgree}
+use Rattle.fr_plan.specs.LookupLaws.{Step, struct_field_step, enum_variant_field_step, list_item_step, option_inner_step, result_ok_step, result_err_step, pointer_pointee_step, looked_up, child_in, shape_at, LookupsAgree, LookupPathsAgree}
 use Rattle.fr_plan.specs.TypePlan.{Plan, IsPlanOf}
 use Rattle.fr_frame.specs.Kids.{Kid, gone, there, at, entered_plot, whole_plot, begun_plot, Kids, no_kids, kid, tree_of, trees_in, child_node}
 use Rattle.fr_store.specs.Ways.{count_kids, kid_nth, Reaches, node_along}
@@ -29,6 +29,11 @@ pub record IsOfShape (plan : Plan) (node : NodeId) (s : ℕ) : Type 0 where
 abbrev pub step_of : Form → ℕ → Step
 step_of as_struct i = struct_field_step i
 step_of as_array i = list_item_step
+step_of (as_variant k) i = enum_variant_field_step k i
+step_of as_some i = option_inner_step
+step_of as_ok i = result_ok_step
+step_of as_err i = result_err_step
+step_of as_pointer i = pointer_pointee_step
 
 -- what is looked up
 record Leads (plan : Plan) (found : TypePlanNode) (step : Step) (t : ShapeId) : Type 0 where
@@ -47,36 +52,81 @@ field_at [] i h = absurd (omega arith)
 field_at (field ∷ fields) zero h = (field, refl)
 field_at (field ∷ fields) (suc i) h = field_at fields i (omega arith)
 
+-- A child of a place of this definition, by the form as which it is begun.
+module _ (table : Table) (id : ShapeId) (shape : Shape) (is : slice_get table id.0 ≡ Some shape) (count i : ℕ) (h : i < count) where
+  struct_child : (def : Def) → shape.def ≡ def → HasFields def count → Has table id (struct_field_step i) (child_shape table id.0 i)
+  struct_child (Def.Struct struct) e full =
+      let found = field_at struct.fields i (omega (arith, full)) in
+      record {
+        child = found.0.shape;
+        there = rw (is, e, found.1) refl;
+        number = rw (is, e, found.1) refl;
+      }
+  struct_child _ e full = absurd full
+
+  array_child : (def : Def) → shape.def ≡ def → HasElements def count → Has table id list_item_step (child_shape table id.0 i)
+  array_child (Def.Array item n) e full = record { child = item; there = rw (is, e) refl; number = rw (is, e) refl }
+  array_child _ e full = absurd full
+
+  variant_child : (k : ℕ) (def : Def) → shape.def ≡ def → HasVariantFields def k count
+      → Has table id (enum_variant_field_step k i) (child_as table id.0 (as_variant k) i)
+  variant_child k (Def.Enum enumeration) e full = go (slice_get enumeration.variants k) refl full
+    where
+      go : (variant : Option VariantDef) → slice_get enumeration.variants k ≡ variant → HasFieldsOf variant count
+          → Has table id (enum_variant_field_step k i) (child_as table id.0 (as_variant k) i)
+      go (Some variant) f full =
+          let found = field_at variant.fields i (omega (arith, full)) in
+          record {
+            child = found.0.shape;
+            there = rw (is, e, f, found.1) refl;
+            number = rw (is, e, f, found.1) refl;
+          }
+      go None f full = absurd full
+  variant_child k _ e full = absurd full
+
+  some_child : (def : Def) → shape.def ≡ def → HasContent def count
+      → Has table id option_inner_step (child_as table id.0 as_some i)
+  some_child (Def.Option t) e full = record { child = t; there = rw (is, e) refl; number = rw (is, e) refl }
+  some_child _ e full = absurd full
+
+  ok_child : (def : Def) → shape.def ≡ def → HasSide def count → Has table id result_ok_step (child_as table id.0 as_ok i)
+  ok_child (Def.Result t other) e full = record { child = t; there = rw (is, e) refl; number = rw (is, e) refl }
+  ok_child _ e full = absurd full
+
+  err_child : (def : Def) → shape.def ≡ def → HasSide def count → Has table id result_err_step (child_as table id.0 as_err i)
+  err_child (Def.Result t other) e full = record { child = other; there = rw (is, e) refl; number = rw (is, e) refl }
+  err_child _ e full = absurd full
+
+  pointee_child : (def : Def) → shape.def ≡ def → HasPointee def count
+      → Has table id pointer_pointee_step (child_as table id.0 as_pointer i)
+  pointee_child (Def.Pointer pointer) e full = go pointer.pointee refl full
+    where
+      go : (pointee : Option ShapeId) → pointer.pointee ≡ pointee → PointsTo pointee count
+          → Has table id pointer_pointee_step (child_as table id.0 as_pointer i)
+      go (Some t) f full = record { child = t; there = rw (is, e, f) refl; number = rw (is, e, f) refl }
+      go None f full = absurd full
+  pointee_child _ e full = absurd full
+
 has_child : (table : Table) (id : ShapeId) (form : Form) (count i : ℕ) → IsFullAs (def_of table id.0) form count → i < count
     → Has table id (step_of form i) (child_as table id.0 form i)
-has_child table id form count i full below = go (slice_get table id.0) refl form full below
+has_child table id form count i full below = go (slice_get table id.0) refl form full
   where
-    at_struct : (shape : Shape) (struct : StructDef) → slice_get table id.0 ≡ Some shape → shape.def ≡ Def.Struct struct
-        → i < length struct.fields → Has table id (struct_field_step i) (child_shape table id.0 i)
-    at_struct shape struct is def h =
-        let found = field_at struct.fields i h in
-        record {
-          child = found.0.shape;
-          there = rw (is, def, found.1) refl;
-          number = rw (is, def, found.1) refl;
-        }
-
-    at_array : (shape : Shape) (item : ShapeId) (n : ℕ) → slice_get table id.0 ≡ Some shape → shape.def ≡ Def.Array item n
-        → Has table id list_item_step (child_shape table id.0 i)
-    at_array shape item n is def = record { child = item; there = rw (is, def) refl; number = rw (is, def) refl }
-
-    at_def : (shape : Shape) → slice_get table id.0 ≡ Some shape → (def : Def) → shape.def ≡ def → (form : Form)
-        → IsFullAs def form count → i < count → Has table id (step_of form i) (child_as table id.0 form i)
-    at_def shape is (Def.Struct struct) e as_struct full h = at_struct shape struct is e (omega (arith, full))
-    at_def shape is (Def.Array item n) e as_array full h = at_array shape item n is e
-    at_def shape is (Def.Struct struct) e as_array full h = absurd full
-    at_def shape is (Def.Array item n) e as_struct full h = absurd full
-    at_def shape is _ e form full h = absurd full
-
     go : (found : Option Shape) → slice_get table id.0 ≡ found → (form : Form) → IsFullAs (def_or_other found) form count
-        → i < count → Has table id (step_of form i) (child_as table id.0 form i)
-    go (Some shape) is form full h = at_def shape is shape.def refl form full h
-    go None is form full h = absurd full
+        → Has table id (step_of form i) (child_as table id.0 form i)
+    go (Some shape) is as_struct full = struct_child table id shape is count i below shape.def refl full
+    go (Some shape) is as_array full = array_child table id shape is count i below shape.def refl full
+    go (Some shape) is (as_variant k) full = variant_child table id shape is count i below k shape.def refl full
+    go (Some shape) is as_some full = some_child table id shape is count i below shape.def refl full
+    go (Some shape) is as_ok full = ok_child table id shape is count i below shape.def refl full
+    go (Some shape) is as_err full = err_child table id shape is count i below shape.def refl full
+    go (Some shape) is as_pointer full = pointee_child table id shape is count i below shape.def refl full
+    go None is as_struct full = absurd full
+    go None is as_array full = absurd full
+    go None is (as_variant k) full = absurd full
+    go None is as_some full = absurd full
+    go None is as_ok full = absurd full
+    go None is as_err full = absurd full
+    go None is as_pointer full = absurd full
 
 count_in : (ks : Kids) → count_trees (trees_in ks) ≡ count_kids ks
 count_in no_kids = refl
@@ -127,23 +177,52 @@ module _ (agree : LookupsAgree) (table : Table) (root : ShapeId) (plan : Plan) (
       → IsFullAs (def_of table s) form count → i < count
       → IsOfShape plan (child_node plan node form i) (child_as table s form i)
   child_shaped node s form count i is full below =
+      let here = subst (λ (n : ℕ). IsFullAs (def_of table n) form count) (sym is.shape) full in
       subst (λ (n : ℕ). IsOfShape plan (child_node plan node form i) (child_as table n form i)) is.shape
-      (go form
-      (has_child table is.found.shape form count i
-      (subst (λ (n : ℕ). IsFullAs (def_of table n) form count) (sym is.shape) full) below))
+      (go form here (has_child table is.found.shape form count i here below))
     where
-      go : (form : Form) → Has table is.found.shape (step_of form i) (child_as table is.found.shape.0 form i)
+      of_child : (form : Form) (next : NodeId) (child : ShapeId) → child.0 ≡ child_as table is.found.shape.0 form i
+          → child_node plan node form i ≡ next → shape_at plan next ≡ Some child
           → IsOfShape plan (child_node plan node form i) (child_as table is.found.shape.0 form i)
-      go as_struct has =
+      of_child form next child number same shape =
+          subst (λ (n : ℕ). IsOfShape plan (child_node plan node form i) n) number
+          (subst (λ (id : NodeId). IsOfShape plan id child.0) (sym same) (found_at next child shape))
+
+      go : (form : Form) → IsFullAs (def_of table is.found.shape.0) form count
+          → Has table is.found.shape (step_of form i) (child_as table is.found.shape.0 form i)
+          → IsOfShape plan (child_node plan node form i) (child_as table is.found.shape.0 form i)
+      go as_struct full has =
           let next = looked node is.found (struct_field_step i) has.child is.there has.there in
           let same : child_node plan node as_struct i ≡ next.node = rw (is.there, next.is) refl in
-          subst (λ (n : ℕ). IsOfShape plan (child_node plan node as_struct i) n) has.number
-          (subst (λ (id : NodeId). IsOfShape plan id has.child.0) (sym same) (found_at next.node has.child next.shape))
-      go as_array has =
-          let next = looked node is.found list_item_step has.child is.there has.there in
+          of_child as_struct next.node has.child has.number same next.shape
+      go as_array full has =
+          let next = looked node is.found (list_item_step) has.child is.there has.there in
           let same : child_node plan node as_array i ≡ next.node = rw (is.there, next.is) refl in
-          subst (λ (n : ℕ). IsOfShape plan (child_node plan node as_array i) n) has.number
-          (subst (λ (id : NodeId). IsOfShape plan id has.child.0) (sym same) (found_at next.node has.child next.shape))
+          of_child as_array next.node has.child has.number same next.shape
+      go (as_variant k) full has =
+          let next = looked node is.found (enum_variant_field_step k i) has.child is.there has.there in
+          let same : child_node plan node (as_variant k) i ≡ next.node = rw (is.there, next.is) refl in
+          of_child (as_variant k) next.node has.child has.number same next.shape
+      go as_some full has =
+          let next = looked node is.found (option_inner_step) has.child is.there has.there in
+          let same : child_node plan node as_some i ≡ next.node = rw (is.there, next.is) refl in
+          of_child as_some next.node has.child has.number same next.shape
+      go as_ok full has =
+          let next = looked node is.found (result_ok_step) has.child is.there has.there in
+          let other = has_child table is.found.shape as_err count i full below in
+          let beside = looked node is.found result_err_step other.child is.there other.there in
+          let same : child_node plan node as_ok i ≡ next.node = rw (is.there, next.is, beside.is) refl in
+          of_child as_ok next.node has.child has.number same next.shape
+      go as_err full has =
+          let next = looked node is.found (result_err_step) has.child is.there has.there in
+          let other = has_child table is.found.shape as_ok count i full below in
+          let beside = looked node is.found result_ok_step other.child is.there other.there in
+          let same : child_node plan node as_err i ≡ next.node = rw (is.there, next.is, beside.is) refl in
+          of_child as_err next.node has.child has.number same next.shape
+      go as_pointer full has =
+          let next = looked node is.found (pointer_pointee_step) has.child is.there has.there in
+          let same : child_node plan node as_pointer i ≡ next.node = rw (is.there, next.is) refl in
+          of_child as_pointer next.node has.child has.number same next.shape
 
   pub along : (place : Place) (k : Kid) (node : NodeId) (s : ℕ) → IsOfShape plan node s → Suits table s (tree_of k)
       → Reaches place k

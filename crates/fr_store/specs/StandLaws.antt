@@ -1,5 +1,5 @@
 -- Laws of slots and stacks that stand for a tree, for proofs.
-use Rattle.std.proofs.Common.{◌≡◌, ◌⊎◌, ℕ, ◌+◌, ◌<◌, ◌≤◌, List, [], ◌∷◌, ◌++◌, map, inl, inr, refl, sym, ◌∙◌, ap, subst, arith}
+use Rattle.std.proofs.Common.{◌≡◌, ◌⊎◌, ℕ, ◌+◌, ◌<◌, ◌≤◌, List, [], ◌∷◌, ◌++◌, append-nil, map, inl, inr, refl, sym, ◌∙◌, ap, subst, arith}
 use Rattle.std.specs.Prelude.{IsSome}
 use Rattle.fr_path.specs.Order.{number}
 use Rattle.fr_model.specs.Paths.{steps_in}
@@ -9,10 +9,10 @@ use Rattle.fr_frame.specs.declared.places.FrameOwner.{FrameOwner}
 use Rattle.fr_frame.specs.declared.places.Slot.{Slot}
 use Rattle.fr_frame.specs.Heap.{Heap, depth_limit, heap_of, slots_occur}
 use Rattle.fr_frame.specs.Kids.{Kid, gone, there, at, tree_of, cell_of, kid_in, kid_from, kid_occurs}
-use Rattle.fr_store.specs.HoldLaws.{AgreeBeside, Replaces, replaces_at, read_back, steps_read}
+use Rattle.fr_store.specs.HoldLaws.{AgreeBeside, Replaces, numbers_at, replaces_at, read_back, steps_read}
 use Rattle.fr_store.specs.Stands.{Stands, kid_shown, tree_shown, steps_to, cursor_shown, IsOpen}
 use Rattle.fr_store.specs.Ways.{kid_at, put_at, slots_along, slots_above, uses, Leads, Reaches}
-use Rattle.fr_store.specs.WayLaws.{leads_reach, leads_put_at, along_put_at, uses_at, uses_put_at, numbers_in}
+use Rattle.fr_store.specs.WayLaws.{leads_reach, leads_put_at, along_put_at, uses_at, uses_put_at}
 
 -- One change. What lies at a place on the way is replaced: it stays in its slot, all beside it is as it was, the new is held where
 -- the old was, uses no slot twice and none that serves beside it, and the way goes on in it.
@@ -88,7 +88,10 @@ module _ (plan : Plan) (heap : Heap) (stack : List ℕ) (place : Place) (k : Kid
       ∙ steps_read plan heap plan.root FrameOwner.Root 0 place k stands.holds stands.leads
 
   pub cursor_is : cursor_shown heap stack ≡ place
-  cursor_is = ap (map number) steps_are ∙ numbers_in place (tree_of k)
+  cursor_is =
+      ap (map number) steps_are
+      ∙ numbers_at plan heap plan.root FrameOwner.Root 0 place k stands.holds
+      (leads_reach place [] k (subst (λ (p : Place). Leads p k) (sym (append-nil place)) stands.leads))
 
 -- what stands for something stands for what is shown
 pub stands_shown : (plan : Plan) (heap : Heap) (stack : List ℕ) (place : Place) (k : Kid) → Stands plan heap stack place k

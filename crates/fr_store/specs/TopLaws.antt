@@ -11,14 +11,14 @@ use Rattle.fr_plan.specs.TypePlan.{Plan}
 use Rattle.fr_path.specs.declared.path_steps.PathStep.{PathStep}
 use Rattle.fr_frame.specs.declared.places.FrameOwner.{FrameOwner}
 use Rattle.fr_frame.specs.declared.places.SlotId.{SlotId}
-use Rattle.fr_frame.specs.Bodies.{Body, body_occurs, linked, unlinked, IsClosed, AreUnplaced, own_tree, trees_of}
+use Rattle.fr_frame.specs.Bodies.{Body, entered_body, whole_body, begun_body, body_occurs, linked, unlinked, IsClosed, AreUnplaced, own_tree, trees_of}
 use Rattle.fr_frame.specs.Cells.{cells_occur}
 use Rattle.fr_frame.specs.Heap.{Node, Heap, with_slot, with_body, without, with_entered, entered_node, links, marked, stored_in, depth_limit}
-use Rattle.fr_frame.specs.Kids.{Kid, gone, there, at, Plot, entered_plot, whole_plot, begun_plot, Kids, no_kids, kid, tree_of, tree_in, trees_in, cell_of, cells_in, body_in, plot_occurs, kids_occur, Holds, HoldsIn, HoldsAll}
-use Rattle.fr_store.specs.HoldLaws.{Replaces, holds_at, holds_frame_in}
+use Rattle.fr_frame.specs.Kids.{Kid, gone, there, at, Plot, entered_plot, whole_plot, begun_plot, Kids, no_kids, kid, MayHave, tree_of, tree_in, trees_in, cell_of, cells_in, body_in, plot_occurs, kids_occur, Holds, HoldsIn, HoldsAll}
+use Rattle.fr_store.specs.HoldLaws.{Replaces, holds_at, holds_frame_in, may_have}
 use Rattle.fr_store.specs.StandLaws.{stands_change}
 use Rattle.fr_store.specs.Stands.{Stands}
-use Rattle.fr_store.specs.Ways.{kid_at, put_at, slots_along, slots_above, counts_if, uses, uses_in, uses_among, AllMarked, AllMarkedIn, AllMarkedAmong, NoneStored, Leads, node_along, owner_along}
+use Rattle.fr_store.specs.Ways.{count_kids, kid_at, put_at, slots_along, slots_above, counts_if, uses, uses_in, uses_among, AllMarked, AllMarkedIn, AllMarkedAmong, NoneStored, Leads, node_along, owner_along}
 use Rattle.fr_store.specs.WayLaws.{counts_same, same_or_other, leads_reach, leads_at, along_at, marked_at, uses_at}
 
 -- Heaps.
@@ -197,21 +197,41 @@ closed_marked mark entered_plot closed = tt
 closed_marked mark (whole_plot v) closed = tt
 closed_marked mark (begun_plot form kids) closed = unplaced_marked mark kids closed
 
-pub unplaced_holds : (plan : Plan) (heap : Heap) (node : NodeId) (slot : ℕ) (form : Form) (i depth : ℕ) (ks : Kids)
-    → AreUnplaced (cells_in ks) → HoldsAll plan heap node slot form i depth ks
-unplaced_holds plan heap node slot form i depth no_kids closed = tt
-unplaced_holds plan heap node slot form i depth (kid gone ks) closed =
-    (tt, unplaced_holds plan heap node slot form (suc i) depth ks closed.1)
-unplaced_holds plan heap node slot form i depth (kid (there v) ks) closed =
-    (tt, unplaced_holds plan heap node slot form (suc i) depth ks closed.1)
-unplaced_holds plan heap node slot form i depth (kid (at m stored plot) ks) closed = absurd closed.0
+pub unplaced_holds : (plan : Plan) (heap : Heap) (node : NodeId) (slot : ℕ) (form : Form) (i depth : ℕ) (ks : Kids) (count : ℕ)
+    → count ≡ i + count_kids ks → MayHave form count → AreUnplaced (cells_in ks) → HoldsAll plan heap node slot form i depth ks
+unplaced_holds plan heap node slot form i depth no_kids count e may closed =
+    let same : count ≡ i = omega arith in
+    subst (λ (n : ℕ). MayHave form n) same may
+unplaced_holds plan heap node slot form i depth (kid gone ks) count e may closed =
+    (tt, unplaced_holds plan heap node slot form (suc i) depth ks count (omega arith) may closed.1)
+unplaced_holds plan heap node slot form i depth (kid (there v) ks) count e may closed =
+    (tt, unplaced_holds plan heap node slot form (suc i) depth ks count (omega arith) may closed.1)
+unplaced_holds plan heap node slot form i depth (kid (at m stored plot) ks) count e may closed = absurd closed.0
 
-pub closed_holds : (plan : Plan) (heap : Heap) (node : NodeId) (slot depth : ℕ) (plot : Plot) → IsClosed (body_in plot)
-    → HoldsIn plan heap node slot depth plot
-closed_holds plan heap node slot depth entered_plot closed = tt
-closed_holds plan heap node slot depth (whole_plot v) closed = tt
-closed_holds plan heap node slot depth (begun_plot form kids) closed =
-    unplaced_holds plan heap node slot form 0 depth kids closed
+-- it has no more children than it may
+abbrev pub MayHaveIts : Body → Type 0
+MayHaveIts entered_body = Unit {0}
+MayHaveIts (whole_body v) = Unit {0}
+MayHaveIts (begun_body form cells) = MayHave form (length cells)
+
+pub cells_count : (ks : Kids) → length (cells_in ks) ≡ count_kids ks
+cells_count no_kids = refl
+cells_count (kid k ks) = ap suc (cells_count ks)
+
+pub closed_holds : (plan : Plan) (heap : Heap) (node : NodeId) (slot depth : ℕ) (plot : Plot) → MayHaveIts (body_in plot)
+    → IsClosed (body_in plot) → HoldsIn plan heap node slot depth plot
+closed_holds plan heap node slot depth entered_plot may closed = tt
+closed_holds plan heap node slot depth (whole_plot v) may closed = tt
+closed_holds plan heap node slot depth (begun_plot form kids) may closed =
+    unplaced_holds plan heap node slot form 0 depth kids (length (cells_in kids)) (omega (arith, cells_count kids)) may closed
+
+-- what is held has no more than it may
+pub held_may_have : (plan : Plan) (heap : Heap) (node : NodeId) (slot depth : ℕ) (plot : Plot)
+    → HoldsIn plan heap node slot depth plot → MayHaveIts (body_in plot)
+held_may_have plan heap node slot depth entered_plot holds = tt
+held_may_have plan heap node slot depth (whole_plot v) holds = tt
+held_may_have plan heap node slot depth (begun_plot form kids) holds =
+    may_have plan heap node slot form 0 depth kids (length (cells_in kids)) (omega (arith, cells_count kids)) holds
 
 -- nothing is both stored and not stored
 pub unplaced_by_marks : (ks : Kids) → AllMarkedAmong true ks → AllMarkedAmong false ks → AreUnplaced (cells_in ks)
@@ -300,11 +320,11 @@ pub record KeepsChildren (old new : Plot) : Type 0 where
       → HoldsIn plan heap node slot depth new
 
 -- none of its children is in a slot
-pub keeps_closed : (old new : Plot) → IsClosed (body_in new) → KeepsChildren old new
-keeps_closed old new closed = record {
+pub keeps_closed : (old new : Plot) → MayHaveIts (body_in new) → IsClosed (body_in new) → KeepsChildren old new
+keeps_closed old new may closed = record {
   marked = λ h. closed_marked true new closed;
   once = λ n. omega (arith, closed_uses new n closed);
-  holds = λ plan heap node slot depth h. closed_holds plan heap node slot depth new closed;
+  holds = λ plan heap node slot depth h. closed_holds plan heap node slot depth new may closed;
 }
 
 -- each child that was in a slot is in it still

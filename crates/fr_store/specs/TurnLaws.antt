@@ -12,21 +12,21 @@ use Rattle.fr_frame.specs.declared.places.FrameOwner.{FrameOwner}
 use Rattle.fr_frame.specs.Bodies.{Body, begun_body, cell_at, with_cell, unlinked, IsClosed}
 use Rattle.fr_frame.specs.Cells.{absent, given, placed}
 use Rattle.fr_frame.specs.Heap.{Node, Heap, stored_in, marked, with_slot, with_body, without}
-use Rattle.fr_frame.specs.Kids.{Kid, gone, there, at, Plot, entered_plot, whole_plot, begun_plot, Kids, no_kids, kid, cell_of, cells_in, body_in, child_node, child_owner, Holds, HoldsAll}
-use Rattle.fr_store.specs.HoldLaws.{AgreeBeside, Replaces, holds_at, holds_frame, replaces_at}
-use Rattle.fr_store.specs.LeaveLaws.{below_root, cell_of_child, kid_at_append, owner_append, put_append, unlinked_child, with_child}
+use Rattle.fr_frame.specs.Kids.{Kid, gone, there, at, Plot, entered_plot, whole_plot, begun_plot, Kids, no_kids, kid, MayHave, cell_of, cells_in, body_in, child_node, child_owner, Holds, HoldsAll}
+use Rattle.fr_store.specs.HoldLaws.{AgreeBeside, Replaces, holds_at, holds_frame, may_have_all, replaces_at}
+use Rattle.fr_store.specs.LeaveLaws.{below_root, cell_of_child, kid_at_append, may_have_put, owner_append, put_append, unlinked_child, with_child, within_put}
 use Rattle.fr_store.specs.OffLaws.{along_off, leads_off, off_stored}
 use Rattle.fr_store.specs.Stands.{Stands}
 use Rattle.fr_store.specs.TopLaws.{body_here, body_other, slot_here, slot_other}
 use Rattle.fr_store.specs.Ways.{count_kids, kid_nth, kid_at, put_nth, put_at, counts_if, uses, uses_in, uses_among, Reaches, node_along, owner_along, owner_below}
-use Rattle.fr_store.specs.WayLaws.{counts_same, count_put, nth_put, same_or_other, uses_at, uses_nth, uses_put_at}
+use Rattle.fr_store.specs.WayLaws.{counts_same, nth_put, same_or_other, uses_at, uses_nth, uses_put_at}
 
 -- One slot after another.
 
 -- a place's slot n is taken out of slot q, of which it is child i, once something else was put at it, and then a value is put there
 module _ (heap first mid last : Heap) (n q i : ℕ) (below above : Node) (body : Body) (form : Form) (kids : Kids) (v : Val)
     (apart : n ≢ q) (here : heap n ≡ Some below) (over : heap q ≡ Some above)
-    (begun : above.body ≡ begun_body form (cells_in kids)) (within : i < count_kids kids)
+    (begun : above.body ≡ begun_body form (cells_in kids)) (may : MayHave form (count_kids kids)) (within : i < count_kids kids)
     (child : cell_of (kid_nth i kids) ≡ placed n) (owner : below.owner ≡ child_owner q form i)
     (puts : (m : ℕ) → first m ≡ with_slot heap n (Some (record below { body = body })) m)
     (leaves : (m : ℕ) → mid m ≡ without first n below.owner m) where
@@ -45,7 +45,7 @@ module _ (heap first mid last : Heap) (n q i : ℕ) (below above : Node) (body :
       ∙ body_here (with_slot first n None) q (unlinked n (step_as form i)) above
       (slot_other first n None q (λ e. apart (sym e)) ∙ first_over)
       ∙ ap (λ (b : Body). Some (record above { body = b }))
-      (ap (unlinked n (step_as form i)) begun ∙ unlinked_child form i n kids within child)
+      (ap (unlinked n (step_as form i)) begun ∙ unlinked_child form i n kids may within child)
 
   mid_here : mid n ≡ None
   mid_here =
@@ -59,7 +59,7 @@ module _ (heap first mid last : Heap) (n q i : ℕ) (below above : Node) (body :
   -- it isn't there
   pub mid_absent : cell_at (begun_body form (cells_in (put_nth i gone kids))) (step_as form i) ≡ Some absent
   mid_absent =
-      cell_of_child form i (put_nth i gone kids) (subst (λ (count : ℕ). i < count) (sym (count_put i gone kids)) within)
+      cell_of_child form i (put_nth i gone kids) (may_have_put form i gone kids may) (within_put i gone kids within)
       ∙ ap (λ (x : Kid). Some (cell_of x)) (nth_put i gone kids within)
 
   module _ (ends : (m : ℕ) → last m ≡ with_body mid q (λ old. with_cell old (step_as form i) (given v)) m) where
@@ -69,7 +69,8 @@ module _ (heap first mid last : Heap) (n q i : ℕ) (below above : Node) (body :
         ∙ body_here mid q (λ old. with_cell old (step_as form i) (given v))
         (record above { body = begun_body form (cells_in (put_nth i gone kids)) }) mid_over
         ∙ ap (λ (b : Body). Some (record above { body = b }))
-        (with_child form i (there v) (put_nth i gone kids)
+        (with_child form i (there v) (put_nth i gone kids) (may_have_put form i gone kids may)
+        (within_put i gone kids within)
         ∙ ap (λ (ks : Kids). begun_body form (cells_in ks)) (twice i kids))
       where
         twice : (j : ℕ) (ks : Kids) → put_nth j (there v) (put_nth j gone ks) ≡ put_nth j (there v) ks
@@ -172,7 +173,7 @@ over_of here k n plot low reach is = split here refl
 frame_all : (plan : Plan) (heap other : Heap) (node : NodeId) (slot : ℕ) (form : Form) (i depth : ℕ) (ks : Kids)
     → HoldsAll plan heap node slot form i depth ks → ((m : ℕ) → 0 < uses_among ks m → other m ≡ heap m)
     → HoldsAll plan other node slot form i depth ks
-frame_all plan heap other node slot form i depth no_kids holds agree = tt
+frame_all plan heap other node slot form i depth no_kids holds agree = holds
 frame_all plan heap other node slot form i depth (kid k ks) holds agree = (
   holds_frame plan heap other (child_node plan node form i) (child_owner slot form i) depth k holds.0
       (λ m h. agree m (omega arith)),
@@ -184,7 +185,7 @@ holds_value : (plan : Plan) (heap other : Heap) (node : NodeId) (slot : ℕ) (fo
     (v : Val) → HoldsAll plan heap node slot form first depth ks
     → ((m : ℕ) → uses (kid_nth i ks) m < uses_among ks m → other m ≡ heap m)
     → HoldsAll plan other node slot form first depth (put_nth i (there v) ks)
-holds_value plan heap other node slot form first depth i no_kids v holds agree = tt
+holds_value plan heap other node slot form first depth i no_kids v holds agree = holds
 holds_value plan heap other node slot form first depth zero (kid k ks) v holds agree =
     (tt, frame_all plan heap other node slot form (suc first) depth ks holds.1 (λ m h. agree m (omega arith)))
 holds_value plan heap other node slot form first depth (suc i) (kid k ks) v holds agree = (
@@ -245,6 +246,11 @@ module _ (plan : Plan) (heap : Heap) (stack : List ℕ) (cursor here : Place) (k
 
     pub over_found : heap over.slot ≡ Some (over_node plan here k n plot over)
     over_found = over_holds.0
+
+    pub over_may_have : MayHave over.form (count_kids over.kids)
+    over_may_have =
+        may_have_all plan heap (node_along plan plan.root over.above k) over.slot over.form
+        (suc (0 + length over.above)) over.kids over_holds.2
 
     over_uses : (m : ℕ) → uses (kid_at over.above k) m ≡ counts_if (nat_eq over.slot m) + uses_among over.kids m
     over_uses m = ap (λ (x : Kid). uses x m) over.is

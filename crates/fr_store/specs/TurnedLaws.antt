@@ -17,7 +17,7 @@ use Rattle.fr_model.specs.Laws.{CompletingKeepsTokens}
 use Rattle.fr_model.specs.Paths.{step_as}
 use Rattle.fr_model.specs.Places.{Place, deferred_column}
 use Rattle.fr_model.specs.Relation.{HasPlace}
-use Rattle.fr_model.specs.Tree.{Form, as_struct, as_array, Tree, count_trees, shape_in, tree_at, tree_occurs}
+use Rattle.fr_model.specs.Tree.{Form, as_struct, as_array, as_variant, as_some, as_ok, as_err, as_pointer, Tree, count_trees, shape_in, tree_at, tree_occurs}
 use Rattle.fr_model.specs.Well.{IsFullAs, Suits}
 use Rattle.fr_plan.specs.declared.nodes.NodeId.{NodeId}
 use Rattle.fr_plan.specs.declared.nodes.TypePlanNode.{TypePlanNode}
@@ -31,7 +31,7 @@ use Rattle.fr_frame.specs.Changes.{IfInUse, IsInUse, SameTokens, Shows}
 use Rattle.fr_frame.specs.Completing.{shape_of, FillsAt, IsFull, IsPlanFor, MayComplete}
 use Rattle.fr_frame.specs.Defaults.{WhyNotDefault}
 use Rattle.fr_frame.specs.Heap.{Node, heap_of, slots_occur, with_body, without}
-use Rattle.fr_frame.specs.Kids.{Kid, gone, there, tree_of, cell_of, cells_in, kid_occurs, child_owner}
+use Rattle.fr_frame.specs.Kids.{Kid, gone, there, MayHave, tree_of, cell_of, cells_in, kid_occurs, child_owner}
 use Rattle.fr_store.specs.ClosingLaws.{completes_still}
 use Rattle.fr_store.specs.Moves.{OwnerIsIn, OwnerIsNumbered, IsOpenAt, IsStepTo, cursor_in, tree_in_slots}
 use Rattle.fr_store.specs.OffLaws.{reach_place}
@@ -39,11 +39,11 @@ use Rattle.fr_store.specs.ShapeLaws.{IsOfShape, Along, along, root_shaped}
 use Rattle.fr_store.specs.StandLaws.{cursor_is, kid_is, stands_shown, tree_is}
 use Rattle.fr_store.specs.Stands.{IsOpen, Stands}
 use Rattle.fr_store.specs.TopLaws.{closed_tree, closed_uses, slot_here}
-use Rattle.fr_store.specs.TurnLaws.{Over, due_apart, due_found, due_node, due_off, due_over, in_use_last, last_here, last_other, last_over, marked_last, mid_absent, mid_over, over_found, over_node, stands_turned}
+use Rattle.fr_store.specs.TurnLaws.{Over, due_apart, due_found, due_node, due_off, due_over, in_use_last, last_here, last_other, last_over, marked_last, mid_absent, mid_over, over_found, over_may_have, over_node, stands_turned}
 use Rattle.fr_store.specs.Turning.{HasTurned, IsLackingAt, KeepsTheRest, MayTurn, kid_here}
 use Rattle.fr_store.specs.Turns.{CompletesAsBefore, root_shape}
 use Rattle.fr_store.specs.Walks.{IsStoredAt}
-use Rattle.fr_store.specs.Ways.{kid_at, kid_nth, put_at, put_nth, uses, Leads, Reaches, node_along}
+use Rattle.fr_store.specs.Ways.{count_kids, kid_at, kid_nth, put_at, put_nth, uses, Leads, Reaches, node_along}
 use Rattle.fr_store.specs.WayLaws.{counts_other, leads_reach, occurs_put_at, same_or_other, tree_of_at, tree_put_at, tree_tokens, uses_put_at}
 
 -- A place of a plan.
@@ -59,7 +59,7 @@ is_there [] i x e = cc
 is_there (y ∷ ys) zero x e = omega arith
 is_there (y ∷ ys) (suc i) x e = let rest = is_there ys i x e in omega arith
 
-count_of : (cells : List Cell) → count_trees (trees_of cells) ≡ length cells
+pub count_of : (cells : List Cell) → count_trees (trees_of cells) ≡ length cells
 count_of [] = refl
 count_of (c ∷ cells) = ap suc (count_of cells)
 
@@ -146,6 +146,11 @@ module _ (plan : Plan) (before : List Slot) (stack : List ℕ) (n : ℕ) (open_n
       go : (form : Form) → OwnerIsNumbered (child_owner over.slot form over.i)
       go as_struct = tt
       go as_array = tt
+      go (as_variant k) = tt
+      go as_some = tt
+      go as_ok = tt
+      go as_err = tt
+      go as_pointer = tt
 
   -- the step and the slot that the owner tells
   pub step_is : (step : PathStep) → IfInUse before n (λ (x : Node). IsStepTo step x.owner) → step ≡ step_as over.form over.i
@@ -236,6 +241,11 @@ module _ (plan : Plan) (before : List Slot) (stack : List ℕ) (n : ℕ) (open_n
       unfolding above
       above_begun = refl
 
+      may : MayHave over.form (count_kids over.kids)
+      may =
+          over_may_have plan (heap_of before) stack (cursor_in before stack) due.place (kid_here before stack) n due.plot
+          open_now.stands due.reaches due.is over
+
       child : cell_of (kid_nth over.i over.kids) ≡ placed n
       child = ap cell_of over.child
 
@@ -270,17 +280,17 @@ module _ (plan : Plan) (before : List Slot) (stack : List ℕ) (n : ℕ) (open_n
           ap (λ (m : ℕ). is_some (heap_of mid m)) (slot_is parent from)
           ∙ ap is_some
           (mid_over (heap_of before) (heap_of first) (heap_of mid) (heap_of last) n over.slot over.i below above fills.body
-          over.form over.kids v apart found above_found above_begun over.within child owner fills.becomes leaves)
+          over.form over.kids v apart found above_found above_begun may over.within child owner fills.becomes leaves)
 
       pub child_absent : IfInUse mid parent (λ (x : Node). cell_at x.body step ≡ Some absent)
       child_absent =
           subst (λ (o : Option Node). IsSomeAnd o (λ (x : Node). cell_at x.body step ≡ Some absent))
           (sym (ap (heap_of mid) (slot_is parent from)
           ∙ mid_over (heap_of before) (heap_of first) (heap_of mid) (heap_of last) n over.slot over.i below above fills.body
-          over.form over.kids v apart found above_found above_begun over.within child owner fills.becomes leaves))
+          over.form over.kids v apart found above_found above_begun may over.within child owner fills.becomes leaves))
           (ap (cell_at (begun_body over.form (cells_in (put_nth over.i gone over.kids)))) (step_is step to)
           ∙ mid_absent (heap_of before) (heap_of first) (heap_of mid) (heap_of last) n over.slot over.i below above fills.body
-          over.form over.kids v apart found above_found above_begun over.within child owner fills.becomes leaves)
+          over.form over.kids v apart found above_found above_begun may over.within child owner fills.becomes leaves)
 
       module _ (filling : SameTokens before first) (taken : (t : ℕ) → slots_occur first t ≡ slots_occur mid t + occurs v t)
           (put : Shows last (with_body (heap_of mid) parent (λ old. with_cell old step (given v))))
@@ -305,9 +315,9 @@ module _ (plan : Plan) (before : List Slot) (stack : List ℕ) (n : ℕ) (open_n
             stands_turned plan (heap_of before) stack (cursor_in before stack) due.place (kid_here before stack) n due.plot
             open_now.stands due.reaches due.is over (heap_of last) v due.closed
             (last_over (heap_of before) (heap_of first) (heap_of mid) (heap_of last) n over.slot over.i below above fills.body
-            over.form over.kids v apart found above_found above_begun over.within child owner fills.becomes leaves ends)
+            over.form over.kids v apart found above_found above_begun may over.within child owner fills.becomes leaves ends)
             (last_other (heap_of before) (heap_of first) (heap_of mid) (heap_of last) n over.slot over.i below above
-            fills.body over.form over.kids v apart found above_found above_begun over.within child owner fills.becomes leaves
+            fills.body over.form over.kids v apart found above_found above_begun may over.within child owner fills.becomes leaves
             ends)
 
         tokens_after : (t : ℕ) → slots_occur last t ≡ kid_occurs kid_after t
@@ -331,12 +341,12 @@ module _ (plan : Plan) (before : List Slot) (stack : List ℕ) (n : ℕ) (open_n
             free : heap_of last n ≡ None
             free =
                 last_here (heap_of before) (heap_of first) (heap_of mid) (heap_of last) n over.slot over.i below above fills.body
-                over.form over.kids v apart found above_found above_begun over.within child owner fills.becomes leaves ends
+                over.form over.kids v apart found above_found above_begun may over.within child owner fills.becomes leaves ends
 
             as_before : m ≢ n → is_some (heap_of last m) ≡ is_some (heap_of before m)
             as_before =
                 in_use_last (heap_of before) (heap_of first) (heap_of mid) (heap_of last) n over.slot over.i below above
-                fills.body over.form over.kids v apart found above_found above_begun over.within child owner fills.becomes
+                fills.body over.form over.kids v apart found above_found above_begun may over.within child owner fills.becomes
                 leaves ends m
 
             go : (m ≡ n) ⊎ (m ≢ n) → 0 < uses (put_at due.place (there v) (kid_here before stack)) m
@@ -373,14 +383,14 @@ module _ (plan : Plan) (before : List Slot) (stack : List ℕ) (n : ℕ) (open_n
           here = kid_is_after;
           free =
               last_here (heap_of before) (heap_of first) (heap_of mid) (heap_of last) n over.slot over.i below above fills.body
-              over.form over.kids v apart found above_found above_begun over.within child owner fills.becomes leaves ends;
+              over.form over.kids v apart found above_found above_begun may over.within child owner fills.becomes leaves ends;
           others =
               in_use_last (heap_of before) (heap_of first) (heap_of mid) (heap_of last) n over.slot over.i below above
-              fills.body over.form over.kids v apart found above_found above_begun over.within child owner fills.becomes
+              fills.body over.form over.kids v apart found above_found above_begun may over.within child owner fills.becomes
               leaves ends;
           marks =
               marked_last (heap_of before) (heap_of first) (heap_of mid) (heap_of last) n over.slot over.i below above
-              fills.body over.form over.kids v apart found above_found above_begun over.within child owner fills.becomes
+              fills.body over.form over.kids v apart found above_found above_begun may over.within child owner fills.becomes
               leaves ends;
         }
 

@@ -20,10 +20,13 @@ use Rattle.fr_model.specs.Tree.{Tree, whole, change_at, shape_in, tree_at}
 use Rattle.fr_model.specs.Well.{Suits}
 use Rattle.fr_plan.specs.TypePlan.{Plan}
 use Rattle.fr_frame.specs.declared.places.Slot.{Slot}
+use Rattle.fr_frame.specs.declared.places.FrameOwner.{FrameOwner}
 use Rattle.fr_frame.specs.Changes.{SameTokens}
+use Rattle.fr_frame.specs.Heap.{heap_of}
 use Rattle.fr_frame.specs.Kids.{Kid, there}
 use Rattle.fr_store.specs.ClosingLaws.{steps_kept, suits_at, suits_change}
 use Rattle.fr_store.specs.HeadLaws.{Head, contains_cases, head_closed, head_of, one_place, walk_on}
+use Rattle.fr_store.specs.HoldLaws.{numbers_at}
 use Rattle.fr_store.specs.HeldLaws.{first_fails, held_by_first, leads_deferred}
 use Rattle.fr_store.specs.Moves.{cursor_in, tree_in_slots}
 use Rattle.fr_store.specs.OffLaws.{reach_place}
@@ -279,7 +282,7 @@ module _ (means : Meanings) (table : Table) (plan : Plan) (before : List Slot) (
 
         suits_on : Suits table (root_shape plan) (closed_at turned.place turned.value (tree_in_slots now stack))
         suits_on =
-            suits_change table (root_shape plan) turned.place (whole turned.value) (tree_in_slots now stack) has walked.suits
+            suits_change table (root_shape plan) turned.place (whole turned.value) (tree_in_slots now stack) has walked.suits tt
             (fitting deferred_column means table (shape_in table (root_shape plan) turned.place (tree_in_slots now stack))
             (tree_at turned.place (tree_in_slots now stack)) turned.value checked
             (suits_at table (root_shape plan) turned.place (tree_in_slots now stack) has walked.suits) turned.meant)
@@ -303,6 +306,8 @@ module _ (means : Meanings) (table : Table) (plan : Plan) (before : List Slot) (
             (λ (p : Place). own_lack means table (shape_in table (root_shape plan) p (tree_in_slots now stack))
             (tree_at p (tree_in_slots now stack)) ≡ Some kind)
             same lacks.lacks)
+            (λ place reach. numbers_at plan (heap_of now) plan.root FrameOwner.Root 0 place (kid_here now stack)
+            walked.still.stands.holds reach)
             lie lacking first
 
         as_at_first : failures_off means table (root_shape plan) [] (cursor_in now stack) (tree_in_slots now stack)

@@ -1,12 +1,12 @@
 -- Laws of ways, for proofs: what something else at a place changes.
-use Rattle.std.proofs.Common.{◌≡◌, ◌≢◌, ◌⊎◌, ℕ, zero, suc, ◌+◌, ◌<◌, ◌≤◌, Bool, true, false, List, [], ◌∷◌, ◌++◌, map, nat_eq, refl, sym, ◌∙◌, ap, arith}
+use Rattle.std.proofs.Common.{◌≡◌, ◌≢◌, ◌⊎◌, ℕ, zero, suc, ◌+◌, ◌<◌, ◌≤◌, Bool, true, false, List, [], ◌∷◌, ◌++◌, nat_eq, refl, sym, ◌∙◌, ap, arith}
 use Rattle.std.proofs.lemmas.Grind.{common_steps}
 use Rattle.std.proofs.lemmas.Bool.Decides.{nat_tests}
 use Rattle.fr_path.specs.Order.{number}
-use Rattle.fr_model.specs.Paths.{step_as, step_below, steps_in}
+use Rattle.fr_model.specs.Paths.{step_as}
 use Rattle.fr_model.specs.Places.{Place}
-use Rattle.fr_model.specs.Tree.{Form, as_struct, as_array, Tree, hole, entered, whole, begun, Trees, branch, tree_nth, change_nth, child_tree, tree_at, change_at, tree_occurs, trees_occur}
-use Rattle.fr_frame.specs.Kids.{Kid, gone, there, at, Plot, entered_plot, whole_plot, begun_plot, Kids, no_kids, kid, tree_of, tree_in, trees_in, kid_occurs, plot_occurs, kids_occur}
+use Rattle.fr_model.specs.Tree.{Form, as_struct, as_array, as_variant, as_some, as_ok, as_err, as_pointer, Tree, begun, Trees, branch, tree_nth, change_nth, child_tree, tree_at, change_at, tree_occurs, trees_occur}
+use Rattle.fr_frame.specs.Kids.{Kid, gone, there, at, Plot, entered_plot, whole_plot, begun_plot, Kids, no_kids, kid, MayHave, tree_of, tree_in, trees_in, kid_occurs, plot_occurs, kids_occur}
 use Rattle.fr_store.specs.Ways.{count_kids, kid_nth, kid_below, kid_at, put_nth, put_below, put_at, slots_along, slots_above, counts_if, uses, uses_among, AllMarked, AllMarkedAmong, StoredBut, Leads, Reaches}
 
 -- Numbers of slots.
@@ -338,19 +338,16 @@ put_at_twice (i ∷ place) old new (there v) reach = absurd reach
 
 -- Paths.
 
-number_of_step : (form : Form) (i : ℕ) → number (step_as form i) ≡ i
-number_of_step as_struct i = refl
-number_of_step as_array i = refl
+-- the only one is the first
+pub only_one : (count i : ℕ) → count ≤ 1 → i < count → 0 ≡ i
+only_one count i may h = omega arith
 
-number_below : (i : ℕ) (t : Tree) → number (step_below i t) ≡ i
-number_below i hole = refl
-number_below i entered = refl
-number_below i (whole v) = refl
-number_below i (begun form ts) = number_of_step form i
-
--- the numbers of the steps to a place are the place
-pub numbers_in : (place : Place) (t : Tree) → map number (steps_in place t) ≡ place
-numbers_in [] t = refl
-numbers_in (i ∷ place) t =
-    ap (λ (n : ℕ). n ∷ map number (steps_in place (child_tree i t))) (number_below i t)
-    ∙ ap (λ (more : Place). i ∷ more) (numbers_in place (child_tree i t))
+-- the step to a child tells its number: of the children of one place only a field and an element have others beside them
+pub number_of_step : (form : Form) (count i : ℕ) → MayHave form count → i < count → number (step_as form i) ≡ i
+number_of_step as_struct count i may h = refl
+number_of_step as_array count i may h = refl
+number_of_step (as_variant k) count i may h = refl
+number_of_step as_some count i may h = only_one count i may h
+number_of_step as_ok count i may h = only_one count i may h
+number_of_step as_err count i may h = only_one count i may h
+number_of_step as_pointer count i may h = only_one count i may h

@@ -1,11 +1,13 @@
 //! Going back from the place at which a builder works to the one above.
-ghost use Rattle.std.specs.Prelude.{◌≡◌, IsSome, OnErr, OnOk, Some, false};
+ghost use Rattle.std.specs.Prelude.{◌≡◌, IsOk, IsSome, OnErr, OnOk, Some, false};
+ghost use Rattle.fr_shape.specs.Released.{Conserved, Room};
 ghost use Rattle.fr_shape.specs.Val.{Val};
 ghost use Rattle.fr_model.specs.Places.{is_root, up};
 ghost use Rattle.fr_model.specs.Tree.{whole};
-ghost use Rattle.fr_frame.specs.Bodies.{value_of};
+ghost use Rattle.fr_frame.specs.Bodies.{takes_box, value_of};
 ghost use Rattle.fr_frame.specs.Changes.{IfInUse, SameTokens};
-ghost use Rattle.fr_store.specs.Moves.{changed_here, cursor_in, tree_in_slots, AtTop, OwnerIsNumbered, IsOpenAt, IsStepTo};
+ghost use Rattle.fr_frame.specs.Heap.{slots_occur};
+ghost use Rattle.fr_store.specs.Moves.{changed_here, cursor_in, tokens_here, tree_in_slots, AtTop, OwnerIsNumbered, IsOpenAt, IsStepTo};
 ghost use Rattle.fr_store.specs.Stands.{kid_here, IsOpen};
 ghost use Rattle.fr_store.specs.Staying.{AllStayPut, StayPutBut};
 ghost use Rattle.fr_store.specs.Stored.{IsKept, NothingStored};
@@ -16,7 +18,7 @@ use fr_path::PathStep;
 use fr_plan::TypePlanCore;
 use fr_shape::{Ledger, OutOfMemory};
 
-/// The step to a field or an element.
+/// The step to a field, an element, a content, a side or a pointee.
 pub(crate) fn step_to(slots: &Slots, place: SlotId) -> PathStep
     requires { IfInUse slots.now place.0 (λ at. OwnerIsNumbered at.owner) }
     ensures { IfInUse slots.now place.0 (λ at. IsStepTo result at.owner) }
@@ -27,17 +29,17 @@ pub(crate) fn step_to(slots: &Slots, place: SlotId) -> PathStep
     match &found.owner {
         FrameOwner::Child(_, PathStep::Field(i)) => PathStep::Field(*i),
         FrameOwner::Child(_, PathStep::Index(i)) => PathStep::Index(*i),
+        FrameOwner::Child(_, PathStep::OptionSome) => PathStep::OptionSome,
+        FrameOwner::Child(_, PathStep::ResultOk) => PathStep::ResultOk,
+        FrameOwner::Child(_, PathStep::ResultErr) => PathStep::ResultErr,
+        FrameOwner::Child(_, PathStep::Deref) => PathStep::Deref,
         FrameOwner::Root
         | FrameOwner::Child(
             _,
-            PathStep::Deref
-            | PathStep::Inner
-            | PathStep::OptionSome
+            PathStep::Inner
             | PathStep::Proxy
             | PathStep::MapKey(_)
             | PathStep::MapValue(_)
-            | PathStep::ResultOk
-            | PathStep::ResultErr
             | PathStep::SetItem
             | PathStep::Entry(_),
         ) => unreachable!(),
@@ -45,20 +47,30 @@ pub(crate) fn step_to(slots: &Slots, place: SlotId) -> PathStep
 }
 
 impl Stack {
-    /// Strict mode: the value of the place on top goes into the place above, where the builder then works. Takes no memory.
-    pub fn end(&mut self, slots: &mut Slots, plan: &TypePlanCore, ledger: &mut Ledger)
+    /// Strict mode: the value of the place on top goes into the place above, where the builder then works. Only a begun option, result
+    /// or pointer takes memory: a box for what it holds. Where there is none, what was put there is released.
+    pub fn end(
+        &mut self,
+        slots: &mut Slots,
+        plan: &TypePlanCore,
+        ledger: &mut Ledger,
+    ) -> Result<(), OutOfMemory>
         requires is_open { IsOpen plan.now slots.old self.old }
         requires strict { NothingStored slots.old }
         requires below { is_root (cursor_in slots.old self.old) ≡ false }
         requires complete { AtTop slots.old self.old (λ at. IsSome (value_of at.body)) }
-        ensures ended { AtTop slots.old self.old (λ at.
+        requires room { Room (tokens_here slots.old self.old) ledger.old }
+        ensures ended { OnOk result (AtTop slots.old self.old (λ at.
             (v : Val) → value_of at.body ≡ Some v
             → IsOpenAt plan.now slots.new self.new (up (cursor_in slots.old self.old))
-            (changed_here (λ old. whole v) slots.old self.old)) }
-        ensures places { StayPutBut (cursor_in slots.old self.old)
-            (kid_here slots.old self.old) (kid_here slots.new self.new) }
-        ensures ledger { ledger.new ≡ ledger.old }
+            (changed_here (λ old. whole v) slots.old self.old))) }
+        ensures places { OnOk result (StayPutBut (cursor_in slots.old self.old)
+            (kid_here slots.old self.old) (kid_here slots.new self.new)) }
+        ensures memory { AtTop slots.old self.old (λ at. takes_box at.body ≡ false → IsOk result) }
+        ensures ledger { OnOk result (ledger.new ≡ ledger.old) }
         ensures strict { NothingStored slots.new }
+        ensures tokens { OnErr result (Conserved (slots_occur slots.old) ledger.old
+            (slots_occur slots.new) ledger.new) }
     {
         let _plan = plan;
         let Some(place) = self.pop() else {
@@ -66,12 +78,13 @@ impl Stack {
         };
         let step = step_to(slots, place);
         let Ok(value) = place.into_value(slots, ledger) else {
-            unreachable!()
+            return Err(OutOfMemory);
         };
         let Some(above) = self.top() else {
             unreachable!()
         };
         above.put_child(slots, &step, value);
+        Ok(())
     }
 
     /// Deferred mode: the place on top is stored as it is, and the builder works at the place above.

@@ -1,34 +1,22 @@
 //! Going on to a child of the place at which a builder works.
 ghost use Rattle.std.specs.Prelude.{◌≡◌, ◌∷◌, ◌++◌, [], ◌<◌, length, OnOk, OnErr};
 ghost use Rattle.fr_shape.specs.Look.{def_of};
-ghost use Rattle.fr_model.specs.Paths.{step_as};
 ghost use Rattle.fr_model.specs.Step.{enter, opened_as};
 ghost use Rattle.fr_model.specs.Tree.{change_child};
-ghost use Rattle.fr_frame.specs.Bodies.{MayOpen};
+ghost use Rattle.fr_frame.specs.Bodies.{HoldsSome, MayOpen};
 ghost use Rattle.fr_frame.specs.Changes.{SameMarks, SameTokens, Shows};
 ghost use Rattle.fr_frame.specs.Completing.{shape_of};
 ghost use Rattle.fr_frame.specs.Heap.{as_form, heap_of};
 ghost use Rattle.fr_frame.specs.Kids.{child_node};
-ghost use Rattle.fr_store.specs.Moves.{changed_here, cursor_in, node_here, tree_here, AtTop, HasChild, IsOpenAt};
+ghost use Rattle.fr_store.specs.Moves.{around_some, changed_here, cursor_in, node_here, tree_here, AtTop, HasChild, IsOpenAt, TakesMany};
 ghost use Rattle.fr_store.specs.Stands.{kid_here, IsOpen};
 ghost use Rattle.fr_store.specs.Staying.{AllStayPut};
 ghost use Rattle.fr_store.specs.Stored.{IsKept, StoresNoMore};
 
 use crate::{FrameStore, Stack};
 use fr_frame::{Form, FrameOwner, Slots};
-use fr_path::PathStep;
 use fr_plan::{NodeId, TypePlanCore};
 use fr_shape::{OutOfMemory, ShapeTable};
-
-/// The step to a child of a place that is begun so.
-fn child_step(form: Form, i: u32) -> PathStep
-    ensures { result ≡ step_as (as_form form) i }
-{
-    match form {
-        Form::Struct => PathStep::Field(i),
-        Form::Array => PathStep::Index(i),
-    }
-}
 
 impl Stack {
     /// Begins the place on top, so that its children can be entered: an entered one has none of so many children yet, of a
@@ -42,6 +30,7 @@ impl Stack {
     ) -> Result<(), OutOfMemory>
         requires is_open { IsOpen plan.now slots.old self.now }
         requires may_open { AtTop slots.old self.now (λ at. MayOpen at.body) }
+        requires many { TakesMany (as_form form) }
         ensures begun { OnOk result (IsOpenAt plan.now slots.new self.now
             (cursor_in slots.old self.now)
             (changed_here (opened_as (as_form form) count) slots.old self.now)) }
@@ -53,6 +42,25 @@ impl Stack {
         let _plan = plan;
         match self.top() {
             Some(place) => place.begin(slots, form, count),
+            None => unreachable!(),
+        }
+    }
+
+    /// Begins the option on top, which is a whole `Some`, in place: its content stays as it is, and can be entered.
+    pub fn open_some(&self, slots: &mut Slots, plan: &TypePlanCore) -> Result<(), OutOfMemory>
+        requires is_open { IsOpen plan.now slots.old self.now }
+        requires holds_some { AtTop slots.old self.now (λ at. HoldsSome at.body) }
+        ensures opened { OnOk result (IsOpenAt plan.now slots.new self.now
+            (cursor_in slots.old self.now)
+            (changed_here around_some slots.old self.now)) }
+        ensures places { AllStayPut (kid_here slots.old self.now) (kid_here slots.new self.now) }
+        ensures refused { OnErr result (Shows slots.new (heap_of slots.old)) }
+        ensures tokens { SameTokens slots.old slots.new }
+        ensures marks { SameMarks slots.old slots.new }
+    {
+        let _plan = plan;
+        match self.top() {
+            Some(place) => place.open_some(slots),
             None => unreachable!(),
         }
     }
@@ -91,7 +99,7 @@ impl Stack {
             unreachable!()
         };
         self.push(above)?;
-        let step = child_step(form, i);
+        let step = form.step(i);
         if let Some(child) = store.take(slots, above, &step) {
             self.put_top(child);
             return Ok(());

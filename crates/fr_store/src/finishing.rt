@@ -1,7 +1,7 @@
 //! The end of deferred mode: all that was left is completed, the deepest places first.
 ghost use Rattle.std.specs.Prelude.{◌≡◌, ◌⊎◌, ℕ, [], IfErr, OnErr, OnOk};
 ghost use Rattle.fr_shape.specs.Checked.{IsChecked};
-ghost use Rattle.fr_shape.specs.Released.{Room, RoseBy};
+ghost use Rattle.fr_shape.specs.Released.{Conserved, Room, RoseBy};
 ghost use Rattle.fr_shape.specs.declared.error.ReflectErrorKind.{ReflectErrorKind as Kind};
 ghost use Rattle.fr_model.specs.Well.{Suits};
 ghost use Rattle.fr_frame.specs.Changes.{IfInUse, IsInUse, SameTokens};
@@ -35,8 +35,8 @@ fn above(slots: &Slots, place: SlotId) -> SlotId
     }
 }
 
-/// The turn of a stored place that has no child in a slot: it is completed, and its value goes into the place above. Where it fails
-/// nothing came or went.
+/// The turn of a stored place that has no child in a slot: it is completed, and its value goes into the place above. Where there is
+/// no memory for the box that a begun option, result or pointer takes, what was put at the place is released.
 pub(crate) fn turn<H: Hooks>(
     slots: &mut Slots,
     stack: &Stack,
@@ -51,14 +51,17 @@ pub(crate) fn turn<H: Hooks>(
     requires is_open { IsOpen plan.now slots.old stack.now }
     requires suits { Suits table.now (root_shape plan.now) (tree_in_slots slots.old stack.now) }
     requires due { MayTurn slots.old stack.now place.0 }
+    requires room { Room (tokens_in slots.old stack.now) ledger.old }
     ensures turned { OnOk result (HasTurned (H.means hooks.now) table.now plan.now
         slots.old stack.now slots.new place.0) }
     ensures rest { OnOk result (KeepsTheRest (H.means hooks.now) table.now plan.now
         slots.old stack.now slots.new) }
     ensures why { IfErr result (λ kind. (kind ≡ Kind.OutOfMemory)
         ⊎ IsLackingAt (H.means hooks.now) table.now plan.now slots.old stack.now place.0 kind) }
-    ensures tokens { SameTokens slots.old slots.new }
-    ensures ledger { ledger.new ≡ ledger.old }
+    ensures tokens { OnOk result (SameTokens slots.old slots.new) }
+    ensures ledger { OnOk result (ledger.new ≡ ledger.old) }
+    ensures conserved { OnErr result (Conserved (slots_occur slots.old) ledger.old
+        (slots_occur slots.new) ledger.new) }
 {
     law_closing();
     law_completes();
@@ -68,7 +71,7 @@ pub(crate) fn turn<H: Hooks>(
     let parent = above(slots, place);
     place.complete_by_defaults(slots, table, plan, hooks)?;
     let Ok(value) = place.into_value(slots, ledger) else {
-        unreachable!()
+        return Err(ReflectErrorKind::OutOfMemory);
     };
     parent.put_child(slots, &step, value);
     Ok(())
@@ -89,14 +92,17 @@ fn take_turns<H: Hooks>(
     requires is_open { IsOpen plan.now slots.old stack.now }
     requires suits { Suits table.now (root_shape plan.now) (tree_in_slots slots.old stack.now) }
     requires walk { IsWalk (kid_here slots.old stack.now) walk.now }
+    requires room { Room (tokens_in slots.old stack.now) ledger.old }
     ensures walked { OnOk result (Walked (H.means hooks.now) table.now plan.now
         slots.old stack.now slots.new walk.now []) }
     ensures why { IfErr result (λ kind. (kind ≡ Kind.OutOfMemory)
         ⊎ IsHeldUp (H.means hooks.now) table.now plan.now slots.old stack.now kind) }
     ensures stopped { IfErr result (λ kind. (kind ≡ Kind.OutOfMemory)
         ⊎ StoppedByTurns (H.means hooks.now) table.now plan.now slots.old stack.now kind) }
-    ensures tokens { SameTokens slots.old slots.new }
-    ensures ledger { ledger.new ≡ ledger.old }
+    ensures tokens { OnOk result (SameTokens slots.old slots.new) }
+    ensures ledger { OnOk result (ledger.new ≡ ledger.old) }
+    ensures conserved { OnErr result (Conserved (slots_occur slots.old) ledger.old
+        (slots_occur slots.new) ledger.new) }
 {
     law_completes();
     law_failing();
@@ -157,7 +163,8 @@ fn complete_top<H: Hooks>(
 }
 
 impl FrameStore {
-    /// Completes every stored place, and then the place on top of the stack. Where it can't be, the tokens are still there.
+    /// Completes every stored place, and then the place on top of the stack. Where it can't be, each token is still there or was
+    /// released.
     fn complete_all<H: Hooks>(
         &mut self,
         slots: &mut Slots,
@@ -173,6 +180,7 @@ impl FrameStore {
         requires kept { IsKept self.old slots.old }
         requires suits { Suits table.now (root_shape plan.now)
             (tree_in_slots slots.old stack.now) }
+        requires room { Room (tokens_in slots.old stack.now) ledger.old }
         ensures finished { OnOk result (IsFinished (H.means hooks.now) table.now plan.now
             slots.old stack.now slots.new stack.now) }
         ensures turns { OnOk result (CameByTurns (H.means hooks.now) table.now plan.now
@@ -183,8 +191,10 @@ impl FrameStore {
         ensures stopped { IfErr result (λ kind. (kind ≡ Kind.OutOfMemory)
             ⊎ StoppedByTurns (H.means hooks.now) table.now plan.now slots.old stack.now kind) }
         ensures empty { self.new ≡ [] }
-        ensures tokens { SameTokens slots.old slots.new }
-        ensures ledger { ledger.new ≡ ledger.old }
+        ensures tokens { OnOk result (SameTokens slots.old slots.new) }
+        ensures ledger { OnOk result (ledger.new ≡ ledger.old) }
+        ensures conserved { OnErr result (Conserved (slots_occur slots.old) ledger.old
+            (slots_occur slots.new) ledger.new) }
     {
         law_failing();
         let walk = self.take_walk(slots, stack, plan);
@@ -199,7 +209,8 @@ impl FrameStore {
     }
 
     /// Completes every stored place, the longest path first, then step by step, and then the place on top of the stack, which stays
-    /// begun where it is. The first place that fails gives the refusal; all is released then. Only templates want memory.
+    /// begun where it is. The first place that fails gives the refusal; all is released then. Only templates, and boxes for what options,
+    /// results and pointers hold, want memory.
     pub fn finish<H: Hooks>(
         &mut self,
         slots: &mut Slots,

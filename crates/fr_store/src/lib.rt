@@ -5,6 +5,7 @@ mod ending;
 mod entering;
 mod finishing;
 mod pruning;
+mod restarting;
 mod setting;
 mod spreading;
 mod stack;

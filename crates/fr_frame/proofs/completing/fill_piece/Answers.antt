@@ -37,4 +37,4 @@ returns-in-Ok-clause-filled g c =
 pub returns-in-Err-clause-why : goal.returns-in-Err-clause-why
 returns-in-Err-clause-why g c =
     why_no_memory (g.H.Hooks.means c.args.hooks.now) c.args.table.now (shape_of c.args.plan.now c.args.node)
-    (body_of c.args.piece.now) c.in_ok-test_piece.ensures.passing c.in-Err.ensures.memory
+    (body_of c.args.piece.now) c.requires.full c.in_ok-test_piece.ensures.passing c.in-Err.ensures.memory

@@ -1,4 +1,4 @@
-use Rattle.std.proofs.Common.{Option, None, option_map, ap, sym, ◌∙◌}
+use Rattle.std.proofs.Common.{Option, option_map, ap, sym, ◌∙◌}
 use Rattle.std.specs.Prelude.{unwrap_or}
 use Rattle.fr_shape.specs.Look.{def_of}
 use Rattle.fr_plan.specs.declared.nodes.TypePlanNode.{TypePlanNode}
@@ -14,5 +14,5 @@ returns c table checked planned =
     c.node.ensures.node)
     ∙ ap
     (λ (found : Option TypePlanNode).
-    has_validators (def_of table (unwrap_or (option_map shape_of_node found) (record { 0 = 0 })).0) None)
+    has_validators (def_of table (unwrap_or (option_map shape_of_node found) (record { 0 = 0 })).0) c.args.selected)
     (sym c.node.ensures.node)

@@ -16,7 +16,7 @@ returns-clause-passing g c =
     first_refused (g.H.Hooks.means c.args.hooks.now) c.args.told.now.field validators (view c.in-Some.value.now))
     c.validators.ensures.validators
     ∙ field_lacks (g.H.Hooks.means c.args.hooks.now) c.args.table.now c.args.plan.now c.args.told.now.field.shape.0
-    c.args.told.now.field.index c.args.told.now c.requires.told (option_map view (option_copied c.args.own)) (view c.in-Some.value.now)
+    c.args.told.now.field.variant c.args.told.now.field.index c.args.told.now c.requires.told (option_map view (option_copied c.args.own)) (view c.in-Some.value.now)
     (sym c.in-Some.ensures))
     c.run_validators.ensures.passing
 
@@ -28,6 +28,6 @@ returns-clause-failing g c =
     first_refused (g.H.Hooks.means c.args.hooks.now) c.args.told.now.field validators (view c.in-Some.value.now))
     c.validators.ensures.validators
     ∙ field_lacks (g.H.Hooks.means c.args.hooks.now) c.args.table.now c.args.plan.now c.args.told.now.field.shape.0
-    c.args.told.now.field.index c.args.told.now c.requires.told (option_map view (option_copied c.args.own)) (view c.in-Some.value.now)
+    c.args.told.now.field.variant c.args.told.now.field.index c.args.told.now c.requires.told (option_map view (option_copied c.args.own)) (view c.in-Some.value.now)
     (sym c.in-Some.ensures))
     c.run_validators.ensures.failing

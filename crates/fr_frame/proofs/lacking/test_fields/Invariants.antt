@@ -1,11 +1,10 @@
 use Rattle.std.proofs.Common.{◌≡◌, drop}
 use Rattle.fr_model.specs.Complete.{lack_among}
-use Rattle.fr_model.specs.Tree.{as_struct}
-use Rattle.fr_frame.specs.Bodies.{trees_of}
+use Rattle.fr_frame.specs.Bodies.{as_fields, trees_of}
 use Rattle.fr_frame.specs.Completing.{shape_of}
 use Rattle.fr_frame.proofs.lacking.test_fields.Given as goal
 
 abbrev pub invariant-loop-i : goal.invariant-loop-i
 invariant-loop-i g l =
-    lack_among (g.H.Hooks.means l.hooks) l.table (shape_of l.plan l.fn.node) as_struct 0 (trees_of l.children)
-    ≡ lack_among (g.H.Hooks.means l.hooks) l.table (shape_of l.plan l.fn.node) as_struct l.i (trees_of (drop l.i l.children))
+    lack_among (g.H.Hooks.means l.hooks) l.table (shape_of l.plan l.fn.node) (as_fields l.fn.selected) 0 (trees_of l.children)
+    ≡ lack_among (g.H.Hooks.means l.hooks) l.table (shape_of l.plan l.fn.node) (as_fields l.fn.selected) l.i (trees_of (drop l.i l.children))

@@ -5,6 +5,7 @@ use Rattle.fr_shape.specs.declared.error.ReflectErrorKind.{ReflectErrorKind}
 use Rattle.fr_model.specs.Complete.{lack_of_holes}
 use Rattle.fr_model.specs.Places.{child_count}
 use Rattle.fr_model.specs.Tree.{as_struct}
+use Rattle.fr_frame.specs.Bodies.{as_fields}
 use Rattle.fr_frame.specs.Completing.{shape_of}
 use Rattle.fr_frame.specs.Filling.{IsTold, IsCauseOf, lack_of_child}
 use Rattle.fr_frame.proofs.LackLaws.{told_here, item_is, err_so, holes_preserved, holes_cause}
@@ -14,20 +15,20 @@ pub returns-in_err-test_field-clause-failing : goal.returns-in_err-test_field-cl
 returns-in_err-test_field-clause-failing g c =
     let count : child_count c.args.table.now (shape_of c.args.plan.now c.args.node) ≡ length c.plans_of_fields-told.result.now
     = c.plans_of_fields-told.ensures.count (child_count c.args.table.now (shape_of c.args.plan.now c.args.node)) c.requires.described in
-    let is : IsTold c.args.table.now c.args.plan.now (shape_of c.args.plan.now c.args.node) c.loop-i.i c.index-told-i.result
-    = told_here c.args.table.now c.args.plan.now (shape_of c.args.plan.now c.args.node) c.loop-i.i c.plans_of_fields-told.result.now
+    let is : IsTold c.args.table.now c.args.plan.now (shape_of c.args.plan.now c.args.node) None c.loop-i.i c.index-told-i.result
+    = told_here c.args.table.now c.args.plan.now (shape_of c.args.plan.now c.args.node) None c.loop-i.i c.plans_of_fields-told.result.now
     c.index-told-i.result c.plans_of_fields-told.ensures
     (item_is c.plans_of_fields-told.result.now c.loop-i.i c.index-told-i.result c.loop-i-test.true c.index-told-i.is) in
     let failing : IfErr c.test_field.result (IsCauseOf (lack_of_holes (g.H.Hooks.means c.args.hooks.now) c.args.table.now
     (shape_of c.args.plan.now c.args.node) as_struct (child_count c.args.table.now (shape_of c.args.plan.now c.args.node)) 0))
     = err_so c.test_field.result
-    (IsCauseOf (lack_of_child (g.H.Hooks.means c.args.hooks.now) c.args.table.now c.index-told-i.result.field.shape.0 as_struct
-    c.index-told-i.result.field.index None))
+    (IsCauseOf (lack_of_child (g.H.Hooks.means c.args.hooks.now) c.args.table.now c.index-told-i.result.field.shape.0
+    (as_fields c.index-told-i.result.field.variant) c.index-told-i.result.field.index None))
     (IsCauseOf (lack_of_holes (g.H.Hooks.means c.args.hooks.now) c.args.table.now
     (shape_of c.args.plan.now c.args.node) as_struct (child_count c.args.table.now (shape_of c.args.plan.now c.args.node)) 0))
     (λ kind cause.
     subst (λ (o : Option ReflectErrorKind). IsCauseOf o kind) (sym c.loop-i.invariant)
-    (holes_cause (g.H.Hooks.means c.args.hooks.now) c.args.table.now c.args.plan.now (shape_of c.args.plan.now c.args.node)
+    (holes_cause (g.H.Hooks.means c.args.hooks.now) c.args.table.now c.args.plan.now (shape_of c.args.plan.now c.args.node) None
     c.loop-i.i c.index-told-i.result is (child_count c.args.table.now (shape_of c.args.plan.now c.args.node)) (omega arith) kind cause))
     c.test_field.ensures.failing in
     grind (arith, common_steps)
@@ -36,11 +37,11 @@ pub loop-i-preserved : goal.loop-i-preserved
 loop-i-preserved g c =
     let count : child_count c.args.table.now (shape_of c.args.plan.now c.args.node) ≡ length c.plans_of_fields-told.result.now
     = c.plans_of_fields-told.ensures.count (child_count c.args.table.now (shape_of c.args.plan.now c.args.node)) c.requires.described in
-    let is : IsTold c.args.table.now c.args.plan.now (shape_of c.args.plan.now c.args.node) c.loop-i.i c.index-told-i.result
-    = told_here c.args.table.now c.args.plan.now (shape_of c.args.plan.now c.args.node) c.loop-i.i c.plans_of_fields-told.result.now
+    let is : IsTold c.args.table.now c.args.plan.now (shape_of c.args.plan.now c.args.node) None c.loop-i.i c.index-told-i.result
+    = told_here c.args.table.now c.args.plan.now (shape_of c.args.plan.now c.args.node) None c.loop-i.i c.plans_of_fields-told.result.now
     c.index-told-i.result c.plans_of_fields-told.ensures
     (item_is c.plans_of_fields-told.result.now c.loop-i.i c.index-told-i.result c.loop-i-test.true c.index-told-i.is) in
     c.loop-i.invariant
-    ∙ holes_preserved (g.H.Hooks.means c.args.hooks.now) c.args.table.now c.args.plan.now (shape_of c.args.plan.now c.args.node)
+    ∙ holes_preserved (g.H.Hooks.means c.args.hooks.now) c.args.table.now c.args.plan.now (shape_of c.args.plan.now c.args.node) None
     c.loop-i.i c.index-told-i.result is (child_count c.args.table.now (shape_of c.args.plan.now c.args.node)) (omega arith)
     c.in_ok-test_field.ensures.passing

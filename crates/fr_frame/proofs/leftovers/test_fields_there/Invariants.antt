@@ -1,10 +1,10 @@
 use Rattle.std.proofs.Common.{◌≡◌, drop}
-use Rattle.fr_model.specs.Tree.{as_struct}
+use Rattle.fr_frame.specs.Bodies.{as_fields}
 use Rattle.fr_frame.specs.Completing.{shape_of}
 use Rattle.fr_frame.specs.Defaults.{first_absent}
 use Rattle.fr_frame.proofs.leftovers.test_fields_there.Given as goal
 
 abbrev pub invariant-loop-i : goal.invariant-loop-i
 invariant-loop-i l =
-    first_absent (shape_of l.plan l.fn.node) as_struct 0 l.children
-    ≡ first_absent (shape_of l.plan l.fn.node) as_struct l.i (drop l.i l.children)
+    first_absent (shape_of l.plan l.fn.node) (as_fields l.fn.selected) 0 l.children
+    ≡ first_absent (shape_of l.plan l.fn.node) (as_fields l.fn.selected) l.i (drop l.i l.children)

@@ -8,9 +8,9 @@ use Rattle.fr_frame.proofs.pieces.make_whole.Goals as goal
 
 pub returns : goal.returns
 returns c =
-    let is : value_of (body_of c.args.piece.now) ≡ Some (view c.value_of.result)
-    = ap (λ (p : Piece). value_of (body_of p)) (sym c.replace-before.ensures.value) ∙ c.value_of.ensures in
+    let is : value_of (body_of c.args.piece.now) ≡ Some (view c.unboxed_value.result)
+    = ap (λ (p : Piece). value_of (body_of p)) (sym c.replace-before.ensures.value) ∙ c.unboxed_value.ensures in
     record {
-      whole = λ v meant. whole_as_meant (view c.value_of.result) v (sym is ∙ meant);
-      tokens = λ t. sym (value_occurs_same (body_of c.args.piece.now) (view c.value_of.result) t is);
+      whole = λ v meant. whole_as_meant (view c.unboxed_value.result) v (sym is ∙ meant);
+      tokens = λ t. sym (value_occurs_same (body_of c.args.piece.now) (view c.unboxed_value.result) t is);
     }

@@ -1,9 +1,10 @@
-use Rattle.std.proofs.Common.{◌≡◌, ◌⊎◌, subst, sym}
+use Rattle.std.proofs.Common.{◌≡◌, ◌⊎◌, refl, subst, sym}
 use Rattle.std.proofs.lemmas.Result.{err_from_is_err_and}
 use Rattle.fr_shape.specs.declared.error.ReflectErrorKind.{ReflectErrorKind}
 use Rattle.fr_shape.specs.View.{view}
 use Rattle.fr_store.specs.TurnedLaws.{above_in_use, child_absent, has_turned, keeps_the_rest, may_be_completed, numbered, refused}
 use Rattle.fr_store.specs.Turning.{IsLackingAt}
+use Rattle.fr_store.proofs.HeldTokens.{closed_room, filled_valued, taken_by}
 use Rattle.fr_store.proofs.finishing.turn.Goals as goal
 
 pub step_to-step-requires : goal.step_to-step-requires
@@ -59,7 +60,9 @@ returns-clause-turned g c =
     c.requires.suits (g.H.Hooks.means c.args.hooks.now) c.law_completes.ensures.tokens c.complete_by_defaults.new.slots
     c.into_value.new.slots c.put_child.new.slots c.above-parent.result.0 c.step_to-step.result (view c.in-Ok.value)
     c.step_to-step.ensures c.above-parent.ensures c.in_ok-complete_by_defaults.ensures.filled c.in-Ok.ensures.value
-    c.into_value.ensures.left c.complete_by_defaults.ensures.tokens c.in-Ok.ensures.tokens c.put_child.ensures.put
+    c.into_value.ensures.left c.complete_by_defaults.ensures.tokens
+    (taken_by c.complete_by_defaults.new.slots c.into_value.new.slots c.args.place.0 (view c.in-Ok.value)
+    c.into_value.ensures.tokens c.in-Ok.ensures.same_tokens) c.put_child.ensures.put
     c.put_child.ensures.tokens
 
 pub returns-clause-rest : goal.returns-clause-rest
@@ -69,6 +72,19 @@ returns-clause-rest g c =
     c.requires.suits (g.H.Hooks.means c.args.hooks.now) c.law_completes.ensures.tokens c.complete_by_defaults.new.slots
     c.into_value.new.slots c.put_child.new.slots c.above-parent.result.0 c.step_to-step.result (view c.in-Ok.value)
     c.step_to-step.ensures c.above-parent.ensures c.in_ok-complete_by_defaults.ensures.filled c.in-Ok.ensures.value
-    c.into_value.ensures.left c.complete_by_defaults.ensures.tokens c.in-Ok.ensures.tokens c.put_child.ensures.put
+    c.into_value.ensures.left c.complete_by_defaults.ensures.tokens
+    (taken_by c.complete_by_defaults.new.slots c.into_value.new.slots c.args.place.0 (view c.in-Ok.value)
+    c.into_value.ensures.tokens c.in-Ok.ensures.same_tokens) c.put_child.ensures.put
     c.put_child.ensures.tokens c.law_closing.ensures.completion c.law_closing.ensures.failures c.law_closing.ensures.finish
     c.law_closing.ensures.failures_off
+
+pub into_value-requires-clause-room : goal.into_value-requires-clause-room
+into_value-requires-clause-room g c =
+    closed_room c.args.plan.now c.args.slots.now c.complete_by_defaults.new.slots c.args.stack.now c.args.place.0
+    c.args.ledger.now c.args.ledger.now c.requires.is_open c.requires.room c.complete_by_defaults.ensures.tokens refl
+    c.complete_by_defaults.ensures.closed
+
+pub into_value-requires-clause-complete : goal.into_value-requires-clause-complete
+into_value-requires-clause-complete g c =
+    filled_valued (g.H.Hooks.means c.args.hooks.now) c.args.table.now c.args.plan.now c.args.slots.now
+    c.complete_by_defaults.new.slots c.args.place.0 c.in_ok-complete_by_defaults.ensures.filled

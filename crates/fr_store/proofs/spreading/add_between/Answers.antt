@@ -1,5 +1,5 @@
 -- What comes before the range's start is lower, and what comes after its end is higher.
-use Rattle.std.proofs.Common.{rules, ◌≡◌, ◌≤◌, ◌+◌, ◌-◌, ◌∷◌, [], Bool, cond, Fits, w64, true, false, ◌++◌, ◌<◌, ◌∙◌, append_assoc, sym, ap, drop, filter, length, get_or, ltb, take, List, ℕ, subst, arith}
+use Rattle.std.proofs.Common.{rules, ◌≡◌, ◌≤◌, ◌+◌, ◌-◌, ◌∷◌, [], Bool, cond, true, false, ◌++◌, ◌<◌, ◌∙◌, append_assoc, sym, ap, drop, filter, length, get_or, ltb, take, List, ℕ, subst, arith}
 use Rattle.std.specs.List.Sorted.{IsPartitionPoint}
 use Rattle.std.proofs.lemmas.List.{append-nil, at_drop_all, at_drop_more, take_more_set}
 use Rattle.std.proofs.lemmas.List.Sorted.{IsPartitionedBy-ltb, IsPartitionPoint-from_clause}

@@ -1,8 +1,7 @@
-use Rattle.std.proofs.Common.{rules, ◌≡◌, ◌≢◌, ◌⊎◌, ◌+◌, ◌-◌, ◌*◌, ◌<◌, ◌≤◌, ◌∙◌, Fits, w32, ℕ, List, ap, get_or, inl, inr, length, sym, refl, arith}
+use Rattle.std.proofs.Common.{rules, ◌≡◌, ◌≢◌, ◌⊎◌, ◌+◌, ◌*◌, ◌<◌, ◌≤◌, ◌∙◌, Fits, w32, ℕ, List, ap, get_or, inl, inr, length, sym, refl, arith}
 use Rattle.std.specs.Int.{w128}
 use Rattle.std.proofs.lemmas.List.{length-map}
 use Rattle.fr_store.specs.Numbers.{number_of}
-use Rattle.fr_store.specs.Places.{slots_between}
 use Rattle.fr_store.proofs.SpreadSteps.{number_read, open_numbered, open_room, open_step, spread_ends, spread_starts, stored_room, stored_step, stored_waits}
 use Rattle.fr_store.proofs.spreading.spread.Goals as goal
 use Rattle.fr_store.proofs.spreading.spread.Goals.{then-opened-on_stack, else-opened-on_stack+then-head-count, else-opened-on_stack-2-via-then-opened-on_stack-2+else-head-at, else-opened-on_stack-2-via-else-opened-on_stack-2, Joined-else-opened-on_stack-2, After-row_known-1}

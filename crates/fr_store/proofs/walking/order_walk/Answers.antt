@@ -1,6 +1,8 @@
 use Rattle.std.proofs.Common.{◌≡◌, ◌∙◌, List, ℕ, length, get_or, take, reverse, sym, ap, subst, arith}
 use Rattle.std.proofs.lemmas.List.{take_at}
+use Rattle.fr_frame.specs.declared.places.FrameOwner.{FrameOwner}
 use Rattle.fr_frame.specs.Heap.{heap_of}
+use Rattle.fr_store.specs.HoldLaws.{numbers_at}
 use Rattle.fr_store.specs.Numbers.{slot_of}
 use Rattle.fr_store.specs.Places.{IsSpread}
 use Rattle.fr_store.specs.Stands.{cursor_shown, kid_shown}
@@ -42,5 +44,8 @@ returns c =
     record {
       walk =
           subst (IsWalk k) (sym (c.reverse.ensures.items ∙ ap (λ (l : List ℕ). reverse l) items))
-          (walk_of k (take (length c.args.places.now) c.spread.new.order) spread);
+          (walk_of k (take (length c.args.places.now) c.spread.new.order)
+          (λ place reach. numbers_at c.args.plan.now (heap_of c.args.slots.now) c.args.plan.now.root FrameOwner.Root 0 place k
+          c.requires.is_open.stands.holds reach)
+          spread);
     }

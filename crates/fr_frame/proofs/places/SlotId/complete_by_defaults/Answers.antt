@@ -1,7 +1,8 @@
-use Rattle.std.proofs.Common.{◌≡◌, ◌⊎◌, List, true, Some, None, IsSome, sym, subst, arith}
-use Rattle.fr_frame.specs.Bodies.{value_of, HasAllChildren}
+use Rattle.std.proofs.Common.{◌≡◌, ◌⊎◌, List, true, Some, None, sym, subst, arith}
+use Rattle.fr_frame.specs.Bodies.{HasAllChildren}
 use Rattle.std.specs.Prelude.{IfErr, IsSomeAnd, Option}
 use Rattle.std.proofs.lemmas.Grind.{common_steps}
+use Rattle.std.proofs.lemmas.Result.{on_ok_weaker}
 use Rattle.fr_shape.specs.declared.error.ReflectErrorKind.{ReflectErrorKind as Kind}
 use Rattle.fr_shape.specs.Checked.{IsChecked}
 use Rattle.fr_shape.specs.Look.{Table}
@@ -14,10 +15,9 @@ use Rattle.fr_frame.specs.Defaults.{invalid, left_out, unmet, WhyNotDefault}
 use Rattle.fr_frame.specs.FieldDefaults.{IsPlanned}
 use Rattle.fr_frame.specs.Filling.{IsCauseOf}
 use Rattle.fr_frame.specs.Heap.{Node, heap_of}
-use Rattle.fr_frame.proofs.BodyLaws.{value_has_all}
 use Rattle.fr_frame.proofs.LackLaws.{err_so}
 use Rattle.fr_frame.proofs.DefaultLaws.{ok_so}
-use Rattle.fr_frame.proofs.DefaultedLaws.{HasTaken, has_taken, unmet_so, may_after, left_so, value_so, invalid_so, filled_so}
+use Rattle.fr_frame.proofs.DefaultedLaws.{HasTaken, has_taken, unmet_so, may_after, form_so, left_so, there_so, invalid_so, filled_so}
 use Rattle.fr_frame.proofs.places.SlotId.complete_by_defaults.Goals as goal
 
 pub returns-in_err-fill_defaults-clause-why : goal.returns-in_err-fill_defaults-clause-why
@@ -77,11 +77,6 @@ run_validators-requires-clause-planned g c =
     (heap_of c.fill_defaults.new.slots c.args.self.0)
     (may_after c.args.table.now c.args.plan.now c.args.slots.now c.fill_defaults.new.slots c.args.self.0 taken))
 
-all_so : (found : Option Node) → IsSomeAnd found (λ (at : Node). IsSome (value_of at.body))
-    → IsSomeAnd found (λ (at : Node). HasAllChildren at.body)
-all_so (Some at) h = value_has_all at.body h
-all_so None h = absurd h
-
 pub run_validators-requires-clause-full : goal.run_validators-requires-clause-full
 run_validators-requires-clause-full g c =
     let taken : HasTaken c.args.table.now c.args.plan.now c.args.slots.now c.fill_defaults.new.slots c.args.self.0
@@ -89,9 +84,8 @@ run_validators-requires-clause-full g c =
     c.in_ok-fill_defaults.ensures.filled c.in_ok-fill_defaults.ensures.met in
     subst (λ (slots : List Slot). IfInUse slots c.args.self.0 (λ at. HasAllChildren at.body))
     (sym c.require_full_initialization.ensures.unchanged)
-    (all_so (heap_of c.fill_defaults.new.slots c.args.self.0)
-    (value_so c.args.table.now c.args.plan.now c.args.slots.now c.fill_defaults.new.slots c.args.self.0 taken
-    (g.H.Hooks.means c.args.hooks.now) c.in_ok-require_full_initialization.ensures.full))
+    (there_so c.args.table.now c.args.plan.now c.args.slots.now c.fill_defaults.new.slots c.args.self.0 taken
+    (g.H.Hooks.means c.args.hooks.now) c.in_ok-require_full_initialization.ensures.full)
 
 pub returns-clause-filled : goal.returns-clause-filled
 returns-clause-filled g c =
@@ -138,3 +132,15 @@ returns-clause-why g c =
     invalid_so c.args.table.now c.args.plan.now c.args.slots.now c.require_full_initialization.new.slots c.args.self.0 taken
     (g.H.Hooks.means c.args.hooks.now) kind c.requires.checked c.requires.plan full failing)
     c.run_validators.ensures.failing
+
+pub returns-clause-form : goal.returns-clause-form
+returns-clause-form g c =
+    let taken : HasTaken c.args.table.now c.args.plan.now c.args.slots.now c.require_full_initialization.new.slots c.args.self.0
+    = subst (λ (slots : List Slot). HasTaken c.args.table.now c.args.plan.now c.args.slots.now slots c.args.self.0)
+    (sym c.require_full_initialization.ensures.unchanged)
+    (has_taken c.args.table.now c.args.plan.now c.args.slots.now c.fill_defaults.new.slots c.args.self.0 c.requires.place
+    c.in_ok-fill_defaults.ensures.filled c.in_ok-fill_defaults.ensures.met) in
+    on_ok_weaker c.run_validators.result
+    (λ passing.
+    form_so c.args.table.now c.args.plan.now c.args.slots.now c.require_full_initialization.new.slots c.args.self.0 taken)
+    c.run_validators.ensures.passing

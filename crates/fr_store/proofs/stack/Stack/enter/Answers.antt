@@ -32,14 +32,14 @@ entered_now : (c : goal.After-put_top-in-Ok)
     c.args.slots.now c.args.self.now)
     × AllStayPut (kid_here c.args.slots.now c.args.self.now) (kid_here c.enter.new.self c.put_top-in-Ok.new.self)
 entered_now c =
-    let owner : FrameOwner.Child c.in-Some.above c.child_step-step.result
+    let owner : FrameOwner.Child c.in-Some.above c.step-step.result
     ≡ child_owner c.in-Some.above.0 (as_form c.args.form) c.args.i
-    = ap (FrameOwner.Child c.in-Some.above) c.child_step-step.ensures in
+    = ap (FrameOwner.Child c.in-Some.above) c.step-step.ensures.step in
     let none : (child : ℕ)
     → IsStoredChild (heap_of c.args.slots.now) c.in-Some.above.0 (step_as (as_form c.args.form) c.args.i) child → ⊥
     = λ child so.
-    let same : child_slot (heap_of c.args.slots.now) c.in-Some.above.0 c.child_step-step.result ≡ Some child
-    = ap (child_slot (heap_of c.args.slots.now) c.in-Some.above.0) c.child_step-step.ensures ∙ so.slot in
+    let same : child_slot (heap_of c.args.slots.now) c.in-Some.above.0 c.step-step.result ≡ Some child
+    = ap (child_slot (heap_of c.args.slots.now) c.in-Some.above.0) c.step-step.ensures.step ∙ so.slot in
     let both : true ≡ false = sym so.stored ∙ c.in_default-take.ensures.none refl child same in
     cc in
     open_entered_from c.args.plan.now c.args.slots.now c.args.self.now c.requires.is_open c.in-Some.above.0
@@ -73,7 +73,7 @@ again_now c =
     c.in-Some.above.0 c.in-Some.ensures.last (as_form c.args.form) c.args.i
     (def_of c.args.table.now (shape_of c.args.plan.now c.args.node)) c.in-Some-take.child.0 c.requires.child
     (subst (λ (s : PathStep). IsStoredChild (heap_of c.args.slots.now) c.in-Some.above.0 s c.in-Some-take.child.0)
-    c.child_step-step.ensures c.in-Some-take.ensures.taken)
+    c.step-step.ensures.step c.in-Some-take.ensures.taken)
     c.in-Some-take.ensures.unmarked c.in-Some-take.ensures.tokens
     (c.put_top.ensures c.args.self.now c.in-Some.above.0 c.in_ok-push.ensures.appended)
 
@@ -87,5 +87,5 @@ pub returns-in-Ok-clause-kept : goal.returns-in-Ok-clause-kept
 returns-in-Ok-clause-kept c =
     kept_entered c.take.new.self c.take.new.slots c.enter.new.self
     (def_of c.args.table.now (shape_of c.args.plan.now c.args.node)) c.args.node
-    (FrameOwner.Child c.in-Some.above c.child_step-step.result) c.in-Ok.child.0 c.take.ensures.kept c.in-Ok.ensures.vacant
+    (FrameOwner.Child c.in-Some.above c.step-step.result) c.in-Ok.child.0 c.take.ensures.kept c.in-Ok.ensures.vacant
     c.in-Ok.ensures.entered

@@ -1,8 +1,10 @@
-use Rattle.std.proofs.Common.{◌≡◌, ◌⊎◌, inl, inr}
+use Rattle.std.proofs.Common.{◌≡◌, ◌⊎◌, ◌∙◌, inl, inr}
 use Rattle.fr_shape.specs.declared.error.ReflectErrorKind.{ReflectErrorKind}
 use Rattle.fr_store.specs.FinishedLaws.{came_by_turns, held_here, is_finished, nothing_left, stopped_here}
 use Rattle.fr_store.specs.Turning.{LacksHere, StoppedByTurns}
 use Rattle.fr_store.specs.Turns.{IsHeldUp}
+use Rattle.fr_frame.specs.Heap.{slots_occur}
+use Rattle.fr_store.proofs.ReleasedLaws.{conserved_same}
 use Rattle.fr_store.proofs.store.FrameStore.complete_all.Goals as goal
 
 pub complete_top-requires-clause-strict : goal.complete_top-requires-clause-strict
@@ -53,3 +55,11 @@ returns-clause-stopped g c = go c.in-Err-complete_top.ensures.why
         (stopped_here (g.H.Hooks.means c.args.hooks.now) c.args.table.now c.args.plan.now c.args.slots.now c.args.stack.now
         c.take_turns.new.slots c.deref.result.now c.in-Ok.ensures.walked c.law_failing.ensures.refuses
         c.law_failing.ensures.nothing c.requires.is_open c.in-Err-complete_top.kind lacks)
+
+pub returns-in-Ok-complete_top-clause-tokens : goal.returns-in-Ok-complete_top-clause-tokens
+returns-in-Ok-complete_top-clause-tokens g c = λ t. c.complete_top.ensures.tokens t ∙ c.in-Ok.ensures.tokens t
+
+pub returns-clause-conserved : goal.returns-clause-conserved
+returns-clause-conserved g c =
+    conserved_same (slots_occur c.args.slots.now) (slots_occur c.complete_top.new.slots) c.args.ledger.now
+    c.take_turns.new.ledger (λ t. c.complete_top.ensures.tokens t ∙ c.in-Ok.ensures.tokens t) c.in-Ok.ensures.ledger

@@ -1,5 +1,4 @@
-use Rattle.std.proofs.Common.{◌≡◌, ℕ, List, refl, sym, ap, subst, ◌∙◌}
-use Rattle.fr_shape.specs.Released.{Room, RoseBy}
+use Rattle.std.proofs.Common.{List, refl, sym, ap, subst}
 use Rattle.fr_shape.specs.TokenLaws.{Room_same, RoseBy_same}
 use Rattle.fr_frame.specs.declared.places.Slot.{Slot}
 use Rattle.fr_frame.specs.Heap.{slots_occur, stored_in}
@@ -7,34 +6,30 @@ use Rattle.fr_store.specs.MoveLaws.{slots_tokens}
 use Rattle.fr_store.specs.Moves.{cursor_in, tokens_in}
 use Rattle.fr_store.specs.Stored.{NothingStored}
 use Rattle.fr_store.proofs.OpenLaws.{open_stay}
-use Rattle.fr_store.proofs.store.FrameStore.finish.Given.{Over}
+use Rattle.fr_store.proofs.ReleasedLaws.{room_left, rose_by_all}
 use Rattle.fr_store.proofs.store.FrameStore.finish.Goals as goal
-use Rattle.fr_store.proofs.store.FrameStore.finish.Goals.{After-replace-rest}
-
--- the slots that are released hold what the tree held at the start
-held : (g : Over) (c : After-replace-rest g) (t : ℕ)
-    → slots_occur c.replace-rest.result t ≡ tokens_in c.args.slots.now c.args.stack.now t
-held g c t =
-    ap (λ (slots : List Slot). slots_occur slots t) c.replace-rest.ensures.value
-    ∙ c.complete_all-result.ensures.tokens t
-    ∙ slots_tokens c.args.plan.now c.args.slots.now c.args.stack.now c.requires.is_open t
 
 pub release-requires : goal.release-requires
 release-requires g c = record {
   room =
-      Room_same (tokens_in c.args.slots.now c.args.stack.now) (slots_occur c.replace-rest.result)
-      c.complete_all-result.new.ledger (λ t. sym (held g (goal.at.release-requires g c).After-replace-rest t))
-      (subst (Room (tokens_in c.args.slots.now c.args.stack.now)) (sym c.complete_all-result.ensures.ledger) c.requires.room);
+      Room_same (slots_occur c.complete_all-result.new.slots) (slots_occur c.replace-rest.result)
+      c.complete_all-result.new.ledger
+      (λ t. ap (λ (slots : List Slot). slots_occur slots t) (sym c.replace-rest.ensures.value))
+      (room_left (slots_occur c.args.slots.now) (slots_occur c.complete_all-result.new.slots) c.args.ledger.now
+      c.complete_all-result.new.ledger c.in-Err.ensures.conserved
+      (Room_same (tokens_in c.args.slots.now c.args.stack.now) (slots_occur c.args.slots.now) c.args.ledger.now
+      (λ t. sym (slots_tokens c.args.plan.now c.args.slots.now c.args.stack.now c.requires.is_open t)) c.requires.room));
 }
 
 pub returns-in-Err-clause-released : goal.returns-in-Err-clause-released
 returns-in-Err-clause-released g c =
-    subst
-    (λ (ledger : List ℕ). RoseBy (tokens_in c.args.slots.now c.args.stack.now) ledger c.release.new.ledger)
-    c.complete_all-result.ensures.ledger
-    (RoseBy_same (slots_occur c.replace-rest.result) (tokens_in c.args.slots.now c.args.stack.now)
+    RoseBy_same (slots_occur c.args.slots.now) (tokens_in c.args.slots.now c.args.stack.now) c.args.ledger.now
+    c.release.new.ledger (slots_tokens c.args.plan.now c.args.slots.now c.args.stack.now c.requires.is_open)
+    (rose_by_all (slots_occur c.args.slots.now) (slots_occur c.complete_all-result.new.slots) c.args.ledger.now
+    c.complete_all-result.new.ledger c.release.new.ledger c.in-Err.ensures.conserved
+    (RoseBy_same (slots_occur c.replace-rest.result) (slots_occur c.complete_all-result.new.slots)
     c.complete_all-result.new.ledger c.release.new.ledger
-    (held g (goal.at.returns-in-Err-clause-released g c).After-replace-rest) c.release.ensures.released)
+    (λ t. ap (λ (slots : List Slot). slots_occur slots t) c.replace-rest.ensures.value) c.release.ensures.released))
 
 -- the places on the way to the one at which the builder works lie in the slots of the stack, before and after
 pub returns-in-Ok-clause-in_place : goal.returns-in-Ok-clause-in_place

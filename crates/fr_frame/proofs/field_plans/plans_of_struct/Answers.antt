@@ -1,18 +1,8 @@
-use Rattle.std.proofs.Common.{ℕ, Option, Some, None, sym, subst}
-use Rattle.std.specs.Prelude.{slice_get}
-use Rattle.fr_plan.specs.declared.plans.FieldPlan.{FieldPlan}
-use Rattle.fr_plan.specs.TypePlan.{Plan}
-use Rattle.fr_shape.specs.Look.{Table}
+use Rattle.std.proofs.Common.{None, sym, subst}
 use Rattle.fr_frame.specs.Completing.{shape_of}
-use Rattle.fr_frame.specs.FieldDefaults.{HasValidators}
-use Rattle.fr_frame.specs.Filling.{AreTold, IsToldAt}
-use Rattle.fr_frame.proofs.ToldLaws.{FoundFor, IsFound, struct_found, found_inside, found_told, none_told}
-use Rattle.fr_frame.proofs.validating.fields_told.Goals as goal
-
-has_told : (table : Table) (plan : Plan) (s i : ℕ) (told : Option FieldPlan) → IsToldAt table plan s i told
-    → HasValidators plan told
-has_told table plan s i (Some told) is = is.validators.inside
-has_told table plan s i None is = tt
+use Rattle.fr_frame.specs.Filling.{AreTold}
+use Rattle.fr_frame.proofs.ToldLaws.{FoundFor, IsFound, struct_found, found_inside, found_told, has_told, none_told}
+use Rattle.fr_frame.proofs.field_plans.plans_of_struct.Goals as goal
 
 pub fields-requires : goal.fields-requires
 fields-requires c =
@@ -27,7 +17,7 @@ returns-in-Some-clause-told c table checked planned inside =
     let found : IsFound table c.args.plan.now (shape_of c.args.plan.now c.args.node) c.in-Some.described.now
     = subst (FoundFor table c.args.plan.now (shape_of c.args.plan.now c.args.node)) (sym c.in-Some.ensures.plan)
     (struct_found c.law_plan_lookups.ensures.resolve table c.args.plan.now checked planned c.args.node inside) in
-    subst (AreTold table c.args.plan.now (shape_of c.args.plan.now c.args.node)) (sym c.fields.ensures.fields)
+    subst (AreTold table c.args.plan.now (shape_of c.args.plan.now c.args.node) None) (sym c.fields.ensures.fields)
     (found_told table c.args.plan.now (shape_of c.args.plan.now c.args.node) c.in-Some.described.now found)
 
 pub returns-in-Some-clause-validators : goal.returns-in-Some-clause-validators
@@ -36,10 +26,10 @@ returns-in-Some-clause-validators c i =
     let found : IsFound p.table c.args.plan.now (shape_of c.args.plan.now c.args.node) c.in-Some.described.now
     = subst (FoundFor p.table c.args.plan.now (shape_of c.args.plan.now c.args.node)) (sym c.in-Some.ensures.plan)
     (struct_found c.law_plan_lookups.ensures.resolve p.table c.args.plan.now p.checked p.planned c.args.node p.inside) in
-    let told : AreTold p.table c.args.plan.now (shape_of c.args.plan.now c.args.node) c.fields.result.now
-    = subst (AreTold p.table c.args.plan.now (shape_of c.args.plan.now c.args.node)) (sym c.fields.ensures.fields)
+    let told : AreTold p.table c.args.plan.now (shape_of c.args.plan.now c.args.node) None c.fields.result.now
+    = subst (AreTold p.table c.args.plan.now (shape_of c.args.plan.now c.args.node) None) (sym c.fields.ensures.fields)
     (found_told p.table c.args.plan.now (shape_of c.args.plan.now c.args.node) c.in-Some.described.now found) in
-    has_told p.table c.args.plan.now (shape_of c.args.plan.now c.args.node) i (slice_get c.fields.result.now i) (told.each i)
+    has_told p.table c.args.plan.now (shape_of c.args.plan.now c.args.node) None c.fields.result.now told i
 
 pub returns-in-None-clause-told : goal.returns-in-None-clause-told
 returns-in-None-clause-told c table checked planned inside =

@@ -1,0 +1,94 @@
+-- Tokens and values of one place among all slots.
+use Rattle.std.proofs.Common.{◌≡◌, ℕ, zero, suc, ◌+◌, ◌≤◌, List, [], ◌∷◌, Option, Some, None, sym, ◌∙◌, ap, subst, arith}
+use Rattle.std.specs.Prelude.{IsSome, IsSomeAnd, is_some}
+use Rattle.fr_shape.specs.Hooks.{Meanings}
+use Rattle.fr_shape.specs.Look.{Table}
+use Rattle.fr_shape.specs.Released.{Room}
+use Rattle.fr_shape.specs.TokenLaws.{Room_fewer, Room_same}
+use Rattle.fr_shape.specs.Tokens.{occurs}
+use Rattle.fr_shape.specs.Val.{Val}
+use Rattle.fr_model.specs.Places.{deferred_column}
+use Rattle.fr_plan.specs.TypePlan.{Plan}
+use Rattle.fr_frame.specs.declared.places.Slot.{Slot}
+use Rattle.fr_frame.specs.Bodies.{body_occurs, value_of}
+use Rattle.fr_frame.specs.Changes.{IfInUse, SameTokens}
+use Rattle.fr_frame.specs.Closed.{IsClosedAt}
+use Rattle.fr_frame.specs.Completing.{FillsAt}
+use Rattle.fr_frame.specs.Heap.{Node, heap_of, node_of, slots_occur}
+use Rattle.fr_store.specs.MoveLaws.{slots_tokens}
+use Rattle.fr_store.specs.Moves.{tokens_in}
+use Rattle.fr_store.specs.Stands.{IsOpen}
+use Rattle.fr_store.specs.TopLaws.{slot_here}
+use Rattle.fr_store.proofs.ReleasedLaws.{both_of}
+
+-- a place in a slot has no token oftener than all slots
+pub held_in : (slots : List Slot) (n : ℕ) (found : Node) (t : ℕ) → heap_of slots n ≡ Some found
+    → body_occurs found.body t ≤ slots_occur slots t
+held_in [] n found t is = absurd (cc)
+held_in (Slot.Free next ∷ slots) zero found t is = absurd (cc)
+held_in (Slot.Used place ∷ slots) zero found t is =
+    let same : node_of place ≡ found = cc in
+    let own : body_occurs (node_of place).body t ≡ body_occurs found.body t
+    = ap (λ (x : Node). body_occurs x.body t) same in
+    omega (arith, own)
+held_in (slot ∷ slots) (suc n) found t is = let rest = held_in slots n found t is in omega (arith, rest)
+
+-- there is room to release it where there is room to release all
+found_room : (slots : List Slot) (n : ℕ) (ledger : List ℕ) (found : Node) → heap_of slots n ≡ Some found
+    → Room (slots_occur slots) ledger → IfInUse slots n (λ (x : Node). Room (body_occurs x.body) ledger)
+found_room slots n ledger found is room =
+    subst (λ (o : Option Node). IsSomeAnd o (λ (x : Node). Room (body_occurs x.body) ledger)) (sym is)
+    (Room_fewer (body_occurs found.body) (slots_occur slots) ledger (λ t. held_in slots n found t is) room)
+
+pub closed_room : (plan : Plan) (before first : List Slot) (stack : List ℕ) (n : ℕ) (ledger now : List ℕ) → IsOpen plan before stack
+    → Room (tokens_in before stack) ledger → SameTokens before first → now ≡ ledger
+    → IfInUse before n (IsClosedAt before first n)
+    → IfInUse first n (λ (x : Node). Room (body_occurs x.body) now)
+closed_room plan before first stack n ledger now open_now room tokens same closed = go (heap_of before n) closed
+  where
+    all : Room (slots_occur first) now
+    all =
+        subst (Room (slots_occur first)) (sym same)
+        (Room_same (tokens_in before stack) (slots_occur first) ledger
+        (λ t. omega (arith, tokens t, slots_tokens plan before stack open_now t)) room)
+
+    go : (found : Option Node) → IsSomeAnd found (IsClosedAt before first n)
+        → IfInUse first n (λ (x : Node). Room (body_occurs x.body) now)
+    go (Some at) is =
+        found_room first n now (record at { body = is.body })
+        (is.becomes n ∙ slot_here (heap_of before) n (Some (record at { body = is.body }))) all
+    go None is = absurd is
+
+-- of an open builder whose tokens are the same there is as much room
+pub room_still : (plan : Plan) (before now : List Slot) (stack : List ℕ) (ledger after : List ℕ) → IsOpen plan before stack
+    → IsOpen plan now stack → SameTokens before now → after ≡ ledger → Room (tokens_in before stack) ledger
+    → Room (tokens_in now stack) after
+room_still plan before now stack ledger after open_before open_now tokens same room =
+    subst (Room (tokens_in now stack)) (sym same)
+    (Room_same (tokens_in before stack) (tokens_in now stack) ledger
+    (λ t.
+    omega (arith, tokens t, slots_tokens plan before stack open_before t, slots_tokens plan now stack open_now t)) room)
+
+-- the tokens of a place that was taken out are those of its value
+pub taken_by : (first mid : List Slot) (n : ℕ) (v : Val)
+    → IfInUse first n (λ (x : Node). (t : ℕ) → slots_occur first t ≡ slots_occur mid t + body_occurs x.body t)
+    → IfInUse first n (λ (x : Node). (t : ℕ) → occurs v t ≡ body_occurs x.body t)
+    → (t : ℕ) → slots_occur first t ≡ slots_occur mid t + occurs v t
+taken_by first mid n v tokens same =
+    both_of (heap_of first n) (λ (x : Node). (t : ℕ) → slots_occur first t ≡ slots_occur mid t + body_occurs x.body t)
+    (λ (x : Node). (t : ℕ) → occurs v t ≡ body_occurs x.body t) tokens same
+    (λ x one other t. omega (arith, one t, other t))
+
+-- What was completed has a value.
+pub filled_valued : (means : Meanings) (table : Table) (plan : Plan) (before first : List Slot) (n : ℕ)
+    → IfInUse before n (FillsAt deferred_column means table plan before first n)
+    → IfInUse first n (λ (x : Node). IsSome (value_of x.body))
+filled_valued means table plan before first n fills = go (heap_of before n) fills
+  where
+    go : (found : Option Node) → IsSomeAnd found (FillsAt deferred_column means table plan before first n)
+        → IfInUse first n (λ (x : Node). IsSome (value_of x.body))
+    go (Some at) is =
+        subst (λ (o : Option Node). IsSomeAnd o (λ (x : Node). IsSome (value_of x.body)))
+        (sym (is.becomes n ∙ slot_here (heap_of before) n (Some (record at { body = is.body }))))
+        (ap is_some is.filled.held)
+    go None is = absurd is

@@ -1,0 +1,55 @@
+-- What was released isn't held any more: tokens in slots and a ledger, taken together.
+use Rattle.std.proofs.Common.{◌≡◌, ℕ, ◌+◌, ◌<◌, List, Option, Some, None, refl, sym, ◌∙◌, subst, arith}
+use Rattle.std.specs.Prelude.{IsSomeAnd}
+use Rattle.fr_shape.specs.Released.{Conserved, Room, RoseBy}
+
+-- what was released is what isn't held any more
+pub conserved_by : (held fell left : ℕ → ℕ) (before after : List ℕ) → ((t : ℕ) → held t ≡ left t + fell t)
+    → RoseBy fell before after → Conserved held before left after
+conserved_by held fell left before after fewer rose = record {
+  same_length = rose.same_length;
+  kept_or_released = λ t. omega (arith, fewer t, rose.each t);
+  none_falls = λ t. omega (arith, rose.each t);
+}
+
+-- nothing was released
+pub conserved_same : (held left : ℕ → ℕ) (before after : List ℕ) → ((t : ℕ) → left t ≡ held t) → after ≡ before
+    → Conserved held before left after
+conserved_same held left before after same kept =
+    subst (λ (ledger : List ℕ). Conserved held before left ledger) (sym kept) (record {
+      same_length = refl;
+      kept_or_released = λ t. omega (arith, same t);
+      none_falls = λ t. omega arith;
+    })
+
+-- of more, as much was held before
+pub conserved_as : (first held left : ℕ → ℕ) (before after : List ℕ) → ((t : ℕ) → held t ≡ first t)
+    → Conserved held before left after → Conserved first before left after
+conserved_as first held left before after same conserved = record {
+  same_length = conserved.same_length;
+  kept_or_released = λ t. omega (arith, same t, conserved.kept_or_released t);
+  none_falls = conserved.none_falls;
+}
+
+-- there is room for what is left
+pub room_left : (held left : ℕ → ℕ) (before after : List ℕ) → Conserved held before left after → Room held before
+    → Room left after
+room_left held left before after conserved room t some =
+    let was = room t (omega (arith, conserved.kept_or_released t, conserved.none_falls t)) in (
+      subst (λ (n : ℕ). t < n) (sym conserved.same_length) was.0,
+      omega (arith, conserved.kept_or_released t, was.1),
+    )
+
+-- and once that is released, all is
+pub rose_by_all : (held left : ℕ → ℕ) (before mid after : List ℕ) → Conserved held before left mid → RoseBy left mid after
+    → RoseBy held before after
+rose_by_all held left before mid after conserved rose = record {
+  same_length = rose.same_length ∙ conserved.same_length;
+  each = λ t. omega (arith, conserved.kept_or_released t, rose.each t);
+}
+
+-- both are said of what is found
+pub both_of : {X : Type 0} {Then : Type 0} (found : Option X) (One Other : X → Type 0) → IsSomeAnd found One → IsSomeAnd found Other
+    → ((x : X) → One x → Other x → Then) → Then
+both_of (Some x) One Other one other step = step x one other
+both_of None One Other one other step = absurd one

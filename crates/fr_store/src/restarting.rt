@@ -1,0 +1,52 @@
+//! Beginning anew at the place at which a builder works.
+ghost use Rattle.std.specs.Prelude.{OnErr, OnOk};
+ghost use Rattle.fr_shape.specs.Released.{Conserved, Room, RoseBy};
+ghost use Rattle.fr_model.specs.Tree.{begun, holes};
+ghost use Rattle.fr_frame.specs.Heap.{as_form, slots_occur};
+ghost use Rattle.fr_frame.specs.Kids.{MayHave};
+ghost use Rattle.fr_store.specs.Moves.{changed_here, cursor_in, tokens_here, IsOpenAt};
+ghost use Rattle.fr_store.specs.Stands.{kid_here, IsOpen};
+ghost use Rattle.fr_store.specs.Staying.{StayPutButBeneath};
+ghost use Rattle.fr_store.specs.Stored.{IsKept, StoresNoMore};
+
+use crate::{FrameStore, Stack};
+use fr_frame::{Form, Slots};
+use fr_plan::TypePlanCore;
+use fr_shape::{Ledger, OutOfMemory};
+
+impl Stack {
+    /// Begins the place on top anew, with so many children, none of them there yet: all that was put there and all that is stored
+    /// beneath it is released. Where there is no memory for the children, some of it may be released.
+    pub fn restart(
+        &self,
+        slots: &mut Slots,
+        store: &mut FrameStore,
+        plan: &TypePlanCore,
+        form: Form,
+        count: usize,
+        ledger: &mut Ledger,
+    ) -> Result<(), OutOfMemory>
+        requires is_open { IsOpen plan.now slots.old self.now }
+        requires kept { IsKept store.old slots.old }
+        requires may_have { MayHave (as_form form) count }
+        requires room { Room (tokens_here slots.old self.now) ledger.old }
+        ensures restarted { OnOk result (IsOpenAt plan.now slots.new self.now
+            (cursor_in slots.old self.now)
+            (changed_here (λ old. begun (as_form form) (holes count)) slots.old self.now)) }
+        ensures places { OnOk result (StayPutButBeneath (cursor_in slots.old self.now)
+            (kid_here slots.old self.now) (kid_here slots.new self.now)) }
+        ensures released { OnOk result
+            (RoseBy (tokens_here slots.old self.now) ledger.old ledger.new) }
+        ensures kept { IsKept store.new slots.new }
+        ensures marks { StoresNoMore slots.old slots.new }
+        ensures tokens { OnErr result (Conserved (slots_occur slots.old) ledger.old
+            (slots_occur slots.new) ledger.new) }
+    {
+        let _plan = plan;
+        let Some(place) = self.top() else {
+            unreachable!()
+        };
+        store.prune(slots, place, ledger);
+        place.restart(slots, form, count, ledger)
+    }
+}
