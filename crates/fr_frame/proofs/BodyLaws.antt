@@ -1,5 +1,5 @@
 -- What a place comes to, and its tokens.
-use Rattle.std.proofs.Common.{◌≡◌, ℕ, zero, suc, ◌+◌, Bool, true, false, List, [], ◌∷◌, length, replicate, option_map, Option, Some, None, IsSome, refl, sym, ◌∙◌, ap, subst, arith}
+use Rattle.std.proofs.Common.{◌≡◌, ℕ, zero, suc, ◌+◌, Bool, true, false, List, [], ◌∷◌, length, replicate, option_map, Option, Some, None, IsSome, refl, sym, ◌∙◌, ap, arith}
 use Rattle.std.specs.Prelude.{if◌then◌else◌}
 use Rattle.fr_shape.specs.declared.shape.Def.{Def}
 use Rattle.fr_shape.specs.declared.shape.ShapeId.{ShapeId}

@@ -85,8 +85,8 @@ impl SlotId {
     {
         let children = Children::none_yet(slots.alloc(), count)?;
         let place = slots.place_mut(self);
-        let before = std::mem::replace(&mut place.piece, Piece::Begun(form, children));
-        release_piece(before, ledger);
+        let was = std::mem::replace(&mut place.piece, Piece::Begun(form, children));
+        release_piece(was, ledger);
         Ok(())
     }
 

@@ -38,7 +38,8 @@ pub(crate) fn copy_default(
     requires checked { IsChecked table.now }
     requires named { IsSome (field_at table.now meant) }
     ensures { IfOk result (λ copy. option_map view copy
-        ≡ hole_takes deferred_column table.now meant.shape.0 (as_fields meant.variant) meant.index) }
+        ≡ hole_takes deferred_column table.now meant.shape.0 (as_fields meant.variant)
+        meant.index) }
 {
     match default_of(table, meant) {
         Some(template) => Ok(Some(clone_template(alloc, template.value())?)),
@@ -73,9 +74,11 @@ pub(crate) fn test_child_mark(
 ) -> Result<(), ReflectErrorKind>
     requires named { IsSome (field_at table.now told.now.field) }
     ensures passing { OnOk result (unmet_child table.now told.now.field.shape.0
-        (as_fields told.now.field.variant) told.now.field.index (option_map view (option_copied own.entry)) ≡ None) }
+        (as_fields told.now.field.variant) told.now.field.index
+        (option_map view (option_copied own.entry)) ≡ None) }
     ensures failing { IfErr result (λ kind. unmet_child table.now told.now.field.shape.0
-        (as_fields told.now.field.variant) told.now.field.index (option_map view (option_copied own.entry)) ≡ Some kind) }
+        (as_fields told.now.field.variant) told.now.field.index
+        (option_map view (option_copied own.entry)) ≡ Some kind) }
 {
     match own {
         Some(_) => Ok(()),

@@ -22,6 +22,7 @@ use fr_shape::{Items, Ledger, OutOfMemory, ShapeId, ShapeTable, Value, release};
 use std::alloc::Global;
 
 /// The number of the child to which a step leads, if it leads to one.
+#[inline]
 fn child_number(form: Form, step: &PathStep) -> Option<usize>
     ensures { result ≡ child_number (as_form form) step.now }
 {
@@ -54,6 +55,7 @@ fn child_number(form: Form, step: &PathStep) -> Option<usize>
 }
 
 /// The number of the child at a step, where the place has it.
+#[inline]
 fn child_at(form: Form, children: &Children, step: &PathStep) -> Option<usize>
     ensures cell { cell_at (begun_body (as_form form) children.now) step.now
         ≡ option_and_then (slice_get children.now) result }

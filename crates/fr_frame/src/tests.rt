@@ -9,8 +9,9 @@ use crate::*;
 use fr_path::PathStep;
 use fr_plan::{NodeId, TypePlanCore};
 use fr_shape::{
-    Def, DefaultSource, Field, Items, NoHooks, PlanError, ReflectErrorKind, ScalarKind, Shape,
-    ShapeId, ShapeTable, StructDef, StructKind, Template, Text, ValidatorDef, Value,
+    Def, DefaultSource, EnumDef, EnumRepr, Field, Items, Ledger, NoHooks, PlanError,
+    ReflectErrorKind, ScalarKind, Shape, ShapeId, ShapeTable, StructDef, StructKind, Template,
+    Text, ValidatorDef, Value, VariantDef,
 };
 use std::alloc::Global;
 use std::process::Abort;
@@ -217,4 +218,107 @@ fn validated_entered(rt: &impl Abort, alloc: Global) -> Result<(), ReflectErrorK
 #[test]
 fn an_entered_struct_has_no_value_to_refuse(rt: HostRuntime) {
     assert!(&rt; validated_entered(&rt, rt.alloc()).is_ok());
+}
+
+/// The table of u64 and an option of it.
+fn option_table(rt: &impl Abort, alloc: Global) -> ShapeTable {
+    let mut shapes = Items::new(alloc);
+    let number = Text::new(alloc, "u64").ok().expect(rt, "no memory");
+    let perhaps = Text::new(alloc, "Perhaps").ok().expect(rt, "no memory");
+    let scalar = Shape::new(alloc, number, Def::Scalar(ScalarKind::U64));
+    shapes.push(scalar).ok().expect(rt, "no memory");
+    let option = Shape::new(alloc, perhaps, Def::Option(ShapeId(0)));
+    shapes.push(option).ok().expect(rt, "no memory");
+    ShapeTable::new(alloc, shapes)
+}
+
+/// The value of an option that is begun around this number.
+fn begun_around(rt: &impl Abort, alloc: Global, value: u128) -> Value {
+    let table = option_table(rt, alloc);
+    let Ok(plan) = plan_of(alloc, &table) else {
+        panic!(rt; "no plan");
+    };
+    let mut slots = Slots::new(alloc);
+    let Ok(id) = slots.enter(&table, &plan, plan.root_id(), FrameOwner::Root) else {
+        panic!(rt; "no memory");
+    };
+    if is_empty(&table, &plan, plan.root_id()) {
+        panic!(rt; "a struct");
+    }
+    if id.begin(&mut slots, Form::Some, 1).is_err() {
+        panic!(rt; "no memory");
+    }
+    id.put_child(&mut slots, &Form::Some.step(0), Value::Nat(value));
+    let mut ledger = Ledger::new(alloc, 0).ok().expect(rt, "no memory");
+    let value = id.into_value(&mut slots, &mut ledger);
+    value.ok().expect(rt, "no memory")
+}
+
+#[test]
+fn a_content_goes_into_a_box(rt: HostRuntime) {
+    let Value::Some(held) = begun_around(&rt, rt.alloc(), 5) else {
+        panic!(&rt; "another value");
+    };
+    assert!(&rt; matches!(Box::into_inner(held), Value::Nat(5)));
+}
+
+/// The table of u64 and an enum with one variant, whose field is at most 5.
+fn choice_table(rt: &impl Abort, alloc: Global) -> ShapeTable {
+    let mut shapes = Items::new(alloc);
+    let number = Text::new(alloc, "u64").ok().expect(rt, "no memory");
+    let scalar = Shape::new(alloc, number, Def::Scalar(ScalarKind::U64));
+    shapes.push(scalar).ok().expect(rt, "no memory");
+    let mut fields = Items::new(alloc);
+    let field = number_field(rt, alloc, ValidatorDef::Max(5));
+    fields.push(field).ok().expect(rt, "no memory");
+    let mut variants = Items::new(alloc);
+    let variant = VariantDef {
+        name: Text::new(alloc, "Limited").ok().expect(rt, "no memory"),
+        rename: None,
+        kind: StructKind::Struct,
+        fields,
+        discriminant: Some(0),
+        other: false,
+    };
+    variants.push(variant).ok().expect(rt, "no memory");
+    let choice = Text::new(alloc, "Choice").ok().expect(rt, "no memory");
+    let def = Def::Enum(EnumDef {
+        repr: EnumRepr::U8,
+        variants,
+    });
+    let shape = Shape::new(alloc, choice, def);
+    shapes.push(shape).ok().expect(rt, "no memory");
+    ShapeTable::new(alloc, shapes)
+}
+
+/// What running the validators of a variant ends in whose field, which is at most 5, is there with this value.
+fn validated_variant(rt: &impl Abort, alloc: Global, value: u128) -> Result<(), ReflectErrorKind> {
+    let table = choice_table(rt, alloc);
+    let Ok(plan) = plan_of(alloc, &table) else {
+        panic!(rt; "no plan");
+    };
+    let mut slots = Slots::new(alloc);
+    let Ok(id) = slots.enter(&table, &plan, plan.root_id(), FrameOwner::Root) else {
+        panic!(rt; "no memory");
+    };
+    if is_empty(&table, &plan, plan.root_id()) {
+        panic!(rt; "a struct");
+    }
+    if id.begin(&mut slots, Form::Variant(0), 1).is_err() {
+        panic!(rt; "no memory");
+    }
+    id.put_child(&mut slots, &PathStep::Field(0), Value::Nat(value));
+    id.run_validators(&slots, &plan, &NoHooks)
+}
+
+#[test]
+fn a_refusal_names_the_variant(rt: HostRuntime) {
+    let why = validated_variant(&rt, rt.alloc(), 6)
+        .err()
+        .expect(&rt, "no refusal");
+    let ReflectErrorKind::ValidationFailed { field, .. } = why else {
+        panic!(&rt; "another refusal");
+    };
+    assert_eq!(&rt; field.variant, Some(0));
+    assert_eq!(&rt; field.index, 0);
 }

@@ -1,6 +1,6 @@
 pub mod ContentLaws
 pub mod EarlierLaws
-pub mod HeldTokens
+pub mod FinishTests
 pub mod IndexLaws
 pub mod KeptLaws
 pub mod LastLaws
@@ -19,4 +19,5 @@ pub mod SiblingLaws
 pub mod SpreadLaws
 pub mod SpreadSteps
 pub mod StoredLaws
+pub mod TakenLaws
 pub mod WalkLaws

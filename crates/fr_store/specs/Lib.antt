@@ -5,6 +5,7 @@ pub mod ClosingLaws
 pub mod EndLaws
 pub mod EnterLaws
 pub mod FailLaws
+pub mod FinishTests
 pub mod FinishedLaws
 pub mod HeadLaws
 pub mod HeldLaws

@@ -89,6 +89,7 @@ TakesMany as_ok = ⊥
 TakesMany as_err = ⊥
 TakesMany as_pointer = ⊥
 
+-- with this content, if it has one, the place is begun as an option around it; else it stays as it was
 abbrev pub around_content : (content : Option Val) → (old : Tree) → Tree
 around_content (Some v) old = around as_some (whole v)
 around_content None old = old

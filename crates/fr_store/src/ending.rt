@@ -49,6 +49,7 @@ pub(crate) fn step_to(slots: &Slots, place: SlotId) -> PathStep
 impl Stack {
     /// Strict mode: the value of the place on top goes into the place above, where the builder then works. Only a begun option, result
     /// or pointer takes memory: a box for what it holds. Where there is none, what was put there is released.
+    #[inline(always)]
     pub fn end(
         &mut self,
         slots: &mut Slots,

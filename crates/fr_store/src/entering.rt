@@ -67,6 +67,7 @@ impl Stack {
 
     /// Enters child `i` of the place on top, which is begun: the child is on top then. One that holds something keeps it, and one
     /// that was stored is taken out of the store as it is.
+    #[inline(always)]
     pub fn enter(
         &mut self,
         slots: &mut Slots,

@@ -17,4 +17,6 @@ pub use stack::Stack;
 pub use store::FrameStore;
 
 #[cfg(test)]
+mod finish_tests;
+#[cfg(test)]
 mod tests;

@@ -6,7 +6,7 @@ use Rattle.fr_store.specs.Turns.{IsHeldUp}
 use Rattle.fr_store.specs.WalkedLaws.{head_due, walk_begins, walk_goes_on, walk_held_up, walk_stopped}
 use Rattle.fr_shape.specs.Released.{Conserved}
 use Rattle.fr_frame.specs.Heap.{slots_occur}
-use Rattle.fr_store.proofs.HeldTokens.{room_still}
+use Rattle.fr_store.proofs.TakenLaws.{room_still}
 use Rattle.fr_store.proofs.ReleasedLaws.{conserved_as}
 use Rattle.fr_store.proofs.finishing.take_turns.Goals as goal
 

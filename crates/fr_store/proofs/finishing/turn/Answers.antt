@@ -4,7 +4,7 @@ use Rattle.fr_shape.specs.declared.error.ReflectErrorKind.{ReflectErrorKind}
 use Rattle.fr_shape.specs.View.{view}
 use Rattle.fr_store.specs.TurnedLaws.{above_in_use, child_absent, has_turned, keeps_the_rest, may_be_completed, numbered, refused}
 use Rattle.fr_store.specs.Turning.{IsLackingAt}
-use Rattle.fr_store.proofs.HeldTokens.{closed_room, filled_valued, taken_by}
+use Rattle.fr_store.proofs.TakenLaws.{closed_room, filled_valued, taken_by}
 use Rattle.fr_store.proofs.finishing.turn.Goals as goal
 
 pub step_to-step-requires : goal.step_to-step-requires

@@ -1,8 +1,8 @@
-use Rattle.std.proofs.Common.{◌≡◌, ℕ, ◌+◌, List, replicate, set, ap, ◌∙◌, arith}
+use Rattle.std.proofs.Common.{◌≡◌, ℕ, ◌+◌, List, set, ap, ◌∙◌, arith}
 use Rattle.fr_frame.specs.declared.places.Piece.{Piece}
 use Rattle.fr_frame.specs.declared.places.Slot.{Slot}
 use Rattle.fr_frame.specs.Bodies.{begun_body, body_occurs, restarted}
-use Rattle.fr_frame.specs.Cells.{Cell, absent, cells_occur}
+use Rattle.fr_frame.specs.Cells.{Cell, cells_occur}
 use Rattle.fr_frame.specs.Heap.{Node, as_form, body_of, slots_occur}
 use Rattle.fr_frame.proofs.BodyLaws.{none_occur}
 use Rattle.fr_frame.proofs.PlaceLaws.{repieced, of_place, occur_change, shows}
@@ -10,9 +10,9 @@ use Rattle.fr_frame.proofs.places.SlotId.restart.Goals as goal
 
 pub returns-clause-restarted : goal.returns-clause-restarted
 returns-clause-restarted c =
-    shows c.args.slots.now c.args.self.0 c.place_mut-place.result.now c.place_mut-place.ensures.value c.replace-before.new.dest
+    shows c.args.slots.now c.args.self.0 c.place_mut-place.result.now c.place_mut-place.ensures.value c.replace-was.new.dest
     (restarted (as_form c.args.form) c.args.count)
-    (ap body_of c.replace-before.ensures.after
+    (ap body_of c.replace-was.ensures.after
     ∙ ap (λ (cells : List Cell). begun_body (as_form c.args.form) cells) c.in_ok-children.ensures)
 
 pub returns-clause-tokens : goal.returns-clause-tokens
@@ -20,15 +20,15 @@ returns-clause-tokens c =
     of_place c.args.slots.now c.args.self.0 c.place_mut-place.result.now c.place_mut-place.ensures.value
     (λ (at : Node).
     (t : ℕ) → slots_occur c.args.slots.now t
-    ≡ slots_occur (set c.args.slots.now c.args.self.0 (Slot.Used (repieced c.place_mut-place.result.now c.replace-before.new.dest))) t
+    ≡ slots_occur (set c.args.slots.now c.args.self.0 (Slot.Used (repieced c.place_mut-place.result.now c.replace-was.new.dest))) t
     + body_occurs at.body t)
     (λ t.
-    let gone : body_occurs (body_of c.replace-before.new.dest) t ≡ 0
-    = ap (λ (p : Piece). body_occurs (body_of p) t) c.replace-before.ensures.after
+    let gone : body_occurs (body_of c.replace-was.new.dest) t ≡ 0
+    = ap (λ (p : Piece). body_occurs (body_of p) t) c.replace-was.ensures.after
     ∙ ap (λ (cells : List Cell). cells_occur cells t) c.in_ok-children.ensures ∙ none_occur c.args.count t in
     omega (
       arith,
       occur_change c.args.slots.now c.args.self.0 c.place_mut-place.result.now c.place_mut-place.ensures.value
-          c.replace-before.new.dest t,
+          c.replace-was.new.dest t,
       gone,
     ))

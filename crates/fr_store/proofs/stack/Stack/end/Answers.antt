@@ -6,7 +6,7 @@ use Rattle.fr_frame.specs.Cells.{given}
 use Rattle.fr_store.specs.EndLaws.{absent_left, ended_so, in_use_left, numbered_now, slot_now, stay_ended, step_now, strict_ended}
 use Rattle.fr_store.specs.LeaveLaws.{below_root}
 use Rattle.fr_store.specs.MoveLaws.{closed_open, top_room}
-use Rattle.fr_store.proofs.HeldTokens.{taken_by}
+use Rattle.fr_store.proofs.TakenLaws.{taken_by}
 
 pub step_to-step-requires : goal.step_to-step-requires
 step_to-step-requires c =
