@@ -5,6 +5,7 @@ use Rattle.fr_shape.specs.Plannable.{IsPlain}
 use Rattle.fr_shape.specs.Tokens.{occurs}
 use Rattle.fr_shape.specs.Val.{Val}
 use Rattle.fr_shape.specs.declared.error.ReflectErrorKind.{ReflectErrorKind}
+use Rattle.fr_model.specs.Commands.{IsFieldScript}
 use Rattle.fr_model.specs.Run.{Refusal}
 use Rattle.fr_model.specs.Scripts.{brought}
 use Rattle.fr_model.specs.Settled.{IsSettled}
@@ -37,7 +38,7 @@ module _ (document : Document) (buildable : IsBuildable document) (before after 
       (settled_new (occurs v) settled))
       ∙ ap (outcome_of_run document) (sym ran)
 
-  pub built_promise : (v : Val) → (IsPlain document.shapes document.root → completed document ≡ Some v) → fits document.shapes document.root v ≡ true
+  pub built_promise : (v : Val) → (IsPlain document.shapes document.root → IsFieldScript document.script → completed document ≡ Some v) → fits document.shapes document.root v ≡ true
       → IsSettled (brought document.script) before (occurs v) after → IsBuiltRightly document v released
   built_promise v journal fitting settled = record {
     journal = journal;
@@ -58,7 +59,7 @@ module _ (document : Document) (buildable : IsBuildable document) (before after 
       (settled_new none_answered settled))
       ∙ ap (outcome_of_run document) (sym ran)
 
-  pub refused_promise : (IsPlain document.shapes document.root → completed document ≡ None) → IsSettled (brought document.script) before none_answered after
+  pub refused_promise : (IsPlain document.shapes document.root → IsFieldScript document.script → completed document ≡ None) → IsSettled (brought document.script) before none_answered after
       → IsRefusedRightly document released
   refused_promise journal settled = record {
     journal = journal;

@@ -1,19 +1,23 @@
 -- A command that is admitted: the run goes on behind it, with one call more.
 use Rattle.std.proofs.Common.{◌≡◌, ℕ, ◌+◌, Bool, true, false, if◌then◌else◌, List, length, nat_lt, ◌∷◌, Option, Some, None, Result, Ok, Err, refl, sym, ap, ◌∙◌, subst}
+use Rattle.fr_shape.specs.declared.error.Expected.{Expected}
 use Rattle.fr_shape.specs.declared.error.Invariant.{Invariant}
+use Rattle.fr_shape.specs.declared.error.Operation.{Operation}
 use Rattle.fr_shape.specs.declared.error.ReflectErrorKind.{ReflectErrorKind}
-use Rattle.fr_shape.specs.Fills.{preset_of}
+use Rattle.fr_shape.specs.declared.shape.Field.{Field}
+use Rattle.fr_shape.specs.Fills.{preset_of, is_option}
 use Rattle.fr_shape.specs.Hooks.{Meanings}
-use Rattle.fr_shape.specs.Look.{Table, def_of}
-use Rattle.fr_shape.specs.Named.{field_named}
+use Rattle.fr_shape.specs.Look.{Table, def_of, field_in, variants_of}
 use Rattle.fr_shape.specs.Val.{Val}
 use Rattle.fr_model.specs.Commands.{Call}
 use Rattle.fr_model.specs.Complete.{complete}
+use Rattle.fr_model.specs.Contents.{is_result, pointer_refusal}
 use Rattle.fr_model.specs.Finish.{finished}
 use Rattle.fr_model.specs.Places.{strict_column, is_root}
 use Rattle.fr_model.specs.Run.{run_from, and_then}
-use Rattle.fr_model.specs.Step.{unless_refused, at_shape, field_refusal, named_refusal, set_refusal, enters, begins_named, puts, puts_default, ended, leaves, end_in, begins_deferred, finishes, finish_in, violates, step_at, step}
-use Rattle.fr_model.specs.Tree.{Tree, Mode, strict, deferred, State, cursor_shape, cursor_tree, one_more_call}
+use Rattle.fr_model.specs.Step.{unless_refused, at_shape, was_not_a, field_refusal, named_refusal, set_refusal, enters, begins_named, puts, puts_default, field_default, puts_child_default, defaults_field, option_kept, content_kept, enters_content, selects, select_found, ended, leaves, end_in, begins_deferred, finishes, finish_in, violates, step_at, step}
+use Rattle.fr_model.specs.Tree.{as_some, as_ok, as_err, as_pointer, selected, Tree, Mode, strict, deferred, State, cursor_shape, cursor_tree, one_more_call}
+use Rattle.fr_model.specs.Variants.{is_enum, field_found, variant_numbered, variant_named, variant_told_by, selection_refusal}
 
 -- the same command over the same hooks, table and root
 pub same_step : (hooks hooks' : Meanings) (table table' : Table) (root root' : ℕ) (state : State) (call : Call)
@@ -60,6 +64,39 @@ module _ (hooks : Meanings) (table : Table) (root s : ℕ) (state : State) where
   default_counts (Some v) = refl
   default_counts None = tt
 
+  where_counts : (allowed : Bool) (next : State) (kind : ReflectErrorKind) → next.calls ≡ one_more_call state.calls
+      → Counts (one_more_call state.calls) (if allowed then Ok next else Err kind)
+  unfolding Counts
+  where_counts true next kind counts = counts
+  where_counts false next kind counts = tt
+
+  child_default_counts : (i : ℕ) (value : Result Val ReflectErrorKind)
+      → Counts (one_more_call state.calls) (puts_child_default table s state i value)
+  unfolding Counts
+  child_default_counts i (Ok v) = refl
+  child_default_counts i (Err kind) = tt
+
+  field_default_counts : (i : ℕ) (refusal : Option ReflectErrorKind) (field : Option Field)
+      → Counts (one_more_call state.calls) (defaults_field table s state i refusal field)
+  unfolding Counts
+  field_default_counts i (Some kind) field = tt
+  field_default_counts i None (Some field) = child_default_counts i (field_default table field)
+  field_default_counts i None None = tt
+
+  found_counts : (found : Option ℕ) (unknown : Operation)
+      → Counts (one_more_call state.calls) (select_found table s state found unknown)
+  unfolding Counts
+  found_counts (Some k) unknown =
+      unless_counts (at_shape s (selection_refusal (def_of table s) k)) (selects table s state k) refl
+  found_counts None unknown = tt
+
+  select_counts : (allowed : Bool) (found : Option ℕ) (unknown : Operation)
+      → Counts (one_more_call state.calls)
+      (if allowed then select_found table s state found unknown else Err (was_not_a Expected.Enum s))
+  unfolding Counts
+  select_counts true found unknown = found_counts found unknown
+  select_counts false found unknown = tt
+
   ended_counts : (value : Option Val) → Counts (one_more_call state.calls) (ended hooks table s state value)
   unfolding Counts
   ended_counts (Some v) = refl
@@ -99,11 +136,36 @@ module _ (hooks : Meanings) (table : Table) (root s : ℕ) (state : State) where
 
   step_counts : (call : Call) → Counts (one_more_call state.calls) (step_at hooks table root s state call)
   step_counts (Call.BeginField name) =
-      named_counts (at_shape s (named_refusal (def_of table s))) (field_named name (def_of table s))
+      named_counts (at_shape s (named_refusal (def_of table s) (cursor_tree state)))
+      (field_found name (def_of table s) (selected (cursor_tree state)))
   step_counts (Call.BeginNthField i) =
       unless_counts (at_shape s (field_refusal (def_of table s) (cursor_tree state) i)) (enters table s state i) refl
-  step_counts (Call.Set given v) = unless_counts (set_refusal s given) (puts state v) refl
+  step_counts (Call.SetNthFieldToDefault i) =
+      field_default_counts i (at_shape s (named_refusal (def_of table s) (cursor_tree state)))
+      (field_in (def_of table s) (selected (cursor_tree state)) i)
+  step_counts (Call.Set given v) = unless_counts (set_refusal table s given) (puts state v) refl
   step_counts Call.SetDefault = default_counts (preset_of table s)
+  step_counts Call.BeginSome =
+      where_counts (is_option (def_of table s)) (enters_content table s state as_some (option_kept table s state))
+      (was_not_a Expected.Option s) refl
+  step_counts Call.BeginOk =
+      where_counts (is_result (def_of table s)) (enters_content table s state as_ok (content_kept state as_ok))
+      (was_not_a Expected.Result s) refl
+  step_counts Call.BeginErr =
+      where_counts (is_result (def_of table s)) (enters_content table s state as_err (content_kept state as_err))
+      (was_not_a Expected.Result s) refl
+  step_counts Call.BeginSmartPtr =
+      unless_counts (at_shape s (pointer_refusal table (def_of table s)))
+      (enters_content table s state as_pointer (content_kept state as_pointer)) refl
+  step_counts (Call.SelectNthVariant i) =
+      select_counts (is_enum (def_of table s)) (variant_numbered i (variants_of (def_of table s)))
+      Operation.VariantIndexOutOfBounds
+  step_counts (Call.SelectVariantNamed name) =
+      select_counts (is_enum (def_of table s)) (variant_named name (variants_of (def_of table s)))
+      Operation.VariantNameUnknown
+  step_counts (Call.SelectVariant discriminant) =
+      select_counts (is_enum (def_of table s)) (variant_told_by discriminant (variants_of (def_of table s)))
+      Operation.DiscriminantUnknown
   step_counts Call.End = end_counts (is_root state.cursor)
   step_counts Call.BeginDeferred = defers_counts state.mode
   step_counts Call.FinishDeferred = finish_counts state.mode

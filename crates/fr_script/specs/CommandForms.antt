@@ -4,7 +4,7 @@ use Rattle.std.specs.Prelude.{ℕ, List, Option, Some, None, codes, option_map, 
 use Rattle.std.specs.Str.{bytes_eq}
 use Rattle.serde_json.specs.Data.{Data, string, array, no_items, item}
 use Rattle.serde_json.specs.Find.{as_str}
-use Rattle.fr_doc.specs.Numerals.{whole_number}
+use Rattle.fr_doc.specs.Numerals.{small_int_form, whole_number}
 use Rattle.fr_doc.specs.Steps.{◌>>=◌}
 use Rattle.fr_doc.specs.ValueForms.{value_form}
 use Rattle.fr_model.specs.Commands.{Call}
@@ -12,8 +12,12 @@ use Rattle.fr_model.specs.Commands.{Call}
 -- a call without arguments
 unfoldable pub call_of_none : List ℕ → Option Call
 call_of_none word =
-    if bytes_eq word (codes "set_default") then Some Call.SetDefault else
     if bytes_eq word (codes "end") then Some Call.End else
+    if bytes_eq word (codes "set_default") then Some Call.SetDefault else
+    if bytes_eq word (codes "begin_some") then Some Call.BeginSome else
+    if bytes_eq word (codes "begin_ok") then Some Call.BeginOk else
+    if bytes_eq word (codes "begin_err") then Some Call.BeginErr else
+    if bytes_eq word (codes "begin_smart_ptr") then Some Call.BeginSmartPtr else
     if bytes_eq word (codes "begin_deferred") then Some Call.BeginDeferred else
     if bytes_eq word (codes "finish_deferred") then Some Call.FinishDeferred else None
 
@@ -21,7 +25,11 @@ call_of_none word =
 unfoldable pub call_of_one : List ℕ → Data → Option Call
 call_of_one word a =
     if bytes_eq word (codes "begin_field") then option_map Call.BeginField (as_str a) else
-    if bytes_eq word (codes "begin_nth_field") then option_map Call.BeginNthField (whole_number a) else None
+    if bytes_eq word (codes "begin_nth_field") then option_map Call.BeginNthField (whole_number a) else
+    if bytes_eq word (codes "set_nth_field_to_default") then option_map Call.SetNthFieldToDefault (whole_number a) else
+    if bytes_eq word (codes "select_nth_variant") then option_map Call.SelectNthVariant (whole_number a) else
+    if bytes_eq word (codes "select_variant_named") then option_map Call.SelectVariantNamed (as_str a) else
+    if bytes_eq word (codes "select_variant") then option_map Call.SelectVariant (small_int_form a) else None
 
 -- a call with two arguments
 unfoldable pub call_of_two : List ℕ → Data → Data → Option Call

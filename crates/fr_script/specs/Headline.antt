@@ -5,6 +5,7 @@ use Rattle.fr_shape.specs.Plannable.{IsPlain}
 use Rattle.fr_shape.specs.Tokens.{occurs}
 use Rattle.fr_shape.specs.Val.{Val}
 use Rattle.fr_doc.specs.declared.fault.DocFault.{DocFault}
+use Rattle.fr_model.specs.Commands.{IsFieldScript}
 use Rattle.fr_model.specs.Journal.{journal_run}
 use Rattle.fr_model.specs.Scripts.{brought}
 use Rattle.fr_script.specs.declared.answering.Answer.{Answer}
@@ -17,17 +18,17 @@ use Rattle.fr_script.specs.Tokens.{StandOnce}
 abbrev pub completed : Document → Option Val
 completed document = journal_run document.shapes document.root document.script
 
--- A value comes, over a table that is plain for the root, where the journal completes to it. It fits the root's shape,
--- and each token of the script stands once in it or once among the released.
+-- A value comes, where a field script runs over a table that is plain for the root, where the journal completes to it. It
+-- fits the root's shape, and each token of the script stands once in it or once among the released.
 pub record IsBuiltRightly (document : Document) (v : Val) (released : List ℕ) : Type 0 where
-  pub journal : IsPlain document.shapes document.root → completed document ≡ Some v
+  pub journal : IsPlain document.shapes document.root → IsFieldScript document.script → completed document ≡ Some v
   pub fits : fits document.shapes document.root v ≡ true
   pub tokens : StandOnce (brought document.script) (occurs v) released
 
--- A refusal comes, over such a table, where the journal doesn't complete, and each token of the script stands once among
--- the released.
+-- A refusal comes, for such a script over such a table, where the journal doesn't complete, and each token of the script
+-- stands once among the released.
 pub record IsRefusedRightly (document : Document) (released : List ℕ) : Type 0 where
-  pub journal : IsPlain document.shapes document.root → completed document ≡ None
+  pub journal : IsPlain document.shapes document.root → IsFieldScript document.script → completed document ≡ None
   pub tokens : StandOnce (brought document.script) none_answered released
 
 -- a fault comes exactly where the document has it

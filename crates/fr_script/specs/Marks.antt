@@ -27,7 +27,15 @@ marked_by table (Call.Set shape v) marks =
     if nat_lt shape (length table) && fits table shape v then marked (tokens v) marks else None
 marked_by table (Call.BeginField name) marks = Some marks
 marked_by table (Call.BeginNthField i) marks = Some marks
+marked_by table (Call.SetNthFieldToDefault i) marks = Some marks
 marked_by table Call.SetDefault marks = Some marks
+marked_by table Call.BeginSome marks = Some marks
+marked_by table Call.BeginOk marks = Some marks
+marked_by table Call.BeginErr marks = Some marks
+marked_by table Call.BeginSmartPtr marks = Some marks
+marked_by table (Call.SelectNthVariant i) marks = Some marks
+marked_by table (Call.SelectVariantNamed name) marks = Some marks
+marked_by table (Call.SelectVariant discriminant) marks = Some marks
 marked_by table Call.End marks = Some marks
 marked_by table Call.BeginDeferred marks = Some marks
 marked_by table Call.FinishDeferred marks = Some marks

@@ -7,7 +7,7 @@ ghost use Rattle.fr_shape.specs.Numbered.{IsNumbered};
 ghost use Rattle.fr_shape.specs.Plannable.{IsPlain};
 ghost use Rattle.fr_shape.specs.Released.{Room, RoseBy, Conserved};
 ghost use Rattle.fr_shape.specs.Served.{IsServed};
-ghost use Rattle.fr_model.specs.Commands.{call_of, calls_of};
+ghost use Rattle.fr_model.specs.Commands.{call_of, calls_of, IsFieldScript};
 ghost use Rattle.fr_model.specs.Journal.{journal_run};
 ghost use Rattle.fr_model.specs.Run.{full_run};
 ghost use Rattle.fr_model.specs.Scripts.{IsFitting, IsValid, brings, brought};
@@ -48,7 +48,7 @@ pub fn build_script<H: Hooks>(
     requires valid { IsValid table.now (calls_of script) ledger.old }
     requires few { length script < 2 ^ 32 }
     ensures run { IsRun (full_run (H.means hooks.now) table.now root.0 (calls_of script)) result }
-    ensures journal { IsPlain table.now root.0
+    ensures journal { IsPlain table.now root.0 → IsFieldScript (calls_of script)
         → IsJournals (journal_run table.now root.0 (calls_of script)) result }
     ensures calls { IfOk result (λ built. built.calls ≡ length script) }
     ensures fits { IfOk result (λ built. fits table.now root.0 built.value ≡ true) }
@@ -98,6 +98,7 @@ fn kind_without_plan(refused: PlanError) -> ReflectErrorKind
 }
 
 /// Makes the call that a command stands for.
+#[inline(always)]
 fn call<'t, H: Hooks>(
     partial: Partial<'t, H>,
     table: &'t ShapeTable,
@@ -115,8 +116,16 @@ fn call<'t, H: Hooks>(
     match command {
         Command::BeginField(name) => partial.begin_field(name.as_str(), ledger),
         Command::BeginNthField(i) => partial.begin_nth_field(i as usize, ledger),
+        Command::SetNthFieldToDefault(i) => partial.set_nth_field_to_default(i as usize, ledger),
         Command::Set(shape, value) => partial.set_shape(Shaped::new(table, shape, value), ledger),
         Command::SetDefault => partial.set_default(ledger),
+        Command::BeginSome => partial.begin_some(ledger),
+        Command::BeginOk => partial.begin_ok(ledger),
+        Command::BeginErr => partial.begin_err(ledger),
+        Command::BeginSmartPtr => partial.begin_smart_ptr(ledger),
+        Command::SelectNthVariant(i) => partial.select_nth_variant(i as usize, ledger),
+        Command::SelectVariantNamed(name) => partial.select_variant_named(name.as_str(), ledger),
+        Command::SelectVariant(discriminant) => partial.select_variant(discriminant, ledger),
         Command::End => partial.end(ledger),
         Command::BeginDeferred => partial.begin_deferred(ledger),
         Command::FinishDeferred => partial.finish_deferred(ledger),
@@ -139,7 +148,11 @@ fn release_command(command: Command, ledger: &mut Ledger)
 {
     match command {
         Command::Set(_, value) => release(value, ledger),
-        Command::BeginField(_) | Command::BeginNthField(_) | Command::SetDefault => {}
-        Command::End | Command::BeginDeferred | Command::FinishDeferred => {}
+        Command::BeginField(_) | Command::BeginNthField(_) => {}
+        Command::SetNthFieldToDefault(_) | Command::SetDefault => {}
+        Command::BeginSome | Command::BeginOk | Command::BeginErr | Command::BeginSmartPtr => {}
+        Command::SelectNthVariant(_) | Command::SelectVariantNamed(_) => {}
+        Command::SelectVariant(_) | Command::End => {}
+        Command::BeginDeferred | Command::FinishDeferred => {}
     }
 }

@@ -68,8 +68,12 @@ fn find_bare(word: &str) -> Option<Command>
     ensures { option_map call_of result ≡ call_of_none word.now }
 {
     match word {
-        "set_default" => Some(Command::SetDefault),
         "end" => Some(Command::End),
+        "set_default" => Some(Command::SetDefault),
+        "begin_some" => Some(Command::BeginSome),
+        "begin_ok" => Some(Command::BeginOk),
+        "begin_err" => Some(Command::BeginErr),
+        "begin_smart_ptr" => Some(Command::BeginSmartPtr),
         "begin_deferred" => Some(Command::BeginDeferred),
         "finish_deferred" => Some(Command::FinishDeferred),
         _ => None,
@@ -89,6 +93,22 @@ fn read_with_one(alloc: Global, word: &str, a: &Json) -> Result<Option<Command>,
         },
         "begin_nth_field" => match count_of(a) {
             Some(i) => Ok(Some(Command::BeginNthField(i))),
+            None => Ok(None),
+        },
+        "set_nth_field_to_default" => match count_of(a) {
+            Some(i) => Ok(Some(Command::SetNthFieldToDefault(i))),
+            None => Ok(None),
+        },
+        "select_nth_variant" => match count_of(a) {
+            Some(i) => Ok(Some(Command::SelectNthVariant(i))),
+            None => Ok(None),
+        },
+        "select_variant_named" => match a.as_str() {
+            Some(name) => Ok(Some(Command::SelectVariantNamed(Text::new(alloc, name)?))),
+            None => Ok(None),
+        },
+        "select_variant" => match a.as_i64() {
+            Some(discriminant) => Ok(Some(Command::SelectVariant(discriminant))),
             None => Ok(None),
         },
         _ => Ok(None),

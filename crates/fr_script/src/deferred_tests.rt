@@ -1,6 +1,5 @@
 //! Deferred mode in documents: places are left half done, entered again, overwritten and completed at the end.
-use crate::tests::check;
-use std::process::Abort;
+use crate::tests::{check, check_each};
 use std::test::Fail;
 
 /// The shapes u32, String, Inner (x and b) and Outer (name and inner), with Outer as the root.
@@ -146,20 +145,6 @@ const ELEMENTS: [(&str, &str, u8, &str); 2] = [
         r#"{"error":{"command":4,"detail":"A3","kind":"UninitializedValue","path":""},"released":[]}"#,
     ),
 ];
-
-/// Runs each script over a table and compares what is reported.
-fn check_each(
-    rt: &(impl Abort + AllocGlobal),
-    shapes: &str,
-    cases: &[(&str, &str, u8, &str)],
-) -> Result<(), Fail> {
-    for (name, script, status, want) in cases {
-        let mut document = String::from_str(rt.alloc(), shapes)?;
-        document.push_str(script)?;
-        check(rt, name, document.as_bytes(), *status, want)?;
-    }
-    Ok(())
-}
 
 #[test]
 fn places_that_were_left_are_entered_again(rt: HostRuntime) -> Result<(), Fail> {

@@ -5,6 +5,8 @@ mod answering;
 mod building;
 mod command_form;
 #[cfg(test)]
+mod content_tests;
+#[cfg(test)]
 mod deferred_tests;
 mod document;
 mod document_laws;
@@ -14,6 +16,8 @@ mod document_tests;
 mod limit_tests;
 mod marking;
 mod members;
+#[cfg(test)]
+mod original_tests;
 mod plan_answer;
 mod plan_report;
 #[cfg(test)]
@@ -31,6 +35,8 @@ mod tests;
 #[cfg(test)]
 mod text_tests;
 mod validity;
+#[cfg(test)]
+mod variant_tests;
 mod word;
 
 pub use answering::Answer;

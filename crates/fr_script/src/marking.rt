@@ -19,8 +19,12 @@ pub fn mark_command(table: &ShapeTable, command: &Command, marks: &mut [bool]) -
                 && fits(table, *shape, value)
                 && mark_value(value, marks)
         }
-        Command::BeginField(_) | Command::BeginNthField(_) | Command::SetDefault => true,
-        Command::End | Command::BeginDeferred | Command::FinishDeferred => true,
+        Command::BeginField(_) | Command::BeginNthField(_) => true,
+        Command::SetNthFieldToDefault(_) | Command::SetDefault => true,
+        Command::BeginSome | Command::BeginOk | Command::BeginErr | Command::BeginSmartPtr => true,
+        Command::SelectNthVariant(_) | Command::SelectVariantNamed(_) => true,
+        Command::SelectVariant(_) | Command::End => true,
+        Command::BeginDeferred | Command::FinishDeferred => true,
     }
 }
 

@@ -1,7 +1,6 @@
 //! Worked examples of fills, presets, arrays and named fields, each as a whole run.
 use crate::limit_tests::joined;
-use crate::tests::check;
-use std::process::Abort;
+use crate::tests::{check, check_each};
 use std::test::Fail;
 
 /// The shapes u32, Nums (a list with a default), Empty (a struct without fields, with a default), HasList and HasEmpty,
@@ -190,20 +189,6 @@ const WHOLES_SET: [(&str, &str, u8, &str); 4] = [
         r#"{"error":{"command":1,"detail":"cannot select a field from a pointer type","kind":"OperationFailed","path":"link"},"released":[]}"#,
     ),
 ];
-
-/// Runs each script over a table and compares what is reported.
-fn check_each(
-    rt: &(impl Abort + AllocGlobal),
-    shapes: &str,
-    cases: &[(&str, &str, u8, &str)],
-) -> Result<(), Fail> {
-    for (name, script, status, want) in cases {
-        let mut document = String::from_str(rt.alloc(), shapes)?;
-        document.push_str(script)?;
-        check(rt, name, document.as_bytes(), *status, want)?;
-    }
-    Ok(())
-}
 
 #[test]
 fn what_is_missing_is_filled_by_the_rules(rt: HostRuntime) -> Result<(), Fail> {

@@ -109,10 +109,19 @@ fn is_too_deep(script: &[Command]) -> bool
     let mut ended: usize = 0;
     for command in script {
         match command {
-            Command::BeginField(_) | Command::BeginNthField(_) => begun += 1,
+            Command::BeginField(_)
+            | Command::BeginNthField(_)
+            | Command::BeginSome
+            | Command::BeginOk
+            | Command::BeginErr
+            | Command::BeginSmartPtr => begun += 1,
             Command::End => ended += 1,
-            Command::Set(_, _)
+            Command::SetNthFieldToDefault(_)
+            | Command::Set(_, _)
             | Command::SetDefault
+            | Command::SelectNthVariant(_)
+            | Command::SelectVariantNamed(_)
+            | Command::SelectVariant(_)
             | Command::BeginDeferred
             | Command::FinishDeferred => {}
         }

@@ -237,6 +237,20 @@ pub(crate) fn check_under(
     Ok(())
 }
 
+/// Runs each script over a table and compares what is reported.
+pub(crate) fn check_each(
+    rt: &(impl Abort + AllocGlobal),
+    shapes: &str,
+    cases: &[(&str, &str, u8, &str)],
+) -> Result<(), Fail> {
+    for (name, script, status, want) in cases {
+        let mut document = String::from_str(rt.alloc(), shapes)?;
+        document.push_str(script)?;
+        check(rt, name, document.as_bytes(), *status, want)?;
+    }
+    Ok(())
+}
+
 #[test]
 fn a_nested_struct_is_built(rt: HostRuntime) -> Result<(), Fail> {
     let alloc = rt.alloc();
@@ -248,12 +262,7 @@ fn a_nested_struct_is_built(rt: HostRuntime) -> Result<(), Fail> {
 
 #[test]
 fn scripts_over_cells_are_reported(rt: HostRuntime) -> Result<(), Fail> {
-    for (name, script, status, want) in SCRIPTS {
-        let mut document = String::from_str(rt.alloc(), CELLS)?;
-        document.push_str(script)?;
-        check(&rt, name, document.as_bytes(), status, want)?;
-    }
-    Ok(())
+    check_each(&rt, CELLS, &SCRIPTS)
 }
 
 #[test]

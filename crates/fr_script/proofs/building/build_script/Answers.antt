@@ -54,13 +54,13 @@ unplanned (PlanError.Alloc error) refusal is =
 unplanned PlanError.OutOfMemory refusal is = inl refl
 
 pub returns-in-Err-clause-journal : goal.returns-in-Err-clause-journal
-returns-in-Err-clause-journal g c plain =
+returns-in-Err-clause-journal g c plain fields =
     ⊎_elim (λ memory. inl (c.kind_without_plan.ensures ∙ memory))
     (λ none.
     inr
     (sym
     (c.law_agree.ensures.agree (g.H.Hooks.means c.args.hooks.now) c.args.table.now c.args.root.0 (calls_of c.args.script) plain
-    c.requires.root c.requires.valid.fitting)
+    c.requires.root fields c.requires.valid.fitting)
     ∙ none
     (run_from (g.H.Hooks.means c.args.hooks.now) c.args.table.now c.args.root.0 0
     (initial c.args.table.now c.args.root.0) (calls_of c.args.script))))

@@ -29,8 +29,8 @@ pub returns-in-Ok-released_tokens-2-clause-promise : goal.returns-in-Ok-released
 returns-in-Ok-released_tokens-2-clause-promise c =
     refused_promise (document_view c.args.document) c.requires c.in-Ok.ledger c.build_script.new.ledger
     c.in-Ok-released_tokens-2.released c.in-Ok.ensures.zeros c.in-Ok-released_tokens-2.ensures
-    (λ plain.
+    (λ plain fields.
     ⊎_elim
     (λ memory. absurd (not_memory c.in-Err.error.kind (sym c.is_want_of_memory.ensures ∙ c.if-is_want_of_memory.false) memory))
-    (λ completes. completes) (c.in-Err.ensures.journal plain))
+    (λ completes. completes) (c.in-Err.ensures.journal plain fields))
     c.in-Err.ensures.settled
