@@ -1,64 +1,113 @@
 -- Going on to a child: what it is refused for, and what it means.
-use Rattle.std.proofs.Common.{◌≡◌, ℕ, suc, ◌+◌, ◌<◌, Bool, true, false, List, [], ◌∷◌, length, Some, None, Ok, Err, nat_lt, refl, sym, ◌∙◌, ap, subst, arith}
+use Rattle.std.proofs.Common.{◌≡◌, ℕ, suc, ◌+◌, ◌<◌, Bool, true, false, List, [], ◌∷◌, length, Option, Some, None, Ok, Err, nat_le, nat_lt, ◌≤◌, ◌^◌, if◌then◌else◌, slice_get, refl, sym, ◌∙◌, ap, subst, arith}
+use Rattle.std.specs.Option.{option_or}
 use Rattle.std.specs.Str.{bytes_eq}
-use Rattle.std.proofs.lemmas.Bool.{ltb-true, lt-ltb}
+use Rattle.std.proofs.lemmas.Bool.{leb-true, ltb-true, lt-ltb}
 use Rattle.fr_shape.specs.declared.shape.Def.{Def}
+use Rattle.fr_shape.specs.declared.shape.EnumDef.{EnumDef}
 use Rattle.fr_shape.specs.declared.shape.Field.{Field}
 use Rattle.fr_shape.specs.declared.shape.ShapeId.{ShapeId}
+use Rattle.fr_shape.specs.declared.shape.VariantDef.{VariantDef}
 use Rattle.fr_shape.specs.declared.error.ReflectErrorKind.{ReflectErrorKind}
 use Rattle.fr_shape.specs.declared.error.Operation.{Operation}
-use Rattle.fr_shape.specs.Look.{Table, def_of}
+use Rattle.fr_shape.specs.Look.{Table, def_of, variants_of}
+use Rattle.fr_shape.specs.Numbered.{field_count, IsNumbered}
 use Rattle.fr_shape.specs.Named.{field_named, first_declared}
-use Rattle.fr_model.specs.Places.{count_children}
-use Rattle.fr_model.specs.Tree.{Mode, Tree, State, cursor_tree}
+use Rattle.fr_model.specs.Tree.{Form, selected, Tree, State, cursor_tree}
 use Rattle.fr_model.specs.Step.{begin_nth_field, begin_field, enters, field_refusal, named_refusal}
-use Rattle.fr_frame.specs.declared.places.Slot.{Slot}
-use Rattle.fr_store.specs.Moves.{tree_here}
+use Rattle.fr_model.specs.Variants.{field_found, variant_fields}
+use Rattle.fr_model.specs.Places.{array_limit}
+use Rattle.fr_model.specs.Well.{HasFieldsOf, IsFullAs}
+use Rattle.fr_plan.specs.Names.{declared_field}
+use Rattle.fr_frame.specs.Heap.{as_form}
 use Rattle.fr_partial.specs.Builder.{Builder, here}
 use Rattle.fr_partial.specs.declared.admitting.Opening.{Opening}
 use Rattle.fr_partial.specs.Entering.{Describes}
-use Rattle.fr_partial.proofs.StateLaws.{builder_of}
+use Rattle.fr_partial.proofs.FormLaws.{struct_form, array_form, enum_form, variant_count}
+use Rattle.fr_partial.proofs.SeenLaws.{Sees, shape_seen, def_seen, refusal_seen, named_seen, selected_seen}
 
 -- what may be entered is there
 
-pub admitted_within : (def : Def) (t : Tree) (i : ℕ) → field_refusal def t i ≡ None → i < count_children def
-admitted_within (Def.Struct struct) t i e = go (nat_lt i (length struct.fields)) refl
+below_limit : (i n : ℕ) (operation : Operation) → (if nat_lt i n then None else Some operation) ≡ None → i < n
+below_limit i n operation e = go (nat_lt i n) refl
   where
-    go : (b : Bool) → nat_lt i (length struct.fields) ≡ b → i < length struct.fields
-    go true h = ltb-true i (length struct.fields) h
-    go false h = let some : Some Operation.FieldIndexOutOfBounds ≡ None = rw h at e in cc
-admitted_within (Def.Array item n) t i e = go (nat_lt i n) refl
+    go : (b : Bool) → nat_lt i n ≡ b → i < n
+    go true h = ltb-true i n h
+    go false h = let some : Some operation ≡ None = rw h at e in cc
+
+array_within : (i n : ℕ) (rest : Option Operation)
+    → option_or (if nat_lt i n then None else Some Operation.ArrayIndexOutOfBounds) rest ≡ None → i < n
+array_within i n rest e = go (nat_lt i n) refl
   where
     go : (b : Bool) → nat_lt i n ≡ b → i < n
     go true h = ltb-true i n h
     go false h = let some : Some Operation.ArrayIndexOutOfBounds ≡ None = rw h at e in cc
-admitted_within (Def.Enum enumeration) t i e = cc
-admitted_within (Def.Slice item) t i e = cc
-admitted_within Def.Opaque t i e = cc
-admitted_within _ t i e = cc
 
--- so it is one of the children that the place is begun with
-pub opened_within : (table : Table) (s : ℕ) (t : Tree) (i : ℕ) (opening : Opening) → Describes table s opening
+-- it is one of the children that the place is begun with
+pub opened_within : (table : Table) (s : ℕ) (t : Tree) (i : ℕ) (opening : Opening) → Describes table s t opening
     → field_refusal (def_of table s) t i ≡ None → i < opening.count
-opened_within table s t i opening says may =
-    let below : i < count_children (def_of table s) = admitted_within (def_of table s) t i may in
-    omega (arith, below, says.count)
+opened_within table s t i opening says may = go (def_of table s) says.begun may
+  where
+    go : (def : Def) → IsFullAs def (as_form opening.form) opening.count → field_refusal def t i ≡ None → i < opening.count
+    go (Def.Struct struct) full none =
+        let below : i < length struct.fields = below_limit i (length struct.fields) Operation.FieldIndexOutOfBounds none in
+        omega (arith, below, (struct_form struct (as_form opening.form) opening.count full).1)
+    go (Def.Array item n) full none =
+        let below : i < n = array_within i n _ none in
+        omega (arith, below, (array_form item n (as_form opening.form) opening.count full).1)
+    go (Def.Enum enumeration) full none =
+        let is = enum_form enumeration (as_form opening.form) opening.count full in
+        let one : selected t ≡ Some is.variant = says.variant is.variant is.form_is in
+        let below : i < length (variant_fields (Def.Enum enumeration) is.variant)
+        = below_limit i (length (variant_fields (Def.Enum enumeration) is.variant)) Operation.VariantFieldIndexOutOfBounds
+        (rw one at none) in
+        omega (
+          arith,
+          below,
+          variant_count enumeration is.variant opening.count
+              (subst (λ (f : Form). IsFullAs (Def.Enum enumeration) f opening.count) is.form_is full),
+        )
+    go (Def.Slice item) full none = cc
+    go Def.Opaque full none = cc
+    go _ full none = cc
 
--- the shape's number is the shape
-pub shape_of_number : {H : Type 0} (builder : Builder H) (shape : ShapeId) → shape.0 ≡ here builder
-    → ◌≡◌ {A = ShapeId} (record { 0 = here builder }) shape
-shape_of_number builder shape e = ap (λ (n : ℕ). record { 0 = n }) (sym e)
+array_small : (i n : ℕ) (item : ShapeId) (t : Tree) → field_refusal (Def.Array item n) t i ≡ None → n ≤ array_limit
+array_small i n item t may = go (nat_lt i n) (nat_le n array_limit) refl refl
+  where
+    go : (b d : Bool) → nat_lt i n ≡ b → nat_le n array_limit ≡ d → n ≤ array_limit
+    go b true e h = leb-true n array_limit h
+    go true false e h = let no : Some Operation.ArrayTooLarge ≡ None = rw (e, h) at may in cc
+    go false false e h = let no : Some Operation.ArrayIndexOutOfBounds ≡ None = rw e at may in cc
 
--- the refusal that the place's shape and what was put there tell is the one that is meant
-pub refusal_is : {H : Type 0} {h : H} (table : Table) (root : ℕ) (slots : List Slot) (stack : List ℕ)
-    (mode : Mode) (calls : ℕ) (builder : Builder H) → builder_of h table root slots stack mode calls ≡ builder → (s : ℕ)
-    → s ≡ here builder
-    → (t : Tree) → ((def : Def) (i : ℕ) → field_refusal def t i ≡ field_refusal def (tree_here slots stack) i) → (i : ℕ)
-    → field_refusal (def_of table s) t i ≡ field_refusal (def_of builder.shapes (here builder)) (cursor_tree builder.state) i
-refusal_is {H} table root slots stack mode calls builder is s e t at i =
-    ap (λ (n : ℕ). field_refusal (def_of table n) t i) e
-    ∙ at (def_of table (here builder)) i
-    ∙ ap (λ (b : Builder H). field_refusal (def_of b.shapes (here builder)) (cursor_tree b.state) i) is
+-- its number is one of 32 bits
+pub small_child : (table : Table) (s : ℕ) (t : Tree) (i : ℕ) (opening : Opening) → IsNumbered table
+    → Describes table s t opening → field_refusal (def_of table s) t i ≡ None → i < 2 ^ 32
+small_child table s t i opening numbered says may = go (def_of table s) refl says.begun may
+  where
+    below : i < opening.count
+    below = opened_within table s t i opening says may
+
+    of_variant : (enumeration : EnumDef) (k : ℕ) → def_of table s ≡ Def.Enum enumeration → (found : Option VariantDef)
+        → slice_get enumeration.variants k ≡ found → HasFieldsOf found opening.count → i < 2 ^ 32
+    of_variant enumeration k e (Some variant) is full =
+        let there : slice_get (variants_of (def_of table s)) k ≡ Some variant = rw e is in
+        omega (arith, below, full, numbered.variant_fields s k variant there)
+    of_variant enumeration k e None is full = absurd full
+
+    go : (def : Def) → def_of table s ≡ def → IsFullAs def (as_form opening.form) opening.count → field_refusal def t i ≡ None
+        → i < 2 ^ 32
+    go (Def.Struct struct) e full none =
+        let fields : field_count (Def.Struct struct) < 2 ^ 32
+        = subst (λ (def : Def). field_count def < 2 ^ 32) e (numbered.fields s) in
+        omega (arith, below, (struct_form struct (as_form opening.form) opening.count full).1, fields)
+    go (Def.Array item n) e full none =
+        omega (arith, below, (array_form item n (as_form opening.form) opening.count full).1, array_small i n item t none)
+    go (Def.Enum enumeration) e full none =
+        let is = enum_form enumeration (as_form opening.form) opening.count full in
+        of_variant enumeration is.variant e (slice_get enumeration.variants is.variant) refl is.full
+    go (Def.Slice item) e full none = cc
+    go Def.Opaque e full none = cc
+    go _ e full none = cc
 
 pub begin_admitted : {H : Type 0} (builder : Builder H) (i : ℕ)
     → field_refusal (def_of builder.shapes (here builder)) (cursor_tree builder.state) i ≡ None
@@ -66,48 +115,53 @@ pub begin_admitted : {H : Type 0} (builder : Builder H) (i : ℕ)
     ≡ Ok (enters builder.shapes (here builder) builder.state i)
 begin_admitted builder i e = rw e refl
 
-pub begin_refused : {H : Type 0} (builder : Builder H) (i : ℕ) (shape : ShapeId) (operation : Operation)
-    → shape.0 ≡ here builder
-    → field_refusal (def_of builder.shapes (here builder)) (cursor_tree builder.state) i ≡ Some operation
-    → begin_nth_field builder.shapes (here builder) builder.state i ≡ Err (ReflectErrorKind.OperationFailed shape operation)
-begin_refused builder i shape operation same e =
-    rw e (ap (λ (s : ShapeId). Err (ReflectErrorKind.OperationFailed s operation)) (shape_of_number builder shape same))
+pub begins : (table : Table) (s : ℕ) (state : State) (i : ℕ) → field_refusal (def_of table s) (cursor_tree state) i ≡ None
+    → begin_nth_field table s state i ≡ Ok (enters table s state i)
+begins table s state i e = rw e refl
 
--- by name
+-- by what the builder sees
 
-module _ {H : Type 0} {h : H} (table : Table) (root : ℕ) (slots : List Slot) (stack : List ℕ)
-    (mode : Mode) (calls : ℕ) (builder : Builder H) (is : builder_of h table root slots stack mode calls ≡ builder)
-    (shape : ShapeId) (same : shape.0 ≡ here builder) where
-  def_is : def_of table shape.0 ≡ def_of builder.shapes (here builder)
-  def_is =
-      ap (def_of table) same ∙ ap (λ (b : Builder H). def_of b.shapes (here builder)) is
-
+module _ {H : Type 0} {builder : Builder H} {table : Table} {shape : ShapeId} {seen : Tree}
+    (at : Sees builder table shape seen) where
   -- what the table says of the place's shape
-  pub describes_here : (opening : Opening) → Describes table shape.0 opening → Describes builder.shapes (here builder) opening
-  describes_here opening says =
-      subst (λ (b : Builder H). Describes b.shapes (here builder) opening) is
-      (subst (λ (s : ℕ). Describes table s opening) same says)
+  pub describes_here : (opening : Opening) → Describes table shape.0 seen opening
+      → Describes builder.shapes (here builder) (cursor_tree builder.state) opening
+  describes_here opening says = record {
+    begun = subst (λ (def : Def). IsFullAs def (as_form opening.form) opening.count) (def_seen at) says.begun;
+    variant = λ k is. sym (selected_seen at) ∙ says.variant k is;
+  }
 
-  pub named_refused : (name : List ℕ) (operation : Operation) → named_refusal (def_of table shape.0) ≡ Some operation
+  pub begin_refused : (i : ℕ) (operation : Operation) → field_refusal (def_of table shape.0) seen i ≡ Some operation
+      → begin_nth_field builder.shapes (here builder) builder.state i ≡ Err (ReflectErrorKind.OperationFailed shape operation)
+  begin_refused i operation e =
+      rw (sym (refusal_seen at i) ∙ e)
+      (ap (λ (s : ShapeId). Err (ReflectErrorKind.OperationFailed s operation)) (shape_seen at))
+
+  pub named_refused : (name : List ℕ) (operation : Operation) → named_refusal (def_of table shape.0) seen ≡ Some operation
       → begin_field builder.shapes (here builder) builder.state name
       ≡ Err (ReflectErrorKind.OperationFailed shape operation)
   named_refused name operation e =
-      rw (sym (ap named_refusal def_is) ∙ e)
-      (ap (λ (s : ShapeId). Err (ReflectErrorKind.OperationFailed s operation)) (shape_of_number builder shape same))
+      rw (sym (named_seen at) ∙ e)
+      (ap (λ (s : ShapeId). Err (ReflectErrorKind.OperationFailed s operation)) (shape_seen at))
 
-  pub named_unknown : (name : List ℕ) → named_refusal (def_of table shape.0) ≡ None
-      → field_named name (def_of table shape.0) ≡ None
+  found_seen : (name : List ℕ) → field_found name (def_of builder.shapes (here builder)) (selected (cursor_tree builder.state))
+      ≡ field_found name (def_of table shape.0) (selected seen)
+  found_seen name =
+      ap (λ (def : Def). field_found name def (selected (cursor_tree builder.state))) (sym (def_seen at))
+      ∙ ap (field_found name (def_of table shape.0)) (sym (selected_seen at))
+
+  pub named_unknown : (name : List ℕ) → named_refusal (def_of table shape.0) seen ≡ None
+      → field_found name (def_of table shape.0) (selected seen) ≡ None
       → begin_field builder.shapes (here builder) builder.state name ≡ Err (ReflectErrorKind.FieldError shape)
   named_unknown name e found =
-      rw (sym (ap named_refusal def_is) ∙ e, sym (ap (field_named name) def_is) ∙ found)
-      (ap (λ (s : ShapeId). Err (ReflectErrorKind.FieldError s)) (shape_of_number builder shape same))
+      rw (sym (named_seen at) ∙ e, found_seen name ∙ found)
+      (ap (λ (s : ShapeId). Err (ReflectErrorKind.FieldError s)) (shape_seen at))
 
-  pub named_admitted : (name : List ℕ) (i : ℕ) → named_refusal (def_of table shape.0) ≡ None
-      → field_named name (def_of table shape.0) ≡ Some i
+  pub named_admitted : (name : List ℕ) (i : ℕ) → named_refusal (def_of table shape.0) seen ≡ None
+      → field_found name (def_of table shape.0) (selected seen) ≡ Some i
       → begin_field builder.shapes (here builder) builder.state name
       ≡ Ok (enters builder.shapes (here builder) builder.state i)
-  named_admitted name i e found =
-      rw (sym (ap named_refusal def_is) ∙ e, sym (ap (field_named name) def_is) ∙ found) refl
+  named_admitted name i e found = rw (sym (named_seen at) ∙ e, found_seen name ∙ found) refl
 
 declared_below : (name : List ℕ) (k : ℕ) (fields : List Field) (i : ℕ) → first_declared name k fields ≡ Some i
     → i < k + length fields
@@ -123,23 +177,36 @@ declared_below name k (field ∷ fields) i e = go (bytes_eq field.name name) ref
     go false h rest = let below : i < suc k + length fields = rest (rw h at e) in omega arith
 
 -- a field that is found by its name may be entered
-pub named_within : (def : Def) (t : Tree) (name : List ℕ) (i : ℕ) → field_named name def ≡ Some i
-    → field_refusal def t i ≡ None
-named_within (Def.Struct struct) t name i e =
-    let below : i < 0 + length struct.fields = declared_below name 0 struct.fields i e in
-    let test : nat_lt i (length struct.fields) ≡ true = lt-ltb i (length struct.fields) (omega arith) in
-    rw test refl
-named_within _ t name i e = cc
+pub named_within : (def : Def) (t : Tree) (name : List ℕ) (i : ℕ) → named_refusal def t ≡ None
+    → field_found name def (selected t) ≡ Some i → field_refusal def t i ≡ None
+named_within (Def.Struct struct) t name i may e = go (selected t) refl e
+  where
+    go : (chosen : Option ℕ) → selected t ≡ chosen → field_found name (Def.Struct struct) chosen ≡ Some i
+        → field_refusal (Def.Struct struct) t i ≡ None
+    go None is found =
+        let below : i < 0 + length struct.fields = declared_below name 0 struct.fields i found in
+        let test : nat_lt i (length struct.fields) ≡ true = lt-ltb i (length struct.fields) (omega arith) in
+        rw test refl
+    go (Some k) is found = cc
+named_within (Def.Enum enumeration) t name i may e = go (selected t) refl e
+  where
+    go : (chosen : Option ℕ) → selected t ≡ chosen → field_found name (Def.Enum enumeration) chosen ≡ Some i
+        → field_refusal (Def.Enum enumeration) t i ≡ None
+    go None is found = cc
+    go (Some k) is found =
+        let below : i < 0 + length (variant_fields (Def.Enum enumeration) k)
+        = declared_below name 0 (variant_fields (Def.Enum enumeration) k) i found in
+        let test : nat_lt i (length (variant_fields (Def.Enum enumeration) k)) ≡ true
+        = lt-ltb i (length (variant_fields (Def.Enum enumeration) k)) (omega arith) in
+        rw (is, test) refl
+named_within _ t name i may e = cc
 
-pub named_there : {H : Type 0} {h : H} (table : Table) (root : ℕ) (slots : List Slot) (stack : List ℕ)
-    (mode : Mode) (calls : ℕ) (builder : Builder H) → builder_of h table root slots stack mode calls ≡ builder
-    → (shape : ShapeId) → shape.0 ≡ here builder
-    → (name : List ℕ) (i : ℕ) → field_named name (def_of table shape.0) ≡ Some i
-    → field_refusal (def_of builder.shapes (here builder)) (cursor_tree builder.state) i ≡ None
-named_there table root slots stack mode calls builder is shape same name i found =
-    named_within (def_of builder.shapes (here builder)) (cursor_tree builder.state) name i
-    (sym (ap (field_named name) (def_is table root slots stack mode calls builder is shape same)) ∙ found)
-
-pub begins : (table : Table) (s : ℕ) (state : State) (i : ℕ) → field_refusal (def_of table s) (cursor_tree state) i ≡ None
-    → begin_nth_field table s state i ≡ Ok (enters table s state i)
-begins table s state i e = rw e refl
+-- the lookup of the plan is that of the definitions
+pub declared_is : (name : List ℕ) (def : Def) (variant : Option ℕ) → declared_field def variant name ≡ field_found name def variant
+declared_is name def None = refl
+declared_is name def (Some k) = go (slice_get (variants_of def) k) refl
+  where
+    go : (found : Option VariantDef) → slice_get (variants_of def) k ≡ found
+        → declared_field def (Some k) name ≡ field_found name def (Some k)
+    go None e = rw e refl
+    go (Some variant) e = rw e refl

@@ -1,42 +1,47 @@
 -- Completing the place on top of the stack: whether it may be, the value that it makes, and where the builder is then.
-use Rattle.std.proofs.Common.{◌≡◌, ◌⊎◌, ℕ, zero, suc, true, false, List, [], ◌∷◌, length, Option, Some, None, option_map, unwrap_or, inl, inr, refl, sym, ◌∙◌, ap, subst, arith}
-use Rattle.std.specs.Prelude.{IsSome, IsSomeAnd, is_none, is_some}
+use Rattle.std.proofs.Common.{◌≡◌, ◌⊎◌, ℕ, zero, suc, Bool, true, false, List, [], ◌∷◌, length, Option, Some, None, Result, Err, ◌+◌, option_map, unwrap_or, inl, inr, refl, sym, ◌∙◌, ap, subst, arith}
+use Rattle.std.specs.Prelude.{IsOk, IsSome, IsSomeAnd, is_none, is_some}
 use Rattle.fr_shape.specs.declared.error.ReflectErrorKind.{ReflectErrorKind}
 use Rattle.fr_shape.specs.declared.shape.ShapeId.{ShapeId}
 use Rattle.fr_shape.specs.Hooks.{Meanings}
 use Rattle.fr_shape.specs.Look.{Table, def_of}
-use Rattle.fr_shape.specs.Released.{Room, RoseBy}
+use Rattle.fr_shape.specs.Released.{Conserved, Room, RoseBy}
 use Rattle.fr_shape.specs.TokenLaws.{Room_same, RoseBy_same}
 use Rattle.fr_shape.specs.Val.{Val, Vals}
 use Rattle.fr_model.specs.Complete.{complete}
 use Rattle.fr_model.specs.Places.{strict_column, Place, one_more, up}
 use Rattle.fr_model.specs.Step.{cause}
-use Rattle.fr_model.specs.Tree.{Tree, hole, entered, whole, begun, Trees, no_trees, branch, change_at, change_nth, count_trees, shape_in, tree_at, tree_occurs}
+use Rattle.fr_model.specs.Tree.{Form, as_struct, as_array, as_variant, as_some, as_ok, as_err, as_pointer, Tree, hole, entered, whole, begun, Trees, no_trees, branch, change_at, change_nth, count_trees, shape_in, tree_at, tree_occurs, trees_occur, deferred}
 use Rattle.fr_model.specs.Well.{IsFullAs, Suits}
 use Rattle.fr_plan.specs.declared.nodes.NodeId.{NodeId}
 use Rattle.fr_plan.specs.declared.nodes.TypePlanNode.{TypePlanNode}
 use Rattle.fr_plan.specs.LookupLaws.{LookupsAgree, LookupPathsAgree}
 use Rattle.fr_plan.specs.TypePlan.{Plan}
 use Rattle.fr_frame.specs.declared.places.Slot.{Slot}
-use Rattle.fr_frame.specs.Bodies.{Body, entered_body, whole_body, begun_body, body_occurs, own_tree, trees_of, value_of, IsClosed}
-use Rattle.fr_frame.specs.Cells.{Cell, absent, given, placed, values_of}
+use Rattle.fr_frame.specs.Bodies.{Body, entered_body, whole_body, begun_body, body_occurs, is_around, own_tree, takes_box, trees_of, value_of, IsClosed}
+use Rattle.fr_frame.specs.Defaults.{KeepsForm}
+use Rattle.fr_frame.specs.Cells.{Cell, absent, given, placed, cells_occur, values_of}
 use Rattle.fr_frame.specs.Changes.{IfInUse, SameTokens}
 use Rattle.fr_frame.specs.Closed.{IsClosedAt}
 use Rattle.fr_frame.specs.Completing.{shape_of, takes_template, FillsAt, IsFull, IsOfValidator, IsPlanFor, MayComplete, WhyNot as WhyNotAt}
-use Rattle.fr_frame.specs.Heap.{Node, heap_of, with_slot}
-use Rattle.fr_frame.specs.Kids.{Plot, tree_of, body_in, plot_occurs}
+use Rattle.fr_frame.specs.Heap.{Node, heap_of, slots_occur, with_slot}
+use Rattle.fr_frame.specs.Kids.{MayHave, Plot, tree_of, body_in, plot_occurs}
 use Rattle.fr_store.specs.HereLaws.{body_back, closed_plot, tree_back}
 use Rattle.fr_store.specs.MoveLaws.{open_top, closed_open, same_last, top_changed}
-use Rattle.fr_store.specs.Moves.{cursor_in, tree_here, tree_in_slots, AtTop, IsOpenAt}
+use Rattle.fr_store.specs.Moves.{cursor_in, tokens_here, tree_here, tree_in_slots, AtTop, IsOpenAt}
 use Rattle.fr_store.specs.Numbers.{IsLast}
 use Rattle.fr_store.specs.Stands.{IsOpen, kid_shown}
 use Rattle.fr_store.specs.Stored.{NothingStored}
-use Rattle.fr_store.specs.TopLaws.{closed_occur, closed_tree, keeps_closed, loses_none, slot_here}
+use Rattle.fr_store.specs.TopLaws.{closed_occur, closed_tree, held_may_have, keeps_closed, loses_none, slot_here, MayHaveIts}
 use Rattle.fr_store.specs.WayLaws.{tree_of_at}
 use Rattle.fr_partial.specs.Ending.{IsEnded, WhyNot}
-use Rattle.fr_partial.specs.Filling.{fills_nothing, has_no_hole}
+use Rattle.fr_partial.specs.Filling.{takes_no_memory, has_no_hole}
 use Rattle.fr_partial.specs.Underway.{shape_here, IsReady}
+use Rattle.fr_partial.proofs.EnterLaws.{changed_at}
 use Rattle.fr_partial.proofs.FitLaws.{is_there}
+use Rattle.fr_partial.proofs.KeepLaws.{room_here}
+use Rattle.fr_partial.proofs.ReachLaws.{tree_leads}
+use Rattle.fr_partial.proofs.ReleaseLaws.{room_still}
 use Rattle.fr_partial.proofs.PlaceLaws.{node_here, here_found, here_along, held_is}
 use Rattle.fr_store.specs.ShapeLaws.{IsOfShape}
 
@@ -65,10 +70,47 @@ has_hole (absent ∷ cells) h = refl
 has_hole (given v ∷ cells) h = has_hole cells (more_none v (values_of cells) h)
 has_hole (placed n ∷ cells) h = refl
 
-takes : (body : Body) → takes_template body ≡ true → fills_nothing (own_tree body) ≡ false
+takes : (body : Body) → takes_template body ≡ true → takes_no_memory (own_tree body) ≡ false
 takes entered_body h = refl
 takes (whole_body v) h = cc
-takes (begun_body form cells) h = has_hole cells h
+takes (begun_body form cells) h = go (is_around form) refl
+  where
+    go : (b : Bool) → is_around form ≡ b → takes_no_memory (begun form (trees_of cells)) ≡ false
+    go true e = rw e refl
+    go false e = rw e (has_hole cells h)
+
+-- What becomes of a place that keeps its form.
+
+-- one that comes to take a box took it before
+pub boxed : (was now : Body) → KeepsForm was now → takes_box now ≡ true → takes_no_memory (own_tree was) ≡ false
+boxed entered_body now keeps h = refl
+boxed (whole_body v) now keeps h = let no : false ≡ true = sym (ap takes_box keeps) ∙ h in cc
+boxed (begun_body form cells) entered_body keeps h = absurd keeps
+boxed (begun_body form cells) (whole_body v) keeps h = absurd keeps
+boxed (begun_body form cells) (begun_body other others) keeps h =
+    let around : is_around form ≡ true = ap is_around (sym keeps.0) ∙ h in
+    rw around refl
+
+-- it has no more children than it may
+many_may : (form : Form) (count : ℕ) → is_around form ≡ false → MayHave form count
+many_may as_struct count h = tt
+many_may as_array count h = tt
+many_may (as_variant k) count h = tt
+many_may as_some count h = cc
+many_may as_ok count h = cc
+many_may as_err count h = cc
+many_may as_pointer count h = cc
+
+keeps_may : (was now : Body) → KeepsForm was now → MayHaveIts was → MayHaveIts now
+keeps_may entered_body entered_body keeps may = tt
+keeps_may entered_body (whole_body v) keeps may = tt
+keeps_may entered_body (begun_body form cells) keeps may = many_may form (length cells) keeps
+keeps_may (whole_body v) now keeps may = subst MayHaveIts (sym keeps) tt
+keeps_may (begun_body form cells) entered_body keeps may = absurd keeps
+keeps_may (begun_body form cells) (whole_body v) keeps may = absurd keeps
+keeps_may (begun_body form cells) (begun_body other others) keeps may =
+    subst (λ (f : Form). MayHave f (length others)) (sym keeps.0)
+    (subst (λ (n : ℕ). MayHave form n) (sym keeps.1) may)
 
 why_of : (means : Meanings) (table : Table) (s : ℕ) (body : Body) (kind : ReflectErrorKind) → WhyNotAt means table s body kind
     → WhyNot means table s (own_tree body) kind
@@ -77,7 +119,7 @@ why_of means table s body kind (inr wants) = inr (record { memory = wants.memory
   where
     go : (IsSome (complete strict_column means table s (own_tree body)) × (takes_template body ≡ true))
         ⊎ ((complete strict_column means table s (own_tree body) ≡ None) × IsOfValidator (cause means table s (own_tree body)))
-        → (IsSome (complete strict_column means table s (own_tree body)) × (fills_nothing (own_tree body) ≡ false))
+        → (IsSome (complete strict_column means table s (own_tree body)) × (takes_no_memory (own_tree body) ≡ false))
         ⊎ ((complete strict_column means table s (own_tree body) ≡ None) × IsOfValidator (cause means table s (own_tree body)))
     go (inl made) = inl (made.0, takes body made.1)
     go (inr said) = inr said
@@ -101,6 +143,33 @@ put_twice (i ∷ place) old new (begun form ts) =
     ap (λ (xs : Trees). begun form xs)
     (nth_twice i (λ child. change_at place (λ was. old) child) (λ child. change_at place (λ was. new) child)
     (λ child. change_at place (λ was. new) child) ts (λ t. put_twice place old new t))
+
+-- How often a token stands there.
+
+cells_own : (cells : List Cell) (t : ℕ) → trees_occur (trees_of cells) t ≡ cells_occur cells t
+cells_own [] t = refl
+cells_own (absent ∷ cells) t = omega (arith, cells_own cells t)
+cells_own (given v ∷ cells) t = omega (arith, cells_own cells t)
+cells_own (placed n ∷ cells) t = omega (arith, cells_own cells t)
+
+own_occurs : (body : Body) (t : ℕ) → tree_occurs (own_tree body) t ≡ body_occurs body t
+own_occurs entered_body t = refl
+own_occurs (whole_body v) t = refl
+own_occurs (begun_body form cells) t = cells_own cells t
+
+-- where there was an error, a box was wanted
+pub no_box : {A E : Type 0} (slots : List Slot) (n : ℕ) (result : Result A E) (e : E) → result ≡ Err e
+    → IfInUse slots n (λ (at : Node). takes_box at.body ≡ false → IsOk result)
+    → IfInUse slots n (λ (at : Node). takes_box at.body ≡ false → ⊥)
+no_box slots n result e is there = go (heap_of slots n) there
+  where
+    never : IsOk result → ⊥
+    never ok = let no = rw is at ok in cc
+
+    go : (found : Option Node) → IsSomeAnd found (λ (at : Node). takes_box at.body ≡ false → IsOk result)
+        → IsSomeAnd found (λ (at : Node). takes_box at.body ≡ false → ⊥)
+    go (Some node) h = λ unboxed. never (h unboxed)
+    go None h = h
 
 body_found : Option Node → Body
 body_found (Some found) = found.body
@@ -170,12 +239,36 @@ pub plan_for : (table : Table) (root : ShapeId) (plan : Plan) (slots : List Slot
     → IsReady table root plan slots stack → IsPlanFor table plan
 plan_for table root plan slots stack ready = record { root = root; inside = ready.inside; planned = ready.planned }
 
--- The top, after it was filled or refused.
+-- The top, after it was filled.
 module _ (plan : Plan) (before after : List Slot) (stack : List ℕ) (shown : IsOpen plan before stack)
     (nothing : NothingStored before) (n : ℕ) (last : IsLast stack n) (closed_in : IfInUse before n (IsClosedAt before after n))
-    (tokens : SameTokens before after) where
+    (tokens : SameTokens before after)
+    (form : IfInUse before n (λ (at : Node). IfInUse after n (λ (now : Node). KeepsForm at.body now.body))) where
   unfoldable kept : IsClosedAt before after n (node_here plan before stack shown)
   kept = here_so plan before stack shown n last (λ (at : Node). IsClosedAt before after n at) closed_in
+
+  found_after : heap_of after n ≡ Some (record (node_here plan before stack shown) { body = kept.body })
+  found_after =
+      kept.becomes n
+      ∙ slot_here (heap_of before) n (Some (record (node_here plan before stack shown) { body = kept.body }))
+
+  after_so : (So : Node → Type 0) → IfInUse after n So → So (record (node_here plan before stack shown) { body = kept.body })
+  after_so So so = subst (λ (found : Option Node). IsSomeAnd found So) found_after so
+
+  so_after : (So : Node → Type 0) → So (record (node_here plan before stack shown) { body = kept.body }) → IfInUse after n So
+  so_after So so = subst (λ (found : Option Node). IsSomeAnd found So) (sym found_after) so
+
+  keeps : KeepsForm (node_here plan before stack shown).body kept.body
+  keeps =
+      after_so (λ (now : Node). KeepsForm (node_here plan before stack shown).body now.body)
+      (here_so plan before stack shown n last
+      (λ (at : Node). IfInUse after n (λ (now : Node). KeepsForm at.body now.body)) form)
+
+  may_its : MayHaveIts kept.body
+  may_its =
+      let top = open_top plan before stack shown in
+      keeps_may (node_here plan before stack shown).body kept.body keeps
+      (held_may_have plan (heap_of before) _ top.slot _ top.plot top.children)
 
   filled_at : IsOpenAt plan after stack (cursor_in before stack)
       (change_at (cursor_in before stack) (λ old. own_tree kept.body) (tree_in_slots before stack))
@@ -188,7 +281,8 @@ module _ (plan : Plan) (before after : List Slot) (stack : List ℕ) (shown : Is
       (λ (t : Tree). IsOpenAt plan after stack (cursor_in before stack)
       (change_at (cursor_in before stack) (λ old. t) (tree_in_slots before stack)))
       (tree_back kept.body)
-      (top_changed plan before after stack shown n last (λ old. kept.body) new is (keeps_closed top.plot new closed)
+      (top_changed plan before after stack shown n last (λ old. kept.body) new is
+      (keeps_closed top.plot new (subst MayHaveIts (sym is) may_its) closed)
       (loses_none top.plot new (closed_open plan before stack shown nothing))
       (λ m. kept.becomes m
       ∙ ap
@@ -225,16 +319,43 @@ module _ (plan : Plan) (before after : List Slot) (stack : List ℕ) (shown : Is
       RoseBy_same (tree_occurs (tree_in_slots after stack)) (tree_occurs (tree_in_slots before stack)) ledger risen
       (λ t. sym (tokens_after t)) rose
 
-  found_after : heap_of after n ≡ Some (record (node_here plan before stack shown) { body = kept.body })
-  found_after =
-      kept.becomes n
-      ∙ slot_here (heap_of before) n (Some (record (node_here plan before stack shown) { body = kept.body }))
+  here_after : tree_here after stack ≡ own_tree kept.body
+  here_after =
+      ap (λ (p : Place). tree_at p (tree_in_slots after stack)) filled_at.cursor
+      ∙ ap (tree_at (cursor_in before stack)) filled_at.built
+      ∙ changed_at (deferred 0) (cursor_in before stack) (λ old. own_tree kept.body) (tree_in_slots before stack)
+      (tree_leads 0 (cursor_in before stack) (kid_shown (heap_of before) stack) shown.stands.leads)
 
-  after_so : (So : Node → Type 0) → IfInUse after n So → So (record (node_here plan before stack shown) { body = kept.body })
-  after_so So so = subst (λ (found : Option Node). IsSomeAnd found So) found_after so
+  -- there is room for what stands there
+  pub room_top : (ledger : List ℕ) → Room (tree_occurs (tree_in_slots before stack)) ledger
+      → IfInUse after n (λ (at : Node). Room (body_occurs at.body) ledger)
+  room_top ledger room =
+      so_after (λ (at : Node). Room (body_occurs at.body) ledger)
+      (Room_same (tokens_here after stack) (body_occurs kept.body) ledger
+      (λ t. ap (λ (tree : Tree). tree_occurs tree t) here_after ∙ own_occurs kept.body t)
+      (room_here plan after stack ledger open_after (room_still plan before after stack shown tokens ledger room)))
 
-  so_after : (So : Node → Type 0) → So (record (node_here plan before stack shown) { body = kept.body }) → IfInUse after n So
-  so_after So so = subst (λ (found : Option Node). IsSomeAnd found So) (sym found_after) so
+  -- what was taken out of the slots was released
+  pub taken_kept : (slots : List Slot) (old new : List ℕ)
+      → IfInUse after n (λ (at : Node). (t : ℕ) → slots_occur after t ≡ slots_occur slots t + body_occurs at.body t)
+      → IfInUse after n (λ (at : Node). RoseBy (body_occurs at.body) old new)
+      → Conserved (slots_occur before) old (slots_occur slots) new
+  taken_kept slots old new taken rose =
+      let out = after_so
+      (λ (at : Node). (t : ℕ) → slots_occur after t ≡ slots_occur slots t + body_occurs at.body t) taken in
+      let risen = after_so (λ (at : Node). RoseBy (body_occurs at.body) old new) rose in
+      record {
+        same_length = risen.same_length;
+        kept_or_released = λ t. omega (arith, out t, tokens t, risen.each t);
+        none_falls = λ t. omega (arith, risen.each t);
+      }
+
+  -- where it comes to take a box it takes memory
+  takes_memory : (table : Table) (root : ShapeId) → takes_box kept.body ≡ true
+      → takes_no_memory (tree_here before stack) ≡ false
+  takes_memory table root h =
+      ap takes_no_memory (sym (own_here plan before stack shown nothing))
+      ∙ boxed (node_here plan before stack shown).body kept.body keeps h
 
   -- Filled.
   module _ (means : Meanings) (table : Table) (root : ShapeId) (agree : LookupsAgree) (paths : LookupPathsAgree)
@@ -275,6 +396,21 @@ module _ (plan : Plan) (before after : List Slot) (stack : List ℕ) (shown : Is
     value_at_top m is =
         let same : n ≡ m = same_last last.0 is.0 n m (sym last.1 ∙ is.1) in
         subst (λ (x : ℕ). IfInUse after x (λ (at : Node). IsSome (value_of at.body))) same value_there
+
+    -- where there is no memory for a box of it
+    pub box_wanted : (kind : ReflectErrorKind) → kind ≡ ReflectErrorKind.OutOfMemory
+        → IfInUse after n (λ (at : Node). takes_box at.body ≡ false → ⊥)
+        → WhyNot means table (shape_here table root.0 before stack) (tree_here before stack) kind
+    box_wanted kind memory wants =
+        inr
+        (record {
+          memory = memory;
+          needed = inl (ap (λ (v : Option Val). is_some v) meant, takes_memory table root (by_box (takes_box kept.body) refl));
+        })
+      where
+        by_box : (b : Bool) → takes_box kept.body ≡ b → takes_box kept.body ≡ true
+        by_box true e = e
+        by_box false e = absurd (after_so (λ (at : Node). takes_box at.body ≡ false → ⊥) wants e)
 
     -- and is left with it
     pub ended : (slots : List Slot) (next : List ℕ) → NothingStored slots

@@ -9,20 +9,22 @@ use Rattle.fr_shape.specs.declared.shape.StructDef.{StructDef}
 use Rattle.fr_shape.specs.Fits.{fits, fields_fit, count_vals}
 use Rattle.fr_shape.specs.Look.{Table, def_of, settled}
 use Rattle.fr_shape.specs.Val.{Val, Vals, unit, product, no_vals, first}
-use Rattle.fr_model.specs.Places.{Place, array_limit, child_shape, count_children, parts_of}
-use Rattle.fr_model.specs.Step.{field_refusal, enter, enter_child, opened_as, opened_value}
-use Rattle.fr_model.specs.Tree.{Form, as_struct, as_array, form_of, child_as, Tree, hole, entered, whole, begun, Trees, no_trees, branch, tree_nth, change_nth, child_tree, tree_at, change_child, change_at, wholes, holes, count_trees, Mode}
+use Rattle.fr_model.specs.Places.{Place, array_limit, parts_of}
+use Rattle.fr_model.specs.Step.{field_refusal, enter, enter_child, opened, opened_as, opened_value}
+use Rattle.fr_model.specs.Tree.{Form, as_variant, form_at, selected, child_as, Tree, hole, entered, whole, begun, Trees, no_trees, branch, tree_nth, change_nth, child_tree, tree_at, change_child, change_at, wholes, holes, count_trees, Mode}
 use Rattle.fr_model.specs.Well.{IsFullAs, Suits, OffBut, Leads}
 use Rattle.fr_plan.specs.declared.nodes.NodeId.{NodeId}
 use Rattle.fr_plan.specs.TypePlan.{Plan}
 use Rattle.fr_frame.specs.Bodies.{MayOpen}
-use Rattle.fr_frame.specs.Kids.{Kid, gone, there, at, Plot, entered_plot, whole_plot, begun_plot, tree_of, tree_in, body_in, child_node}
+use Rattle.fr_frame.specs.Kids.{Kid, gone, there, at, Plot, entered_plot, whole_plot, begun_plot, tree_of, tree_in, trees_in, body_in, child_node}
 use Rattle.fr_store.specs.Moves.{HasChild}
 use Rattle.fr_store.specs.Ways.{kid_below, node_below, node_along}
 use Rattle.fr_store.specs.WayLaws.{tree_of_below}
 use Rattle.fr_plan.specs.declared.nodes.TypePlanNode.{TypePlanNode}
 use Rattle.fr_frame.specs.Completing.{shape_of}
 use Rattle.fr_partial.proofs.FitLaws.{both_true}
+use Rattle.fr_partial.proofs.FormLaws.{struct_form, begun_as}
+use Rattle.fr_partial.proofs.TreeLaws.{alike_here}
 use Rattle.fr_store.specs.ShapeLaws.{IsOfShape}
 
 -- Changes at a place of a tree.
@@ -67,16 +69,17 @@ changed_twice (i ∷ place) f g (begun form ts) =
 
 -- begun around the child, and the child entered: that is what entering means
 pub entered_so : (table : Table) (s i : ℕ) (place : Place) (t : Tree) (form : Form) (count : ℕ) (def : Def)
-    → form ≡ form_of (def_of table s) → count ≡ count_children (def_of table s) → def ≡ def_of table (child_shape table s i)
+    → opened_as form count (tree_at place t) ≡ opened (def_of table s) (tree_at place t)
+    → def ≡ def_of table (child_as table s (form_at (def_of table s) (tree_at place t)) i)
     → change_at place (change_child i (enter def)) (change_at place (opened_as form count) t)
     ≡ change_at place (enter_child table s i) t
-entered_so table s i place t form count def is counts of =
+entered_so table s i place t form count def same of =
     changed_twice place (change_child i (enter def)) (opened_as form count) t
-    ∙ ap (λ (d : Def). change_at place (λ x. change_child i (enter d) (opened_as form count x)) t) of
-    ∙ ap (λ (f : Form). change_at place
-    (λ x. change_child i (enter (def_of table (child_shape table s i))) (opened_as f count x)) t) is
-    ∙ ap (λ (n : ℕ). change_at place
-    (λ x. change_child i (enter (def_of table (child_shape table s i))) (opened_as (form_of (def_of table s)) n x)) t) counts
+    ∙ alike_here place (λ (x : Tree). change_child i (enter def) (opened_as form count x)) (enter_child table s i) t
+    (ap (λ (d : Def). change_child i (enter d) (opened_as form count (tree_at place t))) of
+    ∙ ap
+    (change_child i (enter (def_of table (child_as table s (form_at (def_of table s) (tree_at place t)) i))))
+    same)
 
 -- What may be begun.
 
@@ -116,17 +119,16 @@ struct_parts table s struct is _ h = let no = rw (settled_struct table s struct 
 
 whole_parts : (table : Table) (s i : ℕ) (v : Val) (form : Form) (count : ℕ) → IsFullAs (def_of table s) form count
     → fits table s v ≡ true → field_refusal (def_of table s) (whole v) i ≡ None → Parts v count
-whole_parts table s i v form count full fit may = go (def_of table s) refl form full may
+whole_parts table s i v form count full fit may = go (def_of table s) refl full may
   where
-    go : (def : Def) → def_of table s ≡ def → (form : Form) → IsFullAs def form count
-        → field_refusal def (whole v) i ≡ None → Parts v count
-    go (Def.Struct struct) e as_struct b none =
-        subst (λ (n : ℕ). Parts v n) (sym b) (struct_parts table s struct e v fit)
-    go (Def.Array t n) e as_array b none =
+    go : (def : Def) → def_of table s ≡ def → IsFullAs def form count → field_refusal def (whole v) i ≡ None → Parts v count
+    go (Def.Struct struct) e b none =
+        subst (λ (n : ℕ). Parts v n) (sym (struct_form struct form count b).1) (struct_parts table s struct e v fit)
+    go (Def.Array t n) e b none =
         absurd
         (both_none (if nat_lt i n then None else Some Operation.ArrayIndexOutOfBounds)
         (if nat_le n array_limit then None else Some Operation.ArrayTooLarge) Operation.ElementOfWholeArray none)
-    go _ e _ b none = absurd b
+    go _ e b none = cc
 
 count_holes : (n : ℕ) → count_trees (holes n) ≡ n
 count_holes zero = refl
@@ -135,15 +137,6 @@ count_holes (suc n) = ap suc (count_holes n)
 count_wholes : (vs : Vals) → count_trees (wholes vs) ≡ count_vals vs
 count_wholes no_vals = refl
 count_wholes (first v vs) = ap suc (count_wholes vs)
-
-same_full : (def : Def) (f g : Form) (n m : ℕ) → IsFullAs def f n → IsFullAs def g m → (f ≡ g) × (n ≡ m)
-same_full (Def.Struct struct) as_struct as_struct n m a b = (refl, a ∙ sym b)
-same_full (Def.Struct struct) as_struct as_array n m a b = absurd b
-same_full (Def.Struct struct) as_array g n m a b = absurd a
-same_full (Def.Array t k) as_array as_array n m a b = (refl, a ∙ sym b)
-same_full (Def.Array t k) as_array as_struct n m a b = absurd b
-same_full (Def.Array t k) as_struct g n m a b = absurd a
-same_full _ f g n m a b = absurd a
 
 pub may_open : (table : Table) (s i : ℕ) (form : Form) (count : ℕ) (plot : Plot) → IsFullAs (def_of table s) form count
     → Suits table s (tree_in plot) → field_refusal (def_of table s) (tree_in plot) i ≡ None → MayOpen (body_in plot)
@@ -154,13 +147,13 @@ may_open table s i form count (whole_plot v) full suits may =
     ap is_some parts.are
 
 pub has_child : (table : Table) (s i : ℕ) (form : Form) (count : ℕ) (plot : Plot) → IsFullAs (def_of table s) form count
-    → i < count → Suits table s (tree_in plot) → field_refusal (def_of table s) (tree_in plot) i ≡ None
-    → HasChild form i (opened_as form count (tree_in plot))
-has_child table s i form count entered_plot full below suits may = (refl, omega (arith, count_holes count))
-has_child table s i form count (begun_plot made kids) full below suits may =
-    let same = same_full (def_of table s) made form (count_trees _) count suits.0.0 full in
-    (same.0, omega (arith, same.1))
-has_child table s i form count (whole_plot v) full below suits may =
+    → ((k : ℕ) → form ≡ as_variant k → selected (tree_in plot) ≡ Some k) → i < count → Suits table s (tree_in plot)
+    → field_refusal (def_of table s) (tree_in plot) i ≡ None → HasChild form i (opened_as form count (tree_in plot))
+has_child table s i form count entered_plot full variant below suits may = (refl, omega (arith, count_holes count))
+has_child table s i form count (begun_plot made kids) full variant below suits may =
+    let same = begun_as (def_of table s) made (trees_in kids) form count i full variant suits.0.0 may in
+    (sym same.0, omega (arith, same.1))
+has_child table s i form count (whole_plot v) full variant below suits may =
     let parts = whole_parts table s i v form count full suits may in
     subst (λ (found : Option Vals). HasChild form i (opened_value form v found)) (sym parts.are)
     (refl, omega (arith, count_wholes parts.parts, parts.counts))
@@ -218,15 +211,11 @@ node_stays mode plan node place now change before after same leads is =
     ∙ same_node mode plan node place change (tree_of before) leads
     ∙ sym (along_tree plan node place before)
 
--- The definition of an entered child.
-pub def_entered : (table : Table) (plan : Plan) (node : NodeId) (s i : ℕ) (form : Form)
-    → IsOfShape plan node (child_as table s form i) → def_of table (shape_of plan node) ≡ def_of table (child_shape table s i)
-def_entered table plan node s i form shaped =
+-- The definition of a place that is built by a node.
+pub def_entered : (table : Table) (plan : Plan) (node : NodeId) (s : ℕ) → IsOfShape plan node s
+    → def_of table (shape_of plan node) ≡ def_of table s
+def_entered table plan node s shaped =
     ap (λ (found : Option TypePlanNode). def_of table
     (unwrap_or (option_map (λ (n : TypePlanNode). n.shape) found) (record { 0 = 0 })).0)
     shaped.there
-    ∙ ap (def_of table) (shaped.shape ∙ by_form form)
-  where
-    by_form : (form : Form) → child_as table s form i ≡ child_shape table s i
-    by_form as_struct = refl
-    by_form as_array = refl
+    ∙ ap (def_of table) shaped.shape

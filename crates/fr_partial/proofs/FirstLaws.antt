@@ -1,6 +1,7 @@
 -- The first place: the root's, in a slot by itself.
 use Rattle.std.proofs.Common.{◌≡◌, ◌≢◌, ◌⊎◌, ℕ, ◌<◌, ◌≤◌, Bool, true, false, List, [], ◌∷◌, ◌++◌, nat_eq, Option, Some, None, unwrap_or, inl, inr, refl, sym, ◌∙◌, ap, subst, arith}
 use Rattle.std.specs.Prelude.{IsSome, if◌then◌else◌}
+use Rattle.fr_shape.specs.Fills.{is_empty_struct}
 use Rattle.fr_shape.specs.declared.shape.Def.{Def}
 use Rattle.fr_shape.specs.declared.shape.ShapeId.{ShapeId}
 use Rattle.fr_shape.specs.Checked.{IsChecked}
@@ -26,7 +27,7 @@ use Rattle.fr_store.specs.EnterLaws.{fresh_closed, fresh_plot, fresh_same, fresh
 use Rattle.fr_store.specs.MoveLaws.{open_at_from}
 use Rattle.fr_store.specs.Moves.{IsOpenAt}
 use Rattle.fr_store.specs.Stored.{IsKept, NothingStored}
-use Rattle.fr_store.specs.TopLaws.{free_unused, slot_here, slot_other, closed_uses, closed_holds, closed_marked}
+use Rattle.fr_store.specs.TopLaws.{free_unused, slot_here, slot_other, closed_uses, closed_holds, closed_marked, MayHaveIts}
 use Rattle.fr_store.specs.Ways.{counts_if, uses_in}
 use Rattle.fr_store.specs.WayLaws.{counts_same, same_or_other}
 use Rattle.fr_partial.specs.Underway.{state_of, IsUnderway}
@@ -44,15 +45,16 @@ at_most_once true = omega arith
 at_most_once false = omega arith
 
 -- a slot of the root's place, and the stack of it alone
-alone : (plan : Plan) (slots : List Slot) (stack : List ℕ) (n : ℕ) (plot : Plot) (tree : Tree) → IsClosed (body_in plot)
+alone : (plan : Plan) (slots : List Slot) (stack : List ℕ) (n : ℕ) (plot : Plot) (tree : Tree) → MayHaveIts (body_in plot)
+    → IsClosed (body_in plot)
     → heap_of slots n
     ≡ Some (record { node = plan.root; owner = FrameOwner.Root; stored = false; depth = 0; body = body_in plot })
     → 0 < depth_limit → ((t : ℕ) → slots_occur slots t ≡ plot_occurs plot t) → ((m : ℕ) → IsSome (heap_of slots m) → m ≡ n)
     → stack ≡ n ∷ [] → tree_in plot ≡ tree → IsOpenAt plan slots stack [] tree
-alone plan slots stack n plot tree closed found limit tokens only along is =
+alone plan slots stack n plot tree may closed found limit tokens only along is =
     open_at_from plan slots stack [] (at n false plot) tree
     (record {
-      holds = (found, limit, closed_holds plan (heap_of slots) plan.root n 1 plot closed);
+      holds = (found, limit, closed_holds plan (heap_of slots) plan.root n 1 plot may closed);
       once = λ m.
           let none : uses_in plot m ≡ 0 = closed_uses plot m closed in
           omega (arith, at_most_once (nat_eq n m));
@@ -64,6 +66,13 @@ alone plan slots stack n plot tree closed found limit tokens only along is =
     let one : counts_if (nat_eq n m) ≡ 1 = ap (λ (x : ℕ). counts_if (nat_eq n x)) (only m used) ∙ counts_same n in
     omega (arith, one))
     is
+
+fresh_may : (def : Def) → MayHaveIts (body_in (fresh_plot def))
+fresh_may def = go (is_empty_struct def) refl
+  where
+    go : (b : Bool) → is_empty_struct def ≡ b → MayHaveIts (body_in (fresh_plot def))
+    go true e = rw e tt
+    go false e = rw e tt
 
 -- no slot is in use but the one that the root entered
 first_only : (def : Def) (before after : List Slot) (node : NodeId) (n : ℕ) → ((m : ℕ) → heap_of before m ≡ None)
@@ -89,7 +98,7 @@ first_open paths table root plan checked inside planned before after node n old 
     along =
     let def : Def = def_of table root.0 in
     let shape : shape_of plan plan.root ≡ root.0 = shape_is paths table root plan checked inside planned in
-    alone plan after stack n (fresh_plot def) (fresh def) (fresh_closed def)
+    alone plan after stack n (fresh_plot def) (fresh def) (fresh_may def) (fresh_closed def)
     (shows n
     ∙ slot_here (heap_of before) n
     (Some (entered_node (def_of table (shape_of plan node)) (heap_of before) node FrameOwner.Root))

@@ -11,9 +11,9 @@ use Rattle.fr_shape.specs.Val.{Val}
 use Rattle.fr_model.specs.Complete.{complete, lack, lack_among, lack_of_hole, lack_of_holes, lack_of_entered, lack_by, unless_there, missing_child, missing_value, hole_takes, failing_child}
 use Rattle.fr_model.specs.Places.{strict_column, child_count}
 use Rattle.fr_model.specs.Step.{cause}
-use Rattle.fr_model.specs.Tree.{Form, as_struct, as_array, Tree, hole, entered, whole, begun, Trees, no_trees, branch, child_as}
+use Rattle.fr_model.specs.Tree.{Form, as_struct, as_array, as_variant, as_some, as_ok, as_err, as_pointer, Tree, hole, entered, whole, begun, Trees, no_trees, branch, child_as}
 use Rattle.fr_frame.specs.Completing.{IsOfValidator}
-use Rattle.fr_partial.specs.Filling.{fills_nothing}
+use Rattle.fr_partial.specs.Filling.{takes_no_memory}
 use Rattle.fr_partial.specs.Ending.{WhyNot}
 use Rattle.fr_partial.proofs.TemplateLaws.{none_failing}
 
@@ -41,6 +41,11 @@ either_missing None b first second = second
 child_missing : (s : ℕ) (form : Form) (i : ℕ) → is_missing (missing_child s form i) ≡ true
 child_missing s as_struct i = refl
 child_missing s as_array i = refl
+child_missing s (as_variant k) i = refl
+child_missing s as_some i = refl
+child_missing s as_ok i = refl
+child_missing s as_err i = refl
+child_missing s as_pointer i = refl
 
 value_missing : (s : ℕ) → is_missing (missing_value s) ≡ true
 value_missing s = refl
@@ -129,22 +134,22 @@ module _ (hooks : Meanings) (table : Table) (served : IsServed table) where
       cc
   only_wants s t kind (inr wants) memory = go wants.needed
     where
-      go : (IsSome (complete strict_column hooks table s t) × (fills_nothing t ≡ false))
+      go : (IsSome (complete strict_column hooks table s t) × (takes_no_memory t ≡ false))
           ⊎ ((complete strict_column hooks table s t ≡ None) × IsOfValidator (cause hooks table s t))
           → IsSome (complete strict_column hooks table s t)
       go (inl made) = made.0
       go (inr said) = absurd (of_validator (cause hooks table s t) said.1 (cause_missing s t))
 
   pub only_takes : (s : ℕ) (t : Tree) (kind : ReflectErrorKind) → WhyNot hooks table s t kind
-      → kind ≡ ReflectErrorKind.OutOfMemory → fills_nothing t ≡ false
+      → kind ≡ ReflectErrorKind.OutOfMemory → takes_no_memory t ≡ false
   only_takes s t kind (inl lacking) memory =
       let no : true ≡ false
       = sym (cause_missing s t) ∙ ap is_missing (sym lacking.lacks ∙ memory) ∙ memory_not_missing in
       cc
   only_takes s t kind (inr wants) memory = go wants.needed
     where
-      go : (IsSome (complete strict_column hooks table s t) × (fills_nothing t ≡ false))
+      go : (IsSome (complete strict_column hooks table s t) × (takes_no_memory t ≡ false))
           ⊎ ((complete strict_column hooks table s t ≡ None) × IsOfValidator (cause hooks table s t))
-          → fills_nothing t ≡ false
+          → takes_no_memory t ≡ false
       go (inl made) = made.1
       go (inr said) = absurd (of_validator (cause hooks table s t) said.1 (cause_missing s t))

@@ -2,22 +2,20 @@
 use Rattle.std.proofs.Common.{◌≡◌, ℕ, ◌<◌, false, List, [], length, append-nil, Option, Some, None, refl, sym, ◌∙◌, ap, subst}
 use Rattle.std.specs.Prelude.{IsSome}
 use Rattle.fr_shape.specs.declared.shape.ShapeId.{ShapeId}
-use Rattle.fr_shape.specs.declared.shape.Def.{Def}
 use Rattle.fr_shape.specs.Look.{Table}
 use Rattle.fr_model.specs.Places.{Place}
-use Rattle.fr_model.specs.Step.{field_refusal}
-use Rattle.fr_model.specs.Tree.{Form, Tree, begun, Trees, tree_occurs}
+use Rattle.fr_model.specs.Tree.{Tree, tree_occurs}
 use Rattle.fr_plan.specs.declared.nodes.TypePlanNode.{TypePlanNode}
 use Rattle.fr_plan.specs.Lookups.{node_at}
 use Rattle.fr_plan.specs.LookupLaws.{LookupsAgree, LookupPathsAgree}
 use Rattle.fr_plan.specs.TypePlan.{Plan}
 use Rattle.fr_frame.specs.declared.places.Place.{Place as Entry}
 use Rattle.fr_frame.specs.declared.places.Slot.{Slot}
-use Rattle.fr_frame.specs.Bodies.{own_tree, trees_of}
+use Rattle.fr_frame.specs.Bodies.{own_tree}
 use Rattle.fr_frame.specs.Heap.{Node, body_of, node_of, heap_of, slots_occur}
 use Rattle.fr_frame.specs.declared.places.FrameOwner.{FrameOwner}
 use Rattle.fr_frame.specs.Changes.{SameTokens, Shows}
-use Rattle.fr_frame.specs.Kids.{Plot, entered_plot, whole_plot, begun_plot, tree_of, tree_in, trees_in, cells_in, body_in}
+use Rattle.fr_frame.specs.Kids.{Plot, entered_plot, whole_plot, begun_plot, tree_of, tree_in, body_in}
 use Rattle.fr_store.specs.HoldLaws.{holds_frame}
 use Rattle.fr_store.specs.StandLaws.{open_from}
 use Rattle.fr_store.specs.MoveLaws.{open_top, top_slot}
@@ -26,6 +24,7 @@ use Rattle.fr_store.specs.Numbers.{IsLast}
 use Rattle.fr_store.specs.Stands.{IsOpen, kid_shown}
 use Rattle.fr_store.specs.Ways.{Leads, node_along, owner_along}
 use Rattle.fr_store.specs.WayLaws.{leads_reach, tree_of_at, tree_tokens}
+use Rattle.fr_partial.specs.Looks.{bare, LooksLike}
 use Rattle.fr_partial.specs.Underway.{shape_here, IsReady}
 use Rattle.fr_partial.proofs.FitLaws.{is_there}
 use Rattle.fr_store.specs.ShapeLaws.{IsOfShape, Along, along, root_shaped}
@@ -57,33 +56,22 @@ module _ (plan : Plan) (slots : List Slot) (stack : List ℕ) (shown : IsOpen pl
       let both : None ≡ Some (node_here plan slots stack shown) = is ∙ here_found in
       cc
 
--- Where a child is in a slot, what was put at the place above doesn't tell it; but why a child can't be entered it tells.
+-- Where a child is in a slot, what was put at the place above doesn't tell it; but it looks like what stands there.
 
-begun_refusal : (def : Def) (form : Form) (ts us : Trees) (i : ℕ)
-    → field_refusal def (begun form ts) i ≡ field_refusal def (begun form us) i
-begun_refusal (Def.Struct struct) form ts us i = refl
-begun_refusal (Def.Array item n) form ts us i = refl
-begun_refusal (Def.Enum enumeration) form ts us i = refl
-begun_refusal (Def.Slice item) form ts us i = refl
-begun_refusal Def.Opaque form ts us i = refl
-begun_refusal _ form ts us i = refl
+own_looks : (plot : Plot) → LooksLike (own_tree (body_in plot)) (tree_in plot)
+own_looks entered_plot = refl
+own_looks (whole_plot v) = refl
+own_looks (begun_plot form kids) = refl
 
-own_refusal : (def : Def) (plot : Plot) (i : ℕ)
-    → field_refusal def (own_tree (body_in plot)) i ≡ field_refusal def (tree_in plot) i
-own_refusal def entered_plot i = refl
-own_refusal def (whole_plot v) i = refl
-own_refusal def (begun_plot form kids) i = begun_refusal def form (trees_of (cells_in kids)) (trees_in kids) i
-
--- what was put there refuses what the tree refuses that stands at the place at which the builder works
-pub refusal_found : (plan : Plan) (slots : List Slot) (stack : List ℕ) (shown : IsOpen plan slots stack) (n : ℕ)
-    (last : IsLast stack n) → (place : Entry) → Some (node_of place) ≡ heap_of slots n → (def : Def) (i : ℕ)
-    → field_refusal def (own_tree (body_of place.piece)) i ≡ field_refusal def (tree_here slots stack) i
-refusal_found plan slots stack shown n last place is def i =
+-- what was put there looks like what stands at the place at which the builder works
+pub looks_found : (plan : Plan) (slots : List Slot) (stack : List ℕ) (shown : IsOpen plan slots stack) (n : ℕ)
+    (last : IsLast stack n) → (place : Entry) → Some (node_of place) ≡ heap_of slots n
+    → LooksLike (own_tree (body_of place.piece)) (tree_here slots stack)
+looks_found plan slots stack shown n last place is =
     let top = open_top plan slots stack shown in
-    ap (λ (found : Node). field_refusal def (own_tree found.body) i) (found_is plan slots stack shown n last place is)
-    ∙ own_refusal def top.plot i
-    ∙ ap (λ (t : Tree). field_refusal def t i)
-    (ap tree_of (sym top.is) ∙ tree_of_at (cursor_in slots stack) (kid_shown (heap_of slots) stack))
+    ap (λ (found : Node). bare (own_tree found.body)) (found_is plan slots stack shown n last place is)
+    ∙ own_looks top.plot
+    ∙ ap bare (ap tree_of (sym top.is) ∙ tree_of_at (cursor_in slots stack) (kid_shown (heap_of slots) stack))
 
 module _ (agree : LookupsAgree) (paths : LookupPathsAgree) (table : Table) (root : ShapeId) (plan : Plan) (slots : List Slot)
     (stack : List ℕ) (ready : IsReady table root plan slots stack) where

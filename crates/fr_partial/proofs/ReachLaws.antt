@@ -1,102 +1,54 @@
--- The shape of each place of a tree is one that the root reaches.
-use Rattle.std.proofs.Common.{◌≡◌, ℕ, zero, suc, ◌+◌, ◌<◌, List, [], ◌∷◌, ◌++◌, map, length, Option, Some, None, slice_get, refl, subst, arith}
-use Rattle.std.specs.List.{Contains}
-use Rattle.std.proofs.lemmas.List.Elements.{Contains-append_left, Contains-append_right}
-use Rattle.fr_shape.specs.declared.shape.Def.{Def}
-use Rattle.fr_shape.specs.declared.shape.Field.{Field}
-use Rattle.fr_shape.specs.declared.shape.Shape.{Shape}
+-- The shape of each node of a plan is one that the root reaches, and where slots lead their tree leads.
+use Rattle.std.proofs.Common.{◌≡◌, ℕ, zero, suc, List, [], ◌∷◌, Some, slice_get, refl, sym, ◌∙◌, ap, subst}
+use Rattle.std.specs.List.{AllZip}
 use Rattle.fr_shape.specs.declared.shape.ShapeId.{ShapeId}
-use Rattle.fr_shape.specs.Look.{Table, def_of, def_or_other}
-use Rattle.fr_shape.specs.Plannable.{Reached, further, children_of, own_sources, leads_to}
-use Rattle.fr_model.specs.Places.{Place, count_children, child_count, shape_of_field, shape_of_child, child_shape}
-use Rattle.fr_model.specs.Tree.{Form, as_struct, as_array, Tree, hole, entered, whole, begun, Trees, no_trees, branch, tree_nth, child_as, shapes_from, shape_in, count_trees, Mode, deferred}
-use Rattle.fr_model.specs.Well.{IsFullAs, Suits, SuitAll, AllOff, OffBut, Leads}
+use Rattle.fr_shape.specs.Checked.{IsChecked}
+use Rattle.fr_shape.specs.Look.{Table, IsIn}
+use Rattle.fr_shape.specs.Plannable.{Reached}
+use Rattle.fr_model.specs.Places.{Place}
+use Rattle.fr_model.specs.Tree.{Trees, no_trees, branch, deferred}
+use Rattle.fr_model.specs.Well.{AllOff, OffBut, Leads}
+use Rattle.fr_plan.specs.declared.nodes.NodeId.{NodeId}
+use Rattle.fr_plan.specs.declared.nodes.TypePlanNode.{TypePlanNode}
+use Rattle.fr_plan.specs.declared.outlines.Outline.{Outline}
+use Rattle.fr_plan.specs.Nodes.{IsNode}
+use Rattle.fr_plan.specs.PlanLaws.{PlansAreComplete}
+use Rattle.fr_plan.specs.TypePlan.{Plan, IsPlanOf}
 use Rattle.fr_frame.specs.Kids.{Kid, gone, there, at, entered_plot, whole_plot, begun_plot, Kids, no_kids, kid, tree_of, trees_in}
+use Rattle.fr_store.specs.ShapeLaws.{IsOfShape}
 use Rattle.fr_store.specs.Ways.{StoredBut, Leads as SlotsLead}
 
-field_among : (fields : List Field) (i : ℕ) → i < length fields
-    → Contains (map (λ (field : Field). field.shape) fields) (record { 0 = shape_of_field (slice_get fields i) })
-field_among [] i below = absurd (omega arith)
-field_among (field ∷ fields) zero below = (zero, omega arith, refl)
-field_among (field ∷ fields) (suc i) below =
-    let rest
-    : Contains (map (λ (field : Field). field.shape) fields) (record { 0 = shape_of_field (slice_get fields i) })
-    = field_among fields i (omega arith) in
-    (suc rest.0, omega (arith, rest.1), rest.2)
+-- what stands beside the element of this number
+pub record Beside {A B : Type 0} (R : A → B → Type 0) (xs : List A) (i : ℕ) (y : B) : Type 0 where
+  pub other : A
+  pub there : slice_get xs i ≡ Some other
+  pub holds : R other y
 
--- a field or an element is among the shapes to which the shape around it leads
-child_among : (shape : Shape) (i : ℕ) → i < count_children shape.def
-    → Contains (leads_to shape) (record { 0 = shape_of_child shape.def i })
-child_among shape i below =
-    Contains-append_left (own_sources shape ++ children_of shape) _ child
-    (Contains-append_right (own_sources shape) (children_of shape) child (go shape.def refl below))
+pub beside : {A B : Type 0} (R : A → B → Type 0) (xs : List A) (ys : List B) (i : ℕ) (y : B) → AllZip R xs ys
+    → slice_get ys i ≡ Some y → Beside R xs i y
+beside R [] [] i y all is = cc
+beside R [] (z ∷ ys) i y all is = absurd all
+beside R (x ∷ xs) [] i y all is = absurd all
+beside R (x ∷ xs) (z ∷ ys) zero y all is =
+    let same : z ≡ y = cc in
+    record { other = x; there = refl; holds = subst (R x) same all.0 }
+beside R (x ∷ xs) (z ∷ ys) (suc i) y all is =
+    let rest = beside R xs ys i y all.1 is in
+    record { other = rest.other; there = rest.there; holds = rest.holds }
+
+-- the shape of a node of a plan is reached
+pub node_reached : PlansAreComplete → (table : Table) (root : ShapeId) (plan : Plan) → IsChecked table → IsIn table root.0
+    → IsPlanOf table root plan → (node : NodeId) (s : ℕ) → IsOfShape plan node s → Reached table root.0 s
+node_reached complete table root plan checked inside planned node s shaped =
+    let made = beside (IsNode table plan.lists) plan.walk.nodes plan.nodes node.0 shaped.found planned.told shaped.there in
+    let whole = (complete table root (record { walk = plan.walk; node = plan.root }) checked inside planned.built).nodes node.0
+    made.other made.there in
+    subst (Reached table root.0) (sym_shape made.other made.holds) whole.reached
   where
-    child : ShapeId
-    child = record { 0 = shape_of_child shape.def i }
+    sym_shape : (outline : Outline) → IsNode table plan.lists outline shaped.found → outline.shape.0 ≡ s
+    sym_shape outline is = ap (λ (id : ShapeId). id.0) (sym is.shape) ∙ shaped.shape
 
-    go : (def : Def) → shape.def ≡ def → i < count_children def
-        → Contains (children_of shape) (record { 0 = shape_of_child shape.def i })
-    go (Def.Struct struct) is below =
-        rw is
-        (Contains-append_left _ _ _ (Contains-append_left _ _ _ (field_among struct.fields i below)))
-    go (Def.Array t n) is below = rw is (zero, omega arith, refl)
-    go _ is below = absurd (omega arith)
-
-child_reached : (table : Table) (root s i : ℕ) → Reached table root s → i < child_count table s
-    → Reached table root (child_shape table s i)
-child_reached table root s i reached below = go (slice_get table s) refl below
-  where
-    go : (found : Option Shape) → slice_get table s ≡ found → i < count_children (def_or_other found)
-        → Reached table root (shape_of_child (def_or_other found) i)
-    go (Some shape) is below = further reached is (child_among shape i below)
-    go None is below = absurd (omega arith)
-
-full_count : (def : Def) (form : Form) (n : ℕ) → IsFullAs def form n → n ≡ count_children def
-full_count (Def.Struct struct) as_struct n full = full
-full_count (Def.Array t m) as_array n full = full
-full_count _ _ n full = absurd full
-
-form_reached : (table : Table) (root s i : ℕ) (form : Form) (n : ℕ) → Reached table root s → IsFullAs (def_of table s) form n
-    → i < n → Reached table root (child_as table s form i)
-form_reached table root s i as_struct n reached full below =
-    child_reached table root s i reached (omega (arith, full_count (def_of table s) as_struct n full))
-form_reached table root s i as_array n reached full below =
-    child_reached table root s i reached (omega (arith, full_count (def_of table s) as_array n full))
-
-within : (mode : Mode) (i : ℕ) (Below : Tree → Type 0) (ts : Trees) → OffBut mode i Below ts → i < count_trees ts
-within mode i Below no_trees off = absurd off
-within mode zero Below (branch t ts) off = omega arith
-within mode (suc i) Below (branch t ts) off = let rest = within mode i Below ts off.1 in omega (arith, rest)
-
-open_child : (mode : Mode) (i : ℕ) (Below : Tree → Type 0) (ts : Trees) → OffBut mode i Below ts → Below (tree_nth i ts)
-open_child mode i Below no_trees off = absurd off
-open_child mode zero Below (branch t ts) off = off.0
-open_child mode (suc i) Below (branch t ts) off = open_child mode i Below ts off.1
-
-suits_nth : (table : Table) (s : ℕ) (form : Form) (first : ℕ) (ts : Trees) (i m : ℕ) → m ≡ first + i → i < count_trees ts
-    → SuitAll table (shapes_from table s form (count_trees ts) first) ts → Suits table (child_as table s form m) (tree_nth i ts)
-suits_nth table s form first no_trees i m e h all = absurd (omega arith)
-suits_nth table s form first (branch t ts) zero m e h all =
-    let same : first ≡ m = omega arith in
-    subst (λ (n : ℕ). Suits table (child_as table s form n) t) same all.0
-suits_nth table s form first (branch t ts) (suc i) m e h all =
-    suits_nth table s form (suc first) ts i m (omega arith) (omega arith) all.1
-
--- the place to which the cursor leads, from one whose shape is reached
-pub reached_along : (mode : Mode) (table : Table) (root s : ℕ) (place : Place) (t : Tree) → Reached table root s
-    → Suits table s t → Leads mode place t → Reached table root (shape_in table s place t)
-reached_along mode table root s [] t reached suits leads = reached
-reached_along mode table root s (i ∷ place) (begun form ts) reached suits leads =
-    let below = within mode i (λ child. Leads mode place child) ts leads in
-    reached_along mode table root (child_as table s form i) place (tree_nth i ts)
-    (form_reached table root s i form (count_trees ts) reached suits.0.0 below)
-    (suits_nth table s form 0 ts i i (omega arith) below suits.1)
-    (open_child mode i (λ child. Leads mode place child) ts leads)
-reached_along mode table root s (i ∷ place) hole reached suits leads = absurd leads
-reached_along mode table root s (i ∷ place) entered reached suits leads = absurd leads
-reached_along mode table root s (i ∷ place) (whole v) reached suits leads = absurd leads
-
--- where slots lead to a place, their tree leads there, whatever lies off the way
+-- Where slots lead to a place, their tree leads there, whatever lies off the way.
 
 none_off : (start : ℕ) (ts : Trees) → AllOff (deferred start) ts
 none_off start no_trees = tt

@@ -137,7 +137,7 @@ pub put_keeps : {H : Type 0} {h : H} {table : Table} {root : ShapeId} {plan : Pl
     {stack store : List ℕ} {mode : Mode} {calls : ℕ} {builder : Builder H}
     → IsUnderway table root plan steps slots stack store mode calls
     → builder_of h table root.0 slots stack mode calls ≡ builder → StepKeepsTokens → (v : Val) (t : ℕ)
-    → set (shape_here table root.0 slots stack) (state_of slots stack mode calls) (shape_here table root.0 slots stack) v
+    → set table (shape_here table root.0 slots stack) (state_of slots stack mode calls) (shape_here table root.0 slots stack) v
     ≡ Ok (puts (state_of slots stack mode calls) v)
     → holds builder t + occurs v t ≡ tree_occurs (puts (state_of slots stack mode calls) v).tree t + tokens_here slots stack t
 put_keeps {H} {table = table} {root = root} {slots = slots} {stack = stack} {mode = mode} {calls = calls} underway is law

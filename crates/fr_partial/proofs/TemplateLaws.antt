@@ -1,22 +1,28 @@
 -- What a checked table says of its templates, and a served one of validators.
-use Rattle.std.proofs.Common.{◌≡◌, ℕ, suc, zero, Bool, true, false, List, [], ◌∷◌, Option, Some, None, slice_get, refl, sym, ◌∙◌, ap, subst}
-use Rattle.std.specs.List.{list_all}
+use Rattle.std.proofs.Common.{◌≡◌, ℕ, suc, zero, Bool, true, false, List, [], ◌∷◌, Option, Some, None, Ok, ◌++◌, slice_get, refl, sym, ◌∙◌, ap, subst}
+use Rattle.std.specs.List.{flat_map, list_all}
+use Rattle.std.proofs.lemmas.List.Folds.{list_all-append}
 use Rattle.std.specs.Prelude.{option_to_list}
 use Rattle.fr_shape.specs.declared.shape.Shape.{Shape}
 use Rattle.fr_shape.specs.declared.shape.Def.{Def}
+use Rattle.fr_shape.specs.declared.error.ReflectErrorKind.{ReflectErrorKind}
+use Rattle.fr_shape.specs.declared.shape.DefaultSource.{DefaultSource}
+use Rattle.fr_shape.specs.declared.shape.EnumDef.{EnumDef}
 use Rattle.fr_shape.specs.declared.shape.Field.{Field}
+use Rattle.fr_shape.specs.declared.shape.VariantDef.{VariantDef}
 use Rattle.fr_shape.specs.Checked.{IsChecked, is_template, default_is_template, fields_of}
 use Rattle.fr_shape.specs.Fills.{preset_of}
 use Rattle.fr_shape.specs.Fits.{fits}
 use Rattle.fr_shape.specs.Hooks.{Meanings}
-use Rattle.fr_shape.specs.Look.{Table, def_of, field_in}
+use Rattle.fr_shape.specs.Look.{Table, def_of, field_in, field_of_variant}
 use Rattle.fr_shape.specs.Lists.{is_nil}
-use Rattle.fr_shape.specs.Served.{IsServed, serves, serves_def, serves_field}
+use Rattle.fr_shape.specs.Served.{IsServed, serves, serves_def, serves_field, serves_variant}
 use Rattle.fr_shape.specs.Tokens.{tokens, times, occurs}
 use Rattle.fr_shape.specs.TokenLaws.{occurs_times}
 use Rattle.fr_shape.specs.Val.{Val}
-use Rattle.fr_model.specs.Complete.{failing_child}
-use Rattle.fr_model.specs.Tree.{Form, as_struct, as_array}
+use Rattle.fr_model.specs.Step.{default_by_mark, default_or, field_default}
+use Rattle.fr_model.specs.Complete.{failing_child, failing_field_in}
+use Rattle.fr_model.specs.Tree.{Form, as_struct, as_array, as_variant, as_some, as_ok, as_err, as_pointer}
 use Rattle.fr_partial.proofs.FitLaws.{both_true}
 
 all_at : {X : Type 0} (p : X → Bool) (xs : List X) (i : ℕ) (x : X) → list_all p xs ≡ true → slice_get xs i ≡ Some x
@@ -65,6 +71,71 @@ preset_template table s v checked e = go (slice_get table s) refl
         (checked.templates s shape h)).0
         (rw h at e)
 
+-- a field's own template is one of its shape
+
+one_of : {X Y : Type 0} (p : Y → Bool) (f : X → List Y) (xs : List X) (k : ℕ) (x : X) → list_all p (flat_map f xs) ≡ true
+    → slice_get xs k ≡ Some x → list_all p (f x) ≡ true
+one_of p f [] k x all is = cc
+one_of p f (z ∷ zs) zero x all is =
+    let same : z ≡ x = cc in
+    ap (λ (y : _). list_all p (f y)) (sym same)
+    ∙ (both_true (list_all p (f z)) (list_all p (flat_map f zs)) (sym (list_all-append p (f z) (flat_map f zs)) ∙ all)).0
+one_of p f (z ∷ zs) (suc k) x all is =
+    one_of p f zs k x
+    (both_true (list_all p (f z)) (list_all p (flat_map f zs)) (sym (list_all-append p (f z) (flat_map f zs)) ∙ all)).1 is
+
+among_fields : (table : Table) (def : Def) (selected : Option ℕ) (i : ℕ) (field : Field)
+    → list_all (λ (f : Field). default_is_template table f.shape.0 f.default) (fields_of def) ≡ true
+    → field_in def selected i ≡ Some field → default_is_template table field.shape.0 field.default ≡ true
+among_fields table (Def.Struct struct) None i field all is =
+    all_at (λ (f : Field). default_is_template table f.shape.0 f.default) struct.fields i field all is
+among_fields table (Def.Struct struct) (Some k) i field all is = cc
+among_fields table (Def.Enum enumeration) None i field all is = cc
+among_fields table (Def.Enum enumeration) (Some k) i field all is = go (slice_get enumeration.variants k) refl is
+  where
+    go : (found : Option VariantDef) → slice_get enumeration.variants k ≡ found → field_of_variant found i ≡ Some field
+        → default_is_template table field.shape.0 field.default ≡ true
+    go (Some variant) there is =
+        all_at (λ (f : Field). default_is_template table f.shape.0 f.default) variant.fields i field
+        (one_of (λ (f : Field). default_is_template table f.shape.0 f.default) (λ (v : VariantDef). v.fields)
+        enumeration.variants k variant all there) is
+    go None there is = cc
+among_fields table _ selected i field all is = cc
+
+field_template : (table : Table) (s i : ℕ) (selected : Option ℕ) (field : Field) → IsChecked table
+    → field_in (def_of table s) selected i ≡ Some field → default_is_template table field.shape.0 field.default ≡ true
+field_template table s i selected field checked is_there = go (slice_get table s) refl
+  where
+    go : (found : Option Shape) → slice_get table s ≡ found → default_is_template table field.shape.0 field.default ≡ true
+    go None h = let no : None ≡ Some field = rw h at is_there in cc
+    go (Some shape) h =
+        among_fields table shape.def selected i field
+        (both_true (list_all (is_template table s) (option_to_list shape.preset))
+        (list_all (λ (f : Field). default_is_template table f.shape.0 f.default) (fields_of shape.def))
+        (checked.templates s shape h)).1
+        (rw h at is_there)
+
+-- what a field is set to by its default holds no token
+pub default_light : (table : Table) (s i : ℕ) (selected : Option ℕ) (field : Field) (v : Val) → IsChecked table
+    → field_in (def_of table s) selected i ≡ Some field → field_default table field ≡ Ok v → tokens v ≡ []
+default_light table s i selected field v checked is_there made = go field.default refl made
+  where
+    by_preset : (preset : Option Val) (kind : ReflectErrorKind) → preset_of table field.shape.0 ≡ preset
+        → default_or preset kind ≡ Ok v → tokens v ≡ []
+    by_preset (Some w) kind is e =
+        let same : w ≡ v = cc in
+        (preset_template table field.shape.0 v checked (is ∙ ap (λ (x : Val). Some x) same)).light
+    by_preset None kind is e = cc
+
+    go : (mark : Option DefaultSource) → field.default ≡ mark → default_by_mark table field.shape mark ≡ Ok v → tokens v ≡ []
+    go (Some (DefaultSource.Custom w)) is e =
+        let same : w ≡ v = cc in
+        let own : default_is_template table field.shape.0 (Some (DefaultSource.Custom w)) ≡ true
+        = ap (default_is_template table field.shape.0) (sym is) ∙ field_template table s i selected field checked is_there in
+        subst (λ (x : Val). tokens x ≡ []) same (template_is table field.shape.0 w own).light
+    go (Some DefaultSource.FromTrait) is e = by_preset (preset_of table field.shape.0) _ refl e
+    go None is e = by_preset (preset_of table field.shape.0) _ refl e
+
 -- no validator of a served table is asked
 
 served_def : (shape : Shape) → serves shape ≡ true → serves_def shape.def ≡ true
@@ -77,34 +148,57 @@ served_def shape h = go (serves_def shape.def) refl
 no_validators : (field : Field) → serves_field field ≡ true → field.validators ≡ []
 no_validators field h = nil_is field.validators (both_true _ (is_nil field.validators) h).1
 
-none_fails : (hooks : Meanings) (table : Table) (s i : ℕ) (field : Field) (made : Option Val) → field.validators ≡ []
-    → (def : Def) → def_of table s ≡ def → field_in def None i ≡ Some field
-    → failing_child hooks table s as_struct i made ≡ None
-none_fails hooks table s i field None none def e at = rw (e, at) refl
-none_fails hooks table s i field (Some v) none def e at = rw (e, at, none) refl
+none_fails : (hooks : Meanings) (table : Table) (s i : ℕ) (selected : Option ℕ) (field : Field) (made : Option Val)
+    → field.validators ≡ [] → field_in (def_of table s) selected i ≡ Some field
+    → failing_field_in hooks table s selected i made ≡ None
+none_fails hooks table s i selected field None none at_field = rw at_field refl
+none_fails hooks table s i selected field (Some v) none at_field = rw (at_field, none) refl
+
+-- a field of what is served is asked nothing
+served_field : (table : Table) (s i : ℕ) (selected : Option ℕ) (field : Field) → IsServed table
+    → field_in (def_of table s) selected i ≡ Some field → serves_field field ≡ true
+served_field table s i selected field served is_there = go (slice_get table s) refl
+  where
+    of_variant : (enumeration : EnumDef) (k : ℕ) → list_all serves_variant enumeration.variants ≡ true
+        → field_of_variant (slice_get enumeration.variants k) i ≡ Some field → serves_field field ≡ true
+    of_variant enumeration k all is = by_variant (slice_get enumeration.variants k) refl is
+      where
+        by_variant : (found : Option VariantDef) → slice_get enumeration.variants k ≡ found
+            → field_of_variant found i ≡ Some field → serves_field field ≡ true
+        by_variant (Some variant) there is =
+            all_at serves_field variant.fields i field (all_at serves_variant enumeration.variants k variant all there) is
+        by_variant None there is = cc
+
+    by_def : (def : Def) → serves_def def ≡ true → (selected : Option ℕ) → field_in def selected i ≡ Some field
+        → serves_field field ≡ true
+    by_def (Def.Struct struct) all None is = all_at serves_field struct.fields i field all is
+    by_def (Def.Struct struct) all (Some k) is = cc
+    by_def (Def.Enum enumeration) all (Some k) is = of_variant enumeration k all is
+    by_def (Def.Enum enumeration) all None is = cc
+    by_def _ all selected is = cc
+
+    go : (found : Option Shape) → slice_get table s ≡ found → serves_field field ≡ true
+    go None h = let no : None ≡ Some field = rw h at is_there in cc
+    go (Some shape) h =
+        by_def shape.def (served_def shape (all_at serves table s shape served h)) selected (rw h at is_there)
+
+none_failing_field : (hooks : Meanings) (table : Table) (s i : ℕ) (selected : Option ℕ) (made : Option Val) → IsServed table
+    → failing_field_in hooks table s selected i made ≡ None
+none_failing_field hooks table s i selected made served = go (field_in (def_of table s) selected i) refl
+  where
+    go : (found : Option Field) → field_in (def_of table s) selected i ≡ found
+        → failing_field_in hooks table s selected i made ≡ None
+    go None is = rw is refl
+    go (Some field) is =
+        none_fails hooks table s i selected field made
+        (no_validators field (served_field table s i selected field served is)) is
 
 pub none_failing : (hooks : Meanings) (table : Table) (s : ℕ) (form : Form) (i : ℕ) (made : Option Val) → IsServed table
     → failing_child hooks table s form i made ≡ None
+none_failing hooks table s as_struct i made served = none_failing_field hooks table s i None made served
+none_failing hooks table s (as_variant k) i made served = none_failing_field hooks table s i (Some k) made served
 none_failing hooks table s as_array i made served = refl
-none_failing hooks table s as_struct i made served = go (slice_get table s) refl
-  where
-    go : (found : Option Shape) → slice_get table s ≡ found → failing_child hooks table s as_struct i made ≡ None
-    go None h = rw h refl
-    go (Some shape) h = at_def shape.def refl
-      where
-        at_def : (def : Def) → shape.def ≡ def → failing_child hooks table s as_struct i made ≡ None
-        at_def (Def.Struct struct) is = at_field (slice_get struct.fields i) refl
-          where
-            def : def_of table s ≡ Def.Struct struct
-            def = rw (h, is) refl
-
-            fields : list_all serves_field struct.fields ≡ true
-            fields = rw is at (served_def shape (all_at serves table s shape served h))
-
-            at_field : (found : Option Field) → slice_get struct.fields i ≡ found
-                → failing_child hooks table s as_struct i made ≡ None
-            at_field None at = rw (def, at) refl
-            at_field (Some field) at =
-                none_fails hooks table s i field made
-                (no_validators field (all_at serves_field struct.fields i field fields at)) (Def.Struct struct) def at
-        at_def _ is = rw (h, is) refl
+none_failing hooks table s as_some i made served = refl
+none_failing hooks table s as_ok i made served = refl
+none_failing hooks table s as_err i made served = refl
+none_failing hooks table s as_pointer i made served = refl

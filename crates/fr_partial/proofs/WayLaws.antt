@@ -48,19 +48,6 @@ below_root deep state above i cursor = go (path_of state) (deep state)
     go [] e = absurd (longer above (sym (ap (λ (place : List ℕ). length place) cursor) ∙ sym e))
     go (step ∷ steps) e = ends step steps
 
--- the path after a child was entered
-pub entered_path : {H : Type 0} → EnteringAddsAStep → (builder : Builder H) → IsBuilderInOrder builder
-    → (i s : ℕ) (form : Form) (after : State) (steps : List PathStep) → steps ≡ path_of builder.state
-    → here builder ≡ s → form ≡ form_of (def_of builder.shapes s)
-    → enters builder.shapes (here builder) builder.state i ≡ after
-    → steps ++ step_as form i ∷ [] ≡ path_of after
-entered_path enter builder ordered i s form after steps path at as_form entered =
-    ap (λ (ps : List PathStep). ps ++ step_as form i ∷ []) path
-    ∙ ap (λ (f : Form). path_of builder.state ++ step_as f i ∷ [])
-    (as_form ∙ ap (λ (shape : ℕ). form_of (def_of builder.shapes shape)) (sym at))
-    ∙ sym (enter builder.shapes builder.root builder.state i ordered.state)
-    ∙ ap path_of entered
-
 -- the path after the builder went up
 pub left_path : LeavingDropsAStep → PathIsAsDeep → (state after : State) (v : Val) (above : List ℕ) (i : ℕ)
     (steps left : List PathStep)

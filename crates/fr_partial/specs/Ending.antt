@@ -11,7 +11,7 @@ use Rattle.fr_model.specs.Tree.{Tree, whole, tree_at, change_at}
 use Rattle.fr_plan.specs.TypePlan.{Plan}
 use Rattle.fr_frame.specs.declared.places.Slot.{Slot}
 use Rattle.fr_frame.specs.Completing.{IsOfValidator}
-use Rattle.fr_partial.specs.Filling.{fills_nothing}
+use Rattle.fr_partial.specs.Filling.{takes_no_memory}
 use Rattle.fr_store.specs.Moves.{IsOpenAt}
 use Rattle.fr_store.specs.Stored.{NothingStored}
 
@@ -27,11 +27,11 @@ pub record IsLacking (means : Meanings) (table : Table) (s : ℕ) (t : Tree) (ki
   pub incomplete : complete strict_column means table s t ≡ None
   pub lacks : kind ≡ cause means table s t
 
--- there was no memory: for a template that it takes, or to say why a value fails
+-- there was no memory: for a template that it takes or the pointer to its content, or to say why a value fails
 pub record NeedsMemory (means : Meanings) (table : Table) (s : ℕ) (t : Tree) (kind : ReflectErrorKind) : Type 0 where
   pub memory : kind ≡ ReflectErrorKind.OutOfMemory
   pub needed :
-      (IsSome (complete strict_column means table s t) × (fills_nothing t ≡ false))
+      (IsSome (complete strict_column means table s t) × (takes_no_memory t ≡ false))
       ⊎ ((complete strict_column means table s t ≡ None) × IsOfValidator (cause means table s t))
 
 abbrev pub WhyNot : Meanings → Table → ℕ → Tree → ReflectErrorKind → Type 0

@@ -1,15 +1,17 @@
--- Which places complete without a template.
-use Rattle.std.specs.Prelude.{Bool, true, false}
+-- Which places complete without memory.
+use Rattle.std.specs.Prelude.{Bool, true, false, if◌then◌else◌}
 use Rattle.fr_model.specs.Tree.{Tree, hole, entered, whole, begun, Trees, no_trees, branch}
+use Rattle.fr_frame.specs.Bodies.{is_around}
 
 abbrev pub has_no_hole : Trees → Bool
 has_no_hole no_trees = true
 has_no_hole (branch hole ts) = false
 has_no_hole (branch t ts) = has_no_hole ts
 
--- completing the place takes no template: it is whole, or begun with no hole among its children
-abbrev pub fills_nothing : Tree → Bool
-fills_nothing hole = false
-fills_nothing entered = false
-fills_nothing (whole v) = true
-fills_nothing (begun form ts) = has_no_hole ts
+-- Completing the place takes no memory: it is whole, or begun with no hole among its children, and not around one child, which would be
+-- put behind a pointer of its own.
+abbrev pub takes_no_memory : Tree → Bool
+takes_no_memory hole = false
+takes_no_memory entered = false
+takes_no_memory (whole v) = true
+takes_no_memory (begun form ts) = if is_around form then false else has_no_hole ts

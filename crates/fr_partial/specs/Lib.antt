@@ -1,9 +1,14 @@
+pub mod Beginnings
 pub mod Builder
 pub mod BuiltValue
+pub mod Choosing
 pub mod Ending
 pub mod Entering
+pub mod FieldDefaults
 pub mod Filling
 pub mod HeldPlan
+pub mod Looks
+pub mod Meant
 pub mod Modes
 pub mod Starting
 pub mod Underway

@@ -16,7 +16,7 @@ ghost use Rattle.fr_partial.specs.Entering.{Describes};
 ghost use Rattle.fr_partial.specs.Underway.{shape_here, IsReady};
 
 use crate::admitting::Opening;
-use crate::paths::{step_back, step_to};
+use crate::paths::step_back;
 use crate::{Partial, ReflectError};
 use fr_frame::{Form, Slots};
 use fr_model::{law_paths, law_removed, law_well};
@@ -45,7 +45,7 @@ impl<'t, H: Hooks> Partial<'t, H> {
         ledger: &mut Ledger,
     ) -> Result<Partial<'t, H>, ReflectError>
         requires room { Room (holds self) ledger.old }
-        requires opening { Describes self.shapes (here self) opening }
+        requires opening { Describes self.shapes (here self) (cursor_tree self.state) opening }
         requires admitted { field_refusal (def_of self.shapes (here self))
             (cursor_tree self.state) i ≡ None }
         ensures step { IsStepTo self.entry
@@ -54,9 +54,10 @@ impl<'t, H: Hooks> Partial<'t, H> {
         ensures tokens { Conserved (holds self.entry) ledger.old (left result) ledger.new }
     {
         law_paths();
+        law_plan_lookups();
         law_removed();
         law_well();
-        let Ok(()) = self.path.push(step_to(opening.form, i)) else {
+        let Ok(()) = self.path.push(opening.form.step(i as u32)) else {
             return Err(self.refuse(ReflectErrorKind::OutOfMemory, ledger));
         };
         let (table, root) = (self.table, self.root);
@@ -88,7 +89,7 @@ impl<'t, H: Hooks> Partial<'t, H> {
 }
 
 /// The plan's node of the place on top of the stack.
-fn node_here(plan: &TypePlanCore, slots: &Slots, stack: &Stack) -> NodeId
+pub(crate) fn node_here(plan: &TypePlanCore, slots: &Slots, stack: &Stack) -> NodeId
     requires { IsOpen plan.now slots.now stack.now }
     ensures { result ≡ node_here plan.now slots.now stack.now }
 {
@@ -103,12 +104,18 @@ fn node_here(plan: &TypePlanCore, slots: &Slots, stack: &Stack) -> NodeId
 }
 
 /// The plan's node of child `i` of a place of this node that is begun so.
-fn child_node(plan: &TypePlanCore, node: NodeId, form: Form, i: usize) -> NodeId
+#[inline]
+pub(crate) fn child_node(plan: &TypePlanCore, node: NodeId, form: Form, i: usize) -> NodeId
     ensures { result ≡ child_node plan.now node (as_form form) i }
 {
     let found = match form {
         Form::Struct => plan.struct_field_node_id(node, i),
         Form::Array => plan.list_item_node_id(node),
+        Form::Variant(k) => plan.enum_variant_field_node_id(node, k as usize, i),
+        Form::Some => plan.option_some_node_id(node),
+        Form::Ok => plan.result_nodes_id(node).map(|sides| sides.0),
+        Form::Err => plan.result_nodes_id(node).map(|sides| sides.1),
+        Form::Pointer => plan.pointer_inner_node_id(node),
     };
     match found {
         Some(child) => child,
@@ -118,7 +125,8 @@ fn child_node(plan: &TypePlanCore, node: NodeId, form: Form, i: usize) -> NodeId
 
 /// Begins the place on top around a child that may be entered, and goes on to that child. Where there is no memory, all that
 /// was put is still there.
-fn enter_child(
+#[inline(always)]
+pub(crate) fn enter_child(
     table: &ShapeTable,
     root: ShapeId,
     plan: &TypePlanCore,
@@ -130,7 +138,8 @@ fn enter_child(
 ) -> Result<(), OutOfMemory>
     requires ready { IsReady table.now root plan.now slots.old stack.old }
     requires stored { IsKept store.old slots.old }
-    requires opening { Describes table.now (shape_here table.now root.0 slots.old stack.old) opening }
+    requires opening { Describes table.now (shape_here table.now root.0 slots.old stack.old)
+        (tree_here slots.old stack.old) opening }
     requires admitted { field_refusal
         (def_of table.now (shape_here table.now root.0 slots.old stack.old))
         (tree_here slots.old stack.old) i ≡ None }

@@ -7,7 +7,7 @@ ghost use Rattle.fr_model.specs.Paths.{path_of};
 ghost use Rattle.fr_model.specs.Places.{is_root};
 ghost use Rattle.fr_model.specs.Step.{leaves};
 ghost use Rattle.fr_model.specs.Tree.{cursor_tree, strict};
-ghost use Rattle.fr_partial.specs.Filling.{fills_nothing};
+ghost use Rattle.fr_partial.specs.Filling.{takes_no_memory};
 ghost use Rattle.fr_partial.specs.Modes.{IsBelowStart};
 ghost use Rattle.fr_partial.specs.Builder.{holds, left, left_built, BuildRefusesBeforeMemory, IsBuilt, IsNotOutOfMemory, IsStep, IsStepTo, RefusesBeforeMemory, RisesByRemoved, RisesByRemovedAtBuild, TellsPlaceBefore};
 
@@ -21,8 +21,8 @@ use fr_path::Path;
 use fr_shape::{Hooks, Invariant, Ledger, ReflectErrorKind};
 
 impl<'t, H: Hooks> Partial<'t, H> {
-    /// Leaves the place for the one above. In strict mode it is completed, and its value written there: only copies of templates
-    /// need memory, and what is lacking is found before any is made. In deferred mode it is left as it is, to be entered again or
+    /// Leaves the place for the one above. In strict mode it is completed, and its value written there: only copies of templates, and
+    /// what an option, a result or a pointer holds, need memory, and what is lacking is found before any is made. In deferred mode it is left as it is, to be entered again or
     /// completed by `finish_deferred`; it has to lie deeper than the place at which deferred mode began.
     pub fn end(self, ledger: &mut Ledger) -> Result<Partial<'t, H>, ReflectError>
         requires room { Room (holds self) ledger.old }
@@ -32,7 +32,7 @@ impl<'t, H: Hooks> Partial<'t, H> {
         ensures removed { RisesByRemoved (H.means self.entry.hooks) self.entry Call.End result
             ledger.old ledger.new }
         ensures memory { self.entry.state.mode ≡ strict
-            → fills_nothing (cursor_tree self.entry.state) ≡ true → IsNotOutOfMemory result }
+            → takes_no_memory (cursor_tree self.entry.state) ≡ true → IsNotOutOfMemory result }
         ensures refused { RefusesBeforeMemory (H.means self.entry.hooks) self.entry
             Call.End result }
     {
@@ -64,7 +64,7 @@ impl<'t, H: Hooks> Partial<'t, H> {
         ensures tokens { Conserved (holds self.entry) ledger.old (left result) ledger.new }
         ensures removed { RisesByRemoved (H.means self.entry.hooks) self.entry Call.End result
             ledger.old ledger.new }
-        ensures memory { fills_nothing (cursor_tree self.entry.state) ≡ true
+        ensures memory { takes_no_memory (cursor_tree self.entry.state) ≡ true
             → IsNotOutOfMemory result }
         ensures refused { RefusesBeforeMemory (H.means self.entry.hooks) self.entry
             Call.End result }
@@ -119,8 +119,8 @@ impl<'t, H: Hooks> Partial<'t, H> {
         Ok(self)
     }
 
-    /// Completes the root and hands its value over. Only copies of templates need memory, and what is lacking is found before any
-    /// is made. Refused in deferred mode, and then below the root.
+    /// Completes the root and hands its value over. Only copies of templates, and what an option, a result or a pointer holds, need
+    /// memory, and what is lacking is found before any is made. Refused in deferred mode, and then below the root.
     pub fn build(self, ledger: &mut Ledger) -> Result<Built, ReflectError>
         requires room { Room (holds self) ledger.old }
         ensures built { IsBuilt (H.means self.entry.hooks) self.entry result }
@@ -130,7 +130,7 @@ impl<'t, H: Hooks> Partial<'t, H> {
         ensures tokens { Conserved (holds self.entry) ledger.old (left_built result) ledger.new }
         ensures removed { RisesByRemovedAtBuild (H.means self.entry.hooks) self.entry result
             ledger.old ledger.new }
-        ensures memory { fills_nothing (cursor_tree self.entry.state) ≡ true
+        ensures memory { takes_no_memory (cursor_tree self.entry.state) ≡ true
             → IsNotOutOfMemory result }
         ensures refused { BuildRefusesBeforeMemory (H.means self.entry.hooks) self.entry result }
     {
@@ -156,7 +156,7 @@ impl<'t, H: Hooks> Partial<'t, H> {
         ensures tokens { Conserved (holds self.entry) ledger.old (left_built result) ledger.new }
         ensures removed { RisesByRemovedAtBuild (H.means self.entry.hooks) self.entry result
             ledger.old ledger.new }
-        ensures memory { fills_nothing (cursor_tree self.entry.state) ≡ true
+        ensures memory { takes_no_memory (cursor_tree self.entry.state) ≡ true
             → IsNotOutOfMemory result }
         ensures refused { BuildRefusesBeforeMemory (H.means self.entry.hooks) self.entry result }
     {

@@ -1,11 +1,11 @@
 //! Completing the place on top of the stack, and leaving it with its value.
 ghost use Rattle.std.specs.Prelude.{◌≡◌, [], false, Some, IfOk, IfErr, OnOk, OnErr};
-ghost use Rattle.fr_shape.specs.Released.{Room, RoseBy};
+ghost use Rattle.fr_shape.specs.Released.{Conserved, Room, RoseBy};
 ghost use Rattle.fr_shape.specs.View.{view};
 ghost use Rattle.fr_model.specs.Complete.{complete};
 ghost use Rattle.fr_model.specs.Places.{strict_column, is_root};
 ghost use Rattle.fr_model.specs.Tree.{tree_occurs};
-ghost use Rattle.fr_frame.specs.Changes.{SameTokens};
+ghost use Rattle.fr_frame.specs.Heap.{slots_occur};
 ghost use Rattle.fr_store.specs.Moves.{cursor_in, tree_here, tree_in_slots};
 ghost use Rattle.fr_store.specs.Stands.{IsOpen};
 ghost use Rattle.fr_store.specs.Stored.{NothingStored};
@@ -14,11 +14,11 @@ ghost use Rattle.fr_partial.specs.Underway.{shape_here, IsReady};
 
 use fr_frame::Slots;
 use fr_plan::{TypePlanCore, law_plan_lookups};
-use fr_shape::{Hooks, Ledger, ReflectErrorKind, ShapeId, ShapeTable, Value};
+use fr_shape::{Hooks, Ledger, OutOfMemory, ReflectErrorKind, ShapeId, ShapeTable, Value};
 use fr_store::Stack;
 
-/// Completes the place on top, writes its value into the place above, and goes there. Where that can't be, all that was put
-/// is still there.
+/// Completes the place on top, writes its value into the place above, and goes there. Where that can't be, what was put is still
+/// there, but for what is released where there is no memory to write the value.
 pub fn end_here<H: Hooks>(
     table: &ShapeTable,
     root: ShapeId,
@@ -31,13 +31,15 @@ pub fn end_here<H: Hooks>(
     requires ready { IsReady table.now root plan.now slots.old stack.old }
     requires strict { NothingStored slots.old }
     requires below { is_root (cursor_in slots.old stack.old) ≡ false }
+    requires room { Room (tree_occurs (tree_in_slots slots.old stack.old)) ledger.old }
     ensures ended { OnOk result (IsEnded (H.means hooks.now) table.now
         (shape_here table.now root.0 slots.old stack.old) plan.now slots.new stack.new
         (tree_in_slots slots.old stack.old) (cursor_in slots.old stack.old)) }
     ensures why { IfErr result (λ kind. WhyNot (H.means hooks.now) table.now
         (shape_here table.now root.0 slots.old stack.old) (tree_here slots.old stack.old) kind) }
-    ensures tokens { OnErr result (SameTokens slots.old slots.new) }
-    ensures ledger { ledger.new ≡ ledger.old }
+    ensures tokens { OnErr result (Conserved (slots_occur slots.old) ledger.old
+        (slots_occur slots.new) ledger.new) }
+    ensures ledger { OnOk result (ledger.new ≡ ledger.old) }
 {
     law_plan_lookups();
     let _root = root;
@@ -45,10 +47,10 @@ pub fn end_here<H: Hooks>(
         unreachable!()
     };
     match top.fill_and_require_fields(slots, table, plan, hooks) {
-        Ok(()) => {
-            stack.end(slots, plan, ledger);
-            Ok(())
-        }
+        Ok(()) => match stack.end(slots, plan, ledger) {
+            Ok(()) => Ok(()),
+            Err(OutOfMemory) => Err(ReflectErrorKind::OutOfMemory),
+        },
         Err(kind) => Err(kind),
     }
 }
@@ -82,13 +84,16 @@ pub fn take_root<H: Hooks>(
     };
     match top.fill_and_require_fields(&mut slots, table, plan, hooks) {
         Ok(()) => {
-            let Ok(value) = top.into_value(&mut slots, ledger) else {
-                unreachable!()
-            };
-            Ok(value)
+            match top.into_value(&mut slots, ledger) {
+                Ok(value) => Ok(value),
+                Err(OutOfMemory) => {
+                    slots.release(ledger);
+                    Err(ReflectErrorKind::OutOfMemory)
+                }
+            }
         }
         Err(kind) => {
-            abandon(slots, stack, plan, ledger);
+            slots.release(ledger);
             Err(kind)
         }
     }

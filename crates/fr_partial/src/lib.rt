@@ -2,19 +2,28 @@
 #![tactic(auto)]
 
 mod admitting;
+mod beginning;
 mod built;
+mod choosing;
+mod contents;
 mod deferring;
 mod entering;
+mod enums;
+mod field_defaults;
 mod fields;
 mod finish;
 mod finishing;
 mod held_plan;
 mod mode;
+mod options;
 mod partial;
 mod paths;
 mod placing;
+mod pointers;
 mod reading;
 mod reflect_error;
+mod results;
+mod selecting;
 mod set;
 mod starting;
 #[cfg(test)]

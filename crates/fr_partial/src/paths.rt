@@ -1,24 +1,10 @@
 //! The path of the place at which the builder works, kept beside its open places.
-ghost use Rattle.std.specs.Prelude.{◌≡◌, ◌<◌, ◌^◌, List, [], ◌∷◌, ◌++◌, IfOk};
+ghost use Rattle.std.specs.Prelude.{◌≡◌, List, [], ◌∷◌, ◌++◌, IfOk};
 ghost use Rattle.fr_path.specs.declared.path_steps.PathStep.{PathStep as Step};
-ghost use Rattle.fr_model.specs.Paths.{step_as};
-ghost use Rattle.fr_frame.specs.Heap.{as_form};
 
-use fr_frame::Form;
 use fr_path::{Path, PathStep, law_pop_undoes_push};
 use fr_shape::{OutOfMemory, Text};
 use std::alloc::Global;
-
-/// The step to child `i` of a place that is begun so.
-pub fn step_to(form: Form, i: usize) -> PathStep
-    requires { i < 2 ^ 32 }
-    ensures { result ≡ step_as (as_form form) i }
-{
-    match form {
-        Form::Struct => PathStep::Field(i as u32),
-        Form::Array => PathStep::Index(i as u32),
-    }
-}
 
 /// Takes the last step back.
 pub fn step_back(path: &mut Path)

@@ -1,15 +1,15 @@
 //! The place at which the builder works, and a value in the stead of what was put there.
-ghost use Rattle.std.specs.Prelude.{◌≡◌, ℕ, ◌+◌, true};
+ghost use Rattle.std.specs.Prelude.{◌≡◌, ◌+◌, true};
 ghost use Rattle.fr_shape.specs.Fits.{fits};
 ghost use Rattle.fr_shape.specs.Released.{Room, Conserved};
 ghost use Rattle.fr_shape.specs.Tokens.{occurs};
 ghost use Rattle.fr_shape.specs.View.{view};
-ghost use Rattle.fr_model.specs.Step.{field_refusal, puts};
-ghost use Rattle.fr_shape.specs.declared.shape.Def.{Def};
+ghost use Rattle.fr_model.specs.Step.{puts};
 ghost use Rattle.fr_frame.specs.Bodies.{own_tree};
 ghost use Rattle.fr_frame.specs.Heap.{body_of};
 ghost use Rattle.fr_store.specs.Moves.{tree_here};
 ghost use Rattle.fr_partial.specs.Builder.{here, holds};
+ghost use Rattle.fr_partial.specs.Looks.{LooksLike};
 ghost use Rattle.fr_partial.specs.Underway.{shape_here, IsReady};
 
 use crate::Partial;
@@ -30,8 +30,7 @@ pub fn place_here<'a>(
 ) -> (ShapeId, &'a Piece)
     requires { IsReady table.now root plan.now slots.now stack.now }
     ensures shape { result.0.0 ≡ shape_here table.now root.0 slots.now stack.now }
-    ensures piece { (def : Def) (i : ℕ) → field_refusal def (own_tree (body_of result.1.now)) i
-        ≡ field_refusal def (tree_here slots.now stack.now) i }
+    ensures piece { LooksLike (own_tree (body_of result.1.now)) (tree_here slots.now stack.now) }
 {
     law_plan_lookups();
     let _table = table;

@@ -1,30 +1,60 @@
 //! `set_shape` and `set_default`: a whole value at the place at which the builder works.
 ghost use Rattle.std.specs.Prelude.{◌≡◌, ◌+◌, [], true, IfOk};
 ghost use Rattle.fr_shape.specs.Fits.{fits};
+ghost use Rattle.fr_shape.specs.Look.{def_of};
 ghost use Rattle.fr_shape.specs.Released.{Room, Conserved};
 ghost use Rattle.fr_shape.specs.Tokens.{occurs, tokens};
 ghost use Rattle.fr_shape.specs.View.{view};
 ghost use Rattle.fr_model.specs.Commands.{Call};
+ghost use Rattle.fr_model.specs.Step.{is_str, is_string, takes_shape};
 ghost use Rattle.fr_partial.specs.Builder.{holds, left, IsStep, IsNotOutOfMemory, RefusesBeforeMemory, RisesByRemoved, TellsPlaceBefore};
 
 use crate::{Partial, ReflectError};
 use fr_model::law_removed;
 use fr_shape::{
-    Hooks, Ledger, Operation, OutOfMemory, ReflectErrorKind, Shaped, Template, Value,
-    clone_template, release,
+    Def, Hooks, Ledger, Operation, OutOfMemory, ReflectErrorKind, ScalarKind, ShapeId, ShapeTable,
+    Shaped, Template, Value, clone_template, release,
 };
 use std::alloc::Global;
 
 /// A copy of what a template shows.
-fn copy_template(alloc: Global, template: &Template) -> Result<Value, OutOfMemory>
+pub(crate) fn copy_template(alloc: Global, template: &Template) -> Result<Value, OutOfMemory>
     requires no_token { tokens template.now ≡ [] }
     ensures copy { IfOk result (λ v. view v ≡ template.now) }
 {
     clone_template(alloc, template.value())
 }
 
+/// Whether the shape is a `str`.
+fn is_str(table: &ShapeTable, shape: ShapeId) -> bool
+    ensures { result ≡ is_str (def_of table.now shape.0) }
+{
+    match table.get(shape) {
+        Some(entry) => matches!(&entry.def, Def::Str),
+        None => false,
+    }
+}
+
+/// Whether the shape is an owned text.
+fn is_string(table: &ShapeTable, shape: ShapeId) -> bool
+    ensures { result ≡ is_string (def_of table.now shape.0) }
+{
+    match table.get(shape) {
+        Some(entry) => matches!(&entry.def, Def::Scalar(ScalarKind::String)),
+        None => false,
+    }
+}
+
+/// Whether a place of one shape takes a value of the other.
+fn takes_shape(table: &ShapeTable, place: ShapeId, given: ShapeId) -> bool
+    ensures { result ≡ takes_shape table.now place.0 given.0 }
+{
+    given.0 == place.0 || (is_str(table, place) && is_string(table, given))
+}
+
 impl<'t, H: Hooks> Partial<'t, H> {
-    /// Puts a value of the place's own shape there, in the stead of all that was put at the place and beneath it.
+    /// Puts a value of the place's own shape there, or at a `str` an owned text, in the stead of all that was put at the place and
+    /// beneath it.
     pub fn set_shape(
         mut self,
         value: Shaped,
@@ -45,7 +75,7 @@ impl<'t, H: Hooks> Partial<'t, H> {
         self.law_in_order();
         let expected = self.shape();
         let actual = value.shape();
-        if actual.0 == expected.0 {
+        if takes_shape(self.table, expected, actual) {
             self.put(value.into_value(), ledger);
             Ok(self)
         } else {

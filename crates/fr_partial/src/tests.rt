@@ -19,6 +19,7 @@ use fr_shape::{
 use std::alloc::Global;
 use std::process::Abort;
 
+mod contents;
 mod deferring;
 mod paths;
 
@@ -417,6 +418,30 @@ fn refuses_to_build_without_a_field(rt: HostRuntime) {
                     index: 2
                 },
             }
+        )
+    );
+}
+
+#[test]
+fn sets_a_field_to_its_default(rt: HostRuntime) {
+    let table = checked(&rt, rt.alloc());
+    let mut ledger = ledger(&rt, rt.alloc());
+    let hooks = NoHooks;
+    let mut partial = begun(&rt, rt.alloc(), &table, &hooks, &mut ledger);
+    partial = leave(&rt, partial, &mut ledger);
+    let Ok(partial) = partial.set_nth_field_to_default(0, &mut ledger) else {
+        panic!(rt; "no default");
+    };
+    assert_eq!(rt; partial.frame_count(), 1);
+    let kind = refusal(
+        &rt,
+        partial.set_nth_field_to_default(2, &mut ledger),
+        &ledger,
+    );
+    assert!(rt;
+        matches!(
+            kind,
+            ReflectErrorKind::DefaultAttrButNoDefaultImpl { shape: ShapeId(3) }
         )
     );
 }

@@ -1,9 +1,9 @@
-use Rattle.std.proofs.Common.{◌≡◌, ℕ, ◌<◌, length, List, ◌++◌, ◌∷◌, [], Option, None, sym, ap, ◌∙◌, subst}
+use Rattle.std.proofs.Common.{◌≡◌, ℕ, ◌<◌, length, List, ◌++◌, ◌∷◌, [], Option, Some, None, sym, ap, ◌∙◌, subst}
 use Rattle.std.specs.Prelude.{IsSomeAnd}
 use Rattle.fr_shape.specs.Look.{Table, def_of}
 use Rattle.fr_shape.specs.declared.shape.ShapeId.{ShapeId}
 use Rattle.fr_model.specs.Step.{enter, opened_as, field_refusal}
-use Rattle.fr_model.specs.Tree.{Form, Tree, tree_at, change_child, change_at, child_as, deferred}
+use Rattle.fr_model.specs.Tree.{as_variant, Form, selected, Tree, tree_at, change_child, change_at, child_as, deferred}
 use Rattle.fr_model.specs.Places.{Place}
 use Rattle.fr_model.specs.Well.{IsFullAs, Suits, Leads}
 use Rattle.fr_plan.specs.declared.nodes.NodeId.{NodeId}
@@ -22,6 +22,7 @@ use Rattle.fr_partial.specs.Underway.{shape_here, IsReady}
 use Rattle.fr_partial.proofs.BeginLaws.{opened_within}
 use Rattle.fr_partial.proofs.EnterLaws.{may_open, has_child, changed_at, entered_so, node_stays, def_entered}
 use Rattle.fr_partial.proofs.FitLaws.{is_there}
+use Rattle.fr_partial.proofs.FormLaws.{form_is_at, full_tree, opened_same, takes_many}
 use Rattle.fr_partial.proofs.PlaceLaws.{here_found, here_along, plot_here}
 use Rattle.fr_partial.proofs.ReachLaws.{tree_leads}
 use Rattle.fr_store.specs.ShapeLaws.{IsOfShape, child_shaped}
@@ -30,6 +31,7 @@ use Rattle.fr_partial.proofs.entering.enter_child.Goals as goal
 module _ (agree : LookupsAgree) (paths : LookupPathsAgree) (table : Table) (root : ShapeId) (plan : Plan) (slots : List Slot)
     (stack : List ℕ) (ready : IsReady table root plan slots stack) (form : Form) (count i : ℕ)
     (full : IsFullAs (def_of table (shape_here table root.0 slots stack)) form count) (below : i < count)
+    (variant : (k : ℕ) → form ≡ as_variant k → selected (tree_here slots stack) ≡ Some k)
     (may : field_refusal (def_of table (shape_here table root.0 slots stack)) (tree_here slots stack) i ≡ None) where
   opens : (n : ℕ) (last : IsLast stack n) → IsSomeAnd (heap_of slots n) (λ (found : Node). MayOpen found.body)
   opens n last =
@@ -66,7 +68,7 @@ module _ (agree : LookupsAgree) (paths : LookupPathsAgree) (table : Table) (root
         ∙ changed_at (deferred 0) (cursor_in slots stack) (opened_as form count) (tree_in_slots slots stack) leads
         ∙ ap (opened_as form count) (sym (plot_here plan slots stack ready.shown))))
         (has_child table (shape_here table root.0 slots stack) i form count (open_top plan slots stack ready.shown).plot full
-        below
+        (λ k is. ap selected (plot_here plan slots stack ready.shown) ∙ variant k is) below
         (subst (λ (t : Tree). Suits table (shape_here table root.0 slots stack) t)
         (sym (plot_here plan slots stack ready.shown))
         (here_along agree paths table root plan slots stack ready).suits)
@@ -83,15 +85,17 @@ pub begin-requires-clause-may_open : goal.begin-requires-clause-may_open
 begin-requires-clause-may_open c =
     opens c.law_plan_lookups.ensures.agree c.law_plan_lookups.ensures.paths c.args.table.now c.args.root c.args.plan.now
     c.args.slots.now c.args.stack.now c.requires.ready (as_form c.args.opening.form) c.args.opening.count c.args.i
-    c.requires.opening.begun (opened_within c.args.table.now _ _ c.args.i c.args.opening c.requires.opening c.requires.admitted)
-    c.requires.admitted
+    c.requires.opening.begun
+    (opened_within c.args.table.now _ (tree_here c.args.slots.now c.args.stack.now) c.args.i c.args.opening c.requires.opening
+    c.requires.admitted) c.requires.opening.variant c.requires.admitted
 
 pub enter-requires-clause-child : goal.enter-requires-clause-child
 enter-requires-clause-child c =
     has c.law_plan_lookups.ensures.agree c.law_plan_lookups.ensures.paths c.args.table.now c.args.root c.args.plan.now
     c.args.slots.now c.args.stack.now c.requires.ready (as_form c.args.opening.form) c.args.opening.count c.args.i
-    c.requires.opening.begun (opened_within c.args.table.now _ _ c.args.i c.args.opening c.requires.opening c.requires.admitted)
-    c.requires.admitted c.begin.new.slots c.in_ok-begin.ensures.begun
+    c.requires.opening.begun
+    (opened_within c.args.table.now _ (tree_here c.args.slots.now c.args.stack.now) c.args.i c.args.opening c.requires.opening
+    c.requires.admitted) c.requires.opening.variant c.requires.admitted c.begin.new.slots c.in_ok-begin.ensures.begun
 
 pub enter-requires-clause-node : goal.enter-requires-clause-node
 enter-requires-clause-node c =
@@ -101,16 +105,18 @@ enter-requires-clause-node c =
     ∙ sym
     (stays c.law_plan_lookups.ensures.agree c.law_plan_lookups.ensures.paths c.args.table.now c.args.root c.args.plan.now
     c.args.slots.now c.args.stack.now c.requires.ready (as_form c.args.opening.form) c.args.opening.count c.args.i
-    c.requires.opening.begun (opened_within c.args.table.now _ _ c.args.i c.args.opening c.requires.opening c.requires.admitted)
-    c.requires.admitted c.begin.new.slots c.in_ok-begin.ensures.begun))
+    c.requires.opening.begun
+    (opened_within c.args.table.now _ (tree_here c.args.slots.now c.args.stack.now) c.args.i c.args.opening c.requires.opening
+    c.requires.admitted) c.requires.opening.variant c.requires.admitted c.begin.new.slots c.in_ok-begin.ensures.begun))
 
 pub enter-requires-clause-planned : goal.enter-requires-clause-planned
 enter-requires-clause-planned c =
     let shaped = child_is c.law_plan_lookups.ensures.agree c.law_plan_lookups.ensures.paths c.args.table.now c.args.root
     c.args.plan.now c.args.slots.now c.args.stack.now c.requires.ready
     (as_form c.args.opening.form) c.args.opening.count c.args.i
-    c.requires.opening.begun (opened_within c.args.table.now _ _ c.args.i c.args.opening c.requires.opening c.requires.admitted)
-    c.requires.admitted in
+    c.requires.opening.begun
+    (opened_within c.args.table.now _ (tree_here c.args.slots.now c.args.stack.now) c.args.i c.args.opening c.requires.opening
+    c.requires.admitted) c.requires.opening.variant c.requires.admitted in
     subst (λ (n : NodeId). n.0 < length c.args.plan.now.nodes)
     (sym
     (c.child_node-node.ensures
@@ -122,12 +128,15 @@ returns-clause-entered c =
     let entered = c.in_ok-enter.ensures.entered in
     let begun = c.in_ok-begin.ensures.begun in
     let place = cursor_in c.args.slots.now c.args.stack.now in
+    let s : ℕ = shape_here c.args.table.now c.args.root.0 c.args.slots.now c.args.stack.now in
+    let here : Tree = tree_here c.args.slots.now c.args.stack.now in
     let change = change_child c.args.i (enter (def_of c.args.table.now (shape_of c.args.plan.now c.child_node-node.result))) in
     let shaped = child_is c.law_plan_lookups.ensures.agree c.law_plan_lookups.ensures.paths c.args.table.now c.args.root
     c.args.plan.now c.args.slots.now c.args.stack.now c.requires.ready
     (as_form c.args.opening.form) c.args.opening.count c.args.i
-    c.requires.opening.begun (opened_within c.args.table.now _ _ c.args.i c.args.opening c.requires.opening c.requires.admitted)
-    c.requires.admitted in
+    c.requires.opening.begun
+    (opened_within c.args.table.now _ (tree_here c.args.slots.now c.args.stack.now) c.args.i c.args.opening c.requires.opening
+    c.requires.admitted) c.requires.opening.variant c.requires.admitted in
     record {
       open_still = entered.open_still;
       cursor = entered.cursor ∙ ap (λ (p : Place). p ++ c.args.i ∷ []) begun.cursor;
@@ -135,20 +144,30 @@ returns-clause-entered c =
           entered.built
           ∙ ap (λ (p : Place). change_at p change (tree_in_slots c.begin.new.slots c.args.stack.now)) begun.cursor
           ∙ ap (change_at place change) begun.built
-          ∙ entered_so c.args.table.now
-          (shape_here c.args.table.now c.args.root.0 c.args.slots.now c.args.stack.now) c.args.i place
-          (tree_in_slots c.args.slots.now c.args.stack.now) (as_form c.args.opening.form) c.args.opening.count
-          (def_of c.args.table.now (shape_of c.args.plan.now c.child_node-node.result)) c.requires.opening.form
-          c.requires.opening.count
+          ∙ entered_so c.args.table.now s c.args.i place (tree_in_slots c.args.slots.now c.args.stack.now)
+          (as_form c.args.opening.form) c.args.opening.count
+          (def_of c.args.table.now (shape_of c.args.plan.now c.child_node-node.result))
+          (opened_same (def_of c.args.table.now s) here (as_form c.args.opening.form) c.args.opening.count c.args.i
+          c.requires.opening.begun c.requires.admitted)
           (def_entered c.args.table.now c.args.plan.now c.child_node-node.result
-          (shape_here c.args.table.now c.args.root.0 c.args.slots.now c.args.stack.now) c.args.i (as_form c.args.opening.form)
+          (child_as c.args.table.now s (as_form c.args.opening.form) c.args.i)
           (subst
           (λ (n : NodeId).
-          IsOfShape c.args.plan.now n
-          (child_as c.args.table.now (shape_here c.args.table.now c.args.root.0 c.args.slots.now c.args.stack.now)
-          (as_form c.args.opening.form) c.args.i))
+          IsOfShape c.args.plan.now n (child_as c.args.table.now s (as_form c.args.opening.form) c.args.i))
           (sym
           (c.child_node-node.ensures
           ∙ ap (λ (n : NodeId). child_node c.args.plan.now n (as_form c.args.opening.form) c.args.i) c.node_here.ensures))
-          shaped));
+          shaped)
+          ∙ ap (λ (f : Form). def_of c.args.table.now (child_as c.args.table.now s f c.args.i))
+          (form_is_at (def_of c.args.table.now s) here (as_form c.args.opening.form) c.args.opening.count c.args.i
+          c.requires.opening.begun c.requires.opening.variant
+          (full_tree c.args.table.now s here
+          (here_along c.law_plan_lookups.ensures.agree c.law_plan_lookups.ensures.paths c.args.table.now c.args.root
+          c.args.plan.now c.args.slots.now c.args.stack.now c.requires.ready).suits) c.requires.admitted));
     }
+
+pub begin-requires-clause-many : goal.begin-requires-clause-many
+begin-requires-clause-many c =
+    takes_many (def_of c.args.table.now (shape_here c.args.table.now c.args.root.0 c.args.slots.now c.args.stack.now))
+    (tree_here c.args.slots.now c.args.stack.now) (as_form c.args.opening.form) c.args.opening.count c.args.i
+    c.requires.opening.begun c.requires.admitted

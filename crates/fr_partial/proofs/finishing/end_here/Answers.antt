@@ -1,7 +1,10 @@
-use Rattle.std.proofs.Common.{ap, ◌∙◌}
+use Rattle.std.proofs.Common.{ap, refl, ◌∙◌}
+use Rattle.fr_shape.specs.declared.error.ReflectErrorKind.{ReflectErrorKind}
 use Rattle.fr_model.specs.Places.{is_root}
 use Rattle.fr_store.specs.MoveLaws.{top_in_use}
-use Rattle.fr_partial.proofs.EndingLaws.{may_complete, why_here, open_after, cursor_after, value_at_top, ended}
+use Rattle.fr_partial.proofs.EndingLaws.{box_wanted, may_complete, no_box, why_here, open_after, cursor_after, value_at_top, ended}
+use Rattle.fr_partial.proofs.KeepLaws.{room_here}
+use Rattle.fr_partial.proofs.ReleaseLaws.{room_still}
 use Rattle.fr_partial.proofs.finishing.end_here.Goals as goal
 
 pub fill_and_require_fields-requires-clause-in_use : goal.fill_and_require_fields-requires-clause-in_use
@@ -18,13 +21,15 @@ end-requires-clause-is_open g c =
     open_after c.args.plan.now c.args.slots.now c.fill_and_require_fields.new.slots c.args.stack.now c.requires.ready.shown
     c.requires.strict
     c.in-Some.top.0 c.in-Some.ensures.last c.fill_and_require_fields.ensures.closed c.fill_and_require_fields.ensures.tokens
+    c.in-Ok.ensures.form
 
 pub end-requires-clause-below : goal.end-requires-clause-below
 end-requires-clause-below g c =
     ap is_root
     (cursor_after c.args.plan.now c.args.slots.now c.fill_and_require_fields.new.slots c.args.stack.now c.requires.ready.shown
     c.requires.strict
-    c.in-Some.top.0 c.in-Some.ensures.last c.fill_and_require_fields.ensures.closed c.fill_and_require_fields.ensures.tokens)
+    c.in-Some.top.0 c.in-Some.ensures.last c.fill_and_require_fields.ensures.closed c.fill_and_require_fields.ensures.tokens
+    c.in-Ok.ensures.form)
     ∙ c.requires.below
 
 pub end-requires-clause-complete : goal.end-requires-clause-complete
@@ -32,17 +37,19 @@ end-requires-clause-complete g c =
     value_at_top c.args.plan.now c.args.slots.now c.fill_and_require_fields.new.slots c.args.stack.now c.requires.ready.shown
     c.requires.strict
     c.in-Some.top.0 c.in-Some.ensures.last c.fill_and_require_fields.ensures.closed c.fill_and_require_fields.ensures.tokens
+    c.in-Ok.ensures.form
     (g.H.Hooks.means c.args.hooks.now) c.args.table.now c.args.root c.law_plan_lookups.ensures.agree
     c.law_plan_lookups.ensures.paths c.requires.ready c.in-Ok.ensures.filled
 
-pub returns-in-Ok-clause-ended : goal.returns-in-Ok-clause-ended
-returns-in-Ok-clause-ended g c =
+pub returns-in-Ok-end-clause-ended : goal.returns-in-Ok-end-clause-ended
+returns-in-Ok-end-clause-ended g c =
     ended c.args.plan.now c.args.slots.now c.fill_and_require_fields.new.slots c.args.stack.now c.requires.ready.shown
     c.requires.strict
     c.in-Some.top.0 c.in-Some.ensures.last c.fill_and_require_fields.ensures.closed c.fill_and_require_fields.ensures.tokens
+    c.in-Ok.ensures.form
     (g.H.Hooks.means c.args.hooks.now) c.args.table.now c.args.root c.law_plan_lookups.ensures.agree
     c.law_plan_lookups.ensures.paths c.requires.ready c.in-Ok.ensures.filled c.end.new.slots c.end.new.self
-    c.end.ensures.strict c.end.ensures.ended
+    c.in-Ok-end.ensures.strict c.in-Ok-end.ensures.ended
 
 pub returns-in-Err-clause-why : goal.returns-in-Err-clause-why
 returns-in-Err-clause-why g c =
@@ -50,3 +57,22 @@ returns-in-Err-clause-why g c =
     c.args.plan.now c.args.slots.now c.args.stack.now c.requires.ready c.requires.strict (g.H.Hooks.means c.args.hooks.now)
     c.in-Some.top.0
     c.in-Some.ensures.last c.in-Err.kind c.in-Err.ensures.why
+
+pub end-requires-clause-room : goal.end-requires-clause-room
+end-requires-clause-room g c =
+    room_here c.args.plan.now c.fill_and_require_fields.new.slots c.args.stack.now c.args.ledger.now
+    (open_after c.args.plan.now c.args.slots.now c.fill_and_require_fields.new.slots c.args.stack.now c.requires.ready.shown c.requires.strict
+    c.in-Some.top.0 c.in-Some.ensures.last c.fill_and_require_fields.ensures.closed c.fill_and_require_fields.ensures.tokens
+    c.in-Ok.ensures.form)
+    (room_still c.args.plan.now c.args.slots.now c.fill_and_require_fields.new.slots c.args.stack.now c.requires.ready.shown
+    c.fill_and_require_fields.ensures.tokens c.args.ledger.now c.requires.room)
+
+pub returns-in-Err-end-clause-why : goal.returns-in-Err-end-clause-why
+returns-in-Err-end-clause-why g c =
+    box_wanted c.args.plan.now c.args.slots.now c.fill_and_require_fields.new.slots c.args.stack.now c.requires.ready.shown c.requires.strict
+    c.in-Some.top.0 c.in-Some.ensures.last c.fill_and_require_fields.ensures.closed c.fill_and_require_fields.ensures.tokens
+    c.in-Ok.ensures.form
+    (g.H.Hooks.means c.args.hooks.now) c.args.table.now c.args.root c.law_plan_lookups.ensures.agree
+    c.law_plan_lookups.ensures.paths c.requires.ready c.in-Ok.ensures.filled ReflectErrorKind.OutOfMemory refl
+    (no_box c.fill_and_require_fields.new.slots c.in-Some.top.0 c.end.result c.in-Err-end.field-0 c.in-Err-end.is
+    (c.end.ensures.memory c.in-Some.top.0 c.in-Some.ensures.last))

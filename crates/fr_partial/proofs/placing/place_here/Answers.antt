@@ -1,4 +1,4 @@
-use Rattle.fr_partial.proofs.PlaceLaws.{none_found, found_inside, found_shape, refusal_found}
+use Rattle.fr_partial.proofs.PlaceLaws.{none_found, found_inside, found_shape, looks_found}
 use Rattle.fr_partial.proofs.placing.place_here.Goals as goal
 
 pub node-requires : goal.node-requires
@@ -21,6 +21,6 @@ returns c = record {
       c.args.plan.now c.args.slots.now c.args.stack.now c.requires c.in-Some.top.0 c.in-Some.ensures.last
       c.in-Some-place.place.now c.in-Some-place.ensures.place c.node.result.now c.node.ensures.node;
   piece =
-      refusal_found c.args.plan.now c.args.slots.now c.args.stack.now c.requires.shown c.in-Some.top.0 c.in-Some.ensures.last
+      looks_found c.args.plan.now c.args.slots.now c.args.stack.now c.requires.shown c.in-Some.top.0 c.in-Some.ensures.last
       c.in-Some-place.place.now c.in-Some-place.ensures.place;
 }

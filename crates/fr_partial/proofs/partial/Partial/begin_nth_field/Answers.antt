@@ -1,32 +1,39 @@
-use Rattle.std.proofs.Common.{◌≡◌, None, true, false, Result, Err, inr, sym, subst, arith, ap, ◌∙◌}
+use Rattle.std.proofs.Common.{◌≡◌, None, Some, true, false, List, Result, Ok, Err, inr, sym, ap, ◌∙◌, subst, arith}
 use Rattle.fr_shape.specs.declared.error.ReflectErrorKind.{ReflectErrorKind}
 use Rattle.fr_shape.specs.Look.{def_of}
 use Rattle.fr_model.specs.Commands.{Call}
 use Rattle.fr_model.specs.Step.{field_refusal}
 use Rattle.fr_model.specs.Tree.{State, cursor_tree}
-use Rattle.fr_partial.specs.Builder.{Builder, here, holds, IsStepTo}
-use Rattle.fr_partial.specs.Modes.{mode_of}
-use Rattle.fr_partial.proofs.BeginLaws.{describes_here, refusal_is, begin_admitted, begin_refused}
+use Rattle.fr_frame.specs.Bodies.{own_tree}
+use Rattle.fr_frame.specs.Heap.{body_of}
+use Rattle.fr_partial.specs.Builder.{here, holds, IsStepTo}
+use Rattle.fr_partial.proofs.BeginLaws.{begin_admitted, begin_refused, describes_here}
 use Rattle.fr_partial.proofs.RemovedLaws.{rises_by_removed, all_released}
+use Rattle.fr_partial.proofs.SeenLaws.{refusal_seen, Sees, sees}
 use Rattle.fr_partial.proofs.StateLaws.{in_order}
 use Rattle.fr_partial.proofs.partial.Partial.begin_nth_field.Goals as goal
 use Rattle.fr_partial.proofs.partial.Partial.begin_nth_field.Given.{Over}
-use Rattle.fr_partial.proofs.partial.Partial.begin_nth_field.Goals.{In-Ok}
+use Rattle.fr_partial.proofs.partial.Partial.begin_nth_field.Goals.{In-Ok, In-Err}
+
+seen : (g : Over) (c : In-Ok g)
+    → Sees c.args.self c.self.inside.table.now c.place_here.result.0 (own_tree (body_of c.place_here.result.1.now))
+seen g c =
+    sees c.self.inside.work.slots c.self.inside.work.stack c.self.view_is c.place_here.result.0
+    (own_tree (body_of c.place_here.result.1.now)) c.place_here.ensures.shape c.place_here.ensures.piece
+
+seen_refused : (g : Over) (c : In-Err g)
+    → Sees c.args.self c.self.inside.table.now c.place_here.result.0 (own_tree (body_of c.place_here.result.1.now))
+seen_refused g c =
+    sees c.self.inside.work.slots c.self.inside.work.stack c.self.view_is c.place_here.result.0
+    (own_tree (body_of c.place_here.result.1.now)) c.place_here.ensures.shape c.place_here.ensures.piece
 
 admitted : (g : Over) (c : In-Ok g)
     → field_refusal (def_of c.args.self.shapes (here c.args.self)) (cursor_tree c.args.self.state) c.args.idx ≡ None
-admitted g c =
-    sym
-    (refusal_is c.self.inside.table.now c.self.inside.root.0 c.self.inside.work.slots c.self.inside.work.stack
-    (mode_of c.self.inside.mode) c.self.inside.calls c.args.self c.self.view_is c.place_here.result.0.0
-    (c.place_here.ensures.shape ∙ ap (λ (b : Builder _). here b) c.self.view_is) _ c.place_here.ensures.piece c.args.idx)
-    ∙ c.in-Ok.ensures.admitted
+admitted g c = sym (refusal_seen (seen g c) c.args.idx) ∙ c.in-Ok.ensures.admitted
 
 pub enter-requires-clause-opening : goal.enter-requires-clause-opening
 enter-requires-clause-opening g c =
-    describes_here c.self.inside.table.now c.self.inside.root.0 c.self.inside.work.slots c.self.inside.work.stack
-    (mode_of c.self.inside.mode) c.self.inside.calls c.args.self c.self.view_is c.place_here.result.0
-    (c.place_here.ensures.shape ∙ ap (λ (b : Builder _). here b) c.self.view_is) c.in-Ok.opening c.in-Ok.ensures.opening
+    describes_here (seen g (goal.at.enter-requires-clause-opening g c).In-Ok) c.in-Ok.opening c.in-Ok.ensures.opening
 
 pub enter-requires-clause-admitted : goal.enter-requires-clause-admitted
 enter-requires-clause-admitted g c = admitted g (goal.at.enter-requires-clause-admitted g c).In-Ok
@@ -34,13 +41,8 @@ enter-requires-clause-admitted g c = admitted g (goal.at.enter-requires-clause-a
 pub returns-in-Err-clause-step : goal.returns-in-Err-clause-step
 returns-in-Err-clause-step g c =
     inr
-    (begin_refused c.args.self c.args.idx c.place_here.result.0 c.in-Err.operation (c.place_here.ensures.shape ∙ ap (λ
-    (b : Builder _). here b) c.self.view_is)
-    (sym
-    (refusal_is c.self.inside.table.now c.self.inside.root.0 c.self.inside.work.slots c.self.inside.work.stack
-    (mode_of c.self.inside.mode) c.self.inside.calls c.args.self c.self.view_is c.place_here.result.0.0
-    (c.place_here.ensures.shape ∙ ap (λ (b : Builder _). here b) c.self.view_is) _ c.place_here.ensures.piece c.args.idx)
-    ∙ c.in-Err.ensures.refused)
+    (begin_refused (seen_refused g (goal.at.returns-in-Err-clause-step g c).In-Err) c.args.idx c.in-Err.operation
+    c.in-Err.ensures.refused
     ∙ ap Err (sym c.refuse.ensures.kind))
 
 pub returns-in-Ok-clause-step : goal.returns-in-Ok-clause-step

@@ -10,7 +10,7 @@ use Rattle.fr_model.specs.Step.{violates}
 use Rattle.fr_model.specs.Tree.{cursor_tree, tree_occurs}
 use Rattle.fr_store.specs.Moves.{tree_in_slots}
 use Rattle.fr_partial.specs.Builder.{Builder, holds, meaning_of_build}
-use Rattle.fr_partial.specs.Filling.{fills_nothing}
+use Rattle.fr_partial.specs.Filling.{takes_no_memory}
 use Rattle.fr_partial.specs.Modes.{mode_of}
 use Rattle.fr_partial.specs.Underway.{state_of}
 use Rattle.fr_partial.proofs.EndLaws.{below, only_root, builds, builds_not, builds_below, never_unbuilt, root_tree}
@@ -115,8 +115,8 @@ returns-in-Err-clause-memory g c nothing is =
     (only_root _ c.self.inside.work.slots c.self.inside.work.stack c.self.invariant.ready.shown c.len-open.result
     c.len-open.ensures.count c.if-open-eq1.true) in
     let no : false ≡ true
-    = sym takes ∙ ap fills_nothing (sym root)
-    ∙ ap (λ (b : Builder _). fills_nothing (cursor_tree b.state)) c.self.view_is ∙ nothing in
+    = sym takes ∙ ap takes_no_memory (sym root)
+    ∙ ap (λ (b : Builder _). takes_no_memory (cursor_tree b.state)) c.self.view_is ∙ nothing in
     cc
 
 pub returns-in-Err-clause-refused : goal.returns-in-Err-clause-refused

@@ -9,12 +9,12 @@ use Rattle.fr_frame.specs.Heap.{slots_occur}
 use Rattle.fr_store.specs.Moves.{cursor_in, tree_in_slots}
 use Rattle.fr_store.specs.Stands.{IsOpen}
 use Rattle.fr_partial.specs.Builder.{Builder, holds, meaning}
-use Rattle.fr_partial.specs.Filling.{fills_nothing}
+use Rattle.fr_partial.specs.Filling.{takes_no_memory}
 use Rattle.fr_partial.specs.Modes.{mode_of}
 use Rattle.fr_partial.specs.Underway.{shape_here, state_of}
 use Rattle.fr_partial.proofs.EndLaws.{keeps_none, ends, ends_not, never_refused}
 use Rattle.fr_partial.proofs.LackLaws.{only_wants, only_takes}
-use Rattle.fr_partial.proofs.ReleaseLaws.{released_still, room_still}
+use Rattle.fr_partial.proofs.ReleaseLaws.{released_kept, room_kept}
 use Rattle.fr_partial.proofs.RemovedLaws.{rises_by_removed, all_released}
 use Rattle.fr_partial.proofs.StateLaws.{in_order, state_is, strict_stores, underway_after, order_after, tokens_after, last_of}
 use Rattle.fr_partial.proofs.WayLaws.{left_path}
@@ -82,7 +82,7 @@ returns-in-Ok-clause-step g c =
 
 pub returns-in-Ok-clause-tokens : goal.returns-in-Ok-clause-tokens
 returns-in-Ok-clause-tokens g c = record {
-  same_length = ap length c.end_here.ensures.ledger;
+  same_length = ap length c.in-Ok.ensures.ledger;
   kept_or_released = λ t.
       let s : ℕ = shape_here c.self.inside.table.now c.self.inside.root.0 c.self.inside.work.slots c.self.inside.work.stack in
       let state : State = state_of c.self.inside.work.slots c.self.inside.work.stack
@@ -103,11 +103,11 @@ returns-in-Ok-clause-tokens g c = record {
       (puts_and_leaves state v).tree t
       = ap (λ (tree : Tree). tree_occurs tree t) c.in-Ok.ensures.ended.after.built in
       let same : slice_index c.end_here.new.ledger t ≡ slice_index c.args.ledger.now t
-      = ap (λ ledger. slice_index ledger t) c.end_here.ensures.ledger in
+      = ap (λ ledger. slice_index ledger t) c.in-Ok.ensures.ledger in
       omega arith;
   none_falls = λ t.
       let same : slice_index c.end_here.new.ledger t ≡ slice_index c.args.ledger.now t
-      = ap (λ ledger. slice_index ledger t) c.end_here.ensures.ledger in
+      = ap (λ ledger. slice_index ledger t) c.in-Ok.ensures.ledger in
       omega arith;
 }
 
@@ -134,30 +134,30 @@ returns-in-Err-clause-step g c =
       | inr wants ↦ inl wants.memory
     ]
 
+pub end_here-requires-clause-room : goal.end_here-requires-clause-room
+end_here-requires-clause-room g c =
+    subst (λ (b : Builder _). Room (holds b) c.args.ledger.now) (sym c.self.view_is) c.requires.room
+
 pub release-requires : goal.release-requires
 release-requires g c = record {
   room =
-      subst (λ (ledger : List ℕ). Room (slots_occur c.end_here.new.slots) ledger) (sym c.end_here.ensures.ledger)
-      (room_still _ c.self.inside.work.slots c.end_here.new.slots c.self.inside.work.stack c.self.invariant.ready.shown
-      c.in-Err.ensures.tokens c.args.ledger.now
-      (subst (λ (b : Builder _). Room (holds b) c.args.ledger.now) (sym c.self.view_is) c.requires.room));
+      room_kept c.end_here.new.slots c.self.invariant.ready.shown c.in-Err.ensures.tokens
+      (subst (λ (b : Builder _). Room (holds b) c.args.ledger.now) (sym c.self.view_is) c.requires.room);
 }
 
 pub returns-in-Err-clause-tokens : goal.returns-in-Err-clause-tokens
 returns-in-Err-clause-tokens g c =
     all_released (holds c.args.self) c.args.ledger.now c.release.new.ledger
     (subst (λ (b : Builder _). RoseBy (holds b) c.args.ledger.now c.release.new.ledger) c.self.view_is
-    (released_still _ c.self.inside.work.slots c.end_here.new.slots c.self.inside.work.stack c.self.invariant.ready.shown
-    c.in-Err.ensures.tokens c.args.ledger.now c.release.new.ledger
-    (subst (λ (ledger : List ℕ). RoseBy (slots_occur c.end_here.new.slots) ledger c.release.new.ledger)
-    c.end_here.ensures.ledger c.release.ensures.released)))
+    (released_kept c.end_here.new.slots c.self.invariant.ready.shown c.in-Err.ensures.tokens c.release.new.ledger
+    c.release.ensures.released))
 
 pub returns-in-Err-clause-memory : goal.returns-in-Err-clause-memory
 returns-in-Err-clause-memory g c nothing is =
     let takes = only_takes (g.H.Hooks.means c.self.inside.hooks.now) c.self.inside.table.now c.self.invariant.served _ _
     c.in-Err.kind c.in-Err.ensures.why is in
     let no : false ≡ true
-    = sym takes ∙ ap (λ (b : Builder _). fills_nothing (cursor_tree b.state)) c.self.view_is ∙ nothing in
+    = sym takes ∙ ap (λ (b : Builder _). takes_no_memory (cursor_tree b.state)) c.self.view_is ∙ nothing in
     cc
 
 pub returns-in-Err-clause-refused : goal.returns-in-Err-clause-refused

@@ -6,7 +6,9 @@ use Rattle.fr_model.specs.Commands.{Call}
 use Rattle.fr_model.specs.Paths.{step_as, path_of}
 use Rattle.fr_frame.specs.Heap.{as_form}
 use Rattle.fr_model.specs.Step.{enters}
-use Rattle.fr_model.specs.Tree.{Form, Tree, State, tree_occurs}
+use Rattle.fr_model.specs.Tree.{cursor_tree, Form, Tree, State, tree_occurs}
+use Rattle.fr_shape.specs.Look.{def_of}
+use Rattle.fr_shape.specs.Numbered.{IsNumbered}
 use Rattle.fr_plan.specs.TypePlan.{Plan}
 use Rattle.fr_store.specs.Moves.{tree_in_slots}
 use Rattle.fr_store.specs.Stands.{IsOpen}
@@ -15,7 +17,9 @@ use Rattle.fr_partial.specs.Entering.{Describes}
 use Rattle.fr_partial.specs.Underway.{shape_here, state_of, IsUnderway}
 use Rattle.fr_partial.specs.HeldPlan.{plan_in}
 use Rattle.fr_partial.specs.Modes.{mode_of}
-use Rattle.fr_partial.proofs.BeginLaws.{begins}
+use Rattle.fr_partial.proofs.BeginLaws.{begins, small_child}
+use Rattle.fr_partial.proofs.FormLaws.{form_is_at, full_tree}
+use Rattle.fr_partial.proofs.PlaceLaws.{here_along}
 use Rattle.fr_partial.proofs.ReleaseLaws.{released_still, room_still}
 use Rattle.fr_partial.proofs.RemovedLaws.{all_released}
 use Rattle.fr_partial.proofs.StateLaws.{admitted_now, order, state_is, stores_after, underway_after, order_after, tokens_after}
@@ -29,6 +33,14 @@ invariant_of-self g c =
     c.self.inside.work.stack c.self.inside.work.store (mode_of c.self.inside.mode) c.self.inside.calls)
     (sym c.in_default.ensures.refused) c.self.invariant
 
+pub overflow_cast-i : goal.overflow_cast-i
+overflow_cast-i g c = record {
+  fits =
+      small_child c.args.self.shapes (here c.args.self) (cursor_tree c.args.self.state) c.args.i c.args.opening
+      (subst (λ (b : Builder _). IsNumbered b.shapes) c.self.view_is c.self.invariant.numbered) c.requires.opening
+      c.requires.admitted;
+}
+
 pub refuse-requires : goal.refuse-requires
 refuse-requires g c = record {
   room = subst (λ (b : Builder _). Room (holds b) c.args.ledger.now) (sym c.self.view_is) c.requires.room;
@@ -36,7 +48,8 @@ refuse-requires g c = record {
 
 pub enter_child-requires-clause-opening : goal.enter_child-requires-clause-opening
 enter_child-requires-clause-opening g c =
-    subst (λ (b : Builder _). Describes b.shapes (here b) c.args.opening) (sym c.self.view_is) c.requires.opening
+    subst (λ (b : Builder _). Describes b.shapes (here b) (cursor_tree b.state) c.args.opening) (sym c.self.view_is)
+    c.requires.opening
 
 pub enter_child-requires-clause-admitted : goal.enter_child-requires-clause-admitted
 enter_child-requires-clause-admitted g c =
@@ -71,6 +84,8 @@ invariant_of-self-in-Ok-enter_child g c =
     (mode_of c.self.inside.mode) c.self.inside.calls in
     let may = (admitted_now c.self.inside.table.now c.self.inside.root.0 c.self.inside.work.slots c.self.inside.work.stack
     (mode_of c.self.inside.mode) c.self.inside.calls c.args.self c.self.view_is c.args.i c.requires.admitted) in
+    let says = subst (λ (b : Builder _). Describes b.shapes (here b) (cursor_tree b.state) c.args.opening) (sym c.self.view_is)
+    c.requires.opening in
     underway_after c.self.invariant _ c.enter_child.new.slots c.enter_child.new.stack c.enter_child.new.store
     (mode_of c.self.inside.mode) c.saturating_add.result (enters c.self.inside.table.now s state c.args.i)
     (subst (λ (p : Plan). IsOpen p c.enter_child.new.slots c.enter_child.new.stack) c.core-plan.ensures
@@ -84,10 +99,14 @@ invariant_of-self-in-Ok-enter_child g c =
     (order_after c.self.invariant c.law_well.ensures.in_order no_hooks (enters c.self.inside.table.now s state c.args.i)
     (Call.BeginNthField c.args.i) tt (begins c.self.inside.table.now s state c.args.i may))
     (c.in-Ok.ensures.appended
-    ∙ ap (λ (step : PathStep). c.self.inside.path ++ step ∷ []) c.step_to.ensures
+    ∙ ap (λ (step : PathStep). c.self.inside.path ++ step ∷ []) c.step.ensures.step
     ∙ ap (λ (steps : List PathStep). steps ++ step_as (as_form c.args.opening.form) c.args.i ∷ []) c.self.invariant.path
     ∙ ap (λ (f : Form). path_of state ++ step_as f c.args.i ∷ [])
-    (subst (λ (b : Builder _). Describes b.shapes (here b) c.args.opening) (sym c.self.view_is) c.requires.opening).form
+    (form_is_at (def_of c.self.inside.table.now s) (cursor_tree state) (as_form c.args.opening.form) c.args.opening.count c.args.i
+    says.begun says.variant
+    (full_tree c.self.inside.table.now s (cursor_tree state)
+    (here_along c.law_plan_lookups.ensures.agree c.law_plan_lookups.ensures.paths c.self.inside.table.now c.self.inside.root _
+    c.self.inside.work.slots c.self.inside.work.stack c.self.invariant.ready).suits) may)
     ∙ sym
     (c.law_paths.ensures.enter c.self.inside.table.now c.self.inside.root.0 state c.args.i (order c.self.invariant)))
 

@@ -14,7 +14,7 @@ use Rattle.fr_partial.specs.Builder.{Builder, here, holds}
 use Rattle.fr_partial.specs.Underway.{shape_here, state_of}
 use Rattle.fr_partial.specs.Modes.{mode_of}
 use Rattle.fr_partial.proofs.FitLaws.{fits_in}
-use Rattle.fr_partial.proofs.PutLaws.{set_admitted}
+use Rattle.fr_partial.proofs.PutLaws.{set_own}
 use Rattle.fr_partial.proofs.StateLaws.{put_keeps, state_is, stores_after, underway_after, order_after}
 use Rattle.fr_partial.proofs.partial.Partial.put.Goals as goal
 
@@ -25,12 +25,10 @@ set-requires-clause-room g c =
     (λ t. omega (
       arith,
       put_keeps c.self.invariant c.self.view_is c.law_removed.ensures.step (view c.args.value) t
-          (set_admitted (shape_here c.self.inside.table.now c.self.inside.root.0 c.self.inside.work.slots
-          c.self.inside.work.stack)
+          (set_own c.self.inside.table.now
           (shape_here c.self.inside.table.now c.self.inside.root.0 c.self.inside.work.slots c.self.inside.work.stack)
           (state_of c.self.inside.work.slots c.self.inside.work.stack (mode_of c.self.inside.mode) c.self.inside.calls)
-          (view c.args.value)
-          refl),
+          (view c.args.value)),
     )) c.requires.room
 
 pub invariant_of-self : goal.invariant_of-self
@@ -51,7 +49,7 @@ invariant_of-self g c =
     c.saturating_add-self-inside.ensures)
     (order_after c.self.invariant c.law_well.ensures.in_order no_hooks (puts state (view c.args.value))
     (Call.Set s (view c.args.value)) (fits_in c.self.inside.table.now s (view c.args.value) fitting, fitting)
-    (set_admitted s s state (view c.args.value) refl))
+    (set_own c.self.inside.table.now s state (view c.args.value)))
     (c.self.invariant.path ∙ sym (c.law_paths.ensures.put state (view c.args.value) c.self.invariant.leads))
 
 pub returns-clause-state : goal.returns-clause-state
@@ -73,11 +71,10 @@ returns-clause-tokens g c = record {
       omega (
         arith,
         put_keeps c.self.invariant c.self.view_is c.law_removed.ensures.step (view c.args.value) t
-            (set_admitted (shape_here c.self.inside.table.now c.self.inside.root.0 c.self.inside.work.slots
-            c.self.inside.work.stack)
+            (set_own c.self.inside.table.now
             (shape_here c.self.inside.table.now c.self.inside.root.0 c.self.inside.work.slots c.self.inside.work.stack)
             (state_of c.self.inside.work.slots c.self.inside.work.stack (mode_of c.self.inside.mode) c.self.inside.calls)
-            (view c.args.value) refl),
+            (view c.args.value)),
         c.set.ensures.released.each t,
       );
   none_falls = λ t. omega (arith, c.set.ensures.released.each t);

@@ -1,0 +1,172 @@
+-- As what a place is begun whose children may be entered.
+use Rattle.std.proofs.Common.{◌≡◌, ℕ, suc, ◌<◌, true, false, Bool, List, length, Option, Some, None, slice_get, nat_lt, refl, sym, ◌∙◌, ap, subst, arith}
+use Rattle.std.proofs.lemmas.Bool.{ltb-true}
+use Rattle.fr_shape.specs.declared.error.Operation.{Operation}
+use Rattle.fr_shape.specs.declared.shape.Def.{Def}
+use Rattle.fr_shape.specs.declared.shape.EnumDef.{EnumDef}
+use Rattle.fr_shape.specs.declared.shape.ShapeId.{ShapeId}
+use Rattle.fr_shape.specs.declared.shape.StructDef.{StructDef}
+use Rattle.fr_shape.specs.declared.shape.VariantDef.{VariantDef}
+use Rattle.fr_shape.specs.Look.{Table, def_of}
+use Rattle.fr_shape.specs.Val.{Val}
+use Rattle.fr_model.specs.Places.{count_children}
+use Rattle.fr_model.specs.Step.{field_refusal, opened, opened_as, variant_field_refusal}
+use Rattle.fr_model.specs.Tree.{Form, as_struct, as_array, as_variant, as_some, as_ok, as_err, as_pointer, form_at, form_of, selected, variant_of, Tree, hole, entered, whole, begun, Trees, count_trees}
+use Rattle.fr_model.specs.Variants.{fields_or_none, variant_fields}
+use Rattle.fr_model.specs.Well.{HasFieldsOf, IsFullAs, Suits}
+use Rattle.fr_store.specs.Moves.{TakesMany}
+
+pub struct_form : (struct : StructDef) (form : Form) (n : ℕ) → IsFullAs (Def.Struct struct) form n
+    → (form ≡ as_struct) × (n ≡ length struct.fields)
+struct_form struct as_struct n full = (refl, full)
+struct_form struct as_array n full = absurd full
+struct_form struct (as_variant k) n full = absurd full
+struct_form struct as_some n full = absurd full
+struct_form struct as_ok n full = absurd full
+struct_form struct as_err n full = absurd full
+struct_form struct as_pointer n full = absurd full
+
+pub array_form : (item : ShapeId) (m : ℕ) (form : Form) (n : ℕ) → IsFullAs (Def.Array item m) form n
+    → (form ≡ as_array) × (n ≡ m)
+array_form item m as_array n full = (refl, full)
+array_form item m as_struct n full = absurd full
+array_form item m (as_variant k) n full = absurd full
+array_form item m as_some n full = absurd full
+array_form item m as_ok n full = absurd full
+array_form item m as_err n full = absurd full
+array_form item m as_pointer n full = absurd full
+
+fields_of : (found : Option VariantDef) (n : ℕ) → HasFieldsOf found n → n ≡ length (fields_or_none found)
+fields_of (Some variant) n full = full
+fields_of None n full = absurd full
+
+-- an enum is begun as a variant
+pub record IsVariant (enumeration : EnumDef) (form : Form) (n : ℕ) : Type 0 where
+  pub variant : ℕ
+  pub form_is : form ≡ as_variant variant
+  pub full : HasFieldsOf (slice_get enumeration.variants variant) n
+
+pub enum_form : (enumeration : EnumDef) (form : Form) (n : ℕ) → IsFullAs (Def.Enum enumeration) form n
+    → IsVariant enumeration form n
+enum_form enumeration (as_variant k) n full = record { variant = k; form_is = refl; full = full }
+enum_form enumeration as_struct n full = absurd full
+enum_form enumeration as_array n full = absurd full
+enum_form enumeration as_some n full = absurd full
+enum_form enumeration as_ok n full = absurd full
+enum_form enumeration as_err n full = absurd full
+enum_form enumeration as_pointer n full = absurd full
+
+-- so many children as a variant has fields
+pub variant_count : (enumeration : EnumDef) (k n : ℕ) → IsFullAs (Def.Enum enumeration) (as_variant k) n
+    → n ≡ length (variant_fields (Def.Enum enumeration) k)
+variant_count enumeration k n full = fields_of (slice_get enumeration.variants k) n full
+
+pub variant_has : (def : Def) (k n : ℕ) → IsFullAs def (as_variant k) n → n ≡ length (variant_fields def k)
+variant_has (Def.Enum enumeration) k n full = variant_count enumeration k n full
+variant_has _ k n full = absurd full
+
+-- Where a child may be entered, at which this stands.
+
+-- nothing is a variant's but where one is selected
+unselected : (enumeration : EnumDef) (tree : Tree) (i : ℕ) → selected tree ≡ None
+    → field_refusal (Def.Enum enumeration) tree i ≡ None → ⊥
+unselected enumeration tree i none may =
+    let no : Some Operation.FieldOfUnselectedVariant ≡ None = rw none at may in
+    cc
+
+same_variant : (made : Form) (k : ℕ) → variant_of made ≡ Some k → made ≡ as_variant k
+same_variant (as_variant j) k e = let same : j ≡ k = cc in ap (λ (n : ℕ). as_variant n) same
+same_variant as_struct k e = cc
+same_variant as_array k e = cc
+same_variant as_some k e = cc
+same_variant as_ok k e = cc
+same_variant as_err k e = cc
+same_variant as_pointer k e = cc
+
+-- the place may be begun as any of its kind, with as many children
+pub takes_many : (def : Def) (tree : Tree) (form : Form) (n i : ℕ) → IsFullAs def form n → field_refusal def tree i ≡ None
+    → TakesMany form
+takes_many (Def.Struct struct) tree form n i full may = subst TakesMany (sym (struct_form struct form n full).0) tt
+takes_many (Def.Array item m) tree form n i full may = subst TakesMany (sym (array_form item m form n full).0) tt
+takes_many (Def.Enum enumeration) tree form n i full may =
+    subst TakesMany (sym (enum_form enumeration form n full).form_is) tt
+takes_many (Def.Slice item) tree form n i full may = cc
+takes_many Def.Opaque tree form n i full may = cc
+takes_many _ tree form n i full may = cc
+
+-- one that isn't begun yet is begun as its definition says
+not_begun : (def : Def) (tree : Tree) (form : Form) (n i : ℕ) → IsFullAs def form n → selected tree ≡ None
+    → field_refusal def tree i ≡ None → (form ≡ form_of def) × (n ≡ count_children def)
+not_begun (Def.Struct struct) tree form n i full none may = struct_form struct form n full
+not_begun (Def.Array item m) tree form n i full none may = array_form item m form n full
+not_begun (Def.Enum enumeration) tree form n i full none may = absurd (unselected enumeration tree i none may)
+not_begun (Def.Slice item) tree form n i full none may = cc
+not_begun Def.Opaque tree form n i full none may = cc
+not_begun _ tree form n i full none may = cc
+
+-- one that is begun stays so, with as many children
+begun_so : (def : Def) (made : Form) (ts : Trees) (form : Form) (n i : ℕ) → IsFullAs def form n
+    → ((k : ℕ) → form ≡ as_variant k → selected (begun made ts) ≡ Some k) → IsFullAs def made (count_trees ts)
+    → field_refusal def (begun made ts) i ≡ None → (form ≡ made) × (count_trees ts ≡ n)
+begun_so (Def.Struct struct) made ts form n i full variant was may =
+    let new = struct_form struct form n full in
+    let old = struct_form struct made (count_trees ts) was in
+    (new.0 ∙ sym old.0, old.1 ∙ sym new.1)
+begun_so (Def.Array item m) made ts form n i full variant was may =
+    let new = array_form item m form n full in
+    let old = array_form item m made (count_trees ts) was in
+    (new.0 ∙ sym old.0, old.1 ∙ sym new.1)
+begun_so (Def.Enum enumeration) made ts form n i full variant was may =
+    let new = enum_form enumeration form n full in
+    let same : made ≡ as_variant new.variant
+    = same_variant made new.variant (variant new.variant new.form_is) in
+    let old : HasFieldsOf (slice_get enumeration.variants new.variant) (count_trees ts)
+    = subst (λ (f : Form). IsFullAs (Def.Enum enumeration) f (count_trees ts)) same was in (
+      new.form_is ∙ sym same,
+      fields_of (slice_get enumeration.variants new.variant) (count_trees ts) old
+          ∙ sym (fields_of (slice_get enumeration.variants new.variant) n new.full),
+    )
+begun_so (Def.Slice item) made ts form n i full variant was may = cc
+begun_so Def.Opaque made ts form n i full variant was may = cc
+begun_so _ made ts form n i full variant was may = cc
+
+-- what is begun there has this form, and as many children
+pub begun_as : (def : Def) (made : Form) (ts : Trees) (form : Form) (n i : ℕ) → IsFullAs def form n
+    → ((k : ℕ) → form ≡ as_variant k → selected (begun made ts) ≡ Some k) → IsFullAs def made (count_trees ts)
+    → field_refusal def (begun made ts) i ≡ None → (form ≡ made) × (count_trees ts ≡ n)
+begun_as def made ts form n i full variant was may = begun_so def made ts form n i full variant was may
+
+-- the place opened so is opened as its definition says
+pub opened_same : (def : Def) (tree : Tree) (form : Form) (n i : ℕ) → IsFullAs def form n → field_refusal def tree i ≡ None
+    → opened_as form n tree ≡ opened def tree
+opened_same def hole form n i full may = refl
+opened_same def (begun made ts) form n i full may = refl
+opened_same def entered form n i full may =
+    let so = not_begun def entered form n i full refl may in
+    ap (λ (f : Form). opened_as f n entered) so.0 ∙ ap (λ (c : ℕ). opened_as (form_of def) c entered) so.1
+opened_same def (whole v) form n i full may =
+    let so = not_begun def (whole v) form n i full refl may in
+    ap (λ (f : Form). opened_as f n (whole v)) so.0 ∙ ap (λ (c : ℕ). opened_as (form_of def) c (whole v)) so.1
+
+-- a begun place has all its children
+abbrev pub IsFullTree : Def → Tree → Type 0
+IsFullTree def hole = Unit {0}
+IsFullTree def entered = Unit {0}
+IsFullTree def (whole v) = Unit {0}
+IsFullTree def (begun made ts) = IsFullAs def made (count_trees ts)
+
+-- one that suits its shape is begun with all its children
+pub full_tree : (table : Table) (s : ℕ) (tree : Tree) → Suits table s tree → IsFullTree (def_of table s) tree
+full_tree table s hole suits = tt
+full_tree table s entered suits = tt
+full_tree table s (whole v) suits = tt
+full_tree table s (begun made ts) suits = suits.0.0
+
+-- and its form is the one by which its children are told
+pub form_is_at : (def : Def) (tree : Tree) (form : Form) (n i : ℕ) → IsFullAs def form n
+    → ((k : ℕ) → form ≡ as_variant k → selected tree ≡ Some k) → IsFullTree def tree → field_refusal def tree i ≡ None
+    → form ≡ form_at def tree
+form_is_at def hole form n i full variant was may = (not_begun def hole form n i full refl may).0
+form_is_at def entered form n i full variant was may = (not_begun def entered form n i full refl may).0
+form_is_at def (whole v) form n i full variant was may = (not_begun def (whole v) form n i full refl may).0
+form_is_at def (begun made ts) form n i full variant was may = (begun_so def made ts form n i full variant was may).0

@@ -1,0 +1,239 @@
+-- What is kept of a place where it is begun, and what it is then.
+use Rattle.std.proofs.Common.{◌≡◌, ℕ, zero, suc, ◌<◌, ◌≤◌, Bool, true, false, length, nat_eq, Option, Some, None, Result, Ok, Err, OnOk, is_some, IsSome, unwrap_or, refl, sym, ◌∙◌, ap, subst, arith}
+use Rattle.std.proofs.lemmas.Bool.{eqb-true}
+use Rattle.fr_shape.specs.declared.shape.Def.{Def}
+use Rattle.fr_shape.specs.Look.{Table, def_of}
+use Rattle.fr_shape.specs.Val.{Val}
+use Rattle.fr_model.specs.Contents.{around, content_anew, content_of, is_entered_in_place, kept_in, kept_option, kept_so, variant_anew}
+use Rattle.fr_model.specs.Step.{enter}
+use Rattle.fr_model.specs.Tree.{Form, as_struct, as_array, as_variant, as_some, as_ok, as_err, as_pointer, form_number, same_form, child_as, fresh, Tree, hole, entered, whole, begun, Trees, no_trees, branch, change_child, count_trees, holes, Mode, strict, deferred}
+use Rattle.fr_model.specs.Variants.{variant_fields}
+use Rattle.fr_model.specs.Well.{HasContent, HasSide, HasPointee, IsFullAs, IsBegunRightly, IsContent, PointsTo, Suits}
+use Rattle.fr_frame.specs.Bodies.{is_around}
+use Rattle.fr_frame.specs.Kids.{MayHave}
+use Rattle.fr_store.specs.Moves.{around_content, around_some, HasChild}
+use Rattle.fr_partial.specs.Beginnings.{kept_by, begun_by, beginning_so, beginning_in, beginning_of_some, IsWholeSome, MayBegin}
+use Rattle.fr_partial.specs.declared.beginning.Beginning.{Beginning}
+use Rattle.fr_partial.proofs.FormLaws.{IsFullTree}
+
+-- One number is one form.
+
+number_form : (one other : Form) → form_number one ≡ form_number other → one ≡ other
+number_form as_struct as_struct e = refl
+number_form as_array as_array e = refl
+number_form as_some as_some e = refl
+number_form as_ok as_ok e = refl
+number_form as_err as_err e = refl
+number_form as_pointer as_pointer e = refl
+number_form (as_variant k) (as_variant j) e = let same : k ≡ j = omega arith in ap (λ (n : ℕ). as_variant n) same
+number_form _ _ e = absurd (omega arith)
+
+pub same_is : (one other : Form) → same_form one other ≡ true → one ≡ other
+same_is one other h = number_form one other (eqb-true (form_number one) (form_number other) h)
+
+-- What is kept.
+
+pub kept_so_is : (form : Form) (tree : Tree) → kept_by (beginning_so form tree) tree ≡ kept_so form tree
+kept_so_is form hole = refl
+kept_so_is form entered = refl
+kept_so_is form (whole v) = refl
+kept_so_is form (begun made ts) = go (same_form made form) refl
+  where
+    go : (b : Bool) → same_form made form ≡ b → kept_by (beginning_so form (begun made ts)) (begun made ts)
+        ≡ kept_so form (begun made ts)
+    go true h = rw h refl
+    go false h = rw h refl
+
+pub kept_in_is : (mode : Mode) (form : Form) (tree : Tree) → kept_by (beginning_in mode form tree) tree ≡ kept_in mode form tree
+kept_in_is strict form tree = refl
+kept_in_is (deferred start) form tree = kept_so_is form tree
+
+pub kept_some_is : (mode : Mode) (content : Def) (tree : Tree)
+    → kept_by (beginning_of_some mode content tree) tree ≡ kept_option mode content tree
+kept_some_is mode content hole = refl
+kept_some_is mode content entered = refl
+kept_some_is mode content (whole v) = go (is_entered_in_place mode content) (content_of v) refl refl
+  where
+    go : (b : Bool) (held : Option Val) → is_entered_in_place mode content ≡ b → content_of v ≡ held
+        → kept_by (beginning_of_some mode content (whole v)) (whole v) ≡ kept_option mode content (whole v)
+    go true (Some w) h e = rw (h, e) (ap (λ (held : Option Val). Some (around_content held (whole v))) e)
+    go true None h e = rw (h, e) refl
+    go false held h e = rw h refl
+kept_some_is mode content (begun made ts) = kept_in_is mode as_some (begun made ts)
+
+-- How it may be begun.
+
+one_content : (def : Def) (n : ℕ) → HasContent def n → n ≡ 1
+one_content (Def.Option t) n full = full
+one_content _ n full = absurd full
+
+one_side : (def : Def) (n : ℕ) → HasSide def n → n ≡ 1
+one_side (Def.Result t e) n full = full
+one_side _ n full = absurd full
+
+one_pointee : (def : Def) (n : ℕ) → HasPointee def n → n ≡ 1
+one_pointee (Def.Pointer pointer) n full = go pointer.pointee full
+  where
+    go : (pointee : _) → PointsTo pointee n → n ≡ 1
+    go (Some s) full = full
+    go None full = absurd full
+one_pointee _ n full = absurd full
+
+-- a place with a content has that alone
+pub one_child : (form : Form) → is_around form ≡ true → (def : Def) (n : ℕ) → IsFullAs def form n → n ≡ 1
+one_child as_some h def n full = one_content def n full
+one_child as_ok h def n full = one_side def n full
+one_child as_err h def n full = one_side def n full
+one_child as_pointer h def n full = one_pointee def n full
+one_child as_struct h def n full = cc
+one_child as_array h def n full = cc
+one_child (as_variant k) h def n full = cc
+
+pub may_have_one : (form : Form) → MayHave form 1
+may_have_one as_some = omega arith
+may_have_one as_ok = omega arith
+may_have_one as_err = omega arith
+may_have_one as_pointer = omega arith
+may_have_one as_struct = tt
+may_have_one as_array = tt
+may_have_one (as_variant k) = tt
+
+pub may_begin_so : (form : Form) → is_around form ≡ true → (def : Def) (tree : Tree) → IsFullTree def tree
+    → MayBegin (beginning_so form tree) form tree
+may_begin_so form h def hole full = tt
+may_begin_so form h def entered full = tt
+may_begin_so form h def (whole v) full = tt
+may_begin_so form h def (begun made ts) full = go (same_form made form) refl
+  where
+    go : (b : Bool) → same_form made form ≡ b → MayBegin (beginning_so form (begun made ts)) form (begun made ts)
+    go false e = rw e tt
+    go true e =
+        let same : made ≡ form = same_is made form e in
+        let one : count_trees ts ≡ 1
+        = one_child form h def (count_trees ts) (subst (λ (f : Form). IsFullAs def f (count_trees ts)) same full) in
+        rw e (same, omega (arith, one))
+
+pub may_begin_in : (mode : Mode) (form : Form) → is_around form ≡ true → (def : Def) (tree : Tree) → IsFullTree def tree
+    → MayBegin (beginning_in mode form tree) form tree
+may_begin_in strict form h def tree full = tt
+may_begin_in (deferred start) form h def tree full = may_begin_so form h def tree full
+
+pub may_begin_some : (mode : Mode) (content def : Def) (tree : Tree) → IsFullTree def tree
+    → MayBegin (beginning_of_some mode content tree) as_some tree
+may_begin_some mode content def hole full = tt
+may_begin_some mode content def entered full = tt
+may_begin_some mode content def (whole v) full = go (is_entered_in_place mode content) (content_of v) refl refl
+  where
+    go : (b : Bool) (held : Option Val) → is_entered_in_place mode content ≡ b → content_of v ≡ held
+        → MayBegin (beginning_of_some mode content (whole v)) as_some (whole v)
+    go true (Some w) h e = rw (h, e) (ap is_some e, refl)
+    go true None h e = rw (h, e) tt
+    go false held h e = rw h tt
+may_begin_some mode content def (begun made ts) full = may_begin_in mode as_some refl def (begun made ts) full
+
+-- nothing is begun in place but a whole `Some`
+pub never_in_place : (form : Form) (tree : Tree) → beginning_so form tree ≡ Beginning.InPlace → ⊥
+never_in_place form hole e = cc
+never_in_place form entered e = cc
+never_in_place form (whole v) e = cc
+never_in_place form (begun made ts) e = go (same_form made form) refl
+  where
+    go : (b : Bool) → same_form made form ≡ b → ⊥
+    go true h = let no : Beginning.AsItIs ≡ Beginning.InPlace = rw h at e in cc
+    go false h = let no : Beginning.Anew ≡ Beginning.InPlace = rw h at e in cc
+
+pub whole_some : (beginning : Beginning) (form : Form) (tree : Tree) → MayBegin beginning form tree
+    → beginning ≡ Beginning.InPlace → IsWholeSome tree
+whole_some Beginning.AsItIs form tree may e = cc
+whole_some Beginning.InPlace form tree may e = may.0
+whole_some Beginning.Anew form tree may e = cc
+
+-- What it is then.
+
+-- one that is whole holds its content
+held_there : (v : Val) → IsSome (content_of v) → (w : Val) × (content_of v ≡ Some w)
+held_there v some = go (content_of v) refl some
+  where
+    go : (held : Option Val) → content_of v ≡ held → IsSome held → (w : Val) × (content_of v ≡ Some w)
+    go (Some w) e h = (w, e)
+    go None e h = cc
+
+pub has_content : (beginning : Beginning) (form : Form) (tree : Tree) → MayBegin beginning form tree
+    → HasChild form 0 (begun_by beginning form 1 tree)
+has_content Beginning.AsItIs form tree may = may
+has_content Beginning.InPlace form (whole v) may =
+    let held = held_there v may.0 in
+    rw held.1 (sym may.1, omega arith)
+has_content Beginning.InPlace form hole may = absurd may.0
+has_content Beginning.InPlace form entered may = absurd may.0
+has_content Beginning.InPlace form (begun made ts) may = absurd may.0
+has_content Beginning.Anew form tree may = (refl, omega arith)
+
+-- the content of a place that is rightly begun is no hole
+content_stays : (table : Table) (s : ℕ) (form : Form) → is_around form ≡ true → (t : Tree) (ts : Trees)
+    → IsBegunRightly table s form (branch t ts) → (def : Def) → enter def t ≡ t
+content_stays table s form h t ts right def = go t (touched form h right)
+  where
+    touched : (form : Form) → is_around form ≡ true → IsBegunRightly table s form (branch t ts) → IsContent (branch t ts)
+    touched as_some h right = right
+    touched as_ok h right = right
+    touched as_err h right = right
+    touched as_pointer h right = right.0
+    touched as_struct h right = cc
+    touched as_array h right = cc
+    touched (as_variant k) h right = cc
+
+    go : (t : Tree) → IsContent (branch t ts) → enter def t ≡ t
+    go hole touch = absurd touch
+    go entered touch = refl
+    go (whole v) touch = refl
+    go (begun made us) touch = refl
+
+-- begun so, and the content entered
+pub content_so : (table : Table) (s : ℕ) (beginning : Beginning) (form : Form) → is_around form ≡ true → (tree : Tree)
+    → MayBegin beginning form tree → Suits table s tree → (def : Def) → def ≡ def_of table (child_as table s form 0)
+    → change_child 0 (enter def) (begun_by beginning form 1 tree)
+    ≡ unwrap_or (kept_by beginning tree) (content_anew table s form)
+content_so table s Beginning.Anew form h tree may suits def is =
+    ap (λ (d : Def). around form (fresh d)) is
+content_so table s Beginning.InPlace form h (whole v) may suits def is =
+    let held = held_there v may.0 in
+    rw held.1 refl
+content_so table s Beginning.InPlace form h hole may suits def is = absurd may.0
+content_so table s Beginning.InPlace form h entered may suits def is = absurd may.0
+content_so table s Beginning.InPlace form h (begun made ts) may suits def is = absurd may.0
+content_so table s Beginning.AsItIs form h (begun made (branch t ts)) may suits def is =
+    ap (λ (x : Tree). begun made (branch x ts))
+    (content_stays table s form h t ts
+    (subst (λ (f : Form). IsBegunRightly table s f (branch t ts)) may.0 suits.2) def)
+content_so table s Beginning.AsItIs form h (begun made no_trees) may suits def is = absurd (omega (arith, may.1))
+content_so table s Beginning.AsItIs form h hole may suits def is = absurd may
+content_so table s Beginning.AsItIs form h entered may suits def is = absurd may
+content_so table s Beginning.AsItIs form h (whole v) may suits def is = absurd may
+
+-- begun as a variant
+pub variant_so : (def : Def) (k count : ℕ) (tree : Tree) → count ≡ length (variant_fields def k)
+    → begun_by (beginning_so (as_variant k) tree) (as_variant k) count tree
+    ≡ unwrap_or (kept_so (as_variant k) tree) (variant_anew def k)
+variant_so def k count tree counts = by tree
+  where
+    anew : begun (as_variant k) (holes count) ≡ variant_anew def k
+    anew = ap (λ (n : ℕ). begun (as_variant k) (holes n)) counts
+
+    by : (tree : Tree) → begun_by (beginning_so (as_variant k) tree) (as_variant k) count tree
+        ≡ unwrap_or (kept_so (as_variant k) tree) (variant_anew def k)
+    by hole = anew
+    by entered = anew
+    by (whole v) = anew
+    by (begun made ts) = go (same_form made (as_variant k)) refl
+      where
+        go : (b : Bool) → same_form made (as_variant k) ≡ b
+            → begun_by (beginning_so (as_variant k) (begun made ts)) (as_variant k) count (begun made ts)
+            ≡ unwrap_or (kept_so (as_variant k) (begun made ts)) (variant_anew def k)
+        go true h = rw h refl
+        go false h = rw h anew
+
+-- what holds where there is an answer
+pub on_ok : {A E : Type 0} {P Q : Type 0} → (result : Result A E) → (P → Q) → OnOk result P → OnOk result Q
+on_ok (Ok done) then holds = then holds
+on_ok (Err refused) then holds = tt

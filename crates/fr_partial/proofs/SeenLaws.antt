@@ -1,0 +1,68 @@
+-- What a builder sees of the place at which it works, as its table and its slots tell it.
+use Rattle.std.proofs.Common.{◌≡◌, ℕ, List, refl, sym, ◌∙◌, ap}
+use Rattle.fr_shape.specs.declared.shape.Def.{Def}
+use Rattle.fr_shape.specs.declared.shape.ShapeId.{ShapeId}
+use Rattle.fr_shape.specs.Look.{Table, def_of}
+use Rattle.fr_model.specs.Step.{field_refusal, named_refusal}
+use Rattle.fr_model.specs.Tree.{Form, Mode, selected, Tree, cursor_tree}
+use Rattle.fr_frame.specs.declared.places.Slot.{Slot}
+use Rattle.fr_store.specs.Moves.{tree_here}
+use Rattle.fr_partial.specs.Beginnings.{beginning_so, beginning_in, beginning_of_some}
+use Rattle.fr_partial.specs.Builder.{Builder, here}
+use Rattle.fr_partial.specs.Looks.{bare, LooksLike}
+use Rattle.fr_partial.specs.Underway.{shape_here}
+use Rattle.fr_partial.proofs.LookLaws.{refusal_alike, selected_alike, named_alike, so_alike, in_alike, some_alike}
+use Rattle.fr_partial.proofs.StateLaws.{builder_of}
+
+-- its table, the shape of the place, and how the place looks
+pub record Sees {H : Type 0} (builder : Builder H) (table : Table) (shape : ShapeId) (seen : Tree) : Type 0 where
+  pub table_is : table ≡ builder.shapes
+  pub shape_is : shape.0 ≡ here builder
+  pub looks : LooksLike seen (cursor_tree builder.state)
+
+pub sees : {H : Type 0} {h : H} {table : Table} {root : ℕ} (slots : List Slot) (stack : List ℕ) {mode : Mode} {calls : ℕ}
+    {builder : Builder H} → builder_of h table root slots stack mode calls ≡ builder → (shape : ShapeId) (seen : Tree)
+    → shape.0 ≡ shape_here table root slots stack → LooksLike seen (tree_here slots stack) → Sees builder table shape seen
+sees {H} slots stack is shape seen same looks = record {
+  table_is = ap (λ (b : Builder H). b.shapes) is;
+  shape_is = same ∙ ap (λ (b : Builder H). here b) is;
+  looks = looks ∙ ap (λ (b : Builder H). bare (cursor_tree b.state)) is;
+}
+
+-- the shape's number is the shape
+pub shape_of_number : {H : Type 0} (builder : Builder H) (shape : ShapeId) → shape.0 ≡ here builder
+    → ◌≡◌ {A = ShapeId} (record { 0 = here builder }) shape
+shape_of_number builder shape e = ap (λ (n : ℕ). record { 0 = n }) (sym e)
+
+module _ {H : Type 0} {builder : Builder H} {table : Table} {shape : ShapeId} {seen : Tree}
+    (at : Sees builder table shape seen) where
+  pub shape_seen : ◌≡◌ {A = ShapeId} (record { 0 = here builder }) shape
+  shape_seen = shape_of_number builder shape at.shape_is
+
+  pub def_seen : def_of table shape.0 ≡ def_of builder.shapes (here builder)
+  def_seen = ap (λ (t : Table). def_of t shape.0) at.table_is ∙ ap (def_of builder.shapes) at.shape_is
+
+  pub refusal_seen : (i : ℕ) → field_refusal (def_of table shape.0) seen i
+      ≡ field_refusal (def_of builder.shapes (here builder)) (cursor_tree builder.state) i
+  refusal_seen i =
+      refusal_alike seen (cursor_tree builder.state) at.looks (def_of table shape.0) i
+      ∙ ap (λ (def : Def). field_refusal def (cursor_tree builder.state) i) def_seen
+
+  pub named_seen : named_refusal (def_of table shape.0) seen
+      ≡ named_refusal (def_of builder.shapes (here builder)) (cursor_tree builder.state)
+  named_seen =
+      named_alike seen (cursor_tree builder.state) at.looks (def_of table shape.0)
+      ∙ ap (λ (def : Def). named_refusal def (cursor_tree builder.state)) def_seen
+
+  pub selected_seen : selected seen ≡ selected (cursor_tree builder.state)
+  selected_seen = selected_alike seen (cursor_tree builder.state) at.looks
+
+  pub so_seen : (form : Form) → beginning_so form seen ≡ beginning_so form (cursor_tree builder.state)
+  so_seen form = so_alike seen (cursor_tree builder.state) at.looks form
+
+  pub in_seen : (mode : Mode) (form : Form) → beginning_in mode form seen ≡ beginning_in mode form (cursor_tree builder.state)
+  in_seen mode form = in_alike seen (cursor_tree builder.state) at.looks mode form
+
+  pub some_seen : (mode : Mode) (content : Def)
+      → beginning_of_some mode content seen ≡ beginning_of_some mode content (cursor_tree builder.state)
+  some_seen mode content = some_alike seen (cursor_tree builder.state) at.looks mode content

@@ -1,0 +1,91 @@
+use Rattle.std.proofs.Common.{◌≡◌, ℕ, List, [], ◌∷◌, ◌++◌, Ok, Option, refl, sym, ap, ◌∙◌, subst}
+use Rattle.fr_shape.specs.Hooks.{no_hooks}
+use Rattle.fr_shape.specs.Look.{def_of}
+use Rattle.fr_shape.specs.Released.{Conserved, Room, RoseBy}
+use Rattle.fr_path.specs.declared.path_steps.PathStep.{PathStep}
+use Rattle.fr_model.specs.Paths.{step_as, path_of}
+use Rattle.fr_model.specs.Step.{enters_content}
+use Rattle.fr_model.specs.Tree.{Tree, State, cursor_tree, tree_occurs}
+use Rattle.fr_model.specs.Well.{IsFullAs, IsInOrder}
+use Rattle.fr_plan.specs.TypePlan.{Plan}
+use Rattle.fr_frame.specs.Heap.{as_form}
+use Rattle.fr_store.specs.Moves.{tree_in_slots}
+use Rattle.fr_store.specs.Stands.{IsOpen}
+use Rattle.fr_partial.specs.Beginnings.{kept_by, MayBegin}
+use Rattle.fr_partial.specs.Builder.{Builder, here, holds}
+use Rattle.fr_partial.specs.HeldPlan.{plan_in}
+use Rattle.fr_partial.specs.Meant.{IsMeant}
+use Rattle.fr_partial.specs.Modes.{mode_of}
+use Rattle.fr_partial.specs.Underway.{shape_here, state_of, IsUnderway}
+use Rattle.fr_partial.proofs.ReleaseLaws.{held_kept, released_kept, room_kept, room_slots}
+use Rattle.fr_partial.proofs.RemovedLaws.{all_released}
+use Rattle.fr_partial.proofs.StateLaws.{builder_of, state_is, stores_after, underway_after, order_after}
+use Rattle.fr_partial.proofs.partial.Partial.enter_content.Goals as goal
+
+pub begin_content-requires-clause-room : goal.begin_content-requires-clause-room
+begin_content-requires-clause-room g c =
+    room_slots c.self.invariant.ready.shown c.args.ledger.now
+    (subst (λ (b : Builder _). Room (holds b) c.args.ledger.now) (sym c.self.view_is) c.requires.room)
+
+pub release-requires : goal.release-requires
+release-requires g c = record {
+  room =
+      room_kept c.begin_content.new.slots c.self.invariant.ready.shown c.begin_content.ensures.tokens
+      (subst (λ (b : Builder _). Room (holds b) c.args.ledger.now) (sym c.self.view_is) c.requires.room);
+}
+
+pub returns-in-Err-clause-tokens : goal.returns-in-Err-clause-tokens
+returns-in-Err-clause-tokens g c =
+    all_released (holds c.args.self) c.args.ledger.now c.release.new.ledger
+    (subst (λ (b : Builder _). RoseBy (holds b) c.args.ledger.now c.release.new.ledger) c.self.view_is
+    (released_kept c.begin_content.new.slots c.self.invariant.ready.shown c.begin_content.ensures.tokens c.release.new.ledger
+    c.release.ensures.released))
+
+pub invariant_of-self-in-Ok-begin_content : goal.invariant_of-self-in-Ok-begin_content
+invariant_of-self-in-Ok-begin_content g c =
+    let s : ℕ = shape_here c.self.inside.table.now c.self.inside.root.0 c.self.inside.work.slots c.self.inside.work.stack in
+    let state : State = state_of c.self.inside.work.slots c.self.inside.work.stack
+    (mode_of c.self.inside.mode) c.self.inside.calls in
+    let next : State = enters_content c.self.inside.table.now s state (as_form c.args.form)
+    (kept_by c.args.beginning (cursor_tree state)) in
+    let meant = subst (λ (b : Builder _). IsMeant b (enters_content b.shapes (here b) b.state (as_form c.args.form)
+    (kept_by c.args.beginning (cursor_tree b.state))) (path_of b.state ++ step_as (as_form c.args.form) 0 ∷ []))
+    (sym c.self.view_is) c.requires.meant in
+    underway_after c.self.invariant _ c.begin_content.new.slots c.begin_content.new.stack c.begin_content.new.store
+    (mode_of c.self.inside.mode) c.saturating_add.result next
+    (subst (λ (p : Plan). IsOpen p c.begin_content.new.slots c.begin_content.new.stack) c.core-plan.ensures
+    c.in-Ok-begin_content.ensures.entered.open_still)
+    c.in-Ok-begin_content.ensures.stored
+    (stores_after (mode_of c.self.inside.mode) c.self.inside.work.store c.begin_content.new.store c.self.inside.work.slots
+    c.begin_content.new.slots c.self.invariant.stores c.self.invariant.kept c.in-Ok-begin_content.ensures.stored
+    c.in-Ok-begin_content.ensures.marks)
+    (state_is _ c.begin_content.new.slots c.begin_content.new.stack _ _ (mode_of c.self.inside.mode) c.saturating_add.result _
+    c.in-Ok-begin_content.ensures.entered c.saturating_add.ensures)
+    (order_after c.self.invariant c.law_well.ensures.in_order no_hooks next meant.call meant.fitting meant.meant)
+    (c.in-Ok.ensures.appended
+    ∙ ap (λ (step : PathStep). c.self.inside.path ++ step ∷ []) c.step.ensures.step
+    ∙ ap (λ (steps : List PathStep). steps ++ step_as (as_form c.args.form) 0 ∷ []) c.self.invariant.path
+    ∙ sym meant.path_is)
+
+pub returns-in-Ok-begin_content-clause-step : goal.returns-in-Ok-begin_content-clause-step
+returns-in-Ok-begin_content-clause-step g c = (
+  ap (λ (b : Builder _). Ok (enters_content b.shapes (here b) b.state (as_form c.args.form)
+      (kept_by c.args.beginning (cursor_tree b.state)))) (sym c.self.view_is)
+      ∙ ap (λ (s : State). Ok s)
+      (sym
+      (state_is _ c.begin_content.new.slots c.begin_content.new.stack _ _ (mode_of c.self.inside.mode) c.saturating_add.result _
+      c.in-Ok-begin_content.ensures.entered c.saturating_add.ensures)),
+  ap (λ (b : Builder _). b.shapes) c.self.view_is,
+  ap (λ (b : Builder _). b.root) c.self.view_is,
+  ap (λ (b : Builder _). b.hooks) c.self.view_is,
+)
+
+pub returns-in-Ok-begin_content-clause-tokens : goal.returns-in-Ok-begin_content-clause-tokens
+returns-in-Ok-begin_content-clause-tokens g c =
+    subst
+    (λ (b : Builder _). Conserved (holds b) c.args.ledger.now
+    (tree_occurs (tree_in_slots c.begin_content.new.slots c.begin_content.new.stack)) c.begin_content.new.ledger)
+    c.self.view_is
+    (held_kept c.begin_content.new.slots c.self.invariant.ready.shown c.begin_content.ensures.tokens c.begin_content.new.stack
+    (subst (λ (p : Plan). IsOpen p c.begin_content.new.slots c.begin_content.new.stack) c.core-plan.ensures
+    c.in-Ok-begin_content.ensures.entered.open_still))
