@@ -2,5 +2,6 @@ pub mod Loop
 pub mod Making
 pub mod Pairs
 pub mod Putting
+pub mod Sized
 pub mod Slots
 pub mod Tokens

@@ -14,7 +14,7 @@ use Rattle.fr_shape.specs.Lists.{is_nil}
 use Rattle.fr_shape.specs.Look.{Table, def_of, field_in}
 use Rattle.fr_shape.specs.Served.{IsServed, serves, serves_def, serves_field}
 use Rattle.fr_shape.specs.Val.{Val, Vals, product, no_vals}
-use Rattle.fr_model.specs.Complete.{missing_field, missing_value, unless_there, failing_field, failing_child, unless_failing, first_failing, valid_child, complete, complete_all, lack_among, lack_of_holes, lack_by, made_by}
+use Rattle.fr_model.specs.Complete.{missing_field, missing_value, unless_there, failing_field, failing_child, unless_failing, first_failing, valid_child, complete, complete_all, lack_among, lack_of_holes, lack_by, made, made_by}
 use Rattle.fr_model.specs.Places.{strict_column, child_count, one_more, product_of, each_child, fill_at}
 use Rattle.fr_model.specs.Step.{or_missing, cause, build, built}
 use Rattle.fr_model.specs.Tree.{as_struct, Tree, entered, whole, branch}
@@ -77,9 +77,9 @@ none_fails : (table : Table) (root : ℕ) (struct : StructDef) (i : ℕ) (value 
 none_fails table root struct i value served is = go (field_in (def_of table root) None i) (rw is refl) value
   where
     go : (found : Option Field) → slice_get struct.fields i ≡ found → (value : Option Val)
-        → failing_field no_hooks table root i found value ≡ None
+        → failing_field no_hooks table root None i found value ≡ None
     go (Some field) there (Some v) =
-        ap (λ (validators : List ValidatorDef). first_failing no_hooks (def_of table field.shape.0) root i validators v)
+        ap (λ (validators : List ValidatorDef). first_failing no_hooks (def_of table field.shape.0) root None i validators v)
         (no_validators struct.fields i field (all_served table root struct served is) there)
     go (Some field) there None = refl
     go None there value = refl
@@ -109,7 +109,7 @@ fills_tell : (table : Table) (root : ℕ) (struct : StructDef) (count i : ℕ) �
 fills_tell table root struct zero i served is = refl
 fills_tell table root struct (suc count) i served is =
     one_child (fill_at strict_column table root i) (failing_child no_hooks table root as_struct i (fill_at strict_column table root i))
-    (missing_field root i)
+    (missing_field root None i)
     (each_child (λ k. valid_child no_hooks table root as_struct k (fill_at strict_column table root k)) count (suc i))
     (lack_of_holes no_hooks table root as_struct count (suc i))
     (fields_from root (value_of_field table root []) count (suc i))
@@ -133,17 +133,17 @@ slots_tell table root struct given_to (suc count) i served is =
         → Tells
         (complete_all strict_column no_hooks table root as_struct i (branch (slot_of value) (slots given_to count (suc i))))
         (lack_among no_hooks table root as_struct i (branch (slot_of value) (slots given_to count (suc i))))
-        (one_more_field (missing_field root i) (option_or value (fill_at strict_column table root i))
+        (one_more_field (missing_field root None i) (option_or value (fill_at strict_column table root i))
         (fields_from root (λ k. option_or (given_to k) (fill_at strict_column table root k)) count (suc i)))
     go (Some v) rest =
-        one_child (Some v) (failing_child no_hooks table root as_struct i (Some v)) (missing_field root i)
+        one_child (Some v) (failing_child no_hooks table root as_struct i (Some v)) (missing_field root None i)
         (complete_all strict_column no_hooks table root as_struct (suc i) (slots given_to count (suc i)))
         (lack_among no_hooks table root as_struct (suc i) (slots given_to count (suc i)))
         (fields_from root (λ k. option_or (given_to k) (fill_at strict_column table root k)) count (suc i))
         (none_fails table root struct i (Some v) served is) rest
     go None rest =
         one_child (fill_at strict_column table root i) (failing_child no_hooks table root as_struct i (fill_at strict_column table root i))
-        (missing_field root i)
+        (missing_field root None i)
         (complete_all strict_column no_hooks table root as_struct (suc i) (slots given_to count (suc i)))
         (lack_among no_hooks table root as_struct (suc i) (slots given_to count (suc i)))
         (fields_from root (λ k. option_or (given_to k) (fill_at strict_column table root k)) count (suc i))
@@ -165,6 +165,12 @@ product_told : (root : ℕ) (values : Option Vals) (lacking : Option ReflectErro
     → value_or (product_of values) (or_missing root lacking) ≡ product_of_fields meant
 product_told root values lacking (Ok vs) told = rw told refl
 product_told root values lacking (Err kind) told = rw (told.0, told.1) refl
+
+begun_told : (root : ℕ) (values : Option Vals) (lacking : Option ReflectErrorKind) (meant : Result Vals ReflectErrorKind)
+    → Tells values lacking meant
+    → value_or (made as_struct values) (or_missing root lacking) ≡ product_of_fields meant
+begun_told root values lacking (Ok vs) told = rw told refl
+begun_told root values lacking (Err kind) told = rw (told.0, told.1) refl
 
 entered_told : (root : ℕ) (struct : StructDef) (def : Def) (preset : Option Val) (values : Option Vals)
     (lacking : Option ReflectErrorKind) (meant : Result Vals ReflectErrorKind) → def ≡ Def.Struct struct
@@ -195,7 +201,7 @@ makes table root struct [] calls served is = go (is_empty_struct (def_of table r
 makes table root struct (pair ∷ pairs) calls served is =
     built_is table root (tree_of table root (pair ∷ pairs))
     (complete strict_column no_hooks table root (tree_of table root (pair ∷ pairs)))
-    ∙ product_told root
+    ∙ begun_told root
     (complete_all strict_column no_hooks table root as_struct 0
     (slots (last_given (def_of table root) (pair ∷ pairs)) (child_count table root) 0))
     (lack_among no_hooks table root as_struct 0

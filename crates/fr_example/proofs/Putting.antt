@@ -6,7 +6,9 @@ use Rattle.fr_shape.specs.declared.error.ReflectErrorKind.{ReflectErrorKind}
 use Rattle.fr_shape.specs.declared.shape.Def.{Def}
 use Rattle.fr_shape.specs.declared.shape.Field.{Field}
 use Rattle.fr_shape.specs.declared.shape.StructDef.{StructDef}
+use Rattle.fr_shape.specs.Checked.{IsChecked}
 use Rattle.fr_shape.specs.Hooks.{no_hooks}
+use Rattle.fr_shape.specs.Fills.{is_empty_struct}
 use Rattle.fr_shape.specs.Lists.{is_nil}
 use Rattle.fr_shape.specs.Look.{Table, def_of}
 use Rattle.fr_shape.specs.Named.{field_named}
@@ -14,12 +16,14 @@ use Rattle.fr_shape.specs.Val.{Val, text, product, no_vals}
 use Rattle.fr_model.specs.Commands.{Call}
 use Rattle.fr_model.specs.Complete.{complete}
 use Rattle.fr_model.specs.Places.{strict_column, child_count, child_shape}
-use Rattle.fr_model.specs.Step.{unless_refused, opened_as, opened, enter, enters_named, puts, ended, step}
-use Rattle.fr_model.specs.Tree.{as_struct, Tree, entered, whole, begun, Trees, change_nth, change_child, fresh, strict, State, one_more_call}
+use Rattle.fr_model.specs.Step.{unless_refused, at_shape, named_refusal, opened_as, opened, enter, enters_named, begins_named, takes_shape, puts, ended, step}
+use Rattle.fr_model.specs.Tree.{Form, as_struct, form_at, selected, Tree, entered, whole, begun, Trees, child_as, change_nth, change_child, fresh, strict, State, one_more_call}
+use Rattle.fr_model.specs.Variants.{field_found}
 use Rattle.fr_example.specs.declared.record.Pair.{Pair}
 use Rattle.fr_example.specs.Meant.{refusal_at, refusal_of, is_found, given, last_given}
 use Rattle.fr_example.specs.Putting.{then_call, puts_pair}
 use Rattle.fr_example.proofs.Pairs.{last_given_more, found_within}
+use Rattle.fr_example.proofs.Sized.{field_is_sized, takes_its_own}
 use Rattle.fr_example.proofs.Slots.{slots, slots_holes, put_slot, put_again, put_there}
 
 -- the struct once these pairs were put, and the builder at it
@@ -88,11 +92,38 @@ put_given def pairs pair i count e =
 
 -- the three calls
 
+-- a struct is begun as one, and no variant of it is selected
+
+none_of_fresh : (empty : Bool) → selected (if empty then whole (product no_vals) else entered) ≡ None
+none_of_fresh true = refl
+none_of_fresh false = refl
+
+none_selected : (table : Table) (root : ℕ) (pairs : List Pair) → selected (tree_of table root pairs) ≡ None
+none_selected table root [] = none_of_fresh (is_empty_struct (def_of table root))
+none_selected table root (pair ∷ pairs) = refl
+
+struct_of_fresh : (struct : StructDef) (empty : Bool)
+    → form_at (Def.Struct struct) (if empty then whole (product no_vals) else entered) ≡ as_struct
+struct_of_fresh struct true = refl
+struct_of_fresh struct false = refl
+
+begun_as_struct : (table : Table) (root : ℕ) (struct : StructDef) (pairs : List Pair) → def_of table root ≡ Def.Struct struct
+    → form_at (def_of table root) (tree_of table root pairs) ≡ as_struct
+begun_as_struct table root struct [] is = rw is (struct_of_fresh struct (is_nil struct.fields))
+begun_as_struct table root struct (pair ∷ pairs) is = refl
+
 begins : (table : Table) (root : ℕ) (struct : StructDef) (name : List ℕ) (pairs : List Pair) (calls : ℕ)
     → def_of table root ≡ Def.Struct struct
     → step no_hooks table root (filling table root pairs calls) (Call.BeginField name)
     ≡ enters_named table root (filling table root pairs calls) (field_named name (def_of table root))
-begins table root struct name pairs calls is = rw is refl
+begins table root struct name pairs calls is =
+    ap
+    (λ (o : Option ℕ).
+    begins_named table root (filling table root pairs calls)
+    (at_shape root (named_refusal (def_of table root) (tree_of table root pairs)))
+    (field_found name (def_of table root) o))
+    (none_selected table root pairs)
+    ∙ rw is refl
 
 -- the children with field i entered
 abbrev with_entered : Table → ℕ → List Pair → ℕ → Trees
@@ -106,6 +137,17 @@ entered_field : (table : Table) (root : ℕ) (struct : StructDef) (i : ℕ) (pai
     ≡ Ok (at_field i (with_entered table root pairs i) (one_more_call calls))
 entered_field table root struct i pairs calls is below =
     ap
+    (λ (form : Form).
+    Ok (record {
+      tree =
+          change_child i (enter (def_of table (child_as table root form i)))
+          (opened (def_of table root) (tree_of table root pairs));
+      cursor = i ∷ [];
+      mode = strict;
+      calls = one_more_call calls;
+    }))
+    (begun_as_struct table root struct pairs is)
+    ∙ ap
     (λ (t : Tree).
     Ok (record {
       tree = change_child i (enter (def_of table (child_shape table root i))) t;
@@ -168,11 +210,11 @@ set_or_not table root here after kind false e = refl
 
 -- the pair is refused, or the struct is filled with it too
 pub puts_pair_is : (table : Table) (root string : ℕ) (struct : StructDef) (pairs : List Pair) (pair : Pair) (calls : ℕ)
-    → def_of table root ≡ Def.Struct struct
+    → IsChecked table → def_of table root ≡ Def.Struct struct
     → puts_pair table root string (filling table root pairs calls) pair
     ≡ unless_refused (refusal_of table root string pair)
     (filling table root (pairs ++ pair ∷ []) (one_more_call (one_more_call (one_more_call calls))))
-puts_pair_is table root string struct pairs pair calls is = go (field_named pair.name (def_of table root)) refl
+puts_pair_is table root string struct pairs pair calls checked is = go (field_named pair.name (def_of table root)) refl
   where
     go : (found : Option ℕ) → field_named pair.name (def_of table root) ≡ found
         → puts_pair table root string (filling table root pairs calls) pair
@@ -191,4 +233,11 @@ puts_pair_is table root string struct pairs pair calls is = go (field_named pair
         (puts (at_field i (with_entered table root pairs i) (one_more_call calls)) (text pair.text))
         (filling table root (pairs ++ pair ∷ []) (one_more_call (one_more_call (one_more_call calls))))
         (ReflectErrorKind.WrongShape (record { 0 = child_shape table root i }) (record { 0 = string }))
-        (child_shape table root i == string) (ends table root i pairs pair (one_more_call calls) e child)
+        (takes_shape table (child_shape table root i) string) (ends table root i pairs pair (one_more_call calls) e child)
+        ∙ ap
+        (λ (b : Bool).
+        unless_refused
+        (if b then None
+        else Some (ReflectErrorKind.WrongShape (record { 0 = child_shape table root i }) (record { 0 = string })))
+        (filling table root (pairs ++ pair ∷ []) (one_more_call (one_more_call (one_more_call calls)))))
+        (takes_its_own table (child_shape table root i) string (field_is_sized table root struct i checked is below))

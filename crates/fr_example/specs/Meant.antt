@@ -82,7 +82,7 @@ one_more_field missing None others = Err missing
 abbrev pub fields_from : (root : ℕ) → (value : ℕ → Option Val) → (count i : ℕ) → Result Vals ReflectErrorKind
 fields_from root value zero i = Ok no_vals
 fields_from root value (suc count) i =
-    one_more_field (missing_field root i) (value i) (fields_from root value count (suc i))
+    one_more_field (missing_field root None i) (value i) (fields_from root value count (suc i))
 
 abbrev pub product_of_fields : Result Vals ReflectErrorKind → Result Val ReflectErrorKind
 product_of_fields (Ok vs) = Ok (product vs)

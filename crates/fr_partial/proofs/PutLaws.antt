@@ -10,7 +10,7 @@ use Rattle.fr_shape.specs.Fills.{preset_of}
 use Rattle.fr_shape.specs.Fits.{fits}
 use Rattle.fr_shape.specs.Look.{Table, def_of, settled}
 use Rattle.fr_shape.specs.Val.{Val, text, unit}
-use Rattle.fr_model.specs.Step.{is_str, is_string, set, set_default, puts, takes_shape}
+use Rattle.fr_model.specs.Step.{is_str, is_owned_string, set, set_default, puts, takes_shape}
 use Rattle.fr_model.specs.Tree.{Mode, State}
 use Rattle.fr_frame.specs.declared.places.Slot.{Slot}
 use Rattle.fr_partial.specs.Builder.{Builder, here}
@@ -43,7 +43,7 @@ str_is : (def : Def) → is_str def ≡ true → def ≡ Def.Str
 str_is Def.Str h = refl
 str_is _ h = cc
 
-string_is : (def : Def) → is_string def ≡ true → def ≡ Def.Scalar ScalarKind.String
+string_is : (def : Def) → is_owned_string def ≡ true → def ≡ Def.Scalar ScalarKind.String
 string_is (Def.Scalar ScalarKind.String) h = refl
 string_is (Def.Scalar _) h = cc
 string_is _ h = cc
@@ -68,9 +68,9 @@ pub taken_fits : (table : Table) (s given : ℕ) (v : Val) → takes_shape table
     → fits table s v ≡ true
 taken_fits table s given v takes fit = go (nat_eq s given) refl
   where
-    texts : is_str (def_of table s) && is_string (def_of table given) ≡ true → fits table s v ≡ true
+    texts : is_str (def_of table s) && is_owned_string (def_of table given) ≡ true → fits table s v ≡ true
     texts both =
-        let are = both_true (is_str (def_of table s)) (is_string (def_of table given)) both in
+        let are = both_true (is_str (def_of table s)) (is_owned_string (def_of table given)) both in
         text_fits table s given v (settled_str table s (str_is (def_of table s) are.0))
         (settled_string table given (string_is (def_of table given) are.1)) fit
 

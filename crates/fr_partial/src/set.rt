@@ -6,7 +6,7 @@ ghost use Rattle.fr_shape.specs.Released.{Room, Conserved};
 ghost use Rattle.fr_shape.specs.Tokens.{occurs, tokens};
 ghost use Rattle.fr_shape.specs.View.{view};
 ghost use Rattle.fr_model.specs.Commands.{Call};
-ghost use Rattle.fr_model.specs.Step.{is_str, is_string, takes_shape};
+ghost use Rattle.fr_model.specs.Step.{is_str, is_owned_string, takes_shape};
 ghost use Rattle.fr_partial.specs.Builder.{holds, left, IsStep, IsNotOutOfMemory, RefusesBeforeMemory, RisesByRemoved, TellsPlaceBefore};
 
 use crate::{Partial, ReflectError};
@@ -36,8 +36,8 @@ fn is_str(table: &ShapeTable, shape: ShapeId) -> bool
 }
 
 /// Whether the shape is an owned text.
-fn is_string(table: &ShapeTable, shape: ShapeId) -> bool
-    ensures { result ≡ is_string (def_of table.now shape.0) }
+fn is_owned_string(table: &ShapeTable, shape: ShapeId) -> bool
+    ensures { result ≡ is_owned_string (def_of table.now shape.0) }
 {
     match table.get(shape) {
         Some(entry) => matches!(&entry.def, Def::Scalar(ScalarKind::String)),
@@ -49,7 +49,7 @@ fn is_string(table: &ShapeTable, shape: ShapeId) -> bool
 fn takes_shape(table: &ShapeTable, place: ShapeId, given: ShapeId) -> bool
     ensures { result ≡ takes_shape table.now place.0 given.0 }
 {
-    given.0 == place.0 || (is_str(table, place) && is_string(table, given))
+    given.0 == place.0 || (is_str(table, place) && is_owned_string(table, given))
 }
 
 impl<'t, H: Hooks> Partial<'t, H> {
