@@ -24,7 +24,6 @@ mod pieces;
 mod proxy_form;
 mod read_error;
 mod schedule;
-mod served;
 mod shape_form;
 #[cfg(test)]
 mod shape_tests;
@@ -47,7 +46,6 @@ pub use looping::{DOCUMENT_LIMIT, INPUT_LIMIT, InputFault, read_input, write_rep
 pub use members::{has_float, has_only};
 pub use memory::{MemSink, MemSource};
 pub use numerals::count_of;
-pub use served::is_served;
 pub use shape_form::{shape_of, shapes_of};
 pub use value_form::value_of;
 pub use value_json::json_of;

@@ -7,7 +7,7 @@ use Rattle.fr_shape.specs.declared.shape.StructDef.{StructDef}
 use Rattle.fr_shape.specs.Checked.{IsChecked}
 use Rattle.fr_shape.specs.Hooks.{no_hooks}
 use Rattle.fr_shape.specs.Look.{Table, def_of}
-use Rattle.fr_shape.specs.Served.{IsServed}
+use Rattle.fr_model.specs.Served.{IsServed}
 use Rattle.fr_shape.specs.Val.{Val}
 use Rattle.fr_model.specs.Step.{unless_refused, build}
 use Rattle.fr_model.specs.Tree.{State, one_more_call, most_calls}

@@ -12,7 +12,7 @@ use Rattle.fr_shape.specs.Fills.{is_empty_struct, preset_of}
 use Rattle.fr_shape.specs.Hooks.{no_hooks}
 use Rattle.fr_shape.specs.Lists.{is_nil}
 use Rattle.fr_shape.specs.Look.{Table, def_of, field_in}
-use Rattle.fr_shape.specs.Served.{IsServed, serves, serves_def, serves_field}
+use Rattle.fr_model.specs.Served.{IsServed, serves, serves_def, serves_field}
 use Rattle.fr_shape.specs.Val.{Val, Vals, product, no_vals}
 use Rattle.fr_model.specs.Complete.{missing_field, missing_value, unless_there, failing_field, failing_child, unless_failing, first_failing, valid_child, complete, complete_all, lack_among, lack_of_holes, lack_by, made, made_by}
 use Rattle.fr_model.specs.Places.{strict_column, child_count, one_more, product_of, each_child, fill_at}

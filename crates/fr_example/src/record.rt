@@ -6,7 +6,7 @@ ghost use Rattle.fr_shape.specs.Checked.{IsChecked};
 ghost use Rattle.fr_shape.specs.Fits.{fits};
 ghost use Rattle.fr_shape.specs.Look.{def_of};
 ghost use Rattle.fr_shape.specs.Numbered.{IsNumbered};
-ghost use Rattle.fr_shape.specs.Served.{IsServed};
+ghost use Rattle.fr_model.specs.Served.{IsServed};
 ghost use Rattle.fr_model.specs.Tree.{most_calls};
 ghost use Rattle.fr_partial.specs.Builder.{holds, IsStepTo};
 ghost use Rattle.fr_example.specs.Meant.{is_struct, kind_of, record_meant, IsMeant};

@@ -5,7 +5,7 @@ ghost use Rattle.fr_shape.specs.declared.shape.ScalarKind.{ScalarKind};
 ghost use Rattle.fr_shape.specs.Checked.{IsChecked};
 ghost use Rattle.fr_shape.specs.Look.{def_of, variants_of};
 ghost use Rattle.fr_shape.specs.Numbered.{IsNumbered, field_count};
-ghost use Rattle.fr_shape.specs.Served.{IsServed, serves, serves_def, serves_field};
+ghost use Rattle.fr_model.specs.Served.{IsServed, serves, serves_def, serves_field};
 ghost use Rattle.fr_example.specs.Meant.{is_struct};
 
 use crate::{Pair, record_of};

@@ -5,7 +5,7 @@ use Rattle.fr_shape.specs.declared.shape.ScalarKind.{ScalarKind}
 use Rattle.fr_shape.specs.declared.error.Operation.{Operation}
 use Rattle.fr_shape.specs.Hooks.{no_hooks}
 use Rattle.fr_shape.specs.Look.{Table}
-use Rattle.fr_shape.specs.Served.{IsServed}
+use Rattle.fr_model.specs.Served.{IsServed}
 use Rattle.fr_shape.specs.Val.{Val, nat, product, no_vals, first}
 use Rattle.fr_path.specs.declared.path_steps.PathStep.{PathStep}
 use Rattle.fr_model.specs.Commands.{Call}

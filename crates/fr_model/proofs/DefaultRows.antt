@@ -9,7 +9,7 @@ use Rattle.fr_shape.specs.declared.error.ReflectErrorKind.{ReflectErrorKind}
 use Rattle.fr_shape.specs.declared.error.Operation.{Operation}
 use Rattle.fr_shape.specs.Hooks.{no_hooks}
 use Rattle.fr_shape.specs.Look.{Table}
-use Rattle.fr_shape.specs.Served.{IsServed}
+use Rattle.fr_model.specs.Served.{IsServed}
 use Rattle.fr_shape.specs.Val.{Val, nat, none, list_of, product, no_vals, first}
 use Rattle.fr_model.specs.Commands.{Call}
 use Rattle.fr_model.specs.Journal.{journal_run}

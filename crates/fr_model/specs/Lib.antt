@@ -22,6 +22,7 @@ pub mod Relation
 pub mod Removed
 pub mod Run
 pub mod Scripts
+pub mod Served
 pub mod Settled
 pub mod StateCode
 pub mod Step

@@ -7,7 +7,7 @@ use Rattle.fr_shape.specs.declared.shape.ShapeId.{ShapeId}
 use Rattle.fr_shape.specs.Checked.{IsChecked}
 use Rattle.fr_shape.specs.Look.{Table, IsIn, def_of}
 use Rattle.fr_shape.specs.Numbered.{IsNumbered}
-use Rattle.fr_shape.specs.Served.{IsServed}
+use Rattle.fr_model.specs.Served.{IsServed}
 use Rattle.fr_model.specs.Laws.{StartIsWell}
 use Rattle.fr_model.specs.Paths.{path_of}
 use Rattle.fr_model.specs.Tree.{Tree, State, fresh, initial, strict}

@@ -6,7 +6,7 @@ use Rattle.fr_shape.specs.declared.error.ReflectErrorKind.{ReflectErrorKind}
 use Rattle.fr_shape.specs.Fills.{preset_of}
 use Rattle.fr_shape.specs.Hooks.{Meanings}
 use Rattle.fr_shape.specs.Look.{Table, def_of}
-use Rattle.fr_shape.specs.Served.{IsServed}
+use Rattle.fr_model.specs.Served.{IsServed}
 use Rattle.fr_shape.specs.Val.{Val}
 use Rattle.fr_model.specs.Complete.{complete, lack, lack_among, lack_of_hole, lack_of_holes, lack_of_entered, lack_by, unless_there, missing_child, missing_value, hole_takes, failing_child}
 use Rattle.fr_model.specs.Places.{strict_column, child_count}

@@ -16,7 +16,7 @@ use Rattle.fr_shape.specs.Fits.{fits}
 use Rattle.fr_shape.specs.Hooks.{Meanings}
 use Rattle.fr_shape.specs.Look.{Table, def_of, field_in, field_of_variant}
 use Rattle.fr_shape.specs.Lists.{is_nil}
-use Rattle.fr_shape.specs.Served.{IsServed, serves, serves_def, serves_field, serves_variant}
+use Rattle.fr_model.specs.Served.{IsServed, serves, serves_def, serves_field, serves_variant}
 use Rattle.fr_shape.specs.Tokens.{tokens, times, occurs}
 use Rattle.fr_shape.specs.TokenLaws.{occurs_times}
 use Rattle.fr_shape.specs.Val.{Val}

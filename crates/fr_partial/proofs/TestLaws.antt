@@ -5,7 +5,7 @@ use Rattle.fr_shape.specs.declared.shape.Shape.{Shape}
 use Rattle.fr_shape.specs.declared.shape.VariantDef.{VariantDef}
 use Rattle.fr_shape.specs.Look.{def_of, variants_of}
 use Rattle.fr_shape.specs.Numbered.{IsNumbered, field_count}
-use Rattle.fr_shape.specs.Served.{IsServed, serves, serves_field}
+use Rattle.fr_model.specs.Served.{IsServed, serves, serves_field}
 use Rattle.std.specs.List.{list_all}
 
 pub four_fields : (a b c d : Field) → serves_field a ≡ true → serves_field b ≡ true → serves_field c ≡ true

@@ -2,7 +2,7 @@
 ghost use Rattle.std.specs.Prelude.{◌≡◌};
 ghost use Rattle.fr_shape.specs.Checked.{IsChecked};
 ghost use Rattle.fr_shape.specs.Numbered.{IsNumbered};
-ghost use Rattle.fr_shape.specs.Served.{IsServed};
+ghost use Rattle.fr_model.specs.Served.{IsServed};
 ghost use Rattle.fr_model.specs.Well.{IsInOrder};
 
 use crate::mode::Mode;

@@ -3,7 +3,7 @@ ghost use Rattle.std.specs.Prelude.{◌≡◌, [], IfOk};
 ghost use Rattle.fr_shape.specs.Checked.{IsChecked, is_sized};
 ghost use Rattle.fr_shape.specs.Look.{IsIn, def_of};
 ghost use Rattle.fr_shape.specs.Numbered.{IsNumbered};
-ghost use Rattle.fr_shape.specs.Served.{IsServed};
+ghost use Rattle.fr_model.specs.Served.{IsServed};
 ghost use Rattle.fr_model.specs.Run.{alloc_refusal, unsized_refusal};
 ghost use Rattle.fr_model.specs.Tree.{fresh, initial};
 ghost use Rattle.fr_store.specs.Moves.{IsOpenAt};

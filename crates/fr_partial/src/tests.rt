@@ -6,7 +6,7 @@ ghost use Rattle.fr_shape.specs.Fits.{fits};
 ghost use Rattle.fr_shape.specs.Look.{IsIn, variants_of};
 ghost use Rattle.fr_shape.specs.Numbered.{IsNumbered, field_count};
 ghost use Rattle.fr_shape.specs.Released.{Room};
-ghost use Rattle.fr_shape.specs.Served.{IsServed, serves, serves_def, serves_field};
+ghost use Rattle.fr_model.specs.Served.{IsServed, serves, serves_def, serves_field};
 ghost use Rattle.fr_shape.specs.View.{view};
 ghost use Rattle.fr_partial.specs.Builder.{holds};
 

@@ -104,7 +104,8 @@ pub(crate) fn field_plans(
     lists: &mut PlanLists,
 ) -> Result<FieldRange, OutOfMemory>
     requires meant { AreFieldsOf table.now of.shape of.variant fields.now }
-    ensures told { IfOk result (NamesFields table.now lists.new nodes.now (fields_from of.shape of.variant 0 fields.now)) }
+    ensures told { IfOk result (NamesFields table.now lists.new nodes.now
+        (fields_from of.shape of.variant 0 fields.now)) }
     ensures grown { ListsGrow lists.old lists.new }
 {
     let mut plans = Vec::with_capacity(alloc, fields.len())?;

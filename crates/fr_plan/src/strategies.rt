@@ -69,7 +69,8 @@ pub(crate) fn scalar_of(table: &ShapeTable, id: ShapeId) -> Option<ScalarKind>
 }
 
 fn struct_strategy(described: &StructDef, transparent: bool) -> Result<DeserStrategy, OutOfMemory>
-    ensures { IfOk result (λ strategy. strategy ≡ struct_strategy described.now described.now.kind transparent) }
+    ensures { IfOk result (λ strategy. strategy
+        ≡ struct_strategy described.now described.now.kind transparent) }
 {
     match described.kind {
         StructKind::Struct | StructKind::Unit => Ok(DeserStrategy::Struct),
@@ -91,7 +92,8 @@ fn strategy_by_kind(
     nodes: &[NodeId],
     shape: &Shape,
 ) -> Result<DeserStrategy, OutOfMemory>
-    ensures { IfOk result (λ strategy. strategy ≡ strategy_by_kind table.now nodes.now shape.now shape.now.def) }
+    ensures { IfOk result (λ strategy. strategy
+        ≡ strategy_by_kind table.now nodes.now shape.now shape.now.def) }
 {
     let first = nth_node(nodes, 0);
     let second = nth_node(nodes, 1);

@@ -104,7 +104,8 @@ fn proxy_nodes(
     format_proxies: &Items<FormatProxy>,
     nodes: &[NodeId],
 ) -> Result<ProxyNodes, OutOfMemory>
-    ensures { IfOk result (AreProxyNodes (record { generic = proxy.now; by_format = format_proxies.now }) nodes.now) }
+    ensures { IfOk result (AreProxyNodes
+        (record { generic = proxy.now; by_format = format_proxies.now }) nodes.now) }
 {
     match proxy {
         Some(_) => Ok(ProxyNodes {
@@ -124,7 +125,8 @@ fn nodes_by_format(
     format_proxies: &Items<FormatProxy>,
     nodes: &[NodeId],
 ) -> Result<SmallVec<(Text, NodeId), 2>, OutOfMemory>
-    ensures { IfOk result (λ by_format. by_format.items ≡ zip (map (λ (formatted : Formatted). formatted.format) format_proxies.now) nodes.now) }
+    ensures { IfOk result (λ by_format. by_format.items
+        ≡ zip (map (λ (formatted : Formatted). formatted.format) format_proxies.now) nodes.now) }
 {
     let formats = format_proxies.as_slice();
     let mut by_format = SmallVec::new(alloc);

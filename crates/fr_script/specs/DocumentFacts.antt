@@ -5,7 +5,7 @@ use Rattle.fr_shape.specs.Look.{IsIn}
 use Rattle.fr_shape.specs.Plannable.{IsPlannable}
 use Rattle.fr_doc.specs.declared.fault.DocFault.{DocFault}
 use Rattle.fr_shape.specs.Numbered.{IsNumbered}
-use Rattle.fr_shape.specs.Served.{IsServed}
+use Rattle.fr_model.specs.Served.{IsServed}
 use Rattle.fr_model.specs.Scripts.{IsValid}
 use Rattle.fr_script.specs.declared.sizes.TheConstants.{COMMAND_LIMIT, TOKEN_LIMIT}
 use Rattle.fr_script.specs.declared.word.Word.{Word}

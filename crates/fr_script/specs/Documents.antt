@@ -11,7 +11,7 @@ use Rattle.fr_shape.specs.declared.shape.Shape.{Shape}
 use Rattle.fr_shape.specs.Look.{Table}
 use Rattle.fr_shape.specs.Faults.{rules_of}
 use Rattle.fr_shape.specs.Fits.{fits}
-use Rattle.fr_shape.specs.Served.{serves}
+use Rattle.fr_model.specs.Served.{serves}
 use Rattle.fr_shape.specs.Tokens.{tokens}
 use Rattle.fr_doc.specs.declared.fault.DocFault.{DocFault}
 use Rattle.fr_doc.specs.declared.fault.DocPlace.{DocPlace}

@@ -6,7 +6,7 @@ ghost use Rattle.fr_shape.specs.Look.{IsIn};
 ghost use Rattle.fr_shape.specs.Numbered.{IsNumbered};
 ghost use Rattle.fr_shape.specs.Plannable.{IsPlain};
 ghost use Rattle.fr_shape.specs.Released.{Room, RoseBy, Conserved};
-ghost use Rattle.fr_shape.specs.Served.{IsServed};
+ghost use Rattle.fr_model.specs.Served.{IsServed};
 ghost use Rattle.fr_model.specs.Commands.{call_of, calls_of, IsFieldScript};
 ghost use Rattle.fr_model.specs.Journal.{journal_run};
 ghost use Rattle.fr_model.specs.Run.{full_run};

@@ -10,12 +10,11 @@ ghost use Rattle.fr_script.specs.Reading.{GivesFor, document_view};
 
 use crate::command_form::script_of;
 use crate::members::members_of;
+use crate::served::is_served;
 use crate::sizes::test_sizes;
 use crate::validity::find_invalid;
 use crate::word::Word;
-use fr_doc::{
-    DOCUMENT_LIMIT, DocFault, DocPlace, ReadError, count_of, has_float, is_served, shape_of,
-};
+use fr_doc::{DOCUMENT_LIMIT, DocFault, DocPlace, ReadError, count_of, has_float, shape_of};
 use fr_model::Script;
 use fr_shape::{Items, Shape, ShapeId, ShapeTable};
 use serde_json::{Category, Value as Json};

@@ -28,6 +28,7 @@ mod report;
 #[cfg(test)]
 mod row_tests;
 mod running;
+mod served;
 mod serving;
 mod sizes;
 #[cfg(test)]

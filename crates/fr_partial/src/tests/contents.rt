@@ -4,7 +4,7 @@ ghost use Rattle.fr_shape.specs.Checked.{IsChecked};
 ghost use Rattle.fr_shape.specs.Look.{variants_of};
 ghost use Rattle.fr_shape.specs.Numbered.{IsNumbered, field_count};
 ghost use Rattle.fr_shape.specs.Released.{Room};
-ghost use Rattle.fr_shape.specs.Served.{IsServed, serves};
+ghost use Rattle.fr_model.specs.Served.{IsServed, serves};
 ghost use Rattle.fr_partial.specs.Builder.{holds};
 
 use super::{check_count, defaulted, leave, ledger, put_default, put_number, shape, start};

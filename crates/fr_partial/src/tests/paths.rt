@@ -3,7 +3,7 @@ ghost use Rattle.std.specs.Prelude.{◌≡◌, ℕ, [], length, true, IfSome};
 ghost use Rattle.fr_shape.specs.Checked.{IsChecked};
 ghost use Rattle.fr_shape.specs.Look.{IsIn, variants_of};
 ghost use Rattle.fr_shape.specs.Numbered.{IsNumbered, field_count};
-ghost use Rattle.fr_shape.specs.Served.{IsServed, serves, serves_field};
+ghost use Rattle.fr_model.specs.Served.{IsServed, serves, serves_field};
 ghost use Rattle.fr_partial.specs.Builder.{holds};
 ghost use Rattle.fr_partial.specs.Starting.{IsPlanFrom};
 

@@ -1,7 +1,7 @@
 //! Which shapes the builder serves so far. The module goes when it serves all.
 ghost use Rattle.std.specs.Prelude.{◌≡◌};
 ghost use Rattle.std.specs.List.{list_all};
-ghost use Rattle.fr_shape.specs.Served.{serves, serves_def, serves_field, serves_variant};
+ghost use Rattle.fr_model.specs.Served.{serves, serves_def, serves_field, serves_variant};
 
 use fr_shape::{Def, Field, Shape, VariantDef};
 
