@@ -6,11 +6,12 @@ use Rattle.fr_shape.specs.declared.shape.ShapeId.{ShapeId}
 use Rattle.fr_shape.specs.declared.value.Value.{Value}
 use Rattle.fr_shape.specs.View.{vals_view}
 use Rattle.fr_shape.specs.Tokens.{occurs, vals_occur}
-use Rattle.fr_shape.specs.Val.{Val, Vals, product, some, no_vals, first}
+use Rattle.fr_shape.specs.Val.{Val, Vals, product, list_of, some, no_vals, first}
 use Rattle.fr_model.specs.Complete.{made, value_as}
 use Rattle.fr_model.specs.Contents.{content_of}
-use Rattle.fr_model.specs.Places.{parts_of, vals_nth}
-use Rattle.fr_model.specs.Tree.{Form, as_struct, as_array, as_variant, as_some, as_ok, as_err, as_pointer}
+use Rattle.fr_model.specs.Places.{parts_of, items_of, vals_nth}
+use Rattle.fr_model.specs.Step.{parts_as}
+use Rattle.fr_model.specs.Tree.{Form, as_struct, as_array, as_variant, as_some, as_ok, as_err, as_pointer, as_list, as_slice, as_closed_slice}
 use Rattle.fr_model.specs.Well.{IsFullAs, PointsTo}
 use Rattle.fr_frame.specs.Bodies.{Body, entered_body, whole_body, begun_body, body_occurs, can_make, is_around, is_one, opened, opened_around, opened_by, opened_some, value_of, cells_of_vals, HasAllChildren}
 use Rattle.fr_frame.specs.Cells.{Cell, absent, given, placed, cells_occur, values_of}
@@ -41,6 +42,9 @@ pub full_makes : (def : Def) (form : Form) (cells : List Cell) → IsFullAs def 
 full_makes def as_struct cells h = refl
 full_makes def as_array cells h = refl
 full_makes def (as_variant k) cells h = refl
+full_makes def as_list cells h = refl
+full_makes def as_slice cells h = refl
+full_makes def as_closed_slice cells h = refl
 full_makes (Def.Option t) as_some cells h = one_is cells h
 full_makes _ as_some cells h = absurd h
 full_makes (Def.Result t e) as_ok cells h = one_is cells h
@@ -109,6 +113,9 @@ made_occurs as_some cells vs t can e = one_occurs cells vs t can e
 made_occurs as_ok cells vs t can e = one_occurs cells vs t can e
 made_occurs as_err cells vs t can e = one_occurs cells vs t can e
 made_occurs as_pointer cells vs t can e = one_occurs cells vs t can e
+made_occurs as_list cells vs t can e = values_occur cells vs t e
+made_occurs as_slice cells vs t can e = values_occur cells vs t e
+made_occurs as_closed_slice cells vs t can e = values_occur cells vs t e
 
 pub value_occurs_same : (body : Body) (v : Val) (t : ℕ) → value_of body ≡ Some v → body_occurs body t ≡ occurs v t
 value_occurs_same entered_body v t e = cc
@@ -131,25 +138,50 @@ vals_cells (first v vs) t = ap (λ (n : ℕ). occurs v t + n) (vals_cells vs t)
 pub whole_as_meant : (v w : Val) → Some v ≡ Some w → whole_body v ≡ whole_body w
 whole_as_meant v w e = let same : v ≡ w = cc in ap whole_body same
 
--- a value's parts have its tokens
-pub parts_occur : (v : Val) (cells : List Cell) (t : ℕ) → option_map cells_of_vals (parts_of v) ≡ Some cells
+-- a value's parts, or its items, have its tokens
+
+product_occurs : (v : Val) (cells : List Cell) (t : ℕ) → option_map cells_of_vals (parts_of v) ≡ Some cells
     → cells_occur cells t ≡ occurs v t
-parts_occur (product vs) cells t e =
+product_occurs (product vs) cells t e =
     let same : cells_of_vals vs ≡ cells = cc in
     ap (λ (cs : List Cell). cells_occur cs t) (sym same) ∙ vals_cells vs t
-parts_occur _ cells t e = let no : None ≡ Some cells = e in cc
+product_occurs _ cells t e = let no : None ≡ Some cells = e in cc
+
+list_occurs : (v : Val) (cells : List Cell) (t : ℕ) → option_map cells_of_vals (items_of v) ≡ Some cells
+    → cells_occur cells t ≡ occurs v t
+list_occurs (list_of vs) cells t e =
+    let same : cells_of_vals vs ≡ cells = cc in
+    ap (λ (cs : List Cell). cells_occur cs t) (sym same) ∙ vals_cells vs t
+list_occurs _ cells t e = let no : None ≡ Some cells = e in cc
+
+pub parts_occur : (form : Form) (v : Val) (cells : List Cell) (t : ℕ) → option_map cells_of_vals (parts_as form v) ≡ Some cells
+    → cells_occur cells t ≡ occurs v t
+parts_occur as_struct v cells t e = product_occurs v cells t e
+parts_occur as_array v cells t e = product_occurs v cells t e
+parts_occur as_list v cells t e = list_occurs v cells t e
+parts_occur (as_variant k) v cells t e = let no : None ≡ Some cells = e in cc
+parts_occur as_some v cells t e = let no : None ≡ Some cells = e in cc
+parts_occur as_ok v cells t e = let no : None ≡ Some cells = e in cc
+parts_occur as_err v cells t e = let no : None ≡ Some cells = e in cc
+parts_occur as_pointer v cells t e = let no : None ≡ Some cells = e in cc
+parts_occur as_slice v cells t e = let no : None ≡ Some cells = e in cc
+parts_occur as_closed_slice v cells t e = let no : None ≡ Some cells = e in cc
 
 pub none_occur : (count t : ℕ) → cells_occur (replicate count absent) t ≡ 0
 none_occur zero t = refl
 none_occur (suc count) t = omega (arith, none_occur count t)
 
-opened_value : (form : Form) (v : Val) (t : ℕ) → body_occurs (opened_by form v (parts_of v)) t ≡ occurs v t
-opened_value form (product vs) t = vals_cells vs t
-opened_value form _ t = refl
+opened_value : (form : Form) (v : Val) (parts : Option Vals) (t : ℕ) → ((vs : Vals) → parts ≡ Some vs → vals_occur vs t ≡ occurs v t)
+    → body_occurs (opened_by form v parts) t ≡ occurs v t
+opened_value form v (Some vs) t same = vals_cells vs t ∙ same vs refl
+opened_value form v None t same = refl
+
+parts_have : (form : Form) (v : Val) (t : ℕ) (vs : Vals) → parts_as form v ≡ Some vs → vals_occur vs t ≡ occurs v t
+parts_have form v t vs e = sym (vals_cells vs t) ∙ parts_occur form v (cells_of_vals vs) t (ap (option_map cells_of_vals) e)
 
 pub opened_occurs : (form : Form) (count : ℕ) (body : Body) (t : ℕ) → body_occurs (opened form count body) t ≡ body_occurs body t
 opened_occurs form count entered_body t = none_occur count t
-opened_occurs form count (whole_body v) t = opened_value form v t
+opened_occurs form count (whole_body v) t = opened_value form v (parts_as form v) t (parts_have form v t)
 opened_occurs form count (begun_body as_before cells) t = refl
 
 opened_content : (v : Val) (t : ℕ) → body_occurs (opened_around v (content_of v)) t ≡ occurs v t

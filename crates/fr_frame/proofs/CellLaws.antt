@@ -1,5 +1,5 @@
 -- Children side by side: what a change of one value or of one bit does to the list that contracts see.
-use Rattle.std.proofs.Common.{◌≡◌, ◌≢◌, ℕ, zero, suc, ◌+◌, ◌-◌, ◌<◌, ◌≤◌, Bool, true, false, List, [], ◌∷◌, length, map, drop, replicate, Option, Some, None, IsSome, slice_get, slice_index, set, length-set, refl, sym, ◌∙◌, ap, subst, arith}
+use Rattle.std.proofs.Common.{◌≡◌, ◌≢◌, ℕ, zero, suc, ◌+◌, ◌-◌, ◌<◌, ◌≤◌, Bool, true, false, List, [], ◌∷◌, ◌++◌, length, map, drop, replicate, Option, Some, None, IsSome, slice_get, slice_index, set, length-set, refl, sym, ◌∙◌, ap, subst, arith}
 use Rattle.std.specs.FinSet as finite
 use Rattle.std.specs.List.{All}
 use Rattle.std.specs.Option.{option_and_then}
@@ -427,3 +427,36 @@ past_all [] zero h = refl
 past_all [] (suc n) h = refl
 past_all (c ∷ cs) zero h = absurd (omega arith)
 past_all (c ∷ cs) (suc n) h = past_all cs n (omega arith)
+
+-- One more child behind the others.
+
+pub cells_more : (bits other : BitSet) (i : ℕ) (vs : List Value) (v : Value) (c : Cell)
+    → ((j : ℕ) → j ≢ i + length vs → finite.contains other.members j ≡ finite.contains bits.members j)
+    → cell (finite.contains other.members (i + length vs)) (view v) ≡ c
+    → cells_of other i (vs ++ v ∷ []) ≡ cells_of bits i vs ++ c ∷ []
+cells_more bits other i [] v c same is =
+    let here : i ≡ i + 0 = omega arith in
+    ap (λ (n : ℕ). cell (finite.contains other.members n) (view v) ∷ []) here ∙ ap (λ (d : Cell). d ∷ []) is
+cells_more bits other i (w ∷ vs) v c same is =
+    let here : suc i + length vs ≡ i + suc (length vs) = omega arith in
+    ap (λ (b : Bool). cell b (view w) ∷ cells_of other (suc i) (vs ++ v ∷ []))
+    (same i (let ne : i ≢ i + suc (length vs) = omega arith in ne))
+    ∙ ap (λ (cs : List Cell). cell (finite.contains bits.members i) (view w) ∷ cs)
+    (cells_more bits other (suc i) vs v c (λ j h. same j (let ne : j ≢ i + suc (length vs) = omega arith in ne))
+    (ap (λ (n : ℕ). cell (finite.contains other.members n) (view v)) here ∙ is))
+
+pub cells_pushed : (bits wide other : BitSet) (vs : List Value) (cs : List Cell) (v : Value) → cells_of bits 0 vs ≡ cs
+    → ((j : ℕ) → finite.contains wide.members j ≡ finite.contains bits.members j)
+    → ((j : ℕ) → finite.contains other.members j ≡ (not (j == length vs) && finite.contains wide.members j))
+    → in_slot (view v) ≡ absent → cells_of other 0 (vs ++ v ∷ []) ≡ cs ++ absent ∷ []
+cells_pushed bits wide other vs cs v e same unset gone =
+    let here : 0 + length vs ≡ length vs = omega arith in
+    cells_more bits other 0 vs v absent
+    (λ j ne.
+    unset j
+    ∙ bit_unset (length vs) j (finite.contains wide.members j) (let other_one : j ≢ length vs = omega arith in other_one)
+    ∙ same j)
+    (ap (λ (n : ℕ). cell (finite.contains other.members n) (view v)) here
+    ∙ ap (λ (b : Bool). cell b (view v)) (unset (length vs) ∙ bit_unset_here (length vs) (finite.contains wide.members (length vs)))
+    ∙ gone)
+    ∙ ap (λ (ds : List Cell). ds ++ absent ∷ []) e

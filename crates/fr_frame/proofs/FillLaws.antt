@@ -20,7 +20,7 @@ use Rattle.fr_shape.specs.TokenLaws.{occurs_times}
 use Rattle.fr_shape.specs.Val.{Val, Vals}
 use Rattle.fr_model.specs.Places.{Column, strict_column, deferred_column, fill_by, fill_in, fill_of_field, one_more}
 use Rattle.fr_model.specs.Complete.{hole_takes}
-use Rattle.fr_model.specs.Tree.{Form, as_struct, as_array, as_variant, as_some, as_ok, as_err, as_pointer}
+use Rattle.fr_model.specs.Tree.{Form, as_struct, as_array, as_variant, as_some, as_ok, as_err, as_pointer, as_list, as_slice, as_closed_slice}
 use Rattle.fr_frame.specs.declared.places.Parts.{Parts}
 use Rattle.fr_frame.specs.Bodies.{AreUnplaced}
 use Rattle.fr_frame.specs.Cells.{Cell, absent, given, placed, value_of_cell, value_at, values_of, value_occurs, cells_occur}
@@ -182,6 +182,9 @@ takes_light column table s as_some i v checked e = absurd (cc)
 takes_light column table s as_ok i v checked e = absurd (cc)
 takes_light column table s as_err i v checked e = absurd (cc)
 takes_light column table s as_pointer i v checked e = absurd (cc)
+takes_light column table s as_list i v checked e = absurd (cc)
+takes_light column table s as_slice i v checked e = absurd (cc)
+takes_light column table s as_closed_slice i v checked e = absurd (cc)
 
 -- What the children are filled to.
 

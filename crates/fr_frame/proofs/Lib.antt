@@ -4,6 +4,8 @@ pub mod DefaultLaws
 pub mod DefaultedLaws
 pub mod FillLaws
 pub mod FormLaws
+pub mod GrowLaws
+pub mod HandLaws
 pub mod HeapLaws
 pub mod LackLaws
 pub mod OwnLackLaws

@@ -1,15 +1,16 @@
 -- What was put at a place, and what becomes of it where a child is entered or leaves.
-use Rattle.std.specs.Prelude.{ℕ, Bool, true, false, List, [], ◌∷◌, replicate, slice_get, slice_set, Option, Some, None, IsSome, nat_eq, if◌then◌else◌}
+use Rattle.std.specs.Prelude.{ℕ, Bool, true, false, List, [], ◌∷◌, ◌++◌, length, replicate, slice_get, slice_set, Option, Some, None, IsSome, nat_eq, if◌then◌else◌}
 use Rattle.std.specs.Option.{option_and_then}
 use Rattle.fr_shape.specs.declared.shape.Def.{Def}
 use Rattle.fr_shape.specs.Fills.{is_empty_struct}
 use Rattle.fr_shape.specs.Tokens.{occurs}
-use Rattle.fr_shape.specs.Val.{Val, Vals, product, no_vals, first}
+use Rattle.fr_shape.specs.Val.{Val, Vals, unit, product, some, ok, err, list_of, ptr, no_vals, first}
 use Rattle.fr_path.specs.declared.path_steps.PathStep.{PathStep}
 use Rattle.fr_model.specs.Complete.{made}
 use Rattle.fr_model.specs.Contents.{content_of}
-use Rattle.fr_model.specs.Places.{parts_of}
-use Rattle.fr_model.specs.Tree.{Form, as_struct, as_array, as_variant, as_some, as_ok, as_err, as_pointer, Tree, hole, entered, whole, begun, Trees, no_trees, branch}
+use Rattle.fr_model.specs.Places.{vals_nth}
+use Rattle.fr_model.specs.Step.{parts_as}
+use Rattle.fr_model.specs.Tree.{Form, as_struct, as_array, as_variant, as_some, as_ok, as_err, as_pointer, as_list, as_slice, as_closed_slice, Tree, hole, entered, whole, begun, Trees, no_trees, branch}
 use Rattle.fr_frame.specs.Cells.{Cell, absent, given, placed, cells_occur, values_of}
 
 -- a place: entered, with nothing put in; holding a value; or begun, with its children
@@ -29,7 +30,7 @@ fresh_body def = if is_empty_struct def then whole_body (product no_vals) else e
 
 -- The child at a step.
 
--- the number that a step names where it leads to a field, or to an element
+-- the number that a step names where it leads to a field, or to an element or an item
 abbrev pub field_number : PathStep → Option ℕ
 field_number (PathStep.Field i) = Some i
 field_number _ = None
@@ -64,6 +65,9 @@ child_number as_some step = content_number step
 child_number as_ok step = ok_number step
 child_number as_err step = err_number step
 child_number as_pointer step = pointee_number step
+child_number as_list step = element_number step
+child_number as_slice step = element_number step
+child_number as_closed_slice step = element_number step
 
 -- as what a place is begun that has the fields of a struct as its children, or those of the variant that is selected
 abbrev pub as_fields : (selected : Option ℕ) → Form
@@ -126,17 +130,17 @@ opened_by form v (Some vs) = begun_body form (cells_of_vals vs)
 opened_by form v None = whole_body v
 
 -- a place that is begun so, with so many children: an entered one has none of them yet, of a whole one each has its part
--- of the value, a begun one stays as it is
+-- of the value (those of a list are its items), a begun one stays as it is
 abbrev pub opened : Form → (count : ℕ) → Body → Body
 opened form count entered_body = begun_body form (replicate count absent)
-opened form count (whole_body v) = opened_by form v (parts_of v)
+opened form count (whole_body v) = opened_by form v (parts_as form v)
 opened form count (begun_body as_before cells) = begun_body as_before cells
 
--- a whole place is begun only where its value has parts
-abbrev pub MayOpen : Body → Type 0
-MayOpen entered_body = Unit {0}
-MayOpen (whole_body v) = IsSome (parts_of v)
-MayOpen (begun_body form cells) = Unit {0}
+-- a whole place is begun so only where its value has parts for that
+abbrev pub MayOpen : Form → Body → Type 0
+MayOpen form entered_body = Unit {0}
+MayOpen form (whole_body v) = IsSome (parts_as form v)
+MayOpen form (begun_body as_before cells) = Unit {0}
 
 -- a whole `Some`
 abbrev pub HoldsSome : Body → Type 0
@@ -158,6 +162,44 @@ opened_some (begun_body form cells) = begun_body form cells
 abbrev pub restarted : Form → (count : ℕ) → Body → Body
 restarted form count before = begun_body form (replicate count absent)
 
+-- Items.
+
+-- the place is begun as what takes more items: a list, or an open pointer to a slice
+abbrev pub TakesItems : Form → Type 0
+TakesItems as_list = Unit {0}
+TakesItems as_slice = Unit {0}
+TakesItems as_closed_slice = ⊥
+TakesItems as_struct = ⊥
+TakesItems as_array = ⊥
+TakesItems (as_variant k) = ⊥
+TakesItems as_some = ⊥
+TakesItems as_ok = ⊥
+TakesItems as_err = ⊥
+TakesItems as_pointer = ⊥
+
+abbrev pub IsGrowing : Body → Type 0
+IsGrowing entered_body = ⊥
+IsGrowing (whole_body v) = ⊥
+IsGrowing (begun_body form cells) = TakesItems form
+
+-- a begun place with one more child behind the others, which isn't there yet; any other place stays as it is
+abbrev pub added : Body → Body
+added entered_body = entered_body
+added (whole_body v) = whole_body v
+added (begun_body form cells) = begun_body form (cells ++ absent ∷ [])
+
+-- how many children a place has, as far as it is begun
+abbrev pub count_cells : Body → ℕ
+count_cells entered_body = 0
+count_cells (whole_body v) = 0
+count_cells (begun_body form cells) = length cells
+
+-- a begun place, begun so instead, with the children that it has; any other place stays as it is
+abbrev pub reformed : Form → Body → Body
+reformed form entered_body = entered_body
+reformed form (whole_body v) = whole_body v
+reformed form (begun_body as_before cells) = begun_body form cells
+
 -- What a place comes to.
 
 -- a place is begun so around one child: a content, a side or a pointee
@@ -169,12 +211,54 @@ is_around as_some = true
 is_around as_ok = true
 is_around as_err = true
 is_around as_pointer = true
+is_around as_list = false
+is_around as_slice = false
+is_around as_closed_slice = false
 
--- the value of what is begun there goes into a box
+-- what is made of a place that is begun so holds a box: around the one child, or around the list of a slice's items
+abbrev pub boxes : Form → Bool
+boxes as_struct = false
+boxes as_array = false
+boxes (as_variant k) = false
+boxes as_some = true
+boxes as_ok = true
+boxes as_err = true
+boxes as_pointer = true
+boxes as_list = false
+boxes as_slice = true
+boxes as_closed_slice = true
+
+-- what that box holds (the unit value where there is no box)
+abbrev pub boxed_as : Form → Vals → Val
+boxed_as as_struct vs = unit
+boxed_as as_array vs = unit
+boxed_as (as_variant k) vs = unit
+boxed_as as_some vs = vals_nth vs 0
+boxed_as as_ok vs = vals_nth vs 0
+boxed_as as_err vs = vals_nth vs 0
+boxed_as as_pointer vs = vals_nth vs 0
+boxed_as as_list vs = unit
+boxed_as as_slice vs = list_of vs
+boxed_as as_closed_slice vs = list_of vs
+
+-- the value of such a place whose box holds this (the value itself where there is no box)
+abbrev pub around_as : Form → Val → Val
+around_as as_struct held = held
+around_as as_array held = held
+around_as (as_variant k) held = held
+around_as as_some held = some held
+around_as as_ok held = ok held
+around_as as_err held = err held
+around_as as_pointer held = ptr held
+around_as as_list held = held
+around_as as_slice held = ptr held
+around_as as_closed_slice held = ptr held
+
+-- the value of what is begun there holds a box
 abbrev pub takes_box : Body → Bool
 takes_box entered_body = false
 takes_box (whole_body v) = false
-takes_box (begun_body form cells) = is_around form
+takes_box (begun_body form cells) = boxes form
 
 abbrev pub is_one : List Cell → Bool
 is_one [] = false

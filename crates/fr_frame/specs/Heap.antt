@@ -2,9 +2,10 @@
 use Rattle.std.specs.Prelude.{ℕ, suc, ◌+◌, Bool, false, List, [], ◌∷◌, slice_get, Option, Some, None, nat_eq, if◌then◌else◌}
 use Rattle.std.specs.Option.{option_map, option_and_then}
 use Rattle.fr_shape.specs.declared.shape.Def.{Def}
+use Rattle.fr_shape.specs.Val.{Val}
 use Rattle.fr_shape.specs.View.{view}
 use Rattle.fr_path.specs.declared.path_steps.PathStep.{PathStep}
-use Rattle.fr_model.specs.Tree.{Form as TreeForm, as_struct, as_array, as_variant, as_some, as_ok, as_err, as_pointer}
+use Rattle.fr_model.specs.Tree.{Form as TreeForm, as_struct, as_array, as_variant, as_some, as_ok, as_err, as_pointer, as_list, as_slice, as_closed_slice}
 use Rattle.fr_plan.specs.declared.nodes.NodeId.{NodeId}
 use Rattle.fr_frame.specs.declared.places.Form.{Form}
 use Rattle.fr_frame.specs.declared.places.FrameOwner.{FrameOwner}
@@ -12,8 +13,8 @@ use Rattle.fr_frame.specs.declared.places.Parts.{Parts}
 use Rattle.fr_frame.specs.declared.places.Piece.{Piece}
 use Rattle.fr_frame.specs.declared.places.Place.{Place}
 use Rattle.fr_frame.specs.declared.places.Slot.{Slot}
-use Rattle.fr_frame.specs.Cells.{Cell, slot_of_cell}
-use Rattle.fr_frame.specs.Bodies.{Body, entered_body, whole_body, begun_body, body_occurs, cell_at, taken_over, linked, unlinked}
+use Rattle.fr_frame.specs.Cells.{Cell, given, slot_of_cell}
+use Rattle.fr_frame.specs.Bodies.{Body, entered_body, whole_body, begun_body, body_occurs, cell_at, count_cells, with_cell, taken_over, linked, unlinked}
 
 -- the place in a slot: the plan's node that it is built by, the place that it belongs to, whether it is stored, how deep it
 -- lies, and what was put at it
@@ -35,6 +36,9 @@ as_form Form.Some = as_some
 as_form Form.Ok = as_ok
 as_form Form.Err = as_err
 as_form Form.Pointer = as_pointer
+as_form Form.List = as_list
+as_form Form.Slice = as_slice
+as_form Form.ClosedSlice = as_closed_slice
 
 -- what the children of a place that is begun so are: fields, of a struct or of the variant that is selected, or something else
 abbrev pub parts_in : TreeForm → Parts
@@ -45,6 +49,9 @@ parts_in as_some = Parts.Others
 parts_in as_ok = Parts.Others
 parts_in as_err = Parts.Others
 parts_in as_pointer = Parts.Others
+parts_in as_list = Parts.Others
+parts_in as_slice = Parts.Others
+parts_in as_closed_slice = Parts.Others
 
 abbrev pub body_of : Piece → Body
 body_of Piece.Entered = entered_body
@@ -136,6 +143,15 @@ with_entered def heap node owner n = with_slot (links owner n heap) n (Some (ent
 -- slot n is free again, and its owner's child isn't there
 abbrev pub without : Heap → ℕ → FrameOwner → Heap
 without heap n owner = unlinks owner n (with_slot heap n None)
+
+-- the owner's child at its step is there with this value
+abbrev pub gives : FrameOwner → Val → Heap → Heap
+gives FrameOwner.Root v heap = heap
+gives (FrameOwner.Child parent step) v heap = with_body heap parent.0 (λ (old : Body). with_cell old step (given v))
+
+-- where an item belongs that comes behind all children of the place in slot n
+abbrev pub item_owner : (n : ℕ) → Body → FrameOwner
+item_owner n body = FrameOwner.Child (record { 0 = n }) (PathStep.Index (count_cells body))
 
 -- Marks.
 

@@ -1,10 +1,10 @@
 -- The tree that places in slots make up: each place knows its slot, and whether it is stored.
 use Rattle.std.specs.Prelude.{◌≡◌, ℕ, zero, suc, ◌+◌, ◌<◌, ◌≤◌, Bool, List, [], ◌∷◌, Option, Some, None, unwrap_or}
-use Rattle.std.specs.Option.{option_map}
+use Rattle.std.specs.Option.{option_map, option_and_then}
 use Rattle.fr_shape.specs.Tokens.{occurs}
 use Rattle.fr_shape.specs.Val.{Val}
 use Rattle.fr_model.specs.Paths.{step_as}
-use Rattle.fr_model.specs.Tree.{Form, as_struct, as_array, as_variant, as_some, as_ok, as_err, as_pointer, Tree, hole, entered, whole, begun, Trees, no_trees, branch}
+use Rattle.fr_model.specs.Tree.{Form, as_struct, as_array, as_variant, as_some, as_ok, as_err, as_pointer, as_list, as_slice, as_closed_slice, Tree, hole, entered, whole, begun, Trees, no_trees, branch}
 use Rattle.fr_plan.specs.declared.nodes.NodeId.{NodeId}
 use Rattle.fr_plan.specs.Lookups.{struct_field, enum_variant_field, list_item, option_inner, result_sides, pointer_pointee, by_id}
 use Rattle.fr_plan.specs.TypePlan.{Plan}
@@ -92,6 +92,10 @@ kid_of heap slot = kid_from depth_limit heap slot
 
 -- What a heap holds.
 
+-- the plan's node of the items of the slice to which a place of this node points, if it is so
+abbrev pub slice_item_found : Plan → NodeId → Option NodeId
+slice_item_found plan node = option_and_then (by_id plan (list_item plan)) (by_id plan (pointer_pointee plan) node)
+
 -- the plan's node of child i of a place that is begun so, if there is one
 abbrev pub child_found : Plan → NodeId → Form → ℕ → Option NodeId
 child_found plan node as_struct i = by_id plan (λ parent. struct_field plan parent i) node
@@ -101,6 +105,9 @@ child_found plan node as_some i = by_id plan (option_inner plan) node
 child_found plan node as_ok i = option_map (λ (sides : NodeId × NodeId). sides.0) (by_id plan (result_sides plan) node)
 child_found plan node as_err i = option_map (λ (sides : NodeId × NodeId). sides.1) (by_id plan (result_sides plan) node)
 child_found plan node as_pointer i = by_id plan (pointer_pointee plan) node
+child_found plan node as_list i = by_id plan (list_item plan) node
+child_found plan node as_slice i = slice_item_found plan node
+child_found plan node as_closed_slice i = slice_item_found plan node
 
 -- the same (node 0 where there is none)
 abbrev pub child_node : Plan → NodeId → Form → ℕ → NodeId
@@ -115,6 +122,9 @@ MayHave as_some count = count ≤ 1
 MayHave as_ok count = count ≤ 1
 MayHave as_err count = count ≤ 1
 MayHave as_pointer count = count ≤ 1
+MayHave as_list count = Unit {0}
+MayHave as_slice count = Unit {0}
+MayHave as_closed_slice count = Unit {0}
 
 abbrev pub child_owner : (slot : ℕ) → Form → ℕ → FrameOwner
 child_owner slot form i = FrameOwner.Child (record { 0 = slot }) (step_as form i)

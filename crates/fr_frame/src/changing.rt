@@ -38,7 +38,7 @@ impl SlotId {
     /// one each has its part of the value, a begun one stays as it is.
     pub fn begin(self, slots: &mut Slots, form: Form, count: usize) -> Result<(), OutOfMemory>
         requires in_use { IsInUse slots.old self.0 }
-        requires may_open { IfInUse slots.old self.0 (λ at. MayOpen at.body) }
+        requires may_open { IfInUse slots.old self.0 (λ at. MayOpen (as_form form) at.body) }
         ensures begun { OnOk result (Shows slots.new
             (with_body (heap_of slots.old) self.0 (opened (as_form form) count))) }
         ensures refused { OnErr result (Shows slots.new (heap_of slots.old)) }

@@ -1,5 +1,6 @@
 //! The children of a begun place.
-ghost use Rattle.std.specs.Prelude.{◌≡◌, ℕ, ◌<◌, ◌↔◌, length, map, replicate, slice_set, IfOk, IfErr, IsSome, is_some, Some};
+ghost use Rattle.std.specs.Prelude.{◌≡◌, ℕ, ◌<◌, ◌≤◌, ◌↔◌, ◌++◌, ◌∷◌, [], length, map, replicate, slice_set, IfOk, IfErr, IsSome, OnErr, OnOk, is_some, Some};
+ghost use Rattle.std.specs.FinSet as set;
 ghost use Rattle.std.specs.List.{All};
 ghost use Rattle.std.specs.Option.{option_map, option_copied};
 ghost use Rattle.fr_shape.specs.Val.{token, unit};
@@ -49,6 +50,42 @@ fn placeholders(alloc: Global, count: usize) -> Result<Vec<Value>, OutOfMemory>
         }
     }
     Ok(values)
+}
+
+/// The same set, with room for more numbers.
+fn widened(alloc: Global, given: &ISet) -> Result<ISet, OutOfMemory>
+    ensures same { IfOk result (λ it.
+        (i : ℕ) → set.contains it.members i ≡ set.contains given.now.members i) }
+    ensures room { IfOk result (λ it. given.now.capacity < it.capacity) }
+{
+    let capacity = given.capacity();
+    if capacity > usize::MAX / 2 {
+        return Err(OutOfMemory);
+    }
+    let Ok(mut wide) = ISet::new(alloc, 2 * capacity) else {
+        return Err(OutOfMemory);
+    };
+    for i in 0..capacity {
+        if given.get(i) {
+            wide.set(i);
+        }
+    }
+    Ok(wide)
+}
+
+/// Makes room in a set for the number of one more than so many children.
+fn make_room(alloc: Global, given: &mut ISet, count: usize) -> Result<(), OutOfMemory>
+    ensures same { (i : ℕ) → set.contains given.new.members i
+        ≡ set.contains given.old.members i }
+    ensures kept { given.old.capacity ≤ given.new.capacity }
+    ensures room { OnOk result (count ≤ given.old.capacity → count < given.new.capacity) }
+{
+    if count < given.capacity() {
+        return Ok(());
+    }
+    let wide = widened(alloc, given)?;
+    let _narrow = std::mem::replace(given, wide);
+    Ok(())
 }
 
 /// The slot for which a value stands.
@@ -182,6 +219,20 @@ impl Children {
     {
         self.given.set(i);
         self.values[i] = value;
+    }
+
+    /// One child more behind the others, which isn't there yet. Doesn't look at the others, but where there is no room for it.
+    pub(crate) fn push(&mut self, alloc: Global) -> Result<(), OutOfMemory>
+        ensures added { OnOk result (self.new ≡ self.old ++ absent ∷ []) }
+        ensures refused { OnErr result (self.new ≡ self.old) }
+    {
+        let count = self.values.len();
+        make_room(alloc, &mut self.given, count)?;
+        let Ok(()) = self.values.push(nothing()) else {
+            return Err(OutOfMemory);
+        };
+        self.given.unset(count);
+        Ok(())
     }
 
     /// Whether each child is there. Doesn't look at each.

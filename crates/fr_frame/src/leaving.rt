@@ -1,18 +1,49 @@
 //! Leaving a slot: with the value of its place, or releasing what was put there.
 ghost use Rattle.std.specs.Prelude.{◌≡◌, ℕ, ◌+◌, false, IfOk, IsOk, IsSome, OnErr, OnOk, Some};
-ghost use Rattle.fr_shape.specs.Released.{Room, RoseBy};
+ghost use Rattle.fr_shape.specs.Released.{Conserved, Room, RoseBy};
 ghost use Rattle.fr_shape.specs.Tokens.{occurs};
+ghost use Rattle.fr_shape.specs.Val.{Val};
 ghost use Rattle.fr_shape.specs.View.{view};
 ghost use Rattle.fr_frame.specs.Bodies.{body_occurs, takes_box, value_of};
-ghost use Rattle.fr_frame.specs.Changes.{IfInUse, IsInUse, Shows};
-ghost use Rattle.fr_frame.specs.Heap.{body_of, heap_of, slots_occur, without};
+ghost use Rattle.fr_frame.specs.Cells.{absent, placed};
+ghost use Rattle.fr_frame.specs.Changes.{IfInUse, IsInUse, SameTokens, Shows};
+ghost use Rattle.fr_frame.specs.Heap.{body_of, gives, heap_of, held_by, slots_occur, without};
 
 use crate::pieces::{release_piece, value_of};
-use crate::places::{Piece, Place, SlotId};
+use crate::places::{FrameOwner, Piece, Place, SlotId};
 use crate::slots::Slots;
 use fr_shape::{Ledger, OutOfMemory, Value};
 
+impl Slots {
+    /// Puts a value at the child of the owner to which its step leads, which isn't there.
+    fn give(&mut self, owner: &FrameOwner, value: Value)
+        requires { held_by (heap_of self.old) owner.now ≡ Some absent }
+        ensures given { Shows self.new (gives owner.now (view value) (heap_of self.old)) }
+        ensures tokens { (t : ℕ) → slots_occur self.new t
+            ≡ slots_occur self.old t + occurs (view value) t }
+    {
+        match owner {
+            FrameOwner::Child(parent, step) => parent.put_child(self, step, value),
+            FrameOwner::Root => unreachable!(),
+        }
+    }
+}
+
 impl SlotId {
+    /// Takes what was put at the place out of its slot, which is then free, and tells where the place belonged.
+    fn take_out(self, slots: &mut Slots) -> (FrameOwner, Piece)
+        requires { IsInUse slots.old self.0 }
+        ensures taken { IfInUse slots.old self.0 (λ at.
+            (at.owner ≡ result.0) × (at.body ≡ body_of result.1)) }
+        ensures left { Shows slots.new (without (heap_of slots.old) self.0 result.0) }
+        ensures tokens { (t : ℕ) → slots_occur slots.old t
+            ≡ slots_occur slots.new t + body_occurs (body_of result.1) t }
+    {
+        let Place { owner, piece, .. } = slots.leave(self);
+        slots.unlink(self, &owner);
+        (owner, piece)
+    }
+
     /// Takes what was put at the place out of its slot, which is then free.
     fn leave(self, slots: &mut Slots) -> Piece
         requires { IsInUse slots.old self.0 }
@@ -22,14 +53,13 @@ impl SlotId {
         ensures tokens { (t : ℕ) → slots_occur slots.old t
             ≡ slots_occur slots.new t + body_occurs (body_of result) t }
     {
-        let Place { owner, piece, .. } = slots.leave(self);
-        slots.unlink(self, &owner);
+        let (_owner, piece) = self.take_out(slots);
         piece
     }
 
     /// The value of a place that is whole, or begun with each child there. Its slot is then free, and its owner has it in no
-    /// slot. A content, a side or a pointee goes into a box; where there is no memory for that, what was put at the place is
-    /// released.
+    /// slot. A content, a side, a pointee or a slice goes into a box; where there is no memory for that, what was put at the
+    /// place is released.
     pub fn into_value(self, slots: &mut Slots, ledger: &mut Ledger) -> Result<Value, OutOfMemory>
         requires complete { IfInUse slots.old self.0 (λ at. IsSome (value_of at.body)) }
         requires room { IfInUse slots.old self.0 (λ at. Room (body_occurs at.body) ledger.old) }
@@ -49,6 +79,31 @@ impl SlotId {
         let alloc = slots.alloc();
         let piece = self.leave(slots);
         value_of(alloc, piece, ledger)
+    }
+
+    /// Hands the value of a place that is whole, or begun with each child there, to its owner, which has the place in this slot.
+    /// The slot is then free. Where there is no memory for the box that the value takes, what was put at the place is released.
+    pub fn hand_up(self, slots: &mut Slots, ledger: &mut Ledger) -> Result<(), OutOfMemory>
+        requires complete { IfInUse slots.old self.0 (λ at. IsSome (value_of at.body)) }
+        requires owned { IfInUse slots.old self.0 (λ at.
+            held_by (heap_of slots.old) at.owner ≡ Some (placed self.0)) }
+        requires room { IfInUse slots.old self.0 (λ at. Room (body_occurs at.body) ledger.old) }
+        ensures handed { OnOk result (IfInUse slots.old self.0 (λ at. (v : Val)
+            → value_of at.body ≡ Some v → Shows slots.new
+            (gives at.owner v (without (heap_of slots.old) self.0 at.owner)))) }
+        ensures memory { IfInUse slots.old self.0 (λ at. takes_box at.body ≡ false → IsOk result) }
+        ensures left { OnErr result (IfInUse slots.old self.0 (λ at.
+            Shows slots.new (without (heap_of slots.old) self.0 at.owner))) }
+        ensures tokens { OnOk result (SameTokens slots.old slots.new) }
+        ensures ledger { OnOk result (ledger.new ≡ ledger.old) }
+        ensures conserved { OnErr result (Conserved (slots_occur slots.old) ledger.old
+            (slots_occur slots.new) ledger.new) }
+    {
+        let alloc = slots.alloc();
+        let (owner, piece) = self.take_out(slots);
+        let value = value_of(alloc, piece, ledger)?;
+        slots.give(&owner, value);
+        Ok(())
     }
 
     /// Records the tokens of what was put at the place as released. Its slot is then free, and its owner has it in no slot.

@@ -13,6 +13,7 @@ mod entering;
 mod field_defaults;
 mod field_plans;
 mod filling;
+mod growing;
 mod lacking;
 mod leaving;
 mod leftovers;

@@ -1,16 +1,17 @@
 //! What is put at one place, by itself.
-ghost use Rattle.std.specs.Prelude.{◌≡◌, ℕ, ◌+◌, ◌<◌, length, slice_get, Some, true, false, IfOk, IfErr, IfSome, IsOk, IsSome, OnErr, OnOk};
+ghost use Rattle.std.specs.Prelude.{◌≡◌, ℕ, ◌+◌, ◌<◌, ◌++◌, length, slice_get, Some, is_some, true, false, IfOk, IfErr, IfSome, IsOk, IsSome, OnErr, OnOk};
 ghost use Rattle.std.specs.Option.{option_map, option_and_then};
 ghost use Rattle.fr_shape.specs.Fills.{is_empty_struct};
 ghost use Rattle.fr_shape.specs.Look.{def_of};
 ghost use Rattle.fr_shape.specs.Released.{Room, RoseBy};
 ghost use Rattle.fr_shape.specs.Tokens.{occurs};
-ghost use Rattle.fr_shape.specs.Val.{Val, product, first, no_vals};
+ghost use Rattle.fr_shape.specs.Val.{Val, product, list_of, first, no_vals};
 ghost use Rattle.fr_shape.specs.View.{view, vals_view};
 ghost use Rattle.fr_model.specs.Complete.{value_as};
 ghost use Rattle.fr_model.specs.Contents.{content_of};
-ghost use Rattle.fr_model.specs.Places.{parts_of};
-ghost use Rattle.fr_frame.specs.Bodies.{begun_body, body_occurs, cell_at, cells_of_vals, child_number, fresh_body, is_around, linked, opened, opened_some, takes_box, unlinked, value_of, whole_body, with_cell, HoldsSome, MayOpen};
+ghost use Rattle.fr_model.specs.Places.{parts_of, items_of};
+ghost use Rattle.fr_model.specs.Step.{parts_as};
+ghost use Rattle.fr_frame.specs.Bodies.{added, around_as, begun_body, body_occurs, boxed_as, boxes, cell_at, cells_of_vals, child_number, count_cells, fresh_body, is_around, linked, opened, opened_some, reformed, takes_box, unlinked, value_of, whole_body, with_cell, HoldsSome, IsGrowing, MayOpen};
 ghost use Rattle.fr_frame.specs.Cells.{absent, given, cells_occur, held_value, slot_of_cell, value_occurs};
 ghost use Rattle.fr_frame.specs.Heap.{as_form, body_of};
 ghost use Rattle.fr_frame.specs.declared.places.SlotId.{SlotId as Number};
@@ -31,7 +32,7 @@ fn child_number(form: Form, step: &PathStep) -> Option<usize>
             PathStep::Field(i) => Some(*i as usize),
             _ => None,
         },
-        Form::Array => match step {
+        Form::Array | Form::List | Form::Slice | Form::ClosedSlice => match step {
             PathStep::Index(i) => Some(*i as usize),
             _ => None,
         },
@@ -143,6 +144,30 @@ fn parts_of(value: Value) -> Vec<Value>
     items.into_vec()
 }
 
+/// The items of a list. Takes no memory.
+fn items_of(value: Value) -> Vec<Value>
+    requires { IsSome (items_of (view value)) }
+    ensures { items_of (view value) ≡ Some (vals_view result.items) }
+{
+    let Value::List(items) = value else {
+        unreachable!()
+    };
+    items.into_vec()
+}
+
+/// The values of the children that a value has at a place that is begun so. Takes no memory.
+fn parts_as(form: Form, value: Value) -> Vec<Value>
+    requires { IsSome (parts_as (as_form form) (view value)) }
+    ensures { parts_as (as_form form) (view value) ≡ Some (vals_view result.items) }
+{
+    match form {
+        Form::Struct | Form::Array => parts_of(value),
+        Form::List => items_of(value),
+        Form::Variant(_) | Form::Some | Form::Ok | Form::Err | Form::Pointer => unreachable!(),
+        Form::Slice | Form::ClosedSlice => unreachable!(),
+    }
+}
+
 /// The product of these. Takes no memory.
 fn product_of(values: Vec<Value>) -> Value
     ensures { view result ≡ product (vals_view values.items) }
@@ -150,19 +175,26 @@ fn product_of(values: Vec<Value>) -> Value
     Value::Product(Items::from_vec(values))
 }
 
-/// Takes the parts out of a value that has some, as children that are all there. The value stays where there is no memory
-/// for them.
-fn children_of(alloc: Global, value: &mut Value) -> Result<Children, OutOfMemory>
-    requires { IsSome (parts_of (view value.old)) }
+/// The list of these. Takes no memory.
+fn list_of(values: Vec<Value>) -> Value
+    ensures { view result ≡ list_of (vals_view values.items) }
+{
+    Value::List(Items::from_vec(values))
+}
+
+/// Takes the values of its children out of a value that has some, as children that are all there. The value stays where there is
+/// no memory for them.
+fn children_of(alloc: Global, form: Form, value: &mut Value) -> Result<Children, OutOfMemory>
+    requires { IsSome (parts_as (as_form form) (view value.old)) }
     ensures parts { IfOk result (λ children.
-        option_map cells_of_vals (parts_of (view value.old)) ≡ Some children) }
+        option_map cells_of_vals (parts_as (as_form form) (view value.old)) ≡ Some children) }
     ensures refused { OnErr result (view value.new ≡ view value.old) }
 {
-    let parts = parts_of(std::mem::replace(value, Value::Unit));
+    let parts = parts_as(form, std::mem::replace(value, Value::Unit));
     match Children::all_there(alloc, parts) {
         Ok(children) => Ok(children),
         Err(values) => {
-            *value = product_of(values);
+            *value = value_of_parts(form, values);
             Err(OutOfMemory)
         }
     }
@@ -175,7 +207,7 @@ pub(crate) fn open(
     form: Form,
     count: usize,
 ) -> Result<(), OutOfMemory>
-    requires { MayOpen (body_of piece.old) }
+    requires { MayOpen (as_form form) (body_of piece.old) }
     ensures opened { OnOk result (body_of piece.new
         ≡ opened (as_form form) count (body_of piece.old)) }
     ensures refused { OnErr result (body_of piece.new ≡ body_of piece.old) }
@@ -189,7 +221,7 @@ pub(crate) fn open(
             Ok(())
         }
         Piece::Whole(value) => {
-            let children = children_of(alloc, value)?;
+            let children = children_of(alloc, form, value)?;
             *piece = Piece::Begun(form, children);
             Ok(())
         }
@@ -234,6 +266,42 @@ pub(crate) fn open_some(alloc: Global, piece: &mut Piece) -> Result<(), OutOfMem
     Ok(())
 }
 
+/// One child more at a begun place, behind the others, which isn't there yet.
+pub(crate) fn add_child(alloc: Global, piece: &mut Piece) -> Result<(), OutOfMemory>
+    requires { IsGrowing (body_of piece.old) }
+    ensures added { OnOk result (body_of piece.new ≡ added (body_of piece.old)) }
+    ensures refused { OnErr result (body_of piece.new ≡ body_of piece.old) }
+    ensures tokens { (t : ℕ) →
+        body_occurs (body_of piece.new) t ≡ body_occurs (body_of piece.old) t }
+{
+    match piece {
+        Piece::Begun(_, children) => children.push(alloc),
+        Piece::Entered | Piece::Whole(_) => unreachable!(),
+    }
+}
+
+/// How many children a place has, as far as it is begun.
+pub(crate) fn count_children(piece: &Piece) -> usize
+    ensures { result ≡ count_cells (body_of piece.now) }
+{
+    match piece {
+        Piece::Begun(_, children) => children.len(),
+        Piece::Entered | Piece::Whole(_) => 0,
+    }
+}
+
+/// Lets a begun place be begun so instead, with the children that it has.
+pub(crate) fn reform(piece: &mut Piece, form: Form)
+    ensures piece { body_of piece.new ≡ reformed (as_form form) (body_of piece.old) }
+    ensures tokens { (t : ℕ) →
+        body_occurs (body_of piece.new) t ≡ body_occurs (body_of piece.old) t }
+{
+    match piece {
+        Piece::Begun(as_before, _) => *as_before = form,
+        Piece::Entered | Piece::Whole(_) => {}
+    }
+}
+
 /// Whether a shape is a struct without fields.
 fn is_empty_struct(table: &ShapeTable, shape: ShapeId) -> bool
     ensures { result ≡ is_empty_struct (def_of table.now shape.0) }
@@ -255,29 +323,17 @@ pub(crate) fn fresh(alloc: Global, table: &ShapeTable, shape: ShapeId) -> Piece
     }
 }
 
-/// The value that is made of those of the children of a place that is begun so, but not around one. Takes no memory.
+/// The value that is made of those of the children of a place that is begun so, where that holds no box. Takes no memory.
 fn value_of_parts(form: Form, values: Vec<Value>) -> Value
-    requires { is_around (as_form form) ≡ false }
+    requires { boxes (as_form form) ≡ false }
     ensures { view result ≡ value_as (as_form form) (vals_view values.items) }
 {
     match form {
         Form::Struct | Form::Array => product_of(values),
         Form::Variant(k) => Value::Variant(k, Items::from_vec(values)),
+        Form::List => list_of(values),
         Form::Some | Form::Ok | Form::Err | Form::Pointer => unreachable!(),
-    }
-}
-
-/// The value that is made of that of the one child, in its box. Takes no memory.
-fn value_of_box(form: Form, held: Box<Value>) -> Value
-    requires { is_around (as_form form) ≡ true }
-    ensures { view result ≡ value_as (as_form form) (first (view held.value) no_vals) }
-{
-    match form {
-        Form::Some => Value::Some(held),
-        Form::Ok => Value::Ok(held),
-        Form::Err => Value::Err(held),
-        Form::Pointer => Value::Ptr(held),
-        Form::Struct | Form::Array | Form::Variant(_) => unreachable!(),
+        Form::Slice | Form::ClosedSlice => unreachable!(),
     }
 }
 
@@ -292,32 +348,83 @@ fn only(mut values: Vec<Value>) -> Value
     }
 }
 
-/// The value of a place that is begun around one child, which is there. Where there is no memory for its box, the child's tokens
-/// are released.
-fn value_around(
-    alloc: Global,
-    form: Form,
-    children: Children,
-    ledger: &mut Ledger,
-) -> Result<Value, OutOfMemory>
-    requires around { is_around (as_form form) ≡ true }
-    requires there { IsSome (value_of (begun_body (as_form form) children)) }
-    requires room { Room (cells_occur children) ledger.old }
-    ensures value { IfOk result (λ v.
-        value_of (begun_body (as_form form) children) ≡ Some (view v)) }
-    ensures ledger { OnOk result (ledger.new ≡ ledger.old) }
-    ensures released { OnErr result (RoseBy (cells_occur children) ledger.old ledger.new) }
+/// What the box of a place that is begun so holds: the value of its one child, or the list of a slice's items. Takes no memory.
+fn value_in_box(form: Form, values: Vec<Value>) -> Value
+    requires boxes { boxes (as_form form) ≡ true }
+    requires one { is_around (as_form form) ≡ true → length values.items ≡ 1 }
+    ensures { view result ≡ boxed_as (as_form form) (vals_view values.items) }
 {
-    let Ok(mut held) = Box::new(alloc, Value::Unit) else {
-        release_children(children, ledger);
-        return Err(OutOfMemory);
-    };
-    *held = only(children.into_values());
-    Ok(value_of_box(form, held))
+    match form {
+        Form::Some | Form::Ok | Form::Err | Form::Pointer => only(values),
+        Form::Slice | Form::ClosedSlice => list_of(values),
+        Form::Struct | Form::Array | Form::Variant(_) | Form::List => unreachable!(),
+    }
 }
 
-/// The value of a place that is whole, or begun with each child there. A content, a side or a pointee goes into a box; where there
-/// is no memory for that, what was put at the place is released.
+/// The value of a place that is begun so, whose box holds this. Takes no memory.
+fn value_of_box(form: Form, held: Box<Value>) -> Value
+    requires { boxes (as_form form) ≡ true }
+    ensures { view result ≡ around_as (as_form form) (view held.value) }
+{
+    match form {
+        Form::Some => Value::Some(held),
+        Form::Ok => Value::Ok(held),
+        Form::Err => Value::Err(held),
+        Form::Pointer | Form::Slice | Form::ClosedSlice => Value::Ptr(held),
+        Form::Struct | Form::Array | Form::Variant(_) | Form::List => unreachable!(),
+    }
+}
+
+/// The box that the value of a place takes, if it takes one.
+fn box_for(alloc: Global, piece: &Piece) -> Result<Option<Box<Value>>, OutOfMemory>
+    ensures memory { takes_box (body_of piece.now) ≡ false → IsOk result }
+    ensures taken { IfOk result (λ spare. is_some spare ≡ takes_box (body_of piece.now)) }
+{
+    match piece {
+        Piece::Begun(form, _) => {
+            if !form.boxes() {
+                return Ok(None);
+            }
+            match Box::new(alloc, Value::Unit) {
+                Ok(spare) => Ok(Some(spare)),
+                Err(_) => Err(OutOfMemory),
+            }
+        }
+        Piece::Entered | Piece::Whole(_) => Ok(None),
+    }
+}
+
+/// The value of a place that is begun with each child there, with the box that it takes. Takes no memory.
+fn value_made(form: Form, children: Children, spare: Option<Box<Value>>) -> Value
+    requires there { IsSome (value_of (begun_body (as_form form) children)) }
+    requires taken { is_some spare ≡ boxes (as_form form) }
+    ensures { value_of (begun_body (as_form form) children) ≡ Some (view result) }
+{
+    let values = children.into_values();
+    match spare {
+        Some(mut held) => {
+            *held = value_in_box(form, values);
+            value_of_box(form, held)
+        }
+        None => value_of_parts(form, values),
+    }
+}
+
+/// The value of a place that is whole, or begun with each child there, with the box that it takes. Takes no memory.
+fn value_with(piece: Piece, spare: Option<Box<Value>>) -> Value
+    requires there { IsSome (value_of (body_of piece)) }
+    requires taken { is_some spare ≡ takes_box (body_of piece) }
+    ensures { value_of (body_of piece) ≡ Some (view result) }
+{
+    match piece {
+        Piece::Whole(value) => value,
+        Piece::Begun(form, children) => value_made(form, children, spare),
+        Piece::Entered => unreachable!(),
+    }
+}
+
+/// The value of a place that is whole, or begun with each child there. Where there is no memory for the box that this takes, what
+/// was put at the place is released.
 pub(crate) fn value_of(
     alloc: Global,
     piece: Piece,
@@ -331,46 +438,30 @@ pub(crate) fn value_of(
     ensures released { OnErr result
         (RoseBy (body_occurs (body_of piece)) ledger.old ledger.new) }
 {
-    match piece {
-        Piece::Whole(value) => Ok(value),
-        Piece::Begun(form, children) => {
-            if form.is_around() {
-                value_around(alloc, form, children, ledger)
-            } else {
-                Ok(value_of_parts(form, children.into_values()))
-            }
+    match box_for(alloc, &piece) {
+        Ok(spare) => Ok(value_with(piece, spare)),
+        Err(OutOfMemory) => {
+            release_piece(piece, ledger);
+            Err(OutOfMemory)
         }
-        Piece::Entered => unreachable!(),
     }
 }
 
-/// The value of a place that is whole, or begun with each child there, but not around one. Takes no memory.
-fn unboxed_value(piece: Piece) -> Value
-    requires there { IsSome (value_of (body_of piece)) }
-    requires boxless { takes_box (body_of piece) ≡ false }
-    ensures { value_of (body_of piece) ≡ Some (view result) }
-{
-    match piece {
-        Piece::Whole(value) => value,
-        Piece::Begun(form, children) => value_of_parts(form, children.into_values()),
-        Piece::Entered => unreachable!(),
-    }
-}
-
-/// Lets a place that is whole, or begun with each child there, but not around one, be whole with its value. Takes no memory.
-pub(crate) fn make_whole(piece: &mut Piece)
+/// Lets a place that is whole, or begun with each child there, be whole with its value. It stays as it was where there is no memory
+/// for the box that this takes.
+pub(crate) fn make_whole(alloc: Global, piece: &mut Piece) -> Result<(), OutOfMemory>
     requires there { IsSome (value_of (body_of piece.old)) }
-    requires boxless { takes_box (body_of piece.old) ≡ false }
-    ensures whole { (v : Val) → value_of (body_of piece.old) ≡ Some v
-        → body_of piece.new ≡ whole_body v }
+    ensures whole { OnOk result ((v : Val) → value_of (body_of piece.old) ≡ Some v
+        → body_of piece.new ≡ whole_body v) }
+    ensures memory { takes_box (body_of piece.old) ≡ false → IsOk result }
+    ensures refused { OnErr result (body_of piece.new ≡ body_of piece.old) }
     ensures tokens { (t : ℕ) →
         body_occurs (body_of piece.new) t ≡ body_occurs (body_of piece.old) t }
 {
-    if let Piece::Whole(_) = piece {
-        return;
-    }
+    let spare = box_for(alloc, piece)?;
     let before = std::mem::replace(piece, Piece::Entered);
-    *piece = Piece::Whole(unboxed_value(before));
+    *piece = Piece::Whole(value_with(before, spare));
+    Ok(())
 }
 
 /// Records the tokens of children as released.

@@ -35,8 +35,9 @@ pub enum FrameOwner {
     Child(SlotId, PathStep),
 }
 
-/// As what a place is begun: with the fields of a struct or of an enum's variant of this number, with the elements of an array, or
-/// around one child, which is the content of an option, of either side of a result, or what a pointer points to.
+/// As what a place is begun: with the fields of a struct or of an enum's variant of this number, with the elements of an array,
+/// around one child, which is the content of an option, of either side of a result, or what a pointer points to, with the items
+/// of a list, or as a pointer to a slice, with its items, that is open for more of them or closed.
 #[derive(Clone, Copy)]
 pub enum Form {
     Struct,
@@ -46,6 +47,9 @@ pub enum Form {
     Ok,
     Err,
     Pointer,
+    List,
+    Slice,
+    ClosedSlice,
 }
 
 /// What the children of a begun place are: the fields of a struct, or of the variant of this number, for which there are fills and
@@ -59,7 +63,7 @@ pub(crate) enum Parts {
 impl Form {
     ghost use Rattle.fr_model.specs.Paths.{step_as};
     ghost use Rattle.fr_model.specs.Tree.{form_number, same_form};
-    ghost use Rattle.fr_frame.specs.Bodies.{is_around};
+    ghost use Rattle.fr_frame.specs.Bodies.{boxes};
     ghost use Rattle.fr_frame.specs.Heap.{as_form, parts_in};
 
     /// The step to child `i` of a place that is begun so. A content, a side or a pointee is child 0.
@@ -68,7 +72,7 @@ impl Form {
     {
         match self {
             Form::Struct | Form::Variant(_) => PathStep::Field(i),
-            Form::Array => PathStep::Index(i),
+            Form::Array | Form::List | Form::Slice | Form::ClosedSlice => PathStep::Index(i),
             Form::Some => PathStep::OptionSome,
             Form::Ok => PathStep::ResultOk,
             Form::Err => PathStep::ResultErr,
@@ -87,7 +91,10 @@ impl Form {
             Form::Ok => 3,
             Form::Err => 4,
             Form::Pointer => 5,
-            Form::Variant(k) => 6 + k as u64,
+            Form::List => 6,
+            Form::Slice => 7,
+            Form::ClosedSlice => 8,
+            Form::Variant(k) => 9 + k as u64,
         }
     }
 
@@ -98,13 +105,14 @@ impl Form {
         self.number() == other.number()
     }
 
-    /// Whether a place that is begun so is begun around one child.
-    pub(crate) fn is_around(self) -> bool
-        ensures { result ≡ is_around (as_form self) }
+    /// Whether what is made of a place that is begun so holds a box.
+    pub(crate) fn boxes(self) -> bool
+        ensures { result ≡ boxes (as_form self) }
     {
         match self {
-            Form::Struct | Form::Array | Form::Variant(_) => false,
+            Form::Struct | Form::Array | Form::Variant(_) | Form::List => false,
             Form::Some | Form::Ok | Form::Err | Form::Pointer => true,
+            Form::Slice | Form::ClosedSlice => true,
         }
     }
 
@@ -116,6 +124,7 @@ impl Form {
             Form::Struct => Parts::Fields(None),
             Form::Variant(k) => Parts::Fields(Some(k)),
             Form::Array | Form::Some | Form::Ok | Form::Err | Form::Pointer => Parts::Others,
+            Form::List | Form::Slice | Form::ClosedSlice => Parts::Others,
         }
     }
 }

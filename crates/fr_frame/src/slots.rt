@@ -183,4 +183,11 @@ impl Slots {
         self.free = next;
         Ok(id)
     }
+
+    /// Lets a slot be the next that is handed out, if it is free.
+    pub(crate) fn give_back(&mut self, id: SlotId)
+        ensures unchanged { self.new ≡ self.old }
+    {
+        self.free = Some(id);
+    }
 }

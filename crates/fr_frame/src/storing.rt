@@ -1,5 +1,5 @@
 //! Places that are left half done and entered again: their mark, and the slot that a child is in.
-ghost use Rattle.std.specs.Prelude.{◌≡◌, ℕ, false, Some, IsSome};
+ghost use Rattle.std.specs.Prelude.{◌≡◌, ℕ, false, IsOk, IsSome, OnErr, OnOk, Some};
 ghost use Rattle.std.specs.Option.{option_map};
 ghost use Rattle.fr_shape.specs.Released.{Room, RoseBy};
 ghost use Rattle.fr_shape.specs.Val.{Val};
@@ -12,7 +12,7 @@ use crate::pieces::{make_whole, release_piece, slot_at};
 use crate::places::{Slot, SlotId};
 use crate::slots::Slots;
 use fr_path::PathStep;
-use fr_shape::Ledger;
+use fr_shape::{Ledger, OutOfMemory};
 
 impl SlotId {
     /// Marks the place as stored, or as not stored. Takes no memory.
@@ -43,16 +43,19 @@ impl SlotId {
         slot_at(&slots.place(self)?.piece, step)
     }
 
-    /// Lets a place that is whole, or begun with each child there, but not around one, be whole with its value. Takes no memory.
-    pub fn make_whole(self, slots: &mut Slots)
+    /// Lets a place that is whole, or begun with each child there, be whole with its value. It stays as it was where there is no
+    /// memory for the box that this takes.
+    pub fn make_whole(self, slots: &mut Slots) -> Result<(), OutOfMemory>
         requires complete { IfInUse slots.old self.0 (λ at. IsSome (value_of at.body)) }
-        requires boxless { IfInUse slots.old self.0 (λ at. takes_box at.body ≡ false) }
-        ensures whole { IfInUse slots.old self.0 (λ at. (v : Val) → value_of at.body ≡ Some v
-            → Becomes slots.old slots.new self.0 at (whole_body v)) }
+        ensures whole { OnOk result (IfInUse slots.old self.0 (λ at. (v : Val)
+            → value_of at.body ≡ Some v → Becomes slots.old slots.new self.0 at (whole_body v))) }
+        ensures memory { IfInUse slots.old self.0 (λ at. takes_box at.body ≡ false → IsOk result) }
+        ensures refused { OnErr result (Shows slots.new (heap_of slots.old)) }
         ensures tokens { SameTokens slots.old slots.new }
     {
+        let alloc = slots.alloc();
         let place = slots.place_mut(self);
-        make_whole(&mut place.piece);
+        make_whole(alloc, &mut place.piece)
     }
 }
 

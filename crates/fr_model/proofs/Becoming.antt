@@ -1,5 +1,5 @@
 -- Places at which a content is entered or a variant is selected: what is kept of them, and how they start anew.
-use Rattle.std.proofs.Common.{◌≡◌, ℕ, ◌+◌, eqb-true, Bool, true, false, if◌then◌else◌, [], ◌∷◌, length, slice_get, Option, Some, None, unwrap_or, refl, sym, ◌∙◌, ap, subst, arith}
+use Rattle.std.proofs.Common.{◌≡◌, ℕ, zero, suc, ◌+◌, eqb-true, Bool, true, false, if◌then◌else◌, List, [], ◌∷◌, length, slice_get, Option, Some, None, unwrap_or, refl, sym, ◌∙◌, ap, subst, arith}
 use Rattle.std.specs.Option.{option_map, option_or}
 use Rattle.fr_shape.specs.declared.shape.Def.{Def}
 use Rattle.fr_shape.specs.declared.shape.ShapeId.{ShapeId}
@@ -9,14 +9,15 @@ use Rattle.fr_shape.specs.Fills.{is_option}
 use Rattle.fr_shape.specs.Fits.{fits}
 use Rattle.fr_shape.specs.Look.{Table, def_of}
 use Rattle.fr_shape.specs.Val.{Val, some}
-use Rattle.fr_model.specs.Contents.{is_result, pointee_refusal, pointer_refusal, variant_anew, around, content_anew, kept_so, kept_in, is_entered_in_place, content_of, kept_option}
+use Rattle.fr_model.specs.Contents.{is_result, pointer_refusal, variant_anew, around, content_anew, slice_anew, kept_so, kept_in, reopened, kept_slice, is_entered_in_place, content_of, kept_option}
 use Rattle.fr_model.specs.Places.{Place, content_shape}
 use Rattle.fr_model.specs.StateCode.{form_numbered, form_comes_back}
-use Rattle.fr_model.specs.Tree.{Form, as_struct, as_array, as_variant, as_some, as_ok, as_err, as_pointer, form_number, same_form, Tree, hole, entered, whole, begun, Trees, no_trees, branch, child_as, fresh, tree_occurs, Mode, strict, deferred}
+use Rattle.fr_model.specs.Tree.{Form, as_struct, as_array, as_variant, as_some, as_ok, as_err, as_pointer, as_list, as_slice, as_closed_slice, form_number, same_form, Tree, hole, entered, whole, begun, Trees, no_trees, branch, child_as, shapes_from, count_trees, fresh, tree_occurs, Mode, strict, deferred}
 use Rattle.fr_model.specs.Variants.{is_enum, fields_or_none, variant_fields, layout_refusal, told_apart, selection_refusal}
-use Rattle.fr_model.specs.Well.{HasSide, PointsTo, HasPointee, HasFieldsOf, HasVariantFields, IsFullAs, MayBegin, IsBegunAs, IsTouched, IsContent, IsBegunRightly, Suits, AtCursor, OffBut, Leads}
+use Rattle.fr_model.specs.Well.{HasSide, HasFieldsOf, HasVariantFields, IsPointer, IsFullAs, MayBegin, IsBegunAs, MayPoint, IsTouched, IsContent, IsBegunRightly, Suits, SuitAll, RestsAround, AtCursor, OffBut, Leads}
 use Rattle.fr_model.proofs.Opening.{enter_touched, fresh_suits, fresh_at_cursor, holes_off, all_deferred}
-use Rattle.fr_model.proofs.Structs.{count_holes, holes_suit, settled_option}
+use Rattle.fr_model.proofs.Resting.{rests_here, holes_rest, fresh_rests, rest_but}
+use Rattle.fr_model.proofs.Structs.{has_pointee, count_holes, holes_suit, settled_option}
 use Rattle.fr_model.proofs.Tokens.{fresh_holds, holes_hold}
 
 -- what is begun just so
@@ -61,21 +62,23 @@ lost None old t = tree_occurs old t
 pub record Becoming (mode : Mode) (table : Table) (s : ℕ) (way : Place) (old : Tree) (kept : Option Tree) (anew : Tree)
     : Type 0 where
   pub placed : Placed mode table s way (unwrap_or kept anew)
+  pub rest : RestsAround [] old → RestsAround way (unwrap_or kept anew)
   pub hold : (t : ℕ) → tree_occurs (unwrap_or kept anew) t + lost kept old t ≡ tree_occurs old t
 
 -- what is kept is placed so, and holds what the place held
 pub record IsKept (mode : Mode) (table : Table) (s : ℕ) (way : Place) (old kept : Tree) : Type 0 where
   pub placed : Placed mode table s way kept
+  pub rest : RestsAround [] old → RestsAround way kept
   pub hold : (t : ℕ) → tree_occurs kept t ≡ tree_occurs old t
 
 pub becoming : (mode : Mode) (table : Table) (s : ℕ) (way : Place) (old : Tree) (kept : Option Tree) (anew : Tree)
     → ((tree : Tree) → kept ≡ Some tree → IsKept mode table s way old tree) → Placed mode table s way anew
-    → ((t : ℕ) → tree_occurs anew t ≡ 0) → Becoming mode table s way old kept anew
-becoming mode table s way old (Some tree) anew keeps placed none =
+    → RestsAround way anew → ((t : ℕ) → tree_occurs anew t ≡ 0) → Becoming mode table s way old kept anew
+becoming mode table s way old (Some tree) anew keeps placed rests none =
     let there : IsKept mode table s way old tree = keeps tree refl in
-    record { placed = there.placed; hold = λ t. omega (arith, there.hold t) }
-becoming mode table s way old None anew keeps placed none =
-    record { placed = placed; hold = λ t. omega (arith, none t) }
+    record { placed = there.placed; rest = there.rest; hold = λ t. omega (arith, there.hold t) }
+becoming mode table s way old None anew keeps placed rests none =
+    record { placed = placed; rest = λ rested. rests; hold = λ t. omega (arith, none t) }
 
 -- Contents
 
@@ -88,6 +91,9 @@ HoldsOne as_pointer = Unit {0}
 HoldsOne as_struct = ⊥
 HoldsOne as_array = ⊥
 HoldsOne (as_variant k) = ⊥
+HoldsOne as_list = ⊥
+HoldsOne as_slice = ⊥
+HoldsOne as_closed_slice = ⊥
 
 -- a place of this shape may be begun so around a child that is no hole
 pub record MayHold (table : Table) (s : ℕ) (form : Form) : Type 0 where
@@ -110,6 +116,10 @@ anew_placed mode table s form holds =
     around_placed mode table s form (fresh (def_of table (child_as table s form 0))) holds
     (fresh_suits table (child_as table s form 0)) (enter_touched (def_of table (child_as table s form 0)) hole)
     (fresh_at_cursor mode (def_of table (child_as table s form 0)))
+
+anew_rests : (table : Table) (s : ℕ) (form : Form) → RestsAround (0 ∷ []) (content_anew table s form)
+anew_rests table s form =
+    let def : Def = def_of table (child_as table s form 0) in (rests_here (fresh def) (fresh_rests def), tt)
 
 anew_holds : (table : Table) (s : ℕ) (form : Form) (t : ℕ) → tree_occurs (content_anew table s form) t ≡ 0
 anew_holds table s form t = let none = fresh_holds (def_of table (child_as table s form 0)) t in omega arith
@@ -144,6 +154,7 @@ kept_in_keeps (deferred start) table s form t kept holds suits e =
         suits = there;
         leads = content_leads start to.children (has_content table s form to.children holds there.2);
       };
+      rest = λ rested. rest_but 0 to.children (subst (λ (tree : Tree). RestsAround [] tree) to.is rested);
       hold = λ t. ap (λ (tree : Tree). tree_occurs tree t) (sym to.is);
     })
 
@@ -152,7 +163,7 @@ pub content_becomes : (mode : Mode) (table : Table) (s : ℕ) (form : Form) (t :
 content_becomes mode table s form t holds suits =
     becoming mode table s (0 ∷ []) t (kept_in mode form t) (content_anew table s form)
     (λ tree e. kept_in_keeps mode table s form t tree holds.holds suits e) (anew_placed mode table s form holds)
-    (anew_holds table s form)
+    (anew_rests table s form) (anew_holds table s form)
 
 -- Options
 
@@ -182,6 +193,7 @@ some_keeps mode table s (some held) kept holds here fit e =
     let shape : child_as table s as_some 0 ≡ here.content.0 = rw here.is refl in
     rw (← same) (record {
       placed = around_placed mode table s as_some (whole held) holds (rw shape content_fits) tt tt;
+      rest = λ rested. (tt, tt);
       hold = λ t. omega arith;
     })
 some_keeps mode table s _ kept holds here fit e = cc
@@ -209,7 +221,7 @@ option_becomes mode table s t e suits =
     becoming mode table s (0 ∷ []) t (kept_option mode (def_of table (content_shape (def_of table s))) t)
     (content_anew table s as_some)
     (λ tree is. kept_option_keeps mode table s t tree (option_holds table s e) (option_is table s e) suits is)
-    (anew_placed mode table s as_some (option_holds table s e)) (anew_holds table s as_some)
+    (anew_placed mode table s as_some (option_holds table s e)) (anew_rests table s as_some) (anew_holds table s as_some)
 
 -- Results and pointers
 
@@ -229,24 +241,69 @@ side_holds table s as_err of_result e =
     record { full_as = has_side (def_of table s) e; may = tt; rightly = λ child touched. touched; holds = tt }
 side_holds table s _ of_result e = absurd of_result
 
-has_pointee : (table : Table) (def : Def) → pointer_refusal table def ≡ None → HasPointee def 1
-has_pointee table (Def.Pointer pointer) e = go pointer.constructible pointer.pointee e
-  where
-    go : (constructible : Bool) (pointee : Option ShapeId)
-        → (if constructible then pointee_refusal table pointer.known pointee else Some Operation.PointerNotConstructible) ≡ None
-        → PointsTo pointee 1
-    go true (Some t) e = refl
-    go true None e = cc
-    go false pointee e = cc
-has_pointee table _ e = cc
-
-pub pointer_holds : (table : Table) (s : ℕ) → pointer_refusal table (def_of table s) ≡ None → MayHold table s as_pointer
-pointer_holds table s e = record {
-  full_as = has_pointee table (def_of table s) e;
+pub pointer_holds : (table : Table) (s : ℕ) → MayPoint table s false → MayHold table s as_pointer
+pointer_holds table s points = record {
+  full_as = has_pointee table (def_of table s) points.0;
   may = tt;
-  rightly = λ child touched. (touched, e);
+  rightly = λ child touched. (touched, points);
   holds = tt;
 }
+
+-- a pointer to a slice is open for items
+
+is_pointer : (table : Table) (def : Def) → pointer_refusal table def ≡ None → IsPointer def
+is_pointer table (Def.Pointer pointer) e = tt
+is_pointer table _ e = cc
+
+-- open or closed, a pointer to a slice has items of the same shape
+slices_alike : (table : Table) (s count i : ℕ)
+    → shapes_from table s as_slice count i ≡ shapes_from table s as_closed_slice count i
+slices_alike table s zero i = refl
+slices_alike table s (suc count) i =
+    ap (λ (shapes : List ℕ). child_as table s as_slice i ∷ shapes) (slices_alike table s count (suc i))
+
+pub closed_suits : (table : Table) (s : ℕ) (ts : Trees) → Suits table s (begun as_slice ts)
+    → Suits table s (begun as_closed_slice ts)
+closed_suits table s ts suits =
+    (suits.0, subst (λ (shapes : List ℕ). SuitAll table shapes ts) (slices_alike table s (count_trees ts) 0) suits.1, suits.2)
+
+open_suits : (table : Table) (s : ℕ) (ts : Trees) → Suits table s (begun as_closed_slice ts)
+    → Suits table s (begun as_slice ts)
+open_suits table s ts suits =
+    (suits.0, subst (λ (shapes : List ℕ). SuitAll table shapes ts) (sym (slices_alike table s (count_trees ts) 0)) suits.1, suits.2)
+
+reopened_keeps : (start : ℕ) (table : Table) (s : ℕ) (form : Form) (ts : Trees) (kept : Tree) → Suits table s (begun form ts)
+    → reopened form ts ≡ Some kept → IsKept (deferred start) table s [] (begun form ts) kept
+reopened_keeps start table s as_slice ts kept suits e =
+    let same : begun as_slice ts ≡ kept = cc in
+    rw (← same) (record {
+      placed = record { suits = suits; leads = all_deferred start ts };
+      rest = λ rested. rested;
+      hold = λ t. refl;
+    })
+reopened_keeps start table s as_closed_slice ts kept suits e =
+    let same : begun as_slice ts ≡ kept = cc in
+    rw (← same) (record {
+      placed = record { suits = open_suits table s ts suits; leads = all_deferred start ts };
+      rest = λ rested. rested;
+      hold = λ t. refl;
+    })
+reopened_keeps start table s _ ts kept suits e = cc
+
+kept_slice_keeps : (mode : Mode) (table : Table) (s : ℕ) (t kept : Tree) → Suits table s t → kept_slice mode t ≡ Some kept
+    → IsKept mode table s [] t kept
+kept_slice_keeps strict table s t kept suits e = cc
+kept_slice_keeps (deferred start) table s hole kept suits e = cc
+kept_slice_keeps (deferred start) table s entered kept suits e = cc
+kept_slice_keeps (deferred start) table s (whole v) kept suits e = cc
+kept_slice_keeps (deferred start) table s (begun form ts) kept suits e = reopened_keeps start table s form ts kept suits e
+
+pub slice_becomes : (mode : Mode) (table : Table) (s : ℕ) (t : Tree) → MayPoint table s true → Suits table s t
+    → Becoming mode table s [] t (kept_slice mode t) slice_anew
+slice_becomes mode table s t points suits =
+    becoming mode table s [] t (kept_slice mode t) slice_anew
+    (λ tree e. kept_slice_keeps mode table s t tree suits e)
+    (record { suits = ((is_pointer table (def_of table s) points.0, tt), tt, (tt, points)); leads = tt }) tt (λ token. refl)
 
 -- Variants
 
@@ -268,13 +325,13 @@ pub variant_becomes : (mode : Mode) (table : Table) (s k : ℕ) (t : Tree) → i
     → Becoming mode table s [] t (kept_so (as_variant k) t) (variant_anew (def_of table s) k)
 variant_becomes mode table s k t is admitted at suits =
     becoming mode table s [] t (kept_so (as_variant k) t) (variant_anew (def_of table s) k) keeps anew
-    (holes_hold (length (variant_fields (def_of table s) k)))
+    (holes_rest (length (variant_fields (def_of table s) k))) (holes_hold (length (variant_fields (def_of table s) k)))
   where
     keeps : (tree : Tree) → kept_so (as_variant k) t ≡ Some tree → IsKept mode table s [] t tree
     keeps tree e =
         let to : KeptSo (as_variant k) t tree = kept_so_is (as_variant k) t tree e in
         let same : tree ≡ t = to.same ∙ sym to.is in
-        rw same (record { placed = record { suits = suits; leads = at }; hold = λ token. refl })
+        rw same (record { placed = record { suits = suits; leads = at }; rest = λ rested. rested; hold = λ token. refl })
 
     anew : Placed mode table s [] (variant_anew (def_of table s) k)
     anew = record {

@@ -14,7 +14,7 @@ use Rattle.fr_model.specs.Places.{Column, strict_column, child_count, one_more, 
 use Rattle.fr_model.specs.Tree.{Form, as_struct, as_variant, Tree, hole, entered, whole, begun, Trees, no_trees, branch, child_as, count_trees, tree_occurs, trees_occur}
 use Rattle.fr_model.specs.Complete.{complete, complete_all, unless_there, failing_child, unless_failing, valid_child, hole_takes, missing_child, made, made_of_fills, made_by, lack_of_hole, lack_of_holes, lack_by, lack, lack_among, missing_value}
 use Rattle.fr_model.specs.Well.{IsFullAs, Suits}
-use Rattle.fr_model.proofs.Structs.{OneMore, one_more_is, ChildrenFit, MadeOf, made_is, SuitFrom, begun_full, value_fits, value_holds, settled_option}
+use Rattle.fr_model.proofs.Structs.{OneMore, one_more_is, ChildrenFit, MadeOf, made_is, SuitFrom, begun_full, HasSliceBehind, slice_behind, value_fits, value_holds, settled_option}
 use Rattle.fr_model.proofs.Templates.{IsTemplate, template_holds, preset_template, fill_in_template, fill_template}
 
 -- either a value or a lack
@@ -215,15 +215,15 @@ made_of_template : (table : Table) (s : ℕ) (v : Val) → IsTemplate table s v 
 made_of_template table s v template = record { fit = template.fit; hold = λ t. template_holds table s v t template }
 
 made_of_children : (table : Table) (s : ℕ) (form : Form) (count : ℕ) (held : ℕ → ℕ) (children : Option Vals) (v : Val)
-    → IsFullAs (def_of table s) form count
+    → IsFullAs (def_of table s) form count → HasSliceBehind table s form
     → ((vs : Vals) → children ≡ Some vs → Children table s form 0 count held vs) → made form children ≡ Some v
     → Made table s held v
-made_of_children table s form count held children v full_as each e =
+made_of_children table s form count held children v full_as behind each e =
     let parts : MadeOf form children v = made_is form children v e in
     let those : Children table s form 0 count held parts.parts = each parts.parts parts.parts_are in
     let all_there : IsFullAs (def_of table s) form (count_vals parts.parts) = rw those.counted full_as in
     rw parts.same (record {
-      fit = value_fits table s form parts.parts all_there those.fit;
+      fit = value_fits table s form parts.parts all_there behind those.fit;
       hold = λ t. value_holds (def_of table s) form parts.parts all_there t ∙ those.hold t;
     })
 
@@ -238,7 +238,7 @@ entered_makes column hooks table s v checked e = go (def_of table s) (preset_of 
     go (Def.Struct struct) None is there e =
         made_of_children table s as_struct (child_count table s) (λ t. 0)
         (each_child (λ k. valid_child hooks table s as_struct k (fill_at column table s k)) (child_count table s) 0) v
-        (rw is refl) (λ vs. fills_fit column hooks table s (child_count table s) 0 vs checked) e
+        (rw is refl) tt (λ vs. fills_fit column hooks table s (child_count table s) 0 vs checked) e
     go (Def.Option content) (Some u) is there e =
         let same : none ≡ v = cc in
         rw (← same) (record { fit = rw (settled_option table s content is) refl; hold = λ t. refl })
@@ -256,7 +256,7 @@ mutual
   completing_makes column hooks table (begun form trees) s v checked suits e =
       made_of_children table s form (count_trees trees) (λ t. trees_occur trees t)
       (complete_all column hooks table s form 0 trees) v (begun_full (def_of table s) form (count_trees trees) suits.0)
-      (λ vs. all_completing_make column hooks table trees s form 0 vs checked suits.1) e
+      (slice_behind table s form trees suits.2) (λ vs. all_completing_make column hooks table trees s form 0 vs checked suits.1) e
 
   pub all_completing_make : (column : Column) (hooks : Meanings) (table : Table) (trees : Trees) (s : ℕ) (form : Form) (i : ℕ)
       (vs : Vals) → IsChecked table → SuitFrom table s form i trees → complete_all column hooks table s form i trees ≡ Some vs

@@ -10,7 +10,7 @@ use Rattle.fr_model.specs.Complete.{complete, complete_all, hole_takes, valid_ch
 use Rattle.fr_model.specs.Finish.{closed, one_more_tree, closed_all, closed_but, begun_with, finished_here, finished}
 use Rattle.fr_model.specs.Journal.{Note, entered_at, wrote_at, Journal, Held, in_parts, written, just_entered, untouched, held, longest, child_makes, completes, both_notes, each_notes, writing, closing_by, closing, closing_beside, closing_parts, closing_here_by, closing_here, finish_notes}
 use Rattle.fr_model.specs.Places.{Place, deferred_column, child_count, child_shape, part, one_more, fill_at}
-use Rattle.fr_model.specs.Tree.{Form, Tree, hole, entered, whole, begun, Trees, no_trees, branch, for_hole, tree_nth, child_as, count_trees, wholes, Mode, State}
+use Rattle.fr_model.specs.Tree.{Form, as_struct, as_array, Tree, hole, entered, whole, begun, Trees, no_trees, branch, for_hole, tree_nth, child_as, count_trees, wholes, Mode, State}
 use Rattle.fr_model.specs.Relation.{HasParts}
 use Rattle.fr_model.specs.Well.{IsBegunAs, IsTouched, Suits, AtCursor, Leads, IsInOrder}
 use Rattle.fr_model.proofs.Agreement.{IsWhole, by_value, by_entry, Agrees, AgreeAll, agree_nth, agree_same, begun_count, begun_takes, child_as_is, completes_tree, in_child, under, under_wrote, down_same, down_other, leads_child, leads_within}
@@ -18,6 +18,12 @@ use Rattle.fr_model.proofs.Beneath.{down, along, held_along, completes_along, lo
 use Rattle.fr_model.proofs.FinishNotes.{hole_makes, touched_makes}
 use Rattle.fr_model.proofs.Plain.{AllPlain, plain_child, valid_same}
 use Rattle.fr_model.proofs.Structs.{SuitFrom, suit_nth}
+
+-- a begun place of which the journal holds parts stays begun
+stays_begun : (form : Form) (vs : Vals) → HasParts form → begun_with form vs ≡ begun form (wholes vs)
+stays_begun as_struct vs parts = refl
+stays_begun as_array vs parts = refl
+stays_begun _ vs parts = absurd parts
 
 -- journals that are joined, and notes at children
 
@@ -403,7 +409,7 @@ module _ (hooks : Meanings) (table : Table) (checked : IsChecked table) (notes :
       go (Some vs) found (one_fails none none_found) = cc
       go (Some vs) found (all_end after added is noted lower parts agree) =
           let same : wholes vs ≡ after = cc in
-          both_end (begun form (wholes vs)) added refl noted (
+          both_end (begun form (wholes vs)) added (ap Some (stays_begun form vs agrees.2)) noted (
             parts (along here notes) agrees.0,
             subst (λ (all : Trees). AgreeAll table s form (added ++ along here notes) 0 all) (sym same) agree,
             agrees.2,

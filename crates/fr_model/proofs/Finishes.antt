@@ -1,6 +1,6 @@
 -- The end of deferred mode on the tree: what it makes suits its shape, keeps its tokens and is a tree of strict mode, the path
 -- stays, and it makes none exactly where there is something to refuse.
-use Rattle.std.proofs.Common.{◌≡◌, ℕ, zero, suc, ◌+◌, Bool, true, false, not, ◌||◌, is_none, is_some, List, [], ◌∷◌, ◌++◌, Option, Some, None, refl, sym, ◌∙◌, ap, ap₂, subst, arith}
+use Rattle.std.proofs.Common.{◌≡◌, ℕ, zero, suc, ◌+◌, Bool, true, false, not, ◌||◌, is_none, is_some, if◌then◌else◌, List, [], ◌∷◌, ◌++◌, Option, Some, None, refl, sym, ◌∙◌, ap, ap₂, subst, arith}
 use Rattle.std.specs.Option.{option_map, option_or}
 use Rattle.fr_shape.specs.Checked.{IsChecked}
 use Rattle.fr_shape.specs.Fits.{count_vals}
@@ -11,14 +11,14 @@ use Rattle.fr_shape.specs.Val.{Vals, no_vals, first}
 use Rattle.fr_path.specs.declared.path_steps.PathStep.{PathStep}
 use Rattle.fr_model.specs.Places.{Place, deferred_column}
 use Rattle.fr_model.specs.Paths.{step_as, steps_in}
-use Rattle.fr_model.specs.Tree.{Form, as_struct, as_array, as_variant, as_some, as_ok, as_err, as_pointer, Tree, hole, entered, whole, begun, Trees, no_trees, branch, tree_nth, tree_at, child_as, shape_in, wholes, count_trees, tree_occurs, trees_occur, Mode, strict}
-use Rattle.fr_model.specs.Complete.{complete, complete_all}
+use Rattle.fr_model.specs.Tree.{Form, as_struct, as_array, as_variant, as_some, as_ok, as_err, as_pointer, as_list, as_slice, as_closed_slice, Tree, hole, entered, whole, begun, Trees, no_trees, branch, tree_nth, tree_at, child_as, shape_in, wholes, count_trees, tree_occurs, trees_occur, Mode, strict}
+use Rattle.fr_model.specs.Complete.{complete, complete_all, value_as}
 use Rattle.fr_model.specs.Failing.{own_lack, Failure, failures, failures_among, first_by_walk}
-use Rattle.fr_model.specs.Finish.{closed, one_more_tree, closed_all, closed_but, begun_with, finished_here, finished, failures_but, failures_off, kind_of}
-use Rattle.fr_model.specs.Well.{IsBegunAs, IsTouched, IsContent, IsBegunRightly, Suits, IsOff, AllOff, AtCursor, OffBut, Leads}
+use Rattle.fr_model.specs.Finish.{closed, one_more_tree, closed_all, closed_but, is_closed_slice, begun_with, finished_here, finished, failures_but, failures_off, kind_of}
+use Rattle.fr_model.specs.Well.{IsFullAs, IsBegunAs, IsTouched, IsContent, AreTouched, IsBegunRightly, Suits, IsOff, AllOff, AtCursor, OffBut, Leads}
 use Rattle.fr_model.proofs.Completing.{Made, completing_makes, Children, all_completing_make}
 use Rattle.fr_model.proofs.Failing.{none_mapped, joined_there, some_or, completes_or_fails, all_complete_or_fail, entered_lacks}
-use Rattle.fr_model.proofs.Structs.{ChildrenFit, SuitFrom}
+use Rattle.fr_model.proofs.Structs.{ChildrenFit, SuitFrom, slice_behind, value_fits, value_holds}
 use Rattle.fr_model.proofs.Tokens.{wholes_hold}
 
 -- what is made is made of something
@@ -57,12 +57,13 @@ pub record Kept (table : Table) (s : ℕ) (tree next : Tree) : Type 0 where
 pub record AllKept (table : Table) (s : ℕ) (form : Form) (i : ℕ) (ts us : Trees) : Type 0 where
   pub suit : SuitFrom table s form i us
   pub content : IsContent ts → IsContent us
+  pub touched : AreTouched ts → AreTouched us
   pub counted : count_trees us ≡ count_trees ts
   pub hold : (t : ℕ) → trees_occur us t ≡ trees_occur ts t
 
 none_kept : (table : Table) (s : ℕ) (form : Form) (i : ℕ) (us : Trees)
     → ◌≡◌ {A = Option Trees} (Some no_trees) (Some us) → AllKept table s form i no_trees us
-none_kept table s form i no_trees e = record { suit = tt; content = λ has. has; counted = refl; hold = λ t. refl }
+none_kept table s form i no_trees e = record { suit = tt; content = λ has. has; touched = λ has. has; counted = refl; hold = λ t. refl }
 none_kept table s form i (branch u us) e = cc
 
 -- a child and the ones after it
@@ -74,6 +75,7 @@ more_kept table s form i tree ts o os us child others e =
     rw parts.same (record {
       suit = (here.suits, more.suit);
       content = here.touched;
+      touched = λ has. (here.touched has.0, more.touched has.1);
       counted = ap suc more.counted;
       hold = λ t. omega (arith, here.hold t, more.hold t);
     })
@@ -139,6 +141,10 @@ content_wholes no_trees vs e has = absurd has
 content_wholes (branch t ts) no_vals e has = absurd (omega arith)
 content_wholes (branch t ts) (first v vs) e has = tt
 
+wholes_touched : (vs : Vals) → AreTouched (wholes vs)
+wholes_touched no_vals = tt
+wholes_touched (first v vs) = (tt, wholes_touched vs)
+
 right_wholes : (table : Table) (s : ℕ) (form : Form) (ts : Trees) (vs : Vals) → count_vals vs ≡ count_trees ts
     → IsBegunRightly table s form ts → IsBegunRightly table s form (wholes vs)
 right_wholes table s as_struct ts vs e rightly = tt
@@ -148,12 +154,32 @@ right_wholes table s as_some ts vs e rightly = content_wholes ts vs e rightly
 right_wholes table s as_ok ts vs e rightly = content_wholes ts vs e rightly
 right_wholes table s as_err ts vs e rightly = content_wholes ts vs e rightly
 right_wholes table s as_pointer ts vs e rightly = (content_wholes ts vs e rightly.0, rightly.1)
+right_wholes table s as_list ts vs e rightly = wholes_touched vs
+right_wholes table s as_slice ts vs e rightly = (wholes_touched vs, rightly.1)
+right_wholes table s as_closed_slice ts vs e rightly = (wholes_touched vs, rightly.1)
 
 begun_keeps : (hooks : Meanings) (table : Table) (s : ℕ) (form : Form) (ts : Trees) (u : Tree) → IsChecked table
     → Suits table s (begun form ts) → finished_here hooks table s (begun form ts) ≡ Some u
     → Kept table s (begun form ts) u
-begun_keeps hooks table s form ts u checked suits e =
-    rw to.same (record {
+begun_keeps hooks table s form ts u checked suits e = rw to.same (go (is_closed_slice form))
+  where
+    to : Mapped (begun_with form) (complete_all deferred_column hooks table s form 0 ts) u
+    to = mapped_is (begun_with form) (complete_all deferred_column hooks table s form 0 ts) u e
+
+    those : Children table s form 0 (count_trees ts) (λ t. trees_occur ts t) to.from
+    those = all_completing_make deferred_column hooks table ts s form 0 to.from checked suits.1 to.is
+
+    full_as : IsFullAs (def_of table s) form (count_vals to.from)
+    full_as = subst (IsFullAs (def_of table s) form) (sym those.counted) suits.0.0
+
+    go : (b : Bool)
+        → Kept table s (begun form ts) (if b then whole (value_as form to.from) else begun form (wholes to.from))
+    go true = record {
+      suits = value_fits table s form to.from full_as (slice_behind table s form ts suits.2) those.fit;
+      touched = λ there. tt;
+      hold = λ t. value_holds (def_of table s) form to.from full_as t ∙ those.hold t;
+    }
+    go false = record {
       suits = (
         subst (IsBegunAs (def_of table s) form) (sym (count_wholes to.from ∙ those.counted)) suits.0,
         fitting_suit table s form 0 to.from those.fit,
@@ -161,13 +187,7 @@ begun_keeps hooks table s form ts u checked suits e =
       );
       touched = λ there. tt;
       hold = λ t. wholes_hold to.from t ∙ those.hold t;
-    })
-  where
-    to : Mapped (begun_with form) (complete_all deferred_column hooks table s form 0 ts) u
-    to = mapped_is (begun_with form) (complete_all deferred_column hooks table s form 0 ts) u e
-
-    those : Children table s form 0 (count_trees ts) (λ t. trees_occur ts t) to.from
-    those = all_completing_make deferred_column hooks table ts s form 0 to.from checked suits.1 to.is
+    }
 
 here_keeps : (hooks : Meanings) (table : Table) (s : ℕ) (tree u : Tree) → IsChecked table → Suits table s tree
     → finished_here hooks table s tree ≡ Some u → Kept table s tree u
@@ -179,14 +199,17 @@ here_keeps hooks table s (whole v) u checked suits e =
 here_keeps hooks table s (begun form ts) u checked suits e = begun_keeps hooks table s form ts u checked suits e
 
 right_kept : (table : Table) (s : ℕ) (form : Form) (ts us : Trees) → (IsContent ts → IsContent us)
-    → IsBegunRightly table s form ts → IsBegunRightly table s form us
-right_kept table s as_struct ts us keeps rightly = tt
-right_kept table s as_array ts us keeps rightly = tt
-right_kept table s (as_variant k) ts us keeps rightly = rightly
-right_kept table s as_some ts us keeps rightly = keeps rightly
-right_kept table s as_ok ts us keeps rightly = keeps rightly
-right_kept table s as_err ts us keeps rightly = keeps rightly
-right_kept table s as_pointer ts us keeps rightly = (keeps rightly.0, rightly.1)
+    → (AreTouched ts → AreTouched us) → IsBegunRightly table s form ts → IsBegunRightly table s form us
+right_kept table s as_struct ts us keeps all rightly = tt
+right_kept table s as_array ts us keeps all rightly = tt
+right_kept table s (as_variant k) ts us keeps all rightly = rightly
+right_kept table s as_some ts us keeps all rightly = keeps rightly
+right_kept table s as_ok ts us keeps all rightly = keeps rightly
+right_kept table s as_err ts us keeps all rightly = keeps rightly
+right_kept table s as_pointer ts us keeps all rightly = (keeps rightly.0, rightly.1)
+right_kept table s as_list ts us keeps all rightly = all rightly
+right_kept table s as_slice ts us keeps all rightly = (all rightly.0, rightly.1)
+right_kept table s as_closed_slice ts us keeps all rightly = (all rightly.0, rightly.1)
 
 -- a begun place above the cursor
 above_keeps : (hooks : Meanings) (table : Table) (s : ℕ) (form : Form) (on_way : ℕ) (becomes : ℕ → Tree → Option Tree)
@@ -200,7 +223,7 @@ above_keeps hooks table s form on_way becomes ts next checked keeps suits e =
       suits = (
         subst (IsBegunAs (def_of table s) form) (sym those.counted) suits.0,
         those.suit,
-        right_kept table s form ts to.from those.content suits.2,
+        right_kept table s form ts to.from those.content those.touched suits.2,
       );
       touched = λ there. tt;
       hold = those.hold;
@@ -284,7 +307,11 @@ here_leads hooks table s mode (whole v) u at e = let same : whole v ≡ u = cc i
 here_leads hooks table s mode (begun form ts) u at e =
     let to : Mapped (begun_with form) (complete_all deferred_column hooks table s form 0 ts) u
     = mapped_is (begun_with form) (complete_all deferred_column hooks table s form 0 ts) u e in
-    rw to.same (wholes_off to.from)
+    rw to.same (go (is_closed_slice form) to.from)
+  where
+    go : (b : Bool) (vs : Vals) → AtCursor strict (if b then whole (value_as form vs) else begun form (wholes vs))
+    go true vs = tt
+    go false vs = wholes_off vs
 
 -- where the cursor leads to a place, in whichever mode, it leads to it in strict mode
 pub finish_leads : (hooks : Meanings) (table : Table) (s : ℕ) (mode : Mode) (cursor : Place) (tree next : Tree)

@@ -1,3 +1,4 @@
+pub mod Admits
 pub mod Agreement
 pub mod ArrayRows
 pub mod Becoming
@@ -15,12 +16,14 @@ pub mod FinishAgreement
 pub mod FinishNotes
 pub mod Finishes
 pub mod FirstFailure
+pub mod Items
 pub mod Moves
 pub mod Opening
 pub mod Paths
 pub mod Plain
 pub mod Plannable
 pub mod Relating
+pub mod Resting
 pub mod Rows
 pub mod Runs
 pub mod Sized

@@ -13,11 +13,11 @@ use Rattle.fr_shape.specs.Val.{Val, Vals, unit, product, no_vals, first}
 use Rattle.fr_shape.specs.Fits.{fits, fields_fit}
 use Rattle.fr_model.specs.Places.{array_limit, vals_nth}
 use Rattle.fr_model.specs.Journal.{entered_at, Journal, Held, written, just_entered, untouched, at_least_entered, held}
-use Rattle.fr_model.specs.Tree.{Form, as_struct, as_array, as_variant, as_some, as_ok, as_err, as_pointer, form_of, form_at, selected, Tree, hole, entered, whole, begun, Trees, no_trees, branch, tree_nth, change_nth, change_child, child_as, count_trees, holes, wholes, fresh, Mode, strict, deferred}
+use Rattle.fr_model.specs.Tree.{Form, as_struct, as_array, as_variant, as_some, as_ok, as_err, as_pointer, as_list, as_slice, as_closed_slice, form_of, form_at, selected, Tree, hole, entered, whole, begun, Trees, no_trees, branch, tree_nth, change_nth, change_child, child_as, count_trees, holes, wholes, fresh, Mode, strict, deferred}
 use Rattle.fr_model.specs.Relation.{HasParts}
 use Rattle.fr_model.specs.Step.{opened, enter, enter_child}
 use Rattle.fr_model.specs.Variants.{fields_or_none, variant_fields}
-use Rattle.fr_model.specs.Well.{HasFieldsOf, IsFullAs, IsBegunAs, IsTouched, IsContent, IsBegunRightly, Suits, IsOff, AllOff, AtCursor, OffBut, Leads}
+use Rattle.fr_model.specs.Well.{HasFieldsOf, IsFullAs, IsBegunAs, IsTouched, IsContent, AreTouched, IsBegunRightly, Suits, IsOff, AllOff, AtCursor, OffBut, Leads}
 use Rattle.fr_model.proofs.Beneath.{down, held_down, IsLow, untouched_below, written_below}
 use Rattle.fr_model.proofs.Agreement.{IsWhole, by_value, by_entry, Agrees, AgreeAll, agree_change, down_same, down_other}
 use Rattle.fr_model.proofs.Structs.{SuitFrom, settled_struct, all_from, WholesSuit, wholes_suit, count_change, count_holes, holes_suit, suit_change}
@@ -74,6 +74,12 @@ content_changed no_trees i change touched has = absurd has
 content_changed (branch t ts) zero change touched has = touched
 content_changed (branch t ts) (suc i) change touched has = has
 
+all_changed : (ts : Trees) (i : ℕ) (change : Tree → Tree) → IsTouched (change (tree_nth i ts)) → AreTouched ts
+    → AreTouched (change_nth i change ts)
+all_changed no_trees i change touched has = tt
+all_changed (branch t ts) zero change touched has = (touched, has.1)
+all_changed (branch t ts) (suc i) change touched has = (has.0, all_changed ts i change touched has.1)
+
 pub rightly_changed : (table : Table) (s : ℕ) (form : Form) (ts : Trees) (i : ℕ) (change : Tree → Tree)
     → IsTouched (change (tree_nth i ts)) → IsBegunRightly table s form ts
     → IsBegunRightly table s form (change_nth i change ts)
@@ -85,6 +91,10 @@ rightly_changed table s as_ok ts i change touched rightly = content_changed ts i
 rightly_changed table s as_err ts i change touched rightly = content_changed ts i change touched rightly
 rightly_changed table s as_pointer ts i change touched rightly =
     (content_changed ts i change touched rightly.0, rightly.1)
+rightly_changed table s as_list ts i change touched rightly = all_changed ts i change touched rightly
+rightly_changed table s as_slice ts i change touched rightly = (all_changed ts i change touched rightly.0, rightly.1)
+rightly_changed table s as_closed_slice ts i change touched rightly =
+    (all_changed ts i change touched rightly.0, rightly.1)
 
 -- the children that a place of this form has, or gets when child i is entered
 pub record Opening (mode : Mode) (table : Table) (s i : ℕ) (form : Form) (t : Tree) : Type 0 where

@@ -4,19 +4,20 @@ use Rattle.std.specs.Option.{option_map}
 use Rattle.fr_shape.specs.declared.shape.Def.{Def}
 use Rattle.fr_shape.specs.declared.shape.ShapeId.{ShapeId}
 use Rattle.fr_shape.specs.Look.{Table, def_of}
-use Rattle.fr_shape.specs.Val.{Val, Vals, unit, product}
+use Rattle.fr_shape.specs.Val.{Val, Vals, unit, product, list_of}
 use Rattle.fr_shape.specs.Fits.{fits}
 use Rattle.fr_path.specs.declared.path_steps.PathStep.{PathStep}
 use Rattle.fr_model.specs.Paths.{step_as, step_below, steps_in, path_of}
-use Rattle.fr_model.specs.Contents.{variant_anew, around, content_anew, kept_in, is_entered_in_place, content_of, kept_option}
-use Rattle.fr_model.specs.Places.{Place, up, content_shape, parts_of}
-use Rattle.fr_model.specs.Step.{opened_value, opened, enter, enter_child, enters, puts, put_child, puts_child, enters_content, option_kept, content_kept, variant_kept, selects, puts_and_leaves, leaves}
-use Rattle.fr_model.specs.Tree.{Form, as_some, form_of, form_at, Tree, hole, entered, whole, begun, Trees, no_trees, branch, tree_nth, child_tree, change_nth, change_child, tree_at, change_at, child_as, count_trees, Mode, strict, deferred, State, cursor_shape, cursor_tree}
+use Rattle.fr_model.specs.Items.{with_item, closed_slice}
+use Rattle.fr_model.specs.Contents.{variant_anew, around, content_anew, slice_anew, kept_in, is_entered_in_place, content_of, kept_option}
+use Rattle.fr_model.specs.Places.{Place, up, content_shape, parts_of, items_of}
+use Rattle.fr_model.specs.Step.{parts_as, opened_value, opened, enter, enter_child, enters, puts, put_child, puts_child, enters_content, option_kept, content_kept, pointer_kept, begins_pointer, opens, enters_item, closes, variant_kept, selects, puts_and_leaves, leaves}
+use Rattle.fr_model.specs.Tree.{Form, as_some, form_of, form_at, Tree, hole, entered, whole, begun, Trees, no_trees, branch, tree_nth, child_tree, change_nth, change_child, tree_at, change_at, child_as, count_trees, count_below, Mode, strict, deferred, State, cursor_shape, cursor_tree}
 use Rattle.fr_model.specs.Well.{Suits, AtCursor, Leads, IsInOrder}
 use Rattle.fr_model.proofs.Agreement.{leads_within, leads_child}
 use Rattle.fr_model.proofs.Cursor.{at_cursor, suits_at}
 use Rattle.fr_model.proofs.Becoming.{kept_so_is}
-use Rattle.fr_model.proofs.Structs.{settled_array}
+use Rattle.fr_model.proofs.Structs.{settled_array, settled_list}
 
 pub as_deep : (here : Place) (t : Tree) → length (steps_in here t) ≡ length here
 as_deep [] t = refl
@@ -78,18 +79,27 @@ array_parts table s item n (product vs) is fit none = cc
 array_parts table s item n unit is fit none = cc
 array_parts table s item n _ is fit none = let absent = rw (settled_array table s item n is) at fit in cc
 
+-- a whole list has items
+list_items : (table : Table) (s : ℕ) (item : ShapeId) (v : Val) → def_of table s ≡ Def.List item → fits table s v ≡ true
+    → items_of v ≡ None → ⊥
+list_items table s item (list_of vs) is fit none = cc
+list_items table s item unit is fit none = cc
+list_items table s item _ is fit none = let absent = rw (settled_list table s item is) at fit in cc
+
 opened_below : (mode : Mode) (table : Table) (s i : ℕ) (t : Tree) → AtCursor mode t → Suits table s t
     → step_below i (opened (def_of table s) t) ≡ step_as (form_at (def_of table s) t) i
 opened_below mode table s i hole at suits = absurd at
 opened_below mode table s i entered at suits = refl
 opened_below mode table s i (begun form ts) at suits = refl
-opened_below mode table s i (whole v) at suits = of_parts (parts_of v) refl
+opened_below mode table s i (whole v) at suits = of_parts (parts_as (form_of (def_of table s)) v) refl
   where
-    without : (def : Def) → def_of table s ≡ def → parts_of v ≡ None → PathStep.Field i ≡ step_as (form_of def) i
+    without : (def : Def) → def_of table s ≡ def → parts_as (form_of def) v ≡ None
+        → PathStep.Field i ≡ step_as (form_of def) i
     without (Def.Array item n) is none = absurd (array_parts table s item n v is suits none)
+    without (Def.List item) is none = absurd (list_items table s item v is suits none)
     without _ is none = refl
 
-    of_parts : (parts : Option Vals) → parts_of v ≡ parts
+    of_parts : (parts : Option Vals) → parts_as (form_of (def_of table s)) v ≡ parts
         → step_below i (opened_value (form_of (def_of table s)) v parts) ≡ step_as (form_of (def_of table s)) i
     of_parts (Some vs) is = refl
     of_parts None none = without (def_of table s) refl none
@@ -149,6 +159,27 @@ pub some_adds : (table : Table) (s : ℕ) (state : State) → Leads state.mode s
 some_adds table s state leads =
     content_adds_so table s state as_some (option_kept table s state) leads
     (option_below table s state.mode (def_of table (content_shape (def_of table s))) (cursor_tree state))
+
+-- lists, arrays and slices
+
+pub item_adds : (table : Table) (s : ℕ) (state : State) (form : Form) (children : Trees)
+    → Leads state.mode state.cursor state.tree → cursor_tree state ≡ begun form children
+    → path_of (enters_item table s state) ≡ path_of state ++ step_as form (count_trees children) ∷ []
+item_adds table s state form children leads is =
+    steps_on state.mode state.cursor (count_below (cursor_tree state) ∷ []) state.tree (with_item table s) leads
+    ∙ ap (λ (here : Tree). path_of state ++ step_below (count_below here) (with_item table s here) ∷ []) is
+
+pub open_keeps : (table : Table) (s : ℕ) (state : State) → Leads state.mode state.cursor state.tree
+    → path_of (opens table s state) ≡ path_of state
+open_keeps table s state leads = change_keeps state (opened (def_of table s)) leads
+
+pub open_slice_keeps : (table : Table) (s : ℕ) (state : State) → Leads state.mode state.cursor state.tree
+    → path_of (begins_pointer table s state true) ≡ path_of state
+open_slice_keeps table s state leads =
+    change_keeps state (λ old. unwrap_or (pointer_kept state true) slice_anew) leads
+
+pub close_slice_keeps : (state : State) → Leads state.mode state.cursor state.tree → path_of (closes state) ≡ path_of state
+close_slice_keeps state leads = change_keeps state closed_slice leads
 
 -- the cursor goes up
 

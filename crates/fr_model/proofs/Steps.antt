@@ -14,9 +14,10 @@ use Rattle.fr_model.specs.Commands.{Call, IsFieldCall}
 use Rattle.fr_shape.specs.Named.{field_named}
 use Rattle.fr_model.specs.Places.{Place, Column, strict_column, is_root, shape_at}
 use Rattle.fr_model.specs.Journal.{entered_at, wrote_at, Journal, Held, held, completes, Progress, may_enter, goes_to_child, goes_to_found, writes, ends, goes_up, end_rule, begin_deferred_rule, finishes_with, finish_rule, finish_notes, rule}
+use Rattle.fr_model.specs.Items.{is_open_slice}
 use Rattle.fr_model.specs.Relation.{HasParts}
 use Rattle.fr_model.specs.Variants.{field_found}
-use Rattle.fr_model.specs.Tree.{Form, as_struct, as_array, variant_of, selected, Tree, hole, entered, begun, whole, Mode, strict, deferred, State, cursor_shape, cursor_tree, one_more_call}
+use Rattle.fr_model.specs.Tree.{Form, as_struct, as_array, as_slice, variant_of, selected, Tree, hole, entered, begun, whole, Mode, strict, deferred, State, cursor_shape, cursor_tree, one_more_call}
 use Rattle.fr_model.specs.Complete.{complete}
 use Rattle.fr_model.specs.Finish.{finished}
 use Rattle.fr_model.specs.Step.{unless_refused, field_refusal, named_refusal, at_shape, enter_child, enters, begins_named, puts, is_str, is_owned_string, takes_shape, set_refusal, puts_default, violates, ended, leaves, end_in, begins_deferred, finishes, finish_in, step}
@@ -302,6 +303,14 @@ module _ (hooks : Meanings) (table : Table) (checked : IsChecked table) (root : 
           (subst (λ (place : Place). start < length place) (sym at) (ltb-true start (length (i ∷ here)) e))
       go false e = tt
 
+  -- the journal has no parts of a slice
+  no_slice : is_open_slice (cursor_tree state) ≡ false
+  no_slice = go (cursor_tree state) agrees_here
+    where
+      go : (t : Tree) → Agrees table at_here (along state.cursor notes) t → is_open_slice t ≡ false
+      go (begun as_slice ts) agrees = absurd agrees.2
+      go _ agrees = refl
+
   end_alike : (mode : Mode) → state.mode ≡ mode
       → BothStep table root
       (if is_root state.cursor then Err (violates Invariant.EndAtRoot) else end_in hooks table at_here state mode)
@@ -358,7 +367,7 @@ module _ (hooks : Meanings) (table : Table) (checked : IsChecked table) (root : 
   steps_alike (Call.BeginNthField i) of_field fit = begins_alike i
   steps_alike (Call.Set given v) of_field fit = sets_alike given v fit.1
   steps_alike Call.SetDefault of_field fit = defaults_alike
-  steps_alike Call.End of_field fit = end_alike state.mode refl
+  steps_alike Call.End of_field fit = rw no_slice (end_alike state.mode refl)
   steps_alike Call.BeginDeferred of_field fit = defers_alike state.mode refl
   steps_alike Call.FinishDeferred of_field fit = finish_alike state.mode
   steps_alike _ of_field fit = absurd of_field

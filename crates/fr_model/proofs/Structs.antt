@@ -1,5 +1,5 @@
--- Trees of structs and arrays and their values: what fits opens into fitting children, and fitting children make what fits.
-use Rattle.std.proofs.Common.{◌≡◌, ℕ, zero, suc, ◌+◌, eq-eqb, true, List, [], ◌∷◌, length, slice_get, Option, Some, None, refl, sym, ◌∙◌, ap, subst, arith}
+-- Trees and their values: what fits opens into fitting children, and fitting children make what fits.
+use Rattle.std.proofs.Common.{◌≡◌, ℕ, zero, suc, ◌+◌, eq-eqb, Bool, true, false, if◌then◌else◌, List, [], ◌∷◌, length, slice_get, Option, Some, None, refl, sym, ◌∙◌, ap, subst, arith}
 use Rattle.fr_shape.specs.declared.shape.Def.{Def}
 use Rattle.fr_shape.specs.declared.shape.ShapeId.{ShapeId}
 use Rattle.fr_shape.specs.declared.shape.StructDef.{StructDef}
@@ -9,14 +9,16 @@ use Rattle.fr_shape.specs.declared.shape.PointerDef.{PointerDef}
 use Rattle.fr_shape.specs.declared.shape.Field.{Field}
 use Rattle.fr_shape.specs.declared.shape.ScalarKind.{ScalarKind}
 use Rattle.fr_shape.specs.Look.{Table, def_of, settled}
-use Rattle.fr_shape.specs.Val.{Val, Vals, no_vals, first}
+use Rattle.fr_shape.specs.declared.error.Operation.{Operation}
+use Rattle.fr_shape.specs.Val.{Val, Vals, list_of, no_vals, first}
 use Rattle.fr_shape.specs.Fits.{fits, all_fit, fields_fit, fields_of_variant, points_at, count_vals}
 use Rattle.fr_shape.specs.Tokens.{occurs, vals_occur}
-use Rattle.fr_model.specs.Places.{child_shape, shape_or_zero, vals_nth, one_more, product_of}
-use Rattle.fr_model.specs.Tree.{Form, as_struct, as_array, as_variant, as_some, as_ok, as_err, as_pointer, Tree, Trees, no_trees, branch, tree_nth, change_nth, child_as, shapes_from, count_trees, holes, wholes}
+use Rattle.fr_model.specs.Contents.{pointee_refusal, pointer_refusal, is_slice}
+use Rattle.fr_model.specs.Places.{child_shape, shape_or_zero, pointee_shape, item_shape, vals_nth, one_more, product_of}
+use Rattle.fr_model.specs.Tree.{Form, as_struct, as_array, as_variant, as_some, as_ok, as_err, as_pointer, as_list, as_slice, as_closed_slice, Tree, Trees, no_trees, branch, tree_nth, change_nth, child_as, shapes_from, count_trees, holes, wholes}
 use Rattle.fr_model.specs.Complete.{value_as, made}
 use Rattle.fr_model.specs.Relation.{HasParts}
-use Rattle.fr_model.specs.Well.{HasFieldsOf, HasContent, HasSide, PointsTo, HasPointee, IsFullAs, IsBegunAs, Suits, SuitAll}
+use Rattle.fr_model.specs.Well.{HasFieldsOf, HasContent, HasSide, PointsTo, HasPointee, IsFullAs, IsBegunAs, MayPoint, IsBegunRightly, Suits, SuitAll}
 use Rattle.fr_model.proofs.Templates.{both_true}
 
 -- definitions that stand for themselves
@@ -59,6 +61,14 @@ pub settled_pointer : (table : Table) (s : ℕ) (pointer : PointerDef) → def_o
     → settled table s ≡ Def.Pointer pointer
 settled_pointer [] s pointer e = cc
 settled_pointer (shape ∷ shapes) s pointer e = rw e refl
+
+pub settled_list : (table : Table) (s : ℕ) (t : ShapeId) → def_of table s ≡ Def.List t → settled table s ≡ Def.List t
+settled_list [] s t e = cc
+settled_list (shape ∷ shapes) s t e = rw e refl
+
+pub settled_slice : (table : Table) (s : ℕ) (t : ShapeId) → def_of table s ≡ Def.Slice t → settled table s ≡ Def.Slice t
+settled_slice [] s t e = cc
+settled_slice (shape ∷ shapes) s t e = rw e refl
 
 -- the fields from number i on, as a list of their own
 abbrev pub AreFrom : List Field → ℕ → List Field → Type 0
@@ -123,13 +133,13 @@ fields_all_fit table s form all shapes i (field ∷ fields) (first v vs) from co
     = fields_all_fit table s form all shapes (suc i) fields vs (next_are all i field fields from) (omega arith) fit.1 in
     rw (here, others) refl
 
-elements_all_fit : (table : Table) (s : ℕ) (t : ShapeId) (n : ℕ) → def_of table s ≡ Def.Array t n → (i : ℕ) (vs : Vals)
-    → ChildrenFit table s as_array i vs → all_fit table t.0 vs ≡ true
-elements_all_fit table s t n is i no_vals fit = refl
-elements_all_fit table s t n is i (first v vs) fit =
-    let shape : child_shape table s i ≡ t.0 = rw is refl in
-    let here : fits table t.0 v ≡ true = rw shape at fit.0 in
-    let others : all_fit table t.0 vs ≡ true = elements_all_fit table s t n is (suc i) vs fit.1 in
+-- children that all have one shape
+each_fits : (table : Table) (s : ℕ) (form : Form) (shape : ℕ) → ((i : ℕ) → child_as table s form i ≡ shape) → (i : ℕ)
+    (vs : Vals) → ChildrenFit table s form i vs → all_fit table shape vs ≡ true
+each_fits table s form shape same i no_vals fit = refl
+each_fits table s form shape same i (first v vs) fit =
+    let here : fits table shape v ≡ true = rw (same i) at fit.0 in
+    let others : all_fit table shape vs ≡ true = each_fits table s form shape same (suc i) vs fit.1 in
     rw (here, others) refl
 
 -- what a place makes of its children's values
@@ -167,6 +177,54 @@ pointee_once : (def : Def) (count : ℕ) → HasPointee def count → count ≡ 
 pointee_once (Def.Pointer pointer) count has = points_once pointer.pointee count has
 pointee_once _ count has = absurd has
 
+-- it is known what a pointer that may be begun points to
+pub has_pointee : (table : Table) (def : Def) → pointer_refusal table def ≡ None → HasPointee def 1
+has_pointee table (Def.Pointer pointer) e = go pointer.constructible pointer.pointee e
+  where
+    go : (constructible : Bool) (pointee : Option ShapeId)
+        → (if constructible then pointee_refusal table pointer.known pointee else Some Operation.PointerNotConstructible) ≡ None
+        → PointsTo pointee 1
+    go true (Some t) e = refl
+    go true None e = cc
+    go false pointee e = cc
+has_pointee table _ e = cc
+
+-- where a place is begun as a pointer to a slice, it is one
+abbrev pub HasSliceBehind : Table → ℕ → Form → Type 0
+HasSliceBehind table s as_slice = MayPoint table s true
+HasSliceBehind table s as_closed_slice = MayPoint table s true
+HasSliceBehind table s _ = Unit {0}
+
+pub slice_behind : (table : Table) (s : ℕ) (form : Form) (ts : Trees) → IsBegunRightly table s form ts
+    → HasSliceBehind table s form
+slice_behind table s as_slice ts rightly = rightly.1
+slice_behind table s as_closed_slice ts rightly = rightly.1
+slice_behind table s _ ts rightly = tt
+
+-- the items that fit make a slice that fits, and so the pointer to it
+pointed_slice : (table : Table) (s : ℕ) (pointer : PointerDef) (vs : Vals) → def_of table s ≡ Def.Pointer pointer
+    → MayPoint table s true
+    → ((shape : ℕ) → ((def : Def) → def_of table (pointee_shape (def_of table s)) ≡ def → item_shape def ≡ shape)
+    → all_fit table shape vs ≡ true)
+    → points_at pointer.pointee (λ t. fits table t (list_of vs)) ≡ true
+pointed_slice table s pointer vs is points fit =
+    go pointer.pointee refl (rw is at (has_pointee table (def_of table s) points.0))
+  where
+    of_slice : (t : ShapeId) → pointee_shape (def_of table s) ≡ t.0 → (def : Def) → def_of table t.0 ≡ def
+        → is_slice def ≡ true → fits table t.0 (list_of vs) ≡ true
+    of_slice t behind (Def.Slice item) to slice =
+        rw (settled_slice table t.0 item to)
+        (fit item.0 (λ def there. let same : def ≡ Def.Slice item = sym there ∙ ap (def_of table) behind ∙ to in rw same refl))
+    of_slice t behind _ to slice = cc
+
+    go : (pointee : Option ShapeId) → pointer.pointee ≡ pointee → PointsTo pointee 1
+        → points_at pointee (λ t. fits table t (list_of vs)) ≡ true
+    go (Some t) to one =
+        let behind : pointee_shape (def_of table s) ≡ t.0 = rw (is, to) refl in
+        of_slice t behind (def_of table t.0) refl
+        (ap (λ (shape : ℕ). is_slice (def_of table shape)) (sym behind) ∙ points.1)
+    go None to one = absurd one
+
 one_holds : (vs : Vals) (t : ℕ) → count_vals vs ≡ 1 → occurs (vals_nth vs 0) t ≡ vals_occur vs t
 one_holds no_vals t one = absurd (omega arith)
 one_holds (first v no_vals) t one = omega arith
@@ -174,8 +232,8 @@ one_holds (first v (first w ws)) t one = absurd (omega arith)
 
 -- fitting children, as many as there have to be, make a value that fits
 pub value_fits : (table : Table) (s : ℕ) (form : Form) (vs : Vals) → IsFullAs (def_of table s) form (count_vals vs)
-    → ChildrenFit table s form 0 vs → fits table s (value_as form vs) ≡ true
-value_fits table s form vs count fit = go form (def_of table s) refl vs count fit
+    → HasSliceBehind table s form → ChildrenFit table s form 0 vs → fits table s (value_as form vs) ≡ true
+value_fits table s form vs count behind fit = go form (def_of table s) refl vs count behind fit
   where
     of_variant : (k : ℕ) (enumeration : EnumDef) (found : Option VariantDef) → def_of table s ≡ Def.Enum enumeration
         → slice_get enumeration.variants k ≡ found → (vs : Vals) → HasFieldsOf found (count_vals vs)
@@ -192,30 +250,43 @@ value_fits table s form vs count fit = go form (def_of table s) refl vs count fi
     pointed pointer None is to v fit n one = absurd one
 
     go : (form : Form) (def : Def) → def_of table s ≡ def → (vs : Vals) → IsFullAs def form (count_vals vs)
-        → ChildrenFit table s form 0 vs → fits table s (value_as form vs) ≡ true
-    go as_struct (Def.Struct struct) is vs count fit =
+        → HasSliceBehind table s form → ChildrenFit table s form 0 vs → fits table s (value_as form vs) ≡ true
+    go as_struct (Def.Struct struct) is vs count behind fit =
         rw (settled_struct table s struct is)
         (fields_all_fit table s as_struct struct.fields (struct_shapes table s struct is) 0 struct.fields vs
         (all_from struct.fields) count fit)
-    go as_array (Def.Array t n) is vs count fit =
-        rw (settled_array table s t n is, eq-eqb (count_vals vs) n count, elements_all_fit table s t n is 0 vs fit) refl
-    go (as_variant k) (Def.Enum enumeration) is vs count fit =
+    go as_array (Def.Array t n) is vs count behind fit =
+        rw (
+          settled_array table s t n is,
+          eq-eqb (count_vals vs) n count,
+          each_fits table s as_array t.0 (λ i. rw is refl) 0 vs fit,
+        ) refl
+    go as_list (Def.List t) is vs count behind fit =
+        rw (settled_list table s t is) (each_fits table s as_list t.0 (λ i. rw is refl) 0 vs fit)
+    go as_slice (Def.Pointer pointer) is vs count behind fit =
+        rw (settled_pointer table s pointer is)
+        (pointed_slice table s pointer vs is behind (λ shape to. each_fits table s as_slice shape (λ i. to _ refl) 0 vs fit))
+    go as_closed_slice (Def.Pointer pointer) is vs count behind fit =
+        rw (settled_pointer table s pointer is)
+        (pointed_slice table s pointer vs is behind
+        (λ shape to. each_fits table s as_closed_slice shape (λ i. to _ refl) 0 vs fit))
+    go (as_variant k) (Def.Enum enumeration) is vs count behind fit =
         rw (settled_enum table s enumeration is)
         (of_variant k enumeration (slice_get enumeration.variants k) is refl vs count fit)
-    go as_some (Def.Option t) is (first v no_vals) count fit = rw (settled_option table s t is) (rw is at fit.0)
-    go as_some (Def.Option t) is no_vals count fit = absurd (omega arith)
-    go as_some (Def.Option t) is (first v (first w ws)) count fit = absurd (omega arith)
-    go as_ok (Def.Result t e) is (first v no_vals) count fit = rw (settled_result table s t e is) (rw is at fit.0)
-    go as_ok (Def.Result t e) is no_vals count fit = absurd (omega arith)
-    go as_ok (Def.Result t e) is (first v (first w ws)) count fit = absurd (omega arith)
-    go as_err (Def.Result t e) is (first v no_vals) count fit = rw (settled_result table s t e is) (rw is at fit.0)
-    go as_err (Def.Result t e) is no_vals count fit = absurd (omega arith)
-    go as_err (Def.Result t e) is (first v (first w ws)) count fit = absurd (omega arith)
-    go as_pointer (Def.Pointer pointer) is (first v vs) count fit =
+    go as_some (Def.Option t) is (first v no_vals) count behind fit = rw (settled_option table s t is) (rw is at fit.0)
+    go as_some (Def.Option t) is no_vals count behind fit = absurd (omega arith)
+    go as_some (Def.Option t) is (first v (first w ws)) count behind fit = absurd (omega arith)
+    go as_ok (Def.Result t e) is (first v no_vals) count behind fit = rw (settled_result table s t e is) (rw is at fit.0)
+    go as_ok (Def.Result t e) is no_vals count behind fit = absurd (omega arith)
+    go as_ok (Def.Result t e) is (first v (first w ws)) count behind fit = absurd (omega arith)
+    go as_err (Def.Result t e) is (first v no_vals) count behind fit = rw (settled_result table s t e is) (rw is at fit.0)
+    go as_err (Def.Result t e) is no_vals count behind fit = absurd (omega arith)
+    go as_err (Def.Result t e) is (first v (first w ws)) count behind fit = absurd (omega arith)
+    go as_pointer (Def.Pointer pointer) is (first v vs) count behind fit =
         rw (settled_pointer table s pointer is)
         (pointed pointer pointer.pointee is refl v (rw is at fit.0) (suc (count_vals vs)) count)
-    go as_pointer (Def.Pointer pointer) is no_vals count fit = absurd (omega (arith, points_once pointer.pointee 0 count))
-    go _ _ is vs count fit = absurd count
+    go as_pointer (Def.Pointer pointer) is no_vals count behind fit = absurd (omega (arith, points_once pointer.pointee 0 count))
+    go _ _ is vs count behind fit = absurd count
 
 -- and it holds what they hold
 pub value_holds : (def : Def) (form : Form) (vs : Vals) → IsFullAs def form (count_vals vs) → (t : ℕ)
@@ -227,6 +298,9 @@ value_holds def as_some vs count t = one_holds vs t (content_once def (count_val
 value_holds def as_ok vs count t = one_holds vs t (side_once def (count_vals vs) count)
 value_holds def as_err vs count t = one_holds vs t (side_once def (count_vals vs) count)
 value_holds def as_pointer vs count t = one_holds vs t (pointee_once def (count_vals vs) count)
+value_holds def as_list vs count t = refl
+value_holds def as_slice vs count t = refl
+value_holds def as_closed_slice vs count t = refl
 
 pub begun_full : (def : Def) (form : Form) (count : ℕ) → IsBegunAs def form count → IsFullAs def form count
 begun_full def form count begun_as = begun_as.0

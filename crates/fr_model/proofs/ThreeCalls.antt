@@ -10,9 +10,10 @@ use Rattle.fr_shape.specs.Look.{Table, def_of, field_in}
 use Rattle.fr_shape.specs.Val.{Val}
 use Rattle.fr_model.specs.Commands.{Call}
 use Rattle.fr_model.specs.Complete.{complete}
+use Rattle.fr_model.specs.Items.{is_open_slice}
 use Rattle.fr_model.specs.DefaultLaws.{and_step, three_calls, AreSameButCalls}
 use Rattle.fr_model.specs.Places.{Place, strict_column, is_root, up}
-use Rattle.fr_model.specs.Step.{unless_refused, at_shape, violates, field_refusal, named_refusal, opened, enter, enter_child, enters, set_refusal, field_default, puts, put_child, puts_child, puts_child_default, defaults_field, ended, leaves, end_in, step}
+use Rattle.fr_model.specs.Step.{unless_refused, at_shape, violates, field_refusal, named_refusal, opened, enter, enter_child, enters, set_refusal, field_default, puts, put_child, puts_child, puts_child_default, defaults_field, ended, leaves, end_in, leaves_place, closes_slice, step}
 use Rattle.fr_model.specs.Tree.{form_at, selected, Tree, hole, entered, whole, begun, Trees, no_trees, branch, tree_nth, change_nth, change_child, child_as, tree_at, change_at, shape_in, shape_below, Mode, strict, deferred, State, cursor_shape, cursor_tree}
 use Rattle.fr_model.specs.Well.{Suits, AtCursor, Leads, BeganAbove, IsInOrder}
 use Rattle.fr_model.proofs.Agreement.{leads_within, leads_child}
@@ -193,9 +194,13 @@ module _ (hooks : Meanings) (table : Table) (root : ℕ) (state : State) (i : �
 
   leaves_it : AreSameButCalls (Ok (puts_child table here state i v)) (step hooks table root put Call.End)
   leaves_it =
-      subst (λ (b : Bool). AreSameButCalls (Ok (puts_child table here state i v))
+      subst (λ (u : Tree). AreSameButCalls (Ok (puts_child table here state i v))
+      (if is_open_slice u then closes_slice hooks table (cursor_shape table root put) put put.mode
+      else leaves_place hooks table (cursor_shape table root put) put))
+      (sym put_tree)
+      (subst (λ (b : Bool). AreSameButCalls (Ok (puts_child table here state i v))
       (if b then Err (violates Invariant.EndAtRoot) else end_in hooks table (cursor_shape table root put) put put.mode))
-      (sym (not_root state.cursor i)) (ends_it state.mode order.began)
+      (sym (not_root state.cursor i)) (ends_it state.mode order.began))
 
   defaults_it : step hooks table root state (Call.SetNthFieldToDefault i) ≡ Ok (puts_child table here state i v)
   defaults_it =

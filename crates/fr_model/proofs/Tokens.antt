@@ -3,10 +3,10 @@ use Rattle.std.proofs.Common.{◌≡◌, ℕ, zero, suc, ◌+◌, ◌<◌, Bool,
 use Rattle.fr_shape.specs.declared.shape.Def.{Def}
 use Rattle.fr_shape.specs.Fills.{is_empty_struct}
 use Rattle.fr_shape.specs.Look.{Table, def_of}
-use Rattle.fr_shape.specs.Val.{Vals, product, no_vals, first}
+use Rattle.fr_shape.specs.Val.{Vals, product, list_of, no_vals, first}
 use Rattle.fr_shape.specs.Tokens.{vals_occur}
 use Rattle.fr_model.specs.Places.{Place, child_count}
-use Rattle.fr_model.specs.Tree.{Form, form_of, form_at, fresh, Tree, hole, entered, whole, begun, Trees, no_trees, branch, tree_nth, change_nth, child_as, tree_at, change_child, change_at, count_trees, holes, wholes, tree_occurs, trees_occur, Mode}
+use Rattle.fr_model.specs.Tree.{Form, as_struct, as_array, as_list, form_of, form_at, fresh, Tree, hole, entered, whole, begun, Trees, no_trees, branch, tree_nth, change_nth, child_as, tree_at, change_child, change_at, count_trees, holes, wholes, tree_occurs, trees_occur, Mode}
 use Rattle.fr_model.specs.Step.{opened_as, enter, enter_child}
 use Rattle.fr_model.specs.Well.{Leads}
 use Rattle.fr_model.proofs.Agreement.{leads_within, leads_child}
@@ -24,8 +24,10 @@ wholes_hold (first v vs) t = let rest = wholes_hold vs t in omega arith
 pub opened_holds : (form : Form) (count : ℕ) (tree : Tree) (t : ℕ)
     → tree_occurs (opened_as form count tree) t ≡ tree_occurs tree t
 opened_holds form count entered t = holes_hold count t
-opened_holds form count (whole (product vs)) t = wholes_hold vs t
-opened_holds form count _ t = refl
+opened_holds as_struct count (whole (product vs)) t = wholes_hold vs t
+opened_holds as_array count (whole (product vs)) t = wholes_hold vs t
+opened_holds as_list count (whole (list_of vs)) t = wholes_hold vs t
+opened_holds _ count _ t = refl
 
 -- a fresh place holds no token
 pub fresh_holds : (def : Def) (t : ℕ) → tree_occurs (fresh def) t ≡ 0

@@ -11,6 +11,11 @@ pub data Call : Type 0 where
   SetNthFieldToDefault : ℕ → Call
   Set : ℕ → Val → Call
   SetDefault : Call
+  SetEmptySharedSlice : Call
+  InitList : Call
+  InitListWithCapacity : ℕ → Call
+  InitArray : Call
+  BeginListItem : Call
   BeginSome : Call
   BeginOk : Call
   BeginErr : Call
@@ -29,6 +34,11 @@ call_of (Command.BeginNthField i) = Call.BeginNthField i
 call_of (Command.SetNthFieldToDefault i) = Call.SetNthFieldToDefault i
 call_of (Command.Set shape v) = Call.Set shape.0 (view v)
 call_of Command.SetDefault = Call.SetDefault
+call_of Command.SetEmptySharedSlice = Call.SetEmptySharedSlice
+call_of Command.InitList = Call.InitList
+call_of (Command.InitListWithCapacity n) = Call.InitListWithCapacity n
+call_of Command.InitArray = Call.InitArray
+call_of Command.BeginListItem = Call.BeginListItem
 call_of Command.BeginSome = Call.BeginSome
 call_of Command.BeginOk = Call.BeginOk
 call_of Command.BeginErr = Call.BeginErr
@@ -51,6 +61,11 @@ IsFieldCall (Call.BeginNthField i) = Unit {0}
 IsFieldCall (Call.SetNthFieldToDefault i) = ⊥
 IsFieldCall (Call.Set shape v) = Unit {0}
 IsFieldCall Call.SetDefault = Unit {0}
+IsFieldCall Call.SetEmptySharedSlice = ⊥
+IsFieldCall Call.InitList = ⊥
+IsFieldCall (Call.InitListWithCapacity n) = ⊥
+IsFieldCall Call.InitArray = ⊥
+IsFieldCall Call.BeginListItem = ⊥
 IsFieldCall Call.BeginSome = ⊥
 IsFieldCall Call.BeginOk = ⊥
 IsFieldCall Call.BeginErr = ⊥

@@ -9,10 +9,10 @@ use Rattle.fr_shape.specs.declared.error.ReflectErrorKind.{ReflectErrorKind}
 use Rattle.fr_shape.specs.Fills.{preset_of}
 use Rattle.fr_shape.specs.Hooks.{Meanings}
 use Rattle.fr_shape.specs.Look.{Table, def_of, field_in}
-use Rattle.fr_shape.specs.Val.{Val, Vals, product, variant, none, some, ok, err, ptr, no_vals}
+use Rattle.fr_shape.specs.Val.{Val, Vals, product, variant, none, some, ok, err, list_of, ptr, no_vals}
 use Rattle.fr_shape.specs.Validators.{passes_at, message}
 use Rattle.fr_model.specs.Places.{Column, strict_column, child_count, vals_nth, one_more, each_child, fill_in, fill_at}
-use Rattle.fr_model.specs.Tree.{Form, as_struct, as_array, as_variant, as_some, as_ok, as_err, as_pointer, Tree, hole, entered, whole, begun, Trees, no_trees, branch, for_hole, child_as}
+use Rattle.fr_model.specs.Tree.{Form, as_struct, as_array, as_variant, as_some, as_ok, as_err, as_pointer, as_list, as_slice, as_closed_slice, Tree, hole, entered, whole, begun, Trees, no_trees, branch, for_hole, child_as}
 
 -- the refusals, of field i of a struct of shape s, or of the variant that is selected at an enum of shape s
 
@@ -61,6 +61,9 @@ failing_child hooks table s as_some i value = None
 failing_child hooks table s as_ok i value = None
 failing_child hooks table s as_err i value = None
 failing_child hooks table s as_pointer i value = None
+failing_child hooks table s as_list i value = None
+failing_child hooks table s as_slice i value = None
+failing_child hooks table s as_closed_slice i value = None
 
 -- the value, unless there is something to refuse
 abbrev pub unless_failing : Option ReflectErrorKind → Option Val → Option Val
@@ -80,6 +83,9 @@ hole_takes column table s as_some i = None
 hole_takes column table s as_ok i = None
 hole_takes column table s as_err i = None
 hole_takes column table s as_pointer i = None
+hole_takes column table s as_list i = None
+hole_takes column table s as_slice i = None
+hole_takes column table s as_closed_slice i = None
 
 -- what a begun place lacks where child i is a hole that takes nothing: a struct or a variant that field, any other its value
 abbrev pub missing_child : ℕ → Form → ℕ → ReflectErrorKind
@@ -90,8 +96,12 @@ missing_child s as_some i = missing_value s
 missing_child s as_ok i = missing_value s
 missing_child s as_err i = missing_value s
 missing_child s as_pointer i = missing_value s
+missing_child s as_list i = missing_value s
+missing_child s as_slice i = missing_value s
+missing_child s as_closed_slice i = missing_value s
 
--- the value that a place begun so makes of those of its children: their product, their variant, or the one value held so
+-- the value that a place begun so makes of those of its children: their product, their variant, the one value held so, their list, or
+-- the pointer to it
 abbrev pub value_as : Form → Vals → Val
 value_as as_struct vs = product vs
 value_as as_array vs = product vs
@@ -100,6 +110,9 @@ value_as as_some vs = some (vals_nth vs 0)
 value_as as_ok vs = ok (vals_nth vs 0)
 value_as as_err vs = err (vals_nth vs 0)
 value_as as_pointer vs = ptr (vals_nth vs 0)
+value_as as_list vs = list_of vs
+value_as as_slice vs = ptr (list_of vs)
+value_as as_closed_slice vs = ptr (list_of vs)
 
 -- the same, where each child has a value
 abbrev pub made : Form → (values : Option Vals) → Option Val

@@ -8,7 +8,8 @@ use Rattle.fr_shape.specs.declared.error.Operation.{Operation}
 use Rattle.fr_shape.specs.Look.{Table, def_of}
 use Rattle.fr_shape.specs.Val.{Val, some}
 use Rattle.fr_path.specs.Places.{owns}
-use Rattle.fr_model.specs.Tree.{Form, as_variant, as_some, same_form, Tree, hole, entered, whole, begun, no_trees, branch, child_as, holes, fresh, Mode, strict, deferred}
+use Rattle.fr_model.specs.Places.{pointee_shape}
+use Rattle.fr_model.specs.Tree.{Form, as_struct, as_array, as_variant, as_some, as_ok, as_err, as_pointer, as_list, as_slice, as_closed_slice, same_form, Tree, hole, entered, whole, begun, Trees, no_trees, branch, child_as, holes, fresh, Mode, strict, deferred}
 use Rattle.fr_model.specs.Variants.{variant_fields}
 
 abbrev pub is_result : Def → Bool
@@ -17,9 +18,9 @@ is_result _ = false
 
 -- Pointers
 
--- what is behind a pointer is entered as a whole, but a `str` only where the pointer owns it; the items of a slice aren't entered yet
+-- a `str` or a slice is begun only behind a pointer that owns it, anything else behind any
 abbrev pub inside_refusal : (owned : Bool) → (pointee : Def) → Option Operation
-inside_refusal owned (Def.Slice item) = Some Operation.SlicePointerNotBuildable
+inside_refusal owned (Def.Slice item) = if owned then None else Some Operation.SlicePointerNotBuildable
 inside_refusal owned Def.Str = if owned then None else Some Operation.PointeeNotBuildable
 inside_refusal owned (Def.Scalar kind) = None
 inside_refusal owned Def.Opaque = None
@@ -48,6 +49,14 @@ pointer_refusal table (Def.Pointer pointer) =
     else Some Operation.PointerNotConstructible
 pointer_refusal table _ = Some Operation.PointerNotConstructible
 
+abbrev pub is_slice : Def → Bool
+is_slice (Def.Slice item) = true
+is_slice _ = false
+
+-- what a pointer of this definition points to is a slice: its items are begun at the pointer itself
+abbrev pub points_to_slice : Table → Def → Bool
+points_to_slice table def = is_slice (def_of table (pointee_shape def))
+
 -- Starting anew: all that stood there is released
 
 -- a variant, with a hole for each of its fields
@@ -62,6 +71,10 @@ around form child = begun form (branch child no_trees)
 abbrev pub content_anew : Table → ℕ → Form → Tree
 content_anew table s form = around form (fresh (def_of table (child_as table s form 0)))
 
+-- a pointer to a slice, open, without items
+abbrev pub slice_anew : Tree
+slice_anew = begun as_slice no_trees
+
 -- What is kept
 
 -- what is begun just so stays as it is
@@ -75,6 +88,27 @@ kept_so form (begun made children) = if same_form made form then Some (begun mad
 abbrev pub kept_in : Mode → Form → Tree → Option Tree
 kept_in strict form tree = None
 kept_in (deferred start) form tree = kept_so form tree
+
+-- a begun pointer to a slice, open or closed, is open again with its items
+abbrev pub reopened : Form → Trees → Option Tree
+reopened as_slice children = Some (begun as_slice children)
+reopened as_closed_slice children = Some (begun as_slice children)
+reopened as_struct children = None
+reopened as_array children = None
+reopened (as_variant k) children = None
+reopened as_some children = None
+reopened as_ok children = None
+reopened as_err children = None
+reopened as_pointer children = None
+reopened as_list children = None
+
+-- a pointer to a slice is kept so in deferred mode; in strict mode it isn't
+abbrev pub kept_slice : Mode → Tree → Option Tree
+kept_slice strict tree = None
+kept_slice (deferred start) hole = None
+kept_slice (deferred start) entered = None
+kept_slice (deferred start) (whole v) = None
+kept_slice (deferred start) (begun form children) = reopened form children
 
 abbrev pub is_deferred : Mode → Bool
 is_deferred strict = false

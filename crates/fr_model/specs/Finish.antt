@@ -1,16 +1,16 @@
 -- The end of deferred mode, along the way to the place at which a builder works.
-use Rattle.std.specs.Prelude.{ℕ, zero, suc, List, [], ◌∷◌, ◌++◌, Option, Some, None}
+use Rattle.std.specs.Prelude.{ℕ, zero, suc, Bool, true, false, List, [], ◌∷◌, ◌++◌, Option, Some, None, if◌then◌else◌}
 use Rattle.std.specs.Option.{option_map, option_or}
 use Rattle.fr_shape.specs.declared.error.ReflectErrorKind.{ReflectErrorKind}
 use Rattle.fr_shape.specs.Hooks.{Meanings}
 use Rattle.fr_shape.specs.Look.{Table}
 use Rattle.fr_shape.specs.Val.{Vals}
 use Rattle.fr_path.specs.declared.path_steps.PathStep.{PathStep}
-use Rattle.fr_model.specs.Complete.{complete, complete_all, missing_value}
+use Rattle.fr_model.specs.Complete.{complete, complete_all, missing_value, value_as}
 use Rattle.fr_model.specs.Failing.{Failure, failures, failures_among, first_by_walk, own_lack}
 use Rattle.fr_model.specs.Paths.{step_as}
 use Rattle.fr_model.specs.Places.{Place, deferred_column}
-use Rattle.fr_model.specs.Tree.{Form, Tree, hole, entered, whole, begun, Trees, no_trees, branch, for_hole, child_as, shape_in, tree_at, wholes}
+use Rattle.fr_model.specs.Tree.{Form, as_struct, as_array, as_variant, as_some, as_ok, as_err, as_pointer, as_list, as_slice, as_closed_slice, Tree, hole, entered, whole, begun, Trees, no_trees, branch, for_hole, child_as, shape_in, tree_at, wholes}
 
 -- What becomes of the tree.
 
@@ -38,12 +38,26 @@ closed_but hooks table s form zero becomes i (branch t ts) =
 closed_but hooks table s form (suc on_way) becomes i (branch t ts) =
     one_more_tree (closed hooks table (child_as table s form i) t) (closed_but hooks table s form on_way becomes (suc i) ts)
 
--- the place at which the builder works, begun, keeps its children apart: each of them, and each hole its fill, is now whole
+abbrev pub is_closed_slice : Form → Bool
+is_closed_slice as_closed_slice = true
+is_closed_slice as_struct = false
+is_closed_slice as_array = false
+is_closed_slice (as_variant k) = false
+is_closed_slice as_some = false
+is_closed_slice as_ok = false
+is_closed_slice as_err = false
+is_closed_slice as_pointer = false
+is_closed_slice as_list = false
+is_closed_slice as_slice = false
+
+-- the place at which the builder works, begun, keeps its children apart: each of them, and each hole its fill, is now whole. Only a
+-- pointer to a slice that is closed becomes whole itself.
 abbrev pub begun_with : Form → Vals → Tree
-begun_with form vs = begun form (wholes vs)
+begun_with form vs = if is_closed_slice form then whole (value_as form vs) else begun form (wholes vs)
 
 -- The place at which the builder works: where it is begun its children are completed, its holes are filled, its fields'
--- validators are passed, and it stays begun; an entered one becomes whole with the value that it makes.
+-- validators are passed, and it stays begun, but a closed pointer to a slice; an entered one becomes whole with the value that it
+-- makes.
 abbrev pub finished_here : Meanings → Table → ℕ → Tree → Option Tree
 finished_here hooks table s hole = Some hole
 finished_here hooks table s entered = option_map whole (complete deferred_column hooks table s entered)

@@ -18,7 +18,7 @@ use Rattle.fr_model.specs.Places.{Column, strict_column}
 use Rattle.fr_model.specs.Step.{step, build}
 use Rattle.fr_model.specs.Scripts.{IsFitting, brings}
 use Rattle.fr_model.specs.Removed.{removed, removed_at_build}
-use Rattle.fr_model.specs.Well.{Suits, IsInOrder, AreDistinct, IsWell}
+use Rattle.fr_model.specs.Well.{Suits, IsInOrder, RestsAround, AreDistinct, IsWell}
 
 -- a place makes no value in strict mode exactly where it lacks something
 abbrev pub CompletesOrLacks : Type 0
@@ -85,6 +85,13 @@ StepKeepsOrder =
     (hooks : Meanings) (table : Table) (root : ℕ) (state next : State) (command : Call) → IsChecked table
     → IsInOrder table root state → IsFitting table command → step hooks table root state command ≡ Ok next
     → IsInOrder table root next
+
+-- and if what lay around the cursor rested, so it does then
+abbrev pub StepKeepsRest : Type 0
+StepKeepsRest =
+    (hooks : Meanings) (table : Table) (root : ℕ) (state next : State) (command : Call) → IsChecked table
+    → IsInOrder table root state → RestsAround state.cursor state.tree → IsFitting table command
+    → step hooks table root state command ≡ Ok next → RestsAround next.cursor next.tree
 
 -- a command brings each token at most once, and none that the tree holds
 pub record IsFresh (state : State) (command : Call) : Type 0 where

@@ -13,8 +13,10 @@ pub mod Finish
 pub mod FinishExamples
 pub mod FinishLaws
 pub mod Finishing
+pub mod Items
 pub mod Journal
 pub mod Laws
+pub mod ListExamples
 pub mod PathLaws
 pub mod Paths
 pub mod Places

@@ -1,5 +1,5 @@
 -- How the path of the place at which a builder works goes on, from state to state.
-use Rattle.std.specs.Prelude.{◌≡◌, ℕ, List, [], ◌∷◌, ◌++◌, length, Some}
+use Rattle.std.specs.Prelude.{◌≡◌, ℕ, true, List, [], ◌∷◌, ◌++◌, length, Some}
 use Rattle.fr_shape.specs.Hooks.{Meanings}
 use Rattle.fr_shape.specs.Look.{Table, def_of}
 use Rattle.fr_shape.specs.Val.{Val}
@@ -7,8 +7,8 @@ use Rattle.fr_path.specs.declared.path_steps.PathStep.{PathStep}
 use Rattle.fr_model.specs.Finish.{finished}
 use Rattle.fr_model.specs.Paths.{step_as, steps_in, path_of}
 use Rattle.fr_model.specs.Places.{Place}
-use Rattle.fr_model.specs.Step.{enters, puts, puts_child, puts_and_leaves, leaves, enters_content, option_kept, content_kept, selects}
-use Rattle.fr_model.specs.Tree.{Form, as_some, Tree, form_at, State, cursor_shape, cursor_tree}
+use Rattle.fr_model.specs.Step.{enters, puts, puts_child, puts_and_leaves, leaves, enters_content, option_kept, content_kept, begins_pointer, opens, enters_item, closes, selects}
+use Rattle.fr_model.specs.Tree.{Form, as_some, Tree, begun, Trees, form_at, count_trees, State, cursor_shape, cursor_tree}
 use Rattle.fr_model.specs.Well.{Leads, IsInOrder}
 
 -- the path has one step for each place below the root on the way to the cursor, so that only the root has none
@@ -37,6 +37,29 @@ EnteringSomeAddsAStep =
     → path_of (enters_content table (cursor_shape table root state) state as_some
     (option_kept table (cursor_shape table root state) state))
     ≡ path_of state ++ step_as as_some 0 ∷ []
+
+-- entering a new item of a begun place adds the step to it, whose number is that of the items that were there
+abbrev pub EnteringAnItemAddsAStep : Type 0
+EnteringAnItemAddsAStep =
+    (table : Table) (s : ℕ) (state : State) (form : Form) (children : Trees) → Leads state.mode state.cursor state.tree
+    → cursor_tree state ≡ begun form children
+    → path_of (enters_item table s state) ≡ path_of state ++ step_as form (count_trees children) ∷ []
+
+-- beginning a list or an array keeps the path
+abbrev pub OpeningKeepsThePath : Type 0
+OpeningKeepsThePath =
+    (table : Table) (s : ℕ) (state : State) → Leads state.mode state.cursor state.tree
+    → path_of (opens table s state) ≡ path_of state
+
+-- a pointer to a slice, opened or closed for items, keeps it too
+abbrev pub OpeningASliceKeepsThePath : Type 0
+OpeningASliceKeepsThePath =
+    (table : Table) (s : ℕ) (state : State) → Leads state.mode state.cursor state.tree
+    → path_of (begins_pointer table s state true) ≡ path_of state
+
+abbrev pub ClosingASliceKeepsThePath : Type 0
+ClosingASliceKeepsThePath =
+    (state : State) → Leads state.mode state.cursor state.tree → path_of (closes state) ≡ path_of state
 
 -- selecting a variant keeps the path
 abbrev pub SelectingKeepsThePath : Type 0

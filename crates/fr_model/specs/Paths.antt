@@ -2,10 +2,10 @@
 use Rattle.std.specs.Prelude.{ℕ, List, [], ◌∷◌}
 use Rattle.fr_path.specs.declared.path_steps.PathStep.{PathStep}
 use Rattle.fr_model.specs.Places.{Place}
-use Rattle.fr_model.specs.Tree.{Form, as_struct, as_array, as_variant, as_some, as_ok, as_err, as_pointer, Tree, hole, entered, whole, begun, child_tree, State}
+use Rattle.fr_model.specs.Tree.{Form, as_struct, as_array, as_variant, as_some, as_ok, as_err, as_pointer, as_list, as_slice, as_closed_slice, Tree, hole, entered, whole, begun, child_tree, State}
 
 -- the step to child i of a place that is begun so: to a field of a struct or of a variant, to an element of an array, to the content
--- of an option or of either side of a result, or to what a pointer points to
+-- of an option or of either side of a result, to what a pointer points to, or to an item of a list or a slice
 abbrev pub step_as : Form → ℕ → PathStep
 step_as as_struct i = PathStep.Field i
 step_as as_array i = PathStep.Index i
@@ -14,6 +14,9 @@ step_as as_some i = PathStep.OptionSome
 step_as as_ok i = PathStep.ResultOk
 step_as as_err i = PathStep.ResultErr
 step_as as_pointer i = PathStep.Deref
+step_as as_list i = PathStep.Index i
+step_as as_slice i = PathStep.Index i
+step_as as_closed_slice i = PathStep.Index i
 
 -- the step to child i of what stands at a place (only a begun place has one)
 abbrev pub step_below : ℕ → Tree → PathStep

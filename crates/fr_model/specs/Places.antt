@@ -25,7 +25,7 @@ up (i ∷ []) = []
 up (i ∷ j ∷ place) = i ∷ up (j ∷ place)
 
 -- How many children a struct's or an array's place has: one for each field, one for each element. None is counted of any other
--- definition: a variant's fields, and the one thing that an option, a result or a pointer holds, are counted by what is begun.
+-- definition: a variant's fields, the one thing that an option, a result or a pointer holds, and items are counted by what is begun.
 abbrev pub count_children : Def → ℕ
 count_children (Def.Struct struct) = length struct.fields
 count_children (Def.Array t n) = n
@@ -95,6 +95,12 @@ abbrev pub pointee_shape : Def → ℕ
 pointee_shape (Def.Pointer pointer) = shape_or_zero pointer.pointee
 pointee_shape _ = 0
 
+-- the shape of the items of a list or a slice (0 where there are none)
+abbrev pub item_shape : Def → ℕ
+item_shape (Def.List t) = t.0
+item_shape (Def.Slice t) = t.0
+item_shape _ = 0
+
 -- The two columns of rules by which a place completes: the one of strict mode, and the one of the end of deferred mode.
 pub data Column : Type 0 where
   strict_column : Column
@@ -151,6 +157,27 @@ parts_of (map_of es) = None
 parts_of (set_of vs) = None
 parts_of (ptr v) = None
 parts_of (dyn value) = None
+
+-- the values of the items that a list's value has
+abbrev pub items_of : Val → Option Vals
+items_of (list_of vs) = Some vs
+items_of unit = None
+items_of (bool b) = None
+items_of (char c) = None
+items_of (int i) = None
+items_of (nat n) = None
+items_of (text codes) = None
+items_of (token t) = None
+items_of (product vs) = None
+items_of (variant index vs) = None
+items_of none = None
+items_of (some v) = None
+items_of (ok v) = None
+items_of (err v) = None
+items_of (map_of es) = None
+items_of (set_of vs) = None
+items_of (ptr v) = None
+items_of (dyn value) = None
 
 abbrev pub part_among : Option Vals → Val → ℕ → Val
 part_among (Some vs) v i = vals_nth vs i

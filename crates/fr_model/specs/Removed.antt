@@ -5,9 +5,10 @@ use Rattle.fr_shape.specs.Hooks.{Meanings}
 use Rattle.fr_shape.specs.Look.{Table, def_of, variants_of}
 use Rattle.fr_shape.specs.Val.{Val}
 use Rattle.fr_model.specs.Commands.{Call}
-use Rattle.fr_model.specs.Tree.{as_ok, as_err, as_pointer, Tree, child_tree, State, cursor_shape, cursor_tree, tree_occurs}
+use Rattle.fr_model.specs.Contents.{points_to_slice}
+use Rattle.fr_model.specs.Tree.{as_ok, as_err, Tree, child_tree, State, cursor_shape, cursor_tree, tree_occurs}
 use Rattle.fr_model.specs.Scripts.{brings}
-use Rattle.fr_model.specs.Step.{opened, option_kept, content_kept, variant_kept, step, build}
+use Rattle.fr_model.specs.Step.{opened, option_kept, content_kept, pointer_kept, variant_kept, step, build}
 use Rattle.fr_model.specs.Variants.{variant_numbered, variant_named, variant_told_by}
 
 -- how often a token stands in what is at the cursor
@@ -28,19 +29,25 @@ abbrev pub dropped_by_selecting : (found : Option ℕ) → State → ℕ → ℕ
 dropped_by_selecting (Some k) state t = dropped_unless (variant_kept state k) state t
 dropped_by_selecting None state t = 0
 
--- What an admitted command drops, at a place of shape s: `set` and `set_default` what stood there, for their value takes
--- its place; `set_nth_field_to_default` what stood at that field; a command that begins a content, a side or a pointee, or selects a
--- variant, what stood there, unless it is kept; no other command drops anything.
+-- What an admitted command drops, at a place of shape s: `set`, `set_default` and `set_empty_shared_slice` what stood there, for their
+-- value takes its place; `set_nth_field_to_default` what stood at that field; a command that begins a content, a side or a pointee, or
+-- selects a variant, what stood there, unless it is kept; no other command drops anything.
 abbrev pub replaced : Meanings → Table → (s : ℕ) → State → Call → ℕ → ℕ
 replaced hooks table s state (Call.BeginField name) t = 0
 replaced hooks table s state (Call.BeginNthField i) t = 0
 replaced hooks table s state (Call.SetNthFieldToDefault i) t = occurs_in_child table s state i t
 replaced hooks table s state (Call.Set given v) t = occurs_here state t
 replaced hooks table s state Call.SetDefault t = occurs_here state t
+replaced hooks table s state Call.SetEmptySharedSlice t = occurs_here state t
+replaced hooks table s state Call.InitList t = 0
+replaced hooks table s state (Call.InitListWithCapacity n) t = 0
+replaced hooks table s state Call.InitArray t = 0
+replaced hooks table s state Call.BeginListItem t = 0
 replaced hooks table s state Call.BeginSome t = dropped_unless (option_kept table s state) state t
 replaced hooks table s state Call.BeginOk t = dropped_unless (content_kept state as_ok) state t
 replaced hooks table s state Call.BeginErr t = dropped_unless (content_kept state as_err) state t
-replaced hooks table s state Call.BeginSmartPtr t = dropped_unless (content_kept state as_pointer) state t
+replaced hooks table s state Call.BeginSmartPtr t =
+    dropped_unless (pointer_kept state (points_to_slice table (def_of table s))) state t
 replaced hooks table s state (Call.SelectNthVariant i) t =
     dropped_by_selecting (variant_numbered i (variants_of (def_of table s))) state t
 replaced hooks table s state (Call.SelectVariantNamed name) t =

@@ -4,7 +4,7 @@ use Rattle.std.specs.Coded.{Coded, code_by, coded×, coded_ℕ, coded_list}
 use mathlib.Core.Path.{ap, ◌∙◌}
 use Rattle.fr_shape.specs.Code.{val_code}
 use Rattle.fr_shape.specs.Val.{Val, Vals, unit, bool, char, int, nat, text, token, product, variant, none, some, ok, err, list_of, map_of, set_of, ptr, dyn, no_vals, first}
-use Rattle.fr_model.specs.Tree.{Form, as_struct, as_array, as_variant, as_some, as_ok, as_err, as_pointer, form_number, Tree, hole, entered, whole, begun, Trees, no_trees, branch, Mode, strict, deferred, State}
+use Rattle.fr_model.specs.Tree.{Form, as_struct, as_array, as_variant, as_some, as_ok, as_err, as_pointer, as_list, as_slice, as_closed_slice, form_number, Tree, hole, entered, whole, begun, Trees, no_trees, branch, Mode, strict, deferred, State}
 
 -- the form that has a number
 abbrev pub form_numbered : ℕ → Form
@@ -14,7 +14,10 @@ form_numbered (suc (suc zero)) = as_some
 form_numbered (suc (suc (suc zero))) = as_ok
 form_numbered (suc (suc (suc (suc zero)))) = as_err
 form_numbered (suc (suc (suc (suc (suc zero))))) = as_pointer
-form_numbered (suc (suc (suc (suc (suc (suc k)))))) = as_variant k
+form_numbered (suc (suc (suc (suc (suc (suc zero)))))) = as_list
+form_numbered (suc (suc (suc (suc (suc (suc (suc zero))))))) = as_slice
+form_numbered (suc (suc (suc (suc (suc (suc (suc (suc zero)))))))) = as_closed_slice
+form_numbered (suc (suc (suc (suc (suc (suc (suc (suc (suc k))))))))) = as_variant k
 
 abbrev pub form_comes_back : (form : Form) → form_numbered (form_number form) ≡ form
 form_comes_back as_struct = refl
@@ -24,6 +27,9 @@ form_comes_back as_some = refl
 form_comes_back as_ok = refl
 form_comes_back as_err = refl
 form_comes_back as_pointer = refl
+form_comes_back as_list = refl
+form_comes_back as_slice = refl
+form_comes_back as_closed_slice = refl
 
 abbrev mutual
   pub stored : Tree → Val

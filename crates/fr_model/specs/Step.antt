@@ -9,17 +9,19 @@ use Rattle.fr_shape.specs.declared.shape.ScalarKind.{ScalarKind}
 use Rattle.fr_shape.specs.declared.shape.ShapeId.{ShapeId}
 use Rattle.fr_shape.specs.declared.shape.VariantDef.{VariantDef}
 use Rattle.fr_shape.specs.declared.error.Expected.{Expected}
+use Rattle.fr_shape.specs.declared.error.InitCall.{InitCall}
 use Rattle.fr_shape.specs.declared.error.ReflectErrorKind.{ReflectErrorKind}
 use Rattle.fr_shape.specs.declared.error.Operation.{Operation}
 use Rattle.fr_shape.specs.declared.error.Invariant.{Invariant}
 use Rattle.fr_shape.specs.Fills.{preset_of, is_option}
 use Rattle.fr_shape.specs.Hooks.{Meanings}
 use Rattle.fr_shape.specs.Look.{Table, def_of, field_in, variants_of}
-use Rattle.fr_shape.specs.Val.{Val, Vals}
+use Rattle.fr_shape.specs.Val.{Val, Vals, list_of, ptr, no_vals}
 use Rattle.fr_model.specs.Commands.{Call}
-use Rattle.fr_model.specs.Contents.{is_result, pointer_refusal, variant_anew, content_anew, kept_so, kept_in, kept_option}
-use Rattle.fr_model.specs.Places.{strict_column, is_root, up, array_limit, count_children, content_shape, parts_of}
-use Rattle.fr_model.specs.Tree.{Form, as_variant, as_some, as_ok, as_err, as_pointer, form_of, form_at, selected, Tree, hole, entered, whole, begun, for_hole, wholes, holes, fresh, child_as, change_child, change_at, Mode, strict, deferred, State, cursor_shape, cursor_tree, one_more_call}
+use Rattle.fr_model.specs.Contents.{is_result, pointer_refusal, points_to_slice, variant_anew, content_anew, slice_anew, kept_so, kept_in, kept_slice, kept_option}
+use Rattle.fr_model.specs.Items.{unless_list, is_list_like, init_array_refusal, item_refusal, with_item, is_open_slice, closed_slice, shared_slice_refusal}
+use Rattle.fr_model.specs.Places.{strict_column, is_root, up, array_limit, count_children, content_shape, parts_of, items_of}
+use Rattle.fr_model.specs.Tree.{Form, as_struct, as_array, as_variant, as_some, as_ok, as_err, as_pointer, as_list, as_slice, as_closed_slice, tracker_of, form_of, form_at, selected, Tree, hole, entered, whole, begun, for_hole, wholes, holes, fresh, child_as, count_below, change_child, change_at, Mode, strict, deferred, State, cursor_shape, cursor_tree, one_more_call}
 use Rattle.fr_model.specs.Variants.{is_enum, variant_fields, field_found, variant_numbered, variant_named, variant_told_by, selection_refusal}
 use Rattle.fr_model.specs.Complete.{complete, lack, missing_value}
 use Rattle.fr_model.specs.Finish.{finished, finish_cause}
@@ -106,12 +108,26 @@ abbrev pub opened_value : Form → Val → (parts : Option Vals) → Tree
 opened_value form v (Some vs) = begun form (wholes vs)
 opened_value form v None = whole v
 
+-- the values of the children that a value has at a place that is to be begun so: a list's of its items, a struct's or an array's of
+-- its parts
+abbrev pub parts_as : Form → Val → Option Vals
+parts_as as_struct v = parts_of v
+parts_as as_array v = parts_of v
+parts_as as_list v = items_of v
+parts_as (as_variant k) v = None
+parts_as as_some v = None
+parts_as as_ok v = None
+parts_as as_err v = None
+parts_as as_pointer v = None
+parts_as as_slice v = None
+parts_as as_closed_slice v = None
+
 -- a place that is to be begun so, with so many children, as they see it: an entered one has a hole for each, a whole one
 -- is begun with whole children, a begun one stays as it is
 abbrev pub opened_as : Form → (count : ℕ) → Tree → Tree
 opened_as form count hole = hole
 opened_as form count entered = begun form (holes count)
-opened_as form count (whole v) = opened_value form v (parts_of v)
+opened_as form count (whole v) = opened_value form v (parts_as form v)
 opened_as form count (begun made children) = begun made children
 
 -- the same, as the place's definition tells
@@ -256,7 +272,7 @@ set_nth_field_to_default table s state i =
     defaults_field table s state i (at_shape s (named_refusal (def_of table s) (cursor_tree state)))
     (field_in (def_of table s) (selected (cursor_tree state)) i)
 
--- Contents, sides, pointees and variants
+-- Contents, sides and pointees
 
 -- what is kept of the cursor's place stands there; where nothing is, it starts anew
 abbrev pub becomes : State → (kept : Option Tree) → (anew : Tree) → State
@@ -290,11 +306,70 @@ begin_side table s state side =
     if is_result (def_of table s) then Ok (enters_content table s state side (content_kept state side))
     else Err (was_not_a Expected.Result s)
 
+-- what begin_smart_ptr keeps of the pointer at the cursor, whose pointee is a slice or isn't
+abbrev pub pointer_kept : State → (to_slice : Bool) → Option Tree
+pointer_kept state to_slice = if to_slice then kept_slice state.mode (cursor_tree state) else content_kept state as_pointer
+
+-- a pointer to a slice is open for items and the cursor stays; what any other points to is entered
+abbrev pub begins_pointer : Table → ℕ → State → (to_slice : Bool) → State
+begins_pointer table s state to_slice =
+    if to_slice then becomes state (pointer_kept state to_slice) slice_anew
+    else enters_content table s state as_pointer (pointer_kept state to_slice)
+
 -- begin_smart_ptr: at a pointer that can be built
 abbrev pub begin_smart_ptr : Table → ℕ → State → Result State ReflectErrorKind
 begin_smart_ptr table s state =
     unless_refused (at_shape s (pointer_refusal table (def_of table s)))
-    (enters_content table s state as_pointer (content_kept state as_pointer))
+    (begins_pointer table s state (points_to_slice table (def_of table s)))
+
+-- Lists, arrays and slices
+
+-- the cursor's place is begun as its definition tells, a whole list with its items; what is begun stays as it is
+abbrev pub opens : Table → ℕ → State → State
+opens table s state = record state {
+  tree = change_at state.cursor (opened (def_of table s)) state.tree;
+  calls = one_more_call state.calls;
+}
+
+abbrev pub unexpected_unless : Bool → InitCall → Form → Option ReflectErrorKind
+unexpected_unless true call form = None
+unexpected_unless false call form = Some (ReflectErrorKind.UnexpectedTracker call (tracker_of form))
+
+-- init_list is refused but at a list, and at what is begun as a list or as a pointer to a slice
+abbrev pub init_list_refusal : ℕ → Def → Tree → Option ReflectErrorKind
+init_list_refusal s def (whole v) = at_shape s (unless_list Operation.InitListOfWholeOther def)
+init_list_refusal s def (begun form children) = unexpected_unless (is_list_like form) InitCall.List form
+init_list_refusal s def entered = at_shape s (unless_list Operation.InitListOfOther def)
+init_list_refusal s def hole = at_shape s (unless_list Operation.InitListOfOther def)
+
+-- init_list, with a capacity or without: a list keeps the items that it has
+abbrev pub init_list : Table → ℕ → State → Result State ReflectErrorKind
+init_list table s state =
+    unless_refused (init_list_refusal s (def_of table s) (cursor_tree state)) (opens table s state)
+
+-- init_array: the elements of an entered array are holes
+abbrev pub init_array : Table → ℕ → State → Result State ReflectErrorKind
+init_array table s state =
+    unless_refused (at_shape s (init_array_refusal (def_of table s) (cursor_tree state))) (opens table s state)
+
+-- a new item of the cursor's place is entered, behind the others
+abbrev pub enters_item : Table → ℕ → State → State
+enters_item table s state = record state {
+  tree = change_at state.cursor (with_item table s) state.tree;
+  cursor = state.cursor ++ count_below (cursor_tree state) ∷ [];
+  calls = one_more_call state.calls;
+}
+
+abbrev pub begin_list_item : Table → ℕ → State → Result State ReflectErrorKind
+begin_list_item table s state =
+    unless_refused (at_shape s (item_refusal (def_of table s) (cursor_tree state))) (enters_item table s state)
+
+-- set_empty_shared_slice puts a pointer to no items
+abbrev pub set_empty_shared_slice : Table → ℕ → State → Result State ReflectErrorKind
+set_empty_shared_slice table s state =
+    unless_refused (at_shape s (shared_slice_refusal table (def_of table s))) (puts state (ptr (list_of no_vals)))
+
+-- Variants
 
 -- what selecting a variant keeps of the enum at the cursor: that it is begun as that variant
 abbrev pub variant_kept : State → ℕ → Option Tree
@@ -353,10 +428,32 @@ end_in hooks table s state strict = ended hooks table s state (complete strict_c
 end_in hooks table s state (deferred start) =
     if nat_lt start (length state.cursor) then Ok (leaves state) else Err (violates Invariant.EndAtStart)
 
--- end: not at the root; the cursor goes up
+abbrev pub leaves_place : Meanings → Table → ℕ → State → Result State ReflectErrorKind
+leaves_place hooks table s state =
+    if is_root state.cursor then Err (violates Invariant.EndAtRoot) else end_in hooks table s state state.mode
+
+abbrev pub puts_made : Meanings → Table → ℕ → State → Option Val → Result State ReflectErrorKind
+puts_made hooks table s state (Some v) = Ok (puts state v)
+puts_made hooks table s state None = Err (cause hooks table s (cursor_tree state))
+
+-- the pointer to a slice at the cursor takes no more items
+abbrev pub closes : State → State
+closes state = record state {
+  tree = change_at state.cursor closed_slice state.tree;
+  calls = one_more_call state.calls;
+}
+
+-- an open pointer to a slice is completed and becomes whole in strict mode, and is closed in deferred mode; the cursor stays
+abbrev pub closes_slice : Meanings → Table → ℕ → State → Mode → Result State ReflectErrorKind
+closes_slice hooks table s state strict =
+    puts_made hooks table s state (complete strict_column hooks table s (cursor_tree state))
+closes_slice hooks table s state (deferred start) = Ok (closes state)
+
+-- end: at an open pointer to a slice, be it the root, that is closed; any other place is left, if it isn't the root
 abbrev pub end : Meanings → Table → ℕ → State → Result State ReflectErrorKind
 end hooks table s state =
-    if is_root state.cursor then Err (violates Invariant.EndAtRoot) else end_in hooks table s state state.mode
+    if is_open_slice (cursor_tree state) then closes_slice hooks table s state state.mode
+    else leaves_place hooks table s state
 
 -- Deferred mode
 
@@ -396,6 +493,11 @@ step_at hooks table root s state (Call.BeginNthField i) = begin_nth_field table 
 step_at hooks table root s state (Call.SetNthFieldToDefault i) = set_nth_field_to_default table s state i
 step_at hooks table root s state (Call.Set given v) = set table s state given v
 step_at hooks table root s state Call.SetDefault = set_default table s state
+step_at hooks table root s state Call.SetEmptySharedSlice = set_empty_shared_slice table s state
+step_at hooks table root s state Call.InitList = init_list table s state
+step_at hooks table root s state (Call.InitListWithCapacity n) = init_list table s state
+step_at hooks table root s state Call.InitArray = init_array table s state
+step_at hooks table root s state Call.BeginListItem = begin_list_item table s state
 step_at hooks table root s state Call.BeginSome = begin_some table s state
 step_at hooks table root s state Call.BeginOk = begin_side table s state as_ok
 step_at hooks table root s state Call.BeginErr = begin_side table s state as_err

@@ -1,15 +1,17 @@
 -- What is being built, as one tree, and the state of a builder.
 use Rattle.std.specs.Prelude.{ℕ, zero, suc, ◌+◌, ◌==◌, min, Bool, List, [], ◌∷◌, Option, Some, None, if◌then◌else◌}
 use Rattle.fr_shape.specs.declared.shape.Def.{Def}
+use Rattle.fr_shape.specs.declared.error.TrackerKind.{TrackerKind}
 use Rattle.fr_shape.specs.Val.{Val, Vals, product, no_vals, first}
 use Rattle.fr_shape.specs.Tokens.{occurs}
 use Rattle.fr_shape.specs.Fills.{is_empty_struct}
 use Rattle.fr_shape.specs.Look.{Table, def_of, field_in}
-use Rattle.fr_model.specs.Places.{Place, child_shape, shape_of_field, content_shape, ok_shape, err_shape, pointee_shape}
+use Rattle.fr_model.specs.Places.{Place, child_shape, shape_of_field, content_shape, ok_shape, err_shape, pointee_shape, item_shape}
 
 -- As what a place is begun: as a struct or an array, as the variant of this number of an enum, as an option with a content, as
--- either side of a result, or as a pointer with what it points to. The children are the fields or elements; a content, a side or a
--- pointee is the one child.
+-- either side of a result, as a pointer with what it points to, as a list, or as a pointer to a slice, which is open for more items
+-- or closed. The children are the fields, elements or items, those that the list had when it was begun in front; a content, a side
+-- or a pointee is the one child.
 pub data Form : Type 0 where
   as_struct : Form
   as_array : Form
@@ -18,6 +20,9 @@ pub data Form : Type 0 where
   as_ok : Form
   as_err : Form
   as_pointer : Form
+  as_list : Form
+  as_slice : Form
+  as_closed_slice : Form
 
 -- a number for each form
 abbrev pub form_number : Form → ℕ
@@ -27,7 +32,10 @@ form_number as_some = 2
 form_number as_ok = 3
 form_number as_err = 4
 form_number as_pointer = 5
-form_number (as_variant k) = suc (suc (suc (suc (suc (suc k)))))
+form_number as_list = 6
+form_number as_slice = 7
+form_number as_closed_slice = 8
+form_number (as_variant k) = suc (suc (suc (suc (suc (suc (suc (suc (suc k))))))))
 
 abbrev pub same_form : Form → Form → Bool
 same_form one other = form_number one == form_number other
@@ -41,8 +49,24 @@ variant_of as_some = None
 variant_of as_ok = None
 variant_of as_err = None
 variant_of as_pointer = None
+variant_of as_list = None
+variant_of as_slice = None
+variant_of as_closed_slice = None
 
--- as what a place of this definition is begun by entering a field or an element
+-- the form of a begun place, as refusals name it
+abbrev pub tracker_of : Form → TrackerKind
+tracker_of as_struct = TrackerKind.Struct
+tracker_of as_array = TrackerKind.Array
+tracker_of (as_variant k) = TrackerKind.Enum
+tracker_of as_some = TrackerKind.Option
+tracker_of as_ok = TrackerKind.Result
+tracker_of as_err = TrackerKind.Result
+tracker_of as_pointer = TrackerKind.SmartPointer
+tracker_of as_list = TrackerKind.List
+tracker_of as_slice = TrackerKind.SmartPointerSlice
+tracker_of as_closed_slice = TrackerKind.SmartPointerSlice
+
+-- as what a place of this definition is begun by entering a field, an element or an item
 abbrev pub form_of : Def → Form
 form_of (Def.Array t n) = as_array
 form_of (Def.Scalar kind) = as_struct
@@ -52,7 +76,7 @@ form_of (Def.Struct struct) = as_struct
 form_of (Def.Enum enumeration) = as_struct
 form_of (Def.Option t) = as_struct
 form_of (Def.Result t e) = as_struct
-form_of (Def.List t) = as_struct
+form_of (Def.List t) = as_list
 form_of (Def.Map key item) = as_struct
 form_of (Def.Set t) = as_struct
 form_of (Def.Pointer pointer) = as_struct
@@ -80,7 +104,7 @@ selected entered = None
 selected (whole v) = None
 selected (begun form children) = variant_of form
 
--- as what a place of this definition is begun once a field or an element of it is entered: a begun one stays what it is
+-- as what a place of this definition is begun once a part of it is entered: a begun one stays what it is
 abbrev pub form_at : Def → Tree → Form
 form_at def hole = form_of def
 form_at def entered = form_of def
@@ -137,6 +161,9 @@ child_as table s as_some i = content_shape (def_of table s)
 child_as table s as_ok i = ok_shape (def_of table s)
 child_as table s as_err i = err_shape (def_of table s)
 child_as table s as_pointer i = pointee_shape (def_of table s)
+child_as table s as_list i = item_shape (def_of table s)
+child_as table s as_slice i = item_shape (def_of table (pointee_shape (def_of table s)))
+child_as table s as_closed_slice i = item_shape (def_of table (pointee_shape (def_of table s)))
 
 -- the shapes of so many of its children, number i first
 abbrev pub shapes_from : Table → ℕ → Form → (count i : ℕ) → List ℕ
@@ -171,6 +198,18 @@ holes (suc n) = branch hole (holes n)
 abbrev pub count_trees : Trees → ℕ
 count_trees no_trees = zero
 count_trees (branch t ts) = suc (count_trees ts)
+
+-- the trees with one more behind them
+abbrev pub and_last : Trees → Tree → Trees
+and_last no_trees last = branch last no_trees
+and_last (branch t ts) last = branch t (and_last ts last)
+
+-- how many children a place has, as far as it is begun
+abbrev pub count_below : Tree → ℕ
+count_below hole = 0
+count_below entered = 0
+count_below (whole v) = 0
+count_below (begun form ts) = count_trees ts
 
 -- how often a token stands in a tree: in all its values together
 abbrev mutual

@@ -1,14 +1,14 @@
 -- The states that a builder can be in.
-use Rattle.std.specs.Prelude.{◌≡◌, ℕ, zero, suc, ◌<◌, ◌≤◌, true, false, List, [], ◌∷◌, length, slice_get, Option, Some, None}
+use Rattle.std.specs.Prelude.{◌≡◌, ℕ, zero, suc, ◌<◌, ◌≤◌, Bool, true, false, List, [], ◌∷◌, length, slice_get, Option, Some, None}
 use Rattle.fr_shape.specs.declared.shape.Def.{Def}
 use Rattle.fr_shape.specs.declared.shape.ShapeId.{ShapeId}
 use Rattle.fr_shape.specs.declared.shape.VariantDef.{VariantDef}
 use Rattle.fr_shape.specs.Look.{Table, def_of}
 use Rattle.fr_shape.specs.Fits.{fits}
 use Rattle.fr_shape.specs.Fills.{is_empty_struct}
-use Rattle.fr_model.specs.Contents.{pointer_refusal}
+use Rattle.fr_model.specs.Contents.{pointer_refusal, points_to_slice}
 use Rattle.fr_model.specs.Places.{Place, array_limit}
-use Rattle.fr_model.specs.Tree.{Form, as_struct, as_array, as_variant, as_some, as_ok, as_err, as_pointer, Tree, hole, entered, whole, begun, Trees, no_trees, branch, shapes_as, count_trees, tree_occurs, Mode, strict, deferred, State}
+use Rattle.fr_model.specs.Tree.{Form, as_struct, as_array, as_variant, as_some, as_ok, as_err, as_pointer, as_list, as_slice, as_closed_slice, Tree, hole, entered, whole, begun, Trees, no_trees, branch, shapes_as, count_trees, tree_occurs, Mode, strict, deferred, State}
 use Rattle.fr_model.specs.Variants.{selection_refusal}
 
 -- Each word says of a definition that a place of it has so many children, begun in one way.
@@ -45,8 +45,16 @@ abbrev pub HasPointee : Def → ℕ → Type 0
 HasPointee (Def.Pointer pointer) count = PointsTo pointer.pointee count
 HasPointee _ count = ⊥
 
+abbrev pub IsList : Def → Type 0
+IsList (Def.List t) = Unit {0}
+IsList _ = ⊥
+
+abbrev pub IsPointer : Def → Type 0
+IsPointer (Def.Pointer pointer) = Unit {0}
+IsPointer _ = ⊥
+
 -- a place of this definition has all its children, begun so: a struct or a variant one for each field, an array one for each
--- element, an option, a result or a pointer one
+-- element, an option, a result or a pointer one; a list, and a pointer to a slice, as many as there are
 abbrev pub IsFullAs : Def → Form → ℕ → Type 0
 IsFullAs def as_struct count = HasFields def count
 IsFullAs def as_array count = HasElements def count
@@ -55,6 +63,9 @@ IsFullAs def as_some count = HasContent def count
 IsFullAs def as_ok count = HasSide def count
 IsFullAs def as_err count = HasSide def count
 IsFullAs def as_pointer count = HasPointee def count
+IsFullAs def as_list count = IsList def
+IsFullAs def as_slice count = IsPointer def
+IsFullAs def as_closed_slice count = IsPointer def
 
 -- a struct is begun only with at least one child, an array only with no more than the limit
 abbrev pub MayBegin : Form → ℕ → Type 0
@@ -65,6 +76,9 @@ MayBegin as_some count = Unit {0}
 MayBegin as_ok count = Unit {0}
 MayBegin as_err count = Unit {0}
 MayBegin as_pointer count = Unit {0}
+MayBegin as_list count = Unit {0}
+MayBegin as_slice count = Unit {0}
+MayBegin as_closed_slice count = Unit {0}
 
 -- a place of this definition may be begun so, with that many children: all that it has, if it may be begun with them
 abbrev pub IsBegunAs : Def → Form → ℕ → Type 0
@@ -82,8 +96,18 @@ abbrev pub IsContent : Trees → Type 0
 IsContent no_trees = ⊥
 IsContent (branch t ts) = IsTouched t
 
+-- every child is there: no item is a hole
+abbrev pub AreTouched : Trees → Type 0
+AreTouched no_trees = Unit {0}
+AreTouched (branch t ts) = IsTouched t × AreTouched ts
+
+-- a pointer of shape s may be begun, and what it points to is a slice, or isn't one
+abbrev pub MayPoint : Table → ℕ → (to_slice : Bool) → Type 0
+MayPoint table s to_slice =
+    (pointer_refusal table (def_of table s) ≡ None) × (points_to_slice table (def_of table s) ≡ to_slice)
+
 -- A place of shape s is rightly begun so: a variant only where it may be selected, a pointer only where it may be begun, and an
--- option, a result or a pointer with its content.
+-- option, a result or a pointer with its content. What a list or a slice has is there.
 abbrev pub IsBegunRightly : Table → ℕ → Form → Trees → Type 0
 IsBegunRightly table s as_struct children = Unit {0}
 IsBegunRightly table s as_array children = Unit {0}
@@ -91,11 +115,14 @@ IsBegunRightly table s (as_variant k) children = selection_refusal (def_of table
 IsBegunRightly table s as_some children = IsContent children
 IsBegunRightly table s as_ok children = IsContent children
 IsBegunRightly table s as_err children = IsContent children
-IsBegunRightly table s as_pointer children = IsContent children × (pointer_refusal table (def_of table s) ≡ None)
+IsBegunRightly table s as_pointer children = IsContent children × MayPoint table s false
+IsBegunRightly table s as_list children = AreTouched children
+IsBegunRightly table s as_slice children = AreTouched children × MayPoint table s true
+IsBegunRightly table s as_closed_slice children = AreTouched children × MayPoint table s true
 
--- Each node suits its shape: what is whole fits it, and what is begun is so rightly and has one child for each field or element, or
--- the one that it holds, which suits the shape of that. What is entered isn't a struct without fields, which is whole as soon as it
--- is entered.
+-- Each node suits its shape: what is whole fits it, and what is begun is so rightly and has one child for each field or element, the
+-- one that it holds, or its items, each of which suits the shape of that. What is entered isn't a struct without fields, which is
+-- whole as soon as it is entered.
 abbrev mutual
   pub Suits : Table → ℕ → Tree → Type 0
   Suits table s hole = Unit {0}
@@ -158,11 +185,51 @@ pub record IsInOrder (table : Table) (root : ℕ) (state : State) : Type 0 where
   pub leads : Leads state.mode state.cursor state.tree
   pub began : BeganAbove state.mode state.cursor
 
+-- What the builder has left rests: no pointer to a slice is open in it, for the end of such a place closes it first.
+
+abbrev pub IsShut : Form → Type 0
+IsShut as_slice = ⊥
+IsShut as_closed_slice = Unit {0}
+IsShut as_struct = Unit {0}
+IsShut as_array = Unit {0}
+IsShut (as_variant k) = Unit {0}
+IsShut as_some = Unit {0}
+IsShut as_ok = Unit {0}
+IsShut as_err = Unit {0}
+IsShut as_pointer = Unit {0}
+IsShut as_list = Unit {0}
+
+abbrev mutual
+  pub Rests : Tree → Type 0
+  Rests hole = Unit {0}
+  Rests entered = Unit {0}
+  Rests (whole v) = Unit {0}
+  Rests (begun form ts) = IsShut form × AllRest ts
+
+  pub AllRest : Trees → Type 0
+  AllRest no_trees = Unit {0}
+  AllRest (branch t ts) = Rests t × AllRest ts
+
+-- the children of a place but one rest, and of that one something holds
+abbrev pub RestBut : ℕ → (Tree → Type 0) → Trees → Type 0
+RestBut i Below no_trees = Unit {0}
+RestBut zero Below (branch t ts) = Below t × AllRest ts
+RestBut (suc i) Below (branch t ts) = Rests t × RestBut i Below ts
+
+-- every place rests that is neither the cursor's nor above it, so that only such a pointer to a slice may be open
+abbrev pub RestsAround : (cursor : Place) → Tree → Type 0
+RestsAround cursor hole = Unit {0}
+RestsAround cursor entered = Unit {0}
+RestsAround cursor (whole v) = Unit {0}
+RestsAround [] (begun form ts) = AllRest ts
+RestsAround (i ∷ place) (begun form ts) = RestBut i (λ child. RestsAround place child) ts
+
 -- no token stands twice in a tree
 abbrev pub AreDistinct : Tree → Type 0
 AreDistinct tree = (t : ℕ) → tree_occurs tree t ≤ 1
 
--- a well state is in order, and holds no token twice
+-- a well state is in order, rests around the cursor, and holds no token twice
 pub record IsWell (table : Table) (root : ℕ) (state : State) : Type 0 where
   pub in_order : IsInOrder table root state
+  pub rests : RestsAround state.cursor state.tree
   pub distinct : AreDistinct state.tree

@@ -9,8 +9,9 @@ ghost use Rattle.fr_model.specs.FailingLaws.{FailuresLieThere, FinishesOrRefuses
 ghost use Rattle.fr_model.specs.FinishExamples.{FinishExamples};
 ghost use Rattle.fr_model.specs.FinishLaws.{ClosingKeepsCompletion, ClosingKeepsFailures, ClosingKeepsFailuresOff, ClosingKeepsFinish};
 ghost use Rattle.fr_model.specs.Finishing.{NotesWhatIsDue, StuckOrNoted};
-ghost use Rattle.fr_model.specs.Laws.{BuildKeepsTokens, CompletesOrFails, CompletesOrLacks, CompletingFits, CompletingKeepsTokens, StartIsWell, StepKeepsDistinct, StepKeepsOrder, StepKeepsTokens};
-ghost use Rattle.fr_model.specs.PathLaws.{DefaultingKeepsThePath, EnteringAddsAStep, EnteringContentAddsAStep, EnteringSomeAddsAStep, FinishingKeepsThePath, LeavingAsItIs, LeavingDropsAStep, PathIsAsDeep, PuttingKeepsThePath, SelectingKeepsThePath};
+ghost use Rattle.fr_model.specs.Laws.{BuildKeepsTokens, CompletesOrFails, CompletesOrLacks, CompletingFits, CompletingKeepsTokens, StartIsWell, StepKeepsDistinct, StepKeepsOrder, StepKeepsRest, StepKeepsTokens};
+ghost use Rattle.fr_model.specs.ListExamples.{ArrayExamples, ListExamples, SliceExamples};
+ghost use Rattle.fr_model.specs.PathLaws.{ClosingASliceKeepsThePath, DefaultingKeepsThePath, EnteringAddsAStep, EnteringAnItemAddsAStep, EnteringContentAddsAStep, EnteringSomeAddsAStep, FinishingKeepsThePath, LeavingAsItIs, LeavingDropsAStep, OpeningASliceKeepsThePath, OpeningKeepsThePath, PathIsAsDeep, PuttingKeepsThePath, SelectingKeepsThePath};
 
 /// For every field script of fitting values over a table that is plain for the root, whatever the hooks mean, the run of the
 /// commands gives a value exactly where the journal completes, and the same one. At the start, and after each fitting call
@@ -61,6 +62,9 @@ pub fn law_examples()
     ensures defaults { DefaultExamples }
     ensures checks { ValidatorExamples }
     ensures finishes { FinishExamples }
+    ensures lists { ListExamples }
+    ensures arrays { ArrayExamples }
+    ensures slices { SliceExamples }
 {}
 
 /// What fails at the end of deferred mode is half done and lies off the way, and a place that lacks something by itself fails, its
@@ -82,14 +86,19 @@ pub fn law_finishing()
 {}
 
 /// The path of the place at which a builder works, from state to state. Entering a child, from a state that is in order,
-/// adds the step to that child, and so does entering what an option, a side of a result or a pointer holds. Selecting a variant
-/// and setting a field to its default keep the path. Putting a value keeps it, or takes its last step away where the cursor goes
-/// up. Leaving a place as it is takes it away too, and the end of deferred mode keeps the path.
+/// adds the step to that child, and so does entering what an option, a side of a result or a pointer holds, or a new item. Beginning
+/// a list or an array, opening and closing a pointer to a slice, selecting a variant and setting a field to its default keep the
+/// path. Putting a value keeps it, or takes its last step away where the cursor goes up. Leaving a place as it is takes it away too,
+/// and the end of deferred mode keeps the path.
 /// There are as many steps as the place lies deep, so that only the root has none.
 pub fn law_paths()
     ensures enter { EnteringAddsAStep }
     ensures enter_content { EnteringContentAddsAStep }
     ensures enter_some { EnteringSomeAddsAStep }
+    ensures enter_item { EnteringAnItemAddsAStep }
+    ensures open { OpeningKeepsThePath }
+    ensures open_slice { OpeningASliceKeepsThePath }
+    ensures close_slice { ClosingASliceKeepsThePath }
     ensures select { SelectingKeepsThePath }
     ensures default { DefaultingKeepsThePath }
     ensures put { PuttingKeepsThePath }
@@ -107,9 +116,11 @@ pub fn law_removed()
 {}
 
 /// A builder begins in a well state, whatever its table and its root. Over a checked table an admitted command keeps its
-/// state in order, if the command is fitting, and well, if it is fresh besides.
+/// state in order, if the command is fitting, and well, if it is fresh besides: what lies around the cursor rests, and no token
+/// stands twice.
 pub fn law_well()
     ensures start { StartIsWell }
     ensures in_order { StepKeepsOrder }
+    ensures rests { StepKeepsRest }
     ensures distinct { StepKeepsDistinct }
 {}

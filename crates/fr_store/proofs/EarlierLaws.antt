@@ -13,7 +13,7 @@ use Rattle.fr_path.specs.Order.{number, step_order}
 use Rattle.fr_path.specs.OrderLaws.{step_itself}
 use Rattle.fr_model.specs.Paths.{step_as, step_below, steps_in}
 use Rattle.fr_model.specs.Places.{Place}
-use Rattle.fr_model.specs.Tree.{Form, as_struct, as_array, as_variant, as_some, as_ok, as_err, as_pointer, Tree, hole, entered, whole, begun, child_tree}
+use Rattle.fr_model.specs.Tree.{Form, as_struct, as_array, as_variant, as_some, as_ok, as_err, as_pointer, as_list, as_slice, as_closed_slice, Tree, hole, entered, whole, begun, child_tree}
 use Rattle.fr_store.specs.Places.{Pairs, IsAbove, ComesEarlier}
 use Rattle.fr_store.specs.Walks.{ComesBefore, AreInWalkOrder}
 
@@ -67,7 +67,7 @@ field_less i j less = ap (λ (o : Ordering). ordering_then o Equal) (nat_less i 
 index_less : (i j : ℕ) → i < j → step_order (PathStep.Index i) (PathStep.Index j) ≡ Less
 index_less i j less = ap (λ (o : Ordering). ordering_then o Equal) (nat_less i j less)
 
--- only a field and an element have another beside them
+-- only a field, an element and an item have another beside them
 form_less : (form : Form) (i j : ℕ) → number (step_as form i) ≡ i → number (step_as form j) ≡ j → i < j
     → step_order (step_as form i) (step_as form j) ≡ Less
 form_less as_struct i j one other less = field_less i j less
@@ -77,6 +77,9 @@ form_less as_some i j one other less = let first : 0 ≡ j = other in absurd (om
 form_less as_ok i j one other less = let first : 0 ≡ j = other in absurd (omega arith)
 form_less as_err i j one other less = let first : 0 ≡ j = other in absurd (omega arith)
 form_less as_pointer i j one other less = let first : 0 ≡ j = other in absurd (omega arith)
+form_less as_list i j one other less = index_less i j less
+form_less as_slice i j one other less = index_less i j less
+form_less as_closed_slice i j one other less = index_less i j less
 
 step_less : (t : Tree) (i j : ℕ) → number (step_below i t) ≡ i → number (step_below j t) ≡ j → i < j
     → step_order (step_below i t) (step_below j t) ≡ Less

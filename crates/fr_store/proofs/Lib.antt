@@ -2,6 +2,7 @@ pub mod ContentLaws
 pub mod EarlierLaws
 pub mod FinishTests
 pub mod IndexLaws
+pub mod ItemLaws
 pub mod KeptLaws
 pub mod LastLaws
 pub mod NoteLaws
@@ -11,6 +12,7 @@ pub mod PlaceLaws
 pub mod PruneSteps
 pub mod PruneTurns
 pub mod QueueLaws
+pub mod ReformLaws
 pub mod ReleasedLaws
 pub mod RestartLaws
 pub mod RunLaws
@@ -21,3 +23,4 @@ pub mod SpreadSteps
 pub mod StoredLaws
 pub mod TakenLaws
 pub mod WalkLaws
+pub mod WholeLaws

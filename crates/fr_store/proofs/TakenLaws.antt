@@ -5,8 +5,6 @@ use Rattle.fr_shape.specs.Hooks.{Meanings}
 use Rattle.fr_shape.specs.Look.{Table}
 use Rattle.fr_shape.specs.Released.{Room}
 use Rattle.fr_shape.specs.TokenLaws.{Room_fewer, Room_same}
-use Rattle.fr_shape.specs.Tokens.{occurs}
-use Rattle.fr_shape.specs.Val.{Val}
 use Rattle.fr_model.specs.Places.{deferred_column}
 use Rattle.fr_plan.specs.TypePlan.{Plan}
 use Rattle.fr_frame.specs.declared.places.Slot.{Slot}
@@ -19,7 +17,6 @@ use Rattle.fr_store.specs.MoveLaws.{slots_tokens}
 use Rattle.fr_store.specs.Moves.{tokens_in}
 use Rattle.fr_store.specs.Stands.{IsOpen}
 use Rattle.fr_store.specs.TopLaws.{slot_here}
-use Rattle.fr_store.proofs.ReleasedLaws.{both_of}
 
 -- a place in a slot has no token oftener than all slots
 pub held_in : (slots : List Slot) (n : ℕ) (found : Node) (t : ℕ) → heap_of slots n ≡ Some found
@@ -68,16 +65,6 @@ room_still plan before now stack ledger after open_before open_now tokens same r
     (Room_same (tokens_in before stack) (tokens_in now stack) ledger
     (λ t.
     omega (arith, tokens t, slots_tokens plan before stack open_before t, slots_tokens plan now stack open_now t)) room)
-
--- the tokens of a place that was taken out are those of its value
-pub taken_by : (first mid : List Slot) (n : ℕ) (v : Val)
-    → IfInUse first n (λ (x : Node). (t : ℕ) → slots_occur first t ≡ slots_occur mid t + body_occurs x.body t)
-    → IfInUse first n (λ (x : Node). (t : ℕ) → occurs v t ≡ body_occurs x.body t)
-    → (t : ℕ) → slots_occur first t ≡ slots_occur mid t + occurs v t
-taken_by first mid n v tokens same =
-    both_of (heap_of first n) (λ (x : Node). (t : ℕ) → slots_occur first t ≡ slots_occur mid t + body_occurs x.body t)
-    (λ (x : Node). (t : ℕ) → occurs v t ≡ body_occurs x.body t) tokens same
-    (λ x one other t. omega (arith, one t, other t))
 
 -- What was completed has a value.
 pub filled_valued : (means : Meanings) (table : Table) (plan : Plan) (before first : List Slot) (n : ℕ)

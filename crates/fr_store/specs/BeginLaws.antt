@@ -1,10 +1,10 @@
 -- Laws of beginning the top, for proofs.
 use Rattle.std.proofs.Common.{◌≡◌, ℕ, zero, suc, ◌+◌, List, [], ◌∷◌, length, replicate, false, Option, Some, None, refl, sym, ◌∙◌, ap, subst, arith}
 use Rattle.fr_shape.specs.Tokens.{occurs, vals_occur}
-use Rattle.fr_shape.specs.Val.{Val, Vals, no_vals, first, product}
-use Rattle.fr_model.specs.Places.{Place, parts_of}
-use Rattle.fr_model.specs.Step.{opened_as, opened_value}
-use Rattle.fr_model.specs.Tree.{Form, as_struct, as_array, as_variant, as_some, as_ok, as_err, as_pointer, Tree, Trees, begun, branch, hole, whole, holes, wholes, change_at}
+use Rattle.fr_shape.specs.Val.{Val, Vals, no_vals, first, product, list_of}
+use Rattle.fr_model.specs.Places.{Place, items_of, parts_of}
+use Rattle.fr_model.specs.Step.{opened_as, opened_value, parts_as}
+use Rattle.fr_model.specs.Tree.{Form, as_struct, as_array, as_variant, as_some, as_ok, as_err, as_pointer, as_list, as_slice, as_closed_slice, Tree, Trees, begun, branch, hole, whole, holes, wholes, change_at}
 use Rattle.fr_plan.specs.TypePlan.{Plan}
 use Rattle.fr_frame.specs.declared.places.Slot.{Slot}
 use Rattle.fr_frame.specs.Bodies.{begun_body, opened, opened_by, cells_of_vals, IsClosed, AreUnplaced}
@@ -36,7 +36,7 @@ opened_whole form v None = whole_plot v
 
 abbrev pub opened_plot : Form → (count : ℕ) → Plot → Plot
 opened_plot form count entered_plot = begun_plot form (gones count)
-opened_plot form count (whole_plot v) = opened_whole form v (parts_of v)
+opened_plot form count (whole_plot v) = opened_whole form v (parts_as form v)
 opened_plot form count (begun_plot made kids) = begun_plot made kids
 
 pub gones_cells : (count : ℕ) → cells_in (gones count) ≡ replicate count absent
@@ -49,7 +49,7 @@ theres_cells (first v vs) = ap (λ (cs : List Cell). given v ∷ cs) (theres_cel
 
 pub opened_body : (form : Form) (count : ℕ) (plot : Plot) → body_in (opened_plot form count plot) ≡ opened form count (body_in plot)
 opened_body form count entered_plot = ap (begun_body form) (gones_cells count)
-opened_body form count (whole_plot v) = go (parts_of v)
+opened_body form count (whole_plot v) = go (parts_as form v)
   where
     go : (parts : Option Vals) → body_in (opened_whole form v parts) ≡ opened_by form v parts
     go (Some vs) = ap (begun_body form) (theres_cells vs)
@@ -66,7 +66,7 @@ theres_trees (first v vs) = ap (λ (ts : Trees). branch (whole v) ts) (theres_tr
 
 pub opened_tree : (form : Form) (count : ℕ) (plot : Plot) → tree_in (opened_plot form count plot) ≡ opened_as form count (tree_in plot)
 opened_tree form count entered_plot = ap (begun form) (gones_trees count)
-opened_tree form count (whole_plot v) = go (parts_of v)
+opened_tree form count (whole_plot v) = go (parts_as form v)
   where
     go : (parts : Option Vals) → tree_in (opened_whole form v parts) ≡ opened_value form v parts
     go (Some vs) = ap (begun form) (theres_trees vs)
@@ -89,13 +89,16 @@ many_have as_some count many = absurd many
 many_have as_ok count many = absurd many
 many_have as_err count many = absurd many
 many_have as_pointer count many = absurd many
+many_have as_list count many = tt
+many_have as_slice count many = tt
+many_have as_closed_slice count many = tt
 
 opened_keeps : (form : Form) (count : ℕ) (plot : Plot) → TakesMany form → KeepsChildren plot (opened_plot form count plot)
 opened_keeps form count entered_plot many =
     keeps_closed entered_plot (begun_plot form (gones count)) (many_have form (length (cells_in (gones count))) many)
     (gones_unplaced count)
 opened_keeps form count (whole_plot v) many =
-    keeps_closed (whole_plot v) (opened_whole form v (parts_of v)) (may (parts_of v)) (go (parts_of v))
+    keeps_closed (whole_plot v) (opened_whole form v (parts_as form v)) (may (parts_as form v)) (go (parts_as form v))
   where
     may : (parts : Option Vals) → MayHaveIts (body_in (opened_whole form v parts))
     may (Some vs) = many_have form (length (cells_in (theres vs))) many
@@ -119,9 +122,25 @@ theres_tokens : (vs : Vals) (t : ℕ) → kids_occur (theres vs) t ≡ vals_occu
 theres_tokens no_vals t = refl
 theres_tokens (first v vs) t = ap (λ (n : ℕ). occurs v t + n) (theres_tokens vs t)
 
-whole_tokens : (form : Form) (v : Val) (t : ℕ) → plot_occurs (opened_whole form v (parts_of v)) t ≡ occurs v t
-whole_tokens form (product vs) t = theres_tokens vs t
-whole_tokens form _ t = refl
+parts_tokens : (form : Form) (v : Val) (t : ℕ) → plot_occurs (opened_whole form v (parts_of v)) t ≡ occurs v t
+parts_tokens form (product vs) t = theres_tokens vs t
+parts_tokens form _ t = refl
+
+items_tokens : (form : Form) (v : Val) (t : ℕ) → plot_occurs (opened_whole form v (items_of v)) t ≡ occurs v t
+items_tokens form (list_of vs) t = theres_tokens vs t
+items_tokens form _ t = refl
+
+whole_tokens : (form : Form) (v : Val) (t : ℕ) → plot_occurs (opened_whole form v (parts_as form v)) t ≡ occurs v t
+whole_tokens as_struct v t = parts_tokens as_struct v t
+whole_tokens as_array v t = parts_tokens as_array v t
+whole_tokens as_list v t = items_tokens as_list v t
+whole_tokens (as_variant k) v t = refl
+whole_tokens as_some v t = refl
+whole_tokens as_ok v t = refl
+whole_tokens as_err v t = refl
+whole_tokens as_pointer v t = refl
+whole_tokens as_slice v t = refl
+whole_tokens as_closed_slice v t = refl
 
 opened_tokens : (form : Form) (count : ℕ) (plot : Plot) (t : ℕ) → plot_occurs (opened_plot form count plot) t ≡ plot_occurs plot t
 opened_tokens form count entered_plot t = gones_tokens count t

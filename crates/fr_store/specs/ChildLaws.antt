@@ -12,14 +12,14 @@ use Rattle.fr_frame.specs.Heap.{Node, Heap, stored_in}
 use Rattle.fr_frame.specs.Kids.{Kid, gone, there, at, Plot, entered_plot, whole_plot, begun_plot, Kids, no_kids, kid, MayHave, tree_in, trees_in, cell_of, cells_in, body_in, child_node, child_owner, Holds, HoldsIn, HoldsAll}
 use Rattle.fr_store.specs.HoldLaws.{holds_nth, may_have_all}
 use Rattle.fr_store.specs.LeaveLaws.{cell_of_child}
-use Rattle.fr_store.specs.Moves.{HasChild}
+use Rattle.fr_store.specs.Moves.{HasChild, HasForm}
 use Rattle.fr_store.specs.Stands.{Stands}
 use Rattle.fr_store.specs.Stored.{child_slot, IsStoredChild}
 use Rattle.fr_store.specs.TopLaws.{Top, not_beneath, top_uses}
 use Rattle.fr_store.specs.Ways.{count_kids, kid_nth, kid_at, counts_if, uses, uses_in, uses_among, AllMarked, AllMarkedIn, AllMarkedAmong, node_along, owner_along}
 use Rattle.fr_store.specs.WayLaws.{marked_nth}
 
-count_kids_trees : (ks : Kids) → count_trees (trees_in ks) ≡ count_kids ks
+pub count_kids_trees : (ks : Kids) → count_trees (trees_in ks) ≡ count_kids ks
 count_kids_trees no_kids = refl
 count_kids_trees (kid k ks) = ap suc (count_kids_trees ks)
 
@@ -30,6 +30,12 @@ plot_has form i entered_plot has = absurd has
 plot_has form i (whole_plot v) has = absurd has
 plot_has form i (begun_plot made kids) has =
     (kids, ap (λ (f : Form). begun_plot f kids) has.0, subst (λ (n : ℕ). i < n) (count_kids_trees kids) has.1)
+
+-- one that is begun so has these children
+pub plot_formed : (form : Form) (plot : Plot) → HasForm form (tree_in plot) → (kids : Kids) × (plot ≡ begun_plot form kids)
+plot_formed form entered_plot has = absurd has
+plot_formed form (whole_plot v) has = absurd has
+plot_formed form (begun_plot made kids) has = (kids, ap (λ (f : Form). begun_plot f kids) has)
 
 -- The top is begun, and has a child of this number.
 module _ (plan : Plan) (heap : Heap) (stack : List ℕ) (place : Place) (k : Kid) (stands : Stands plan heap stack place k)

@@ -1,26 +1,26 @@
 -- Laws of ending, for proofs: the top is left, and its value goes to the place above.
 use Rattle.std.proofs.Common.{◌≡◌, ◌≢◌, ℕ, zero, suc, ◌+◌, ◌≤◌, Bool, true, false, List, [], ◌∷◌, ◌++◌, append-nil, length, nat_eq, Option, Some, None, refl, sym, ◌∙◌, ap, subst, arith}
+use Rattle.std.specs.Option.{option_and_then}
 use Rattle.std.specs.Prelude.{is_some, IsSome, IsSomeAnd, if◌then◌else◌}
 use Rattle.fr_shape.specs.Fits.{count_vals}
 use Rattle.fr_shape.specs.Tokens.{occurs, vals_occur}
 use Rattle.fr_shape.specs.Val.{Val, Vals, no_vals, first}
-use Rattle.fr_path.specs.declared.path_steps.PathStep.{PathStep}
 use Rattle.fr_model.specs.Paths.{step_as}
 use Rattle.fr_model.specs.Complete.{made, value_as}
 use Rattle.fr_model.specs.Places.{Place, up, one_more, vals_nth}
-use Rattle.fr_model.specs.Tree.{Form, as_struct, as_array, as_variant, as_some, as_ok, as_err, as_pointer, whole, change_at}
+use Rattle.fr_model.specs.Tree.{Form, as_struct, as_array, as_variant, as_some, as_ok, as_err, as_pointer, as_list, as_slice, as_closed_slice, whole, change_at}
 use Rattle.fr_plan.specs.TypePlan.{Plan}
 use Rattle.fr_frame.specs.declared.places.FrameOwner.{FrameOwner}
 use Rattle.fr_frame.specs.declared.places.Slot.{Slot}
 use Rattle.fr_frame.specs.Bodies.{Body, entered_body, whole_body, begun_body, value_of, body_occurs, can_make, cell_at, with_cell, AreUnplaced, IsClosed}
 use Rattle.fr_frame.specs.Cells.{Cell, absent, given, placed, cells_occur, values_of}
-use Rattle.fr_frame.specs.Changes.{IfInUse, IsInUse, Shows}
-use Rattle.fr_frame.specs.Heap.{Node, with_body, without, heap_of, marked, stored_in, slots_occur}
-use Rattle.fr_frame.specs.Kids.{Kid, gone, there, at, Plot, begun_plot, Kids, no_kids, kid, MayHave, tree_of, cell_of, cells_in, body_in, kid_occurs, plot_occurs, child_owner}
-use Rattle.fr_store.specs.HoldLaws.{may_have_at}
+use Rattle.fr_frame.specs.Changes.{IfInUse, SameTokens, Shows}
+use Rattle.fr_frame.specs.Heap.{Node, Heap, with_body, without, gives, held_by, heap_of, marked, stored_in, slots_occur}
+use Rattle.fr_frame.specs.Kids.{Kid, gone, there, at, Plot, begun_plot, Kids, no_kids, kid, MayHave, tree_of, cell_of, cells_in, body_in, kid_occurs, plot_occurs, child_owner, Holds}
+use Rattle.fr_store.specs.HoldLaws.{holds_at, may_have_at}
 use Rattle.fr_store.specs.LeaveLaws.{Above, above_of, gone_above, gone_is, left_top, owner_append, put_append, above_append, up_append, cell_of_child, may_have_put, with_child, within_put}
 use Rattle.fr_store.specs.MoveLaws.{same_last, same_front, open_at_from, open_strict}
-use Rattle.fr_store.specs.Moves.{IsOpenAt, IsStepTo, OwnerIsNumbered, cursor_in, tree_in_slots}
+use Rattle.fr_store.specs.Moves.{IsOpenAt, cursor_in, tree_in_slots}
 use Rattle.fr_store.specs.Numbers.{IsLast}
 use Rattle.fr_store.specs.StandLaws.{all_kept_but, kid_is, AllServe}
 use Rattle.fr_store.specs.Stands.{Stands, IsOpen, kid_here, kid_shown}
@@ -47,7 +47,7 @@ values_tokens (given v ∷ cs) vs t e = go (values_of cs) refl e (λ us. values_
         let same : first v us ≡ vs = cc in
         ap (λ (n : ℕ). occurs v t + n) (more us is) ∙ ap (λ (ws : Vals). vals_occur ws t) same
 
--- what is made of some values has their tokens: of more than one only a struct, an array or a variant is made
+-- what is made of some values has their tokens: of more than one only a struct, an array, a variant, a list or a slice is made
 one_tokens : (vs : Vals) (t : ℕ) → count_vals vs ≤ 1 → vals_occur vs t ≡ occurs (vals_nth vs 0) t
 one_tokens no_vals t few = refl
 one_tokens (first v no_vals) t few = omega arith
@@ -61,6 +61,9 @@ made_tokens as_some vs t may = one_tokens vs t may
 made_tokens as_ok vs t may = one_tokens vs t may
 made_tokens as_err vs t may = one_tokens vs t may
 made_tokens as_pointer vs t may = one_tokens vs t may
+made_tokens as_list vs t may = refl
+made_tokens as_slice vs t may = refl
+made_tokens as_closed_slice vs t may = refl
 
 -- what is begun and has a value makes it of its children's
 pub made_value : (form : Form) (cells : List Cell) (v : Val) → value_of (begun_body form cells) ≡ Some v
@@ -144,27 +147,22 @@ module _ (plan : Plan) (slots : List Slot) (stack : List ℕ) (open_now : IsOpen
       owner_append FrameOwner.Root above i kid_now
       ∙ ap (λ (x : Kid). owner_below (owner_along FrameOwner.Root above kid_now) i x) above_now.is
 
+  -- all slots once the top's is free and the place above hasn't it any more
+  abbrev pub without_top : ℕ → Heap
+  without_top n = without (heap_of slots) n (child_owner above_now.slot above_now.form i)
+
+  -- and once its value is there
+  abbrev pub with_value : ℕ → Val → Heap
+  with_value n v = with_body (without_top n) above_now.slot (λ old. with_cell old (step_as above_now.form i) (given v))
+
   -- the top is left
-  pub stands_left : (after : List Slot) (next : List ℕ) (n : ℕ) → stack ≡ next ++ n ∷ []
-      → IfInUse slots n (λ (found : Node). Shows after (without (heap_of slots) n found.owner))
-      → Stands plan (heap_of after) next above (put_at (above ++ i ∷ []) gone kid_now)
-  stands_left after next n last shows =
+  pub stands_left : (next : List ℕ) (n : ℕ) → stack ≡ next ++ n ∷ []
+      → Stands plan (without_top n) next above (put_at (above ++ i ∷ []) gone kid_now)
+  stands_left next n last =
       let same : top_now.slot ≡ n
       = same_last (slots_above (above ++ i ∷ []) kid_now) next top_now.slot n (sym top_now.last ∙ last) in
-      let found : heap_of slots n ≡ Some (record {
-        node = node_along plan plan.root (above ++ i ∷ []) kid_now;
-        owner = owner_along FrameOwner.Root (above ++ i ∷ []) kid_now;
-        stored = false;
-        depth = length (above ++ i ∷ []);
-        body = body_in top_now.plot;
-      })
-      = ap (heap_of slots) (sym same) ∙ top_now.here in
-      let left : Shows after (without (heap_of slots) n (owner_along FrameOwner.Root (above ++ i ∷ []) kid_now))
-      = subst
-      (λ (o : Option Node). IsSomeAnd o (λ (found : Node). Shows after (without (heap_of slots) n found.owner))) found
-      shows in
-      left_top plan (heap_of slots) (heap_of after) stack next above i kid_now n stands_now top_now above_now same
-      left
+      left_top plan (heap_of slots) (without_top n) stack next above i kid_now n stands_now top_now above_now same
+      (λ m. ap (λ (o : FrameOwner). without (heap_of slots) n o m) (sym owner_now))
       (sym (same_front (slots_above (above ++ i ∷ []) kid_now) next top_now.slot n (sym top_now.last ∙ last))
       ∙ above_append above i kid_now stands_now.leads above_now.slot false (begun_plot above_now.form above_now.kids)
       above_now.is)
@@ -177,60 +175,50 @@ module _ (plan : Plan) (slots : List Slot) (stack : List ℕ) (open_now : IsOpen
       leads_reach (above ++ i ∷ []) [] kid_now
       (subst (λ (p : Place). Leads p kid_now) (sym (append-nil (above ++ i ∷ []))) stands_now.leads)
 
-  -- the tokens at the top, and those beside it
-  pub tokens_left : (t : ℕ)
-      → kid_occurs (put_at (above ++ i ∷ []) gone kid_now) t + body_occurs (body_in top_now.plot) t ≡ kid_occurs kid_now t
-  tokens_left t =
-      let here : kid_occurs (kid_at (above ++ i ∷ []) kid_now) t ≡ plot_occurs top_now.plot t
-      = ap (λ (x : Kid). kid_occurs x t) top_now.is in
-      omega
-      (arith, occurs_put_at (above ++ i ∷ []) gone kid_now t reach_now, closed_occur top_now.plot t closed_now)
-
-  -- the step that the top's owner tells
-  pub step_now : (n : ℕ) (step : PathStep) → top_now.slot ≡ n
-      → IfInUse slots n (λ (found : Node). IsStepTo step found.owner) → step ≡ step_as above_now.form i
-  step_now n step same told =
-      let found : heap_of slots n ≡ Some (record {
+  -- what is in the top's slot
+  top_is : (n : ℕ) → top_now.slot ≡ n → heap_of slots n ≡ Some (record {
+    node = node_along plan plan.root (above ++ i ∷ []) kid_now;
+    owner = child_owner above_now.slot above_now.form i;
+    stored = false;
+    depth = length (above ++ i ∷ []);
+    body = body_in top_now.plot;
+  })
+  top_is n same =
+      ap (heap_of slots) (sym same) ∙ top_now.here
+      ∙ ap (λ (o : FrameOwner). Some (record {
         node = node_along plan plan.root (above ++ i ∷ []) kid_now;
-        owner = owner_along FrameOwner.Root (above ++ i ∷ []) kid_now;
+        owner = o;
         stored = false;
         depth = length (above ++ i ∷ []);
         body = body_in top_now.plot;
-      })
-      = ap (heap_of slots) (sym same) ∙ top_now.here in
-      let so : IsStepTo step (owner_along FrameOwner.Root (above ++ i ∷ []) kid_now)
-      = subst (λ (o : Option Node). IsSomeAnd o (λ (x : Node). IsStepTo step x.owner)) found told in
-      subst (λ (o : FrameOwner). IsStepTo step o) owner_now so
+      })) owner_now
 
-  pub numbered_now : (n : ℕ) → top_now.slot ≡ n → IfInUse slots n (λ (found : Node). OwnerIsNumbered found.owner)
-  numbered_now n same =
-      let found = ap (heap_of slots) (sym same) ∙ top_now.here in
-      subst (λ (o : Option Node). IsSomeAnd o (λ (x : Node). OwnerIsNumbered x.owner)) (sym found)
-      (subst (λ (o : FrameOwner). OwnerIsNumbered o) (sym owner_now) (go above_now.form))
+  -- its owner has it there
+  pub owned_now : (n : ℕ) → top_now.slot ≡ n
+      → IfInUse slots n (λ (found : Node). held_by (heap_of slots) found.owner ≡ Some (placed n))
+  owned_now n same =
+      subst (λ (o : Option Node). IsSomeAnd o (λ (x : Node). held_by (heap_of slots) x.owner ≡ Some (placed n)))
+      (sym (top_is n same))
+      (ap (option_and_then (λ (x : Node). cell_at x.body (step_as above_now.form i))) above_holds.0
+      ∙ cell_of_child above_now.form i above_now.kids above_may_have above_now.within
+      ∙ ap (λ (x : Kid). Some (cell_of x)) (sym above_now.child ∙ top_now.is)
+      ∙ ap (λ (m : ℕ). Some (placed m)) same)
     where
-      go : (form : Form) → OwnerIsNumbered (child_owner above_now.slot form i)
-      go as_struct = tt
-      go as_array = tt
-      go (as_variant k) = tt
-      go as_some = tt
-      go as_ok = tt
-      go as_err = tt
-      go as_pointer = tt
-
-  pub value_now : (n : ℕ) (v : Val) → top_now.slot ≡ n → IfInUse slots n (λ (found : Node). value_of found.body ≡ Some v)
-      → value_of (body_in top_now.plot) ≡ Some v
-  value_now n v same told =
-      let found = ap (heap_of slots) (sym same) ∙ top_now.here in
-      subst (λ (o : Option Node). IsSomeAnd o (λ (x : Node). value_of x.body ≡ Some v)) found told
+      above_holds : Holds plan (heap_of slots) (node_along plan plan.root above kid_now)
+          (owner_along FrameOwner.Root above kid_now) (0 + length above)
+          (at above_now.slot false (begun_plot above_now.form above_now.kids))
+      above_holds =
+          subst
+          (λ (x : Kid). Holds plan (heap_of slots) (node_along plan plan.root above kid_now)
+          (owner_along FrameOwner.Root above kid_now) (0 + length above) x)
+          above_now.is (holds_at plan (heap_of slots) plan.root FrameOwner.Root 0 above kid_now stands_now.holds reach_above)
 
   pub slot_now : (next : List ℕ) (n : ℕ) → stack ≡ next ++ n ∷ [] → top_now.slot ≡ n
   slot_now next n last = same_last (slots_above (above ++ i ∷ []) kid_now) next top_now.slot n (sym top_now.last ∙ last)
 
-  module _ (mid : List Slot) (next : List ℕ) (n : ℕ) (last : stack ≡ next ++ n ∷ [])
-      (shows : IfInUse slots n (λ (found : Node). Shows mid (without (heap_of slots) n found.owner))) where
-    pub top_left : Top plan (heap_of mid) next above (put_at (above ++ i ∷ []) gone kid_now)
-    top_left =
-        top_of plan (heap_of mid) next above (put_at (above ++ i ∷ []) gone kid_now) (stands_left mid next n last shows)
+  module _ (next : List ℕ) (n : ℕ) (last : stack ≡ next ++ n ∷ []) where
+    top_left : Top plan (without_top n) next above (put_at (above ++ i ∷ []) gone kid_now)
+    top_left = top_of plan (without_top n) next above (put_at (above ++ i ∷ []) gone kid_now) (stands_left next n last)
 
     left_is : gone_above above i kid_now above_now ≡ at top_left.slot false top_left.plot
     left_is =
@@ -238,52 +226,23 @@ module _ (plan : Plan) (slots : List Slot) (stack : List ℕ) (open_now : IsOpen
         ∙ kid_put_at above (gone_above above i kid_now above_now) kid_now reach_above)
         ∙ top_left.is
 
-    pub plot_left : top_left.plot ≡ begun_plot above_now.form (put_nth i gone above_now.kids)
+    plot_left : top_left.plot ≡ begun_plot above_now.form (put_nth i gone above_now.kids)
     plot_left = let is = left_is in cc
 
-    pub slot_left : top_left.slot ≡ above_now.slot
+    slot_left : top_left.slot ≡ above_now.slot
     slot_left = let is = left_is in cc
 
-    -- the child is gone from the place above
-    pub absent_left : (m : ℕ) (step : PathStep) → IsLast next m → step ≡ step_as above_now.form i
-        → IfInUse mid m (λ (found : Node). cell_at found.body step ≡ Some absent)
-    absent_left m step ends told =
-        let same : top_left.slot ≡ m
-        = same_last (slots_above above (put_at (above ++ i ∷ []) gone kid_now)) ends.0 top_left.slot m
-        (sym top_left.last ∙ ends.1) in
-        let found = ap (heap_of mid) (sym same) ∙ top_left.here in
-        subst (λ (o : Option Node). IsSomeAnd o (λ (x : Node). cell_at x.body step ≡ Some absent)) (sym found)
-        (ap (λ (p : Plot). cell_at (body_in p) step) plot_left
-        ∙ ap (cell_at (body_in (begun_plot above_now.form (put_nth i gone above_now.kids)))) told
-        ∙ cell_of_child above_now.form i (put_nth i gone above_now.kids)
-        (may_have_put above_now.form i gone above_now.kids above_may_have)
-        (within_put i gone above_now.kids above_now.within)
-        ∙ ap (λ (x : Kid). Some (cell_of x)) (nth_put i gone above_now.kids above_now.within))
-
-    pub in_use_left : (m : ℕ) → IsLast next m → IsInUse mid m
-    in_use_left m ends =
-        let same : top_left.slot ≡ m
-        = same_last (slots_above above (put_at (above ++ i ∷ []) gone kid_now)) ends.0 top_left.slot m
-        (sym top_left.last ∙ ends.1) in
-        ap is_some (ap (heap_of mid) (sym same) ∙ top_left.here)
-
     -- a value is put there
-    pub stands_ended : (after : List Slot) (m : ℕ) (step : PathStep) (v : Val) → IsLast next m
-        → step ≡ step_as above_now.form i
-        → Shows after (with_body (heap_of mid) m (λ old. with_cell old step (given v)))
-        → Stands plan (heap_of after) next above (put_at (above ++ i ∷ []) (there v) kid_now)
-    stands_ended after m step v ends told puts =
-        let same : top_left.slot ≡ m
-        = same_last (slots_above above (put_at (above ++ i ∷ []) gone kid_now)) ends.0 top_left.slot m
-        (sym top_left.last ∙ ends.1) in
+    pub stands_ended : (after : Heap) (v : Val) → ((m : ℕ) → after m ≡ with_value n v m)
+        → Stands plan after next above (put_at (above ++ i ∷ []) (there v) kid_now)
+    stands_ended after v puts =
         let rest : Kids = put_nth i gone above_now.kids in
         let new : Plot = begun_plot above_now.form (put_nth i (there v) rest) in
-        let changed : with_cell (body_in top_left.plot) step (given v) ≡ body_in new
-        = ap (λ (p : Plot). with_cell (body_in p) step (given v)) plot_left
-        ∙ ap (λ (s : PathStep). with_cell (begun_body above_now.form (cells_in rest)) s (given v)) told
+        let changed : with_cell (body_in top_left.plot) (step_as above_now.form i) (given v) ≡ body_in new
+        = ap (λ (p : Plot). with_cell (body_in p) (step_as above_now.form i) (given v)) plot_left
         ∙ with_child above_now.form i (there v) rest (may_have_put above_now.form i gone above_now.kids above_may_have)
         (within_put i gone above_now.kids above_now.within) in
-        let here : heap_of after top_left.slot ≡ Some (record {
+        let here : after top_left.slot ≡ Some (record {
           node = node_along plan plan.root above (put_at (above ++ i ∷ []) gone kid_now);
           owner = owner_along FrameOwner.Root above (put_at (above ++ i ∷ []) gone kid_now);
           stored = false;
@@ -291,8 +250,10 @@ module _ (plan : Plan) (slots : List Slot) (stack : List ℕ) (open_now : IsOpen
           body = body_in new;
         })
         = puts top_left.slot
-        ∙ ap (λ (x : ℕ). with_body (heap_of mid) x (λ old. with_cell old step (given v)) top_left.slot) (sym same)
-        ∙ body_here (heap_of mid) top_left.slot (λ old. with_cell old step (given v)) (record {
+        ∙ ap
+        (λ (x : ℕ). with_body (without_top n) x (λ old. with_cell old (step_as above_now.form i) (given v)) top_left.slot)
+        (sym slot_left)
+        ∙ body_here (without_top n) top_left.slot (λ old. with_cell old (step_as above_now.form i) (given v)) (record {
           node = node_along plan plan.root above (put_at (above ++ i ∷ []) gone kid_now);
           owner = owner_along FrameOwner.Root above (put_at (above ++ i ∷ []) gone kid_now);
           stored = false;
@@ -306,12 +267,13 @@ module _ (plan : Plan) (slots : List Slot) (stack : List ℕ) (open_now : IsOpen
           depth = length above;
           body = b;
         })) changed in
-        let beside : (x : ℕ) → x ≢ top_left.slot → heap_of after x ≡ heap_of mid x
+        let beside : (x : ℕ) → x ≢ top_left.slot → after x ≡ without_top n x
         = λ x ne. puts x
-        ∙ ap (λ (y : ℕ). with_body (heap_of mid) y (λ old. with_cell old step (given v)) x) (sym same)
-        ∙ body_other (heap_of mid) top_left.slot (λ old. with_cell old step (given v)) x ne in
-        let ended = top_replaced plan (heap_of mid) (heap_of after) next above (put_at (above ++ i ∷ []) gone kid_now) new
-        (stands_left mid next n last shows) top_left
+        ∙ ap (λ (y : ℕ). with_body (without_top n) y (λ old. with_cell old (step_as above_now.form i) (given v)) x)
+        (sym slot_left)
+        ∙ body_other (without_top n) top_left.slot (λ old. with_cell old (step_as above_now.form i) (given v)) x ne in
+        let ended = top_replaced plan (without_top n) after next above (put_at (above ++ i ∷ []) gone kid_now) new
+        (stands_left next n last) top_left
         (keeps_closed top_left.plot new
         (subst (λ (n : ℕ). MayHave above_now.form n) (sym (cells_count (put_nth i (there v) rest)))
         (may_have_put above_now.form i (there v) rest (may_have_put above_now.form i gone above_now.kids above_may_have)))
@@ -322,79 +284,51 @@ module _ (plan : Plan) (slots : List Slot) (stack : List ℕ) (open_now : IsOpen
         ≡ put_below i (there v) (kid_at above kid_now)
         = put_below_twice i gone (there v) (at above_now.slot false (begun_plot above_now.form above_now.kids))
         ∙ ap (put_below i (there v)) (sym above_now.is) in
-        subst (λ (x : Kid). Stands plan (heap_of after) next above x)
+        subst (λ (x : Kid). Stands plan after next above x)
         (ap (put_at above (at top_left.slot false new)) (gone_is above i kid_now above_now)
         ∙ put_at_twice above (gone_above above i kid_now above_now) (at top_left.slot false new) kid_now reach_above
         ∙ ap (λ (x : Kid). put_at above x kid_now) (sym one ∙ two) ∙ sym (put_append above (i ∷ []) (there v) kid_now))
         ended
 
     -- each slot in use is that of a place
-    all_ended : (after : List Slot) (m : ℕ) (change : Body → Body) (v : Val) → Shows after (with_body (heap_of mid) m change)
-        → AllServe (heap_of after) (put_at (above ++ i ∷ []) (there v) kid_now)
+    all_ended : (after : Heap) (v : Val) → ((m : ℕ) → after m ≡ with_value n v m)
+        → AllServe after (put_at (above ++ i ∷ []) (there v) kid_now)
     unfolding kid_now
-    all_ended after m change v puts =
-        all_kept_but (heap_of slots) (heap_of after) (above ++ i ∷ []) (there v) kid_now reach_now open_now.all from
+    all_ended after v puts =
+        all_kept_but (heap_of slots) after (above ++ i ∷ []) (there v) kid_now reach_now open_now.all from
       where
         part : (x : ℕ) → uses (kid_at (above ++ i ∷ []) kid_now) x ≡ counts_if (nat_eq top_now.slot x) + uses_in top_now.plot x
         part x = ap (λ (k : Kid). uses k x) top_now.is
 
-        was : (found : Option Node) → IsSomeAnd found (λ (at : Node). Shows mid (without (heap_of slots) n at.owner))
-            → (x : ℕ) → IsSome (heap_of mid x) → (x ≢ n) × IsSome (heap_of slots x)
-        was (Some found) so x used =
-            used_without (heap_of slots) n found.owner x (subst (λ (o : Option Node). IsSome o) (so x) used)
-        was None so x used = absurd so
-
-        from : (x : ℕ) → IsSome (heap_of after x)
+        from : (x : ℕ) → IsSome (after x)
             → IsSome (heap_of slots x) × (uses (kid_at (above ++ i ∷ []) kid_now) x ≤ uses (there v) x)
         from x used =
-            let still = was (heap_of slots n) shows x
-            (used_mapped (heap_of mid) m (λ (at : Node). record at { body = change at.body }) x
+            let still = used_without (heap_of slots) n (child_owner above_now.slot above_now.form i) x
+            (used_mapped (without_top n) above_now.slot
+            (λ (at : Node). record at { body = with_cell at.body (step_as above_now.form i) (given v) }) x
             (subst (λ (o : Option Node). IsSome o) (puts x) used)) in
             let other : counts_if (nat_eq top_now.slot x) ≡ 0
             = counts_other top_now.slot x (λ e. still.0 (sym e ∙ slot_now next n last)) in
             (still.1, omega (arith, part x, other, closed_uses top_now.plot x closed_now))
 
-    -- nothing is stored
-    pub strict_ended : (after : List Slot) (m : ℕ) (change : Body → Body) → Shows after (with_body (heap_of mid) m change)
-        → NothingStored after
-    strict_ended after m change puts x =
-        ap stored_in (puts x) ∙ marked_body (heap_of mid) m change x
-        ∙ go (heap_of slots n) shows
-      where
-        go : (found : Option Node) → IsSomeAnd found (λ (at : Node). Shows mid (without (heap_of slots) n at.owner))
-            → marked (heap_of mid) x ≡ false
-        go (Some found) so = ap stored_in (so x) ∙ unmarked_without (heap_of slots) n found.owner x (nothing x)
-        go None so = absurd so
-
-    pub not_empty : next ≡ [] → ⊥
-    not_empty none = go (slots_above above (put_at (above ++ i ∷ []) gone kid_now)) (sym none ∙ top_left.last)
-      where
-        go : (xs : List ℕ) → [] ≡ xs ++ top_left.slot ∷ [] → ⊥
-        go [] e = cc
-        go (x ∷ xs) e = cc
-
     -- a builder that has ended
-    pub open_ended : (after : List Slot) (m : ℕ) (step : PathStep) (v : Val) → IsLast next m
-        → step ≡ step_as above_now.form i
-        → Shows after (with_body (heap_of mid) m (λ old. with_cell old step (given v)))
-        → ((t : ℕ) → slots_occur slots t ≡ slots_occur mid t + occurs v t)
-        → ((t : ℕ) → slots_occur after t ≡ slots_occur mid t + occurs v t)
+    open_ended : (after : List Slot) (v : Val) → Shows after (with_value n v) → SameTokens slots after
         → value_of (body_in top_now.plot) ≡ Some v
         → IsOpenAt plan after next (up (cursor_in slots stack))
         (change_at (cursor_in slots stack) (λ old. whole v) (tree_in_slots slots stack))
     unfolding kid_now
-    open_ended after m step v ends told puts taken put value =
+    open_ended after v puts tokens value =
         let ended = open_at_from plan after next above (put_at (above ++ i ∷ []) (there v) kid_now)
         (change_at (above ++ i ∷ []) (λ old. whole v) (tree_of kid_now))
-        (stands_ended after m step v ends told puts)
+        (stands_ended (heap_of after) v puts)
         (λ t.
         let here : kid_occurs (kid_at (above ++ i ∷ []) kid_now) t ≡ plot_occurs top_now.plot t
         = ap (λ (x : Kid). kid_occurs x t) top_now.is in
         let now : slots_occur slots t ≡ kid_occurs kid_now t = open_now.tokens t in
         let worth : body_occurs (body_in top_now.plot) t ≡ occurs v t = value_tokens (body_in top_now.plot) v t top_may_have value in
         let own : plot_occurs top_now.plot t ≡ body_occurs (body_in top_now.plot) t = closed_occur top_now.plot t closed_now in
-        omega (arith, occurs_put_at (above ++ i ∷ []) (there v) kid_now t reach_now, own, worth, taken t, put t))
-        (all_ended after m (λ old. with_cell old step (given v)) v puts) (tree_put_at (above ++ i ∷ []) (there v) kid_now) in
+        omega (arith, occurs_put_at (above ++ i ∷ []) (there v) kid_now t reach_now, own, worth, tokens t))
+        (all_ended (heap_of after) v puts) (tree_put_at (above ++ i ∷ []) (there v) kid_now) in
         subst
         (λ (p : Place). IsOpenAt plan after next (up p) (change_at p (λ old. whole v) (tree_in_slots slots stack)))
         (sym is_below)
@@ -404,42 +338,72 @@ module _ (plan : Plan) (slots : List Slot) (stack : List ℕ) (open_now : IsOpen
         (sym (up_append above i)) ended)
 
     -- no place but the top leaves its slot
-    pub stay_ended : (after : List Slot) (m : ℕ) (step : PathStep) (v : Val) → IsLast next m
-        → IfInUse slots n (λ (found : Node). IsStepTo step found.owner)
-        → Shows after (with_body (heap_of mid) m (λ old. with_cell old step (given v)))
+    stay_ended_by : (after : List Slot) (v : Val) → Shows after (with_value n v)
         → StayPutBut (cursor_in slots stack) (kid_here slots stack) (kid_here after next)
     unfolding kid_now
-    stay_ended after m step v ends told puts =
-        let stands = stands_ended after m step v ends (step_now n step (slot_now next n last) told) puts in
+    stay_ended_by after v puts =
         subst (λ (p : Place). StayPutBut p (kid_here slots stack) (kid_here after next)) (sym is_below)
         (subst (λ (x : Kid). StayPutBut (above ++ i ∷ []) (kid_here slots stack) x)
-        (sym (kid_is plan (heap_of after) next above (put_at (above ++ i ∷ []) (there v) kid_now) stands))
+        (sym (kid_is plan (heap_of after) next above (put_at (above ++ i ∷ []) (there v) kid_now)
+        (stands_ended (heap_of after) v puts)))
         (stay_but (above ++ i ∷ []) (there v) kid_now top_now.slot false top_now.plot reach_now top_now.is closed_now))
 
-    -- what ending owes, of whatever value the top comes to
-    pub ended_so : (after : List Slot) (m : ℕ) (step : PathStep) (w : Val) → IsLast next m
-        → IfInUse slots n (λ (found : Node). IsStepTo step found.owner)
-        → Shows after (with_body (heap_of mid) m (λ old. with_cell old step (given w)))
-        → ((t : ℕ) → slots_occur slots t ≡ slots_occur mid t + occurs w t)
-        → ((t : ℕ) → slots_occur after t ≡ slots_occur mid t + occurs w t)
-        → IfInUse slots n (λ (found : Node). value_of found.body ≡ Some w) → (p : ℕ) → IsLast stack p
-        → IfInUse slots p (λ (found : Node). (v : Val) → value_of found.body ≡ Some v
-        → IsOpenAt plan after next (up (cursor_in slots stack))
-        (change_at (cursor_in slots stack) (λ old. whole v) (tree_in_slots slots stack)))
-    ended_so after m step w ends told puts taken put value p ends_so =
-        let same : top_now.slot ≡ p
-        = same_last (slots_above (above ++ i ∷ []) kid_now) ends_so.0 top_now.slot p (sym top_now.last ∙ ends_so.1) in
-        let found = ap (heap_of slots) (sym same) ∙ top_now.here in
-        let worth : value_of (body_in top_now.plot) ≡ Some w = value_now n w (slot_now next n last) value in
-        let ended = open_ended after m step w ends (step_now n step (slot_now next n last) told) puts taken put worth in
-        subst
-        (λ (o : Option Node). IsSomeAnd o (λ (x : Node). (v : Val) → value_of x.body ≡ Some v
-        → IsOpenAt plan after next (up (cursor_in slots stack))
-        (change_at (cursor_in slots stack) (λ old. whole v) (tree_in_slots slots stack))))
-        (sym found)
-        (λ v is.
-        let is_w : w ≡ v = cc (worth, is) in
-        subst
-        (λ (x : Val). IsOpenAt plan after next (up (cursor_in slots stack))
-        (change_at (cursor_in slots stack) (λ old. whole x) (tree_in_slots slots stack)))
-        is_w ended)
+    -- Its value was handed up.
+    module _ (after : List Slot)
+        (handed : IfInUse slots n (λ (found : Node). (v : Val) → value_of found.body ≡ Some v
+        → Shows after (gives found.owner v (without (heap_of slots) n found.owner)))) where
+      puts_now : (v : Val) → value_of (body_in top_now.plot) ≡ Some v → Shows after (with_value n v)
+      puts_now =
+          subst
+          (λ (o : Option Node). IsSomeAnd o (λ (x : Node). (v : Val) → value_of x.body ≡ Some v
+          → Shows after (gives x.owner v (without (heap_of slots) n x.owner))))
+          (top_is n (slot_now next n last)) handed
+
+      -- it has one
+      has_value : IfInUse slots n (λ (found : Node). IsSome (value_of found.body)) → (v : Val) × (value_of (body_in top_now.plot) ≡ Some v)
+      has_value is =
+          go (value_of (body_in top_now.plot)) refl
+          (subst (λ (o : Option Node). IsSomeAnd o (λ (x : Node). IsSome (value_of x.body)))
+          (top_is n (slot_now next n last)) is)
+        where
+          go : (value : Option Val) → value_of (body_in top_now.plot) ≡ value → IsSome value
+              → (v : Val) × (value_of (body_in top_now.plot) ≡ Some v)
+          go (Some v) e some = (v, e)
+          go None e some = absurd (cc)
+
+      pub stay_ended : IfInUse slots n (λ (found : Node). IsSome (value_of found.body))
+          → StayPutBut (cursor_in slots stack) (kid_here slots stack) (kid_here after next)
+      stay_ended complete =
+          let held = has_value complete in
+          stay_ended_by after held.0 (puts_now held.0 held.1)
+
+      -- nothing is stored
+      pub strict_ended : IfInUse slots n (λ (found : Node). IsSome (value_of found.body)) → NothingStored after
+      strict_ended complete x =
+          let held = has_value complete in
+          ap stored_in (puts_now held.0 held.1 x)
+          ∙ marked_body (without_top n) above_now.slot (λ old. with_cell old (step_as above_now.form i) (given held.0)) x
+          ∙ unmarked_without (heap_of slots) n (child_owner above_now.slot above_now.form i) x (nothing x)
+
+      -- what ending owes, of whatever value the top comes to
+      pub ended_so : SameTokens slots after → (p : ℕ) → IsLast stack p
+          → IfInUse slots p (λ (found : Node). (v : Val) → value_of found.body ≡ Some v
+          → IsOpenAt plan after next (up (cursor_in slots stack))
+          (change_at (cursor_in slots stack) (λ old. whole v) (tree_in_slots slots stack)))
+      ended_so tokens p ends_so =
+          let same : top_now.slot ≡ p
+          = same_last (slots_above (above ++ i ∷ []) kid_now) ends_so.0 top_now.slot p (sym top_now.last ∙ ends_so.1) in
+          subst
+          (λ (o : Option Node). IsSomeAnd o (λ (x : Node). (v : Val) → value_of x.body ≡ Some v
+          → IsOpenAt plan after next (up (cursor_in slots stack))
+          (change_at (cursor_in slots stack) (λ old. whole v) (tree_in_slots slots stack))))
+          (sym (top_is p same))
+          (λ v is. open_ended after v (puts_now v is) tokens is)
+
+    -- Its slot is free, and its value lost.
+    pub strict_left : (after : List Slot)
+        → IfInUse slots n (λ (found : Node). Shows after (without (heap_of slots) n found.owner)) → NothingStored after
+    strict_left after left x =
+        let shows = subst (λ (o : Option Node). IsSomeAnd o (λ (y : Node). Shows after (without (heap_of slots) n y.owner)))
+        (top_is n (slot_now next n last)) left in
+        ap stored_in (shows x) ∙ unmarked_without (heap_of slots) n (child_owner above_now.slot above_now.form i) x (nothing x)

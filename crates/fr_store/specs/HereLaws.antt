@@ -1,19 +1,19 @@
 -- Laws of the place at which a builder works, for proofs: at the end of deferred mode, nothing being stored, it is finished.
 use Rattle.std.proofs.Common.{◌≡◌, ◌≢◌, ◌⊎◌, ℕ, suc, ◌+◌, ◌≤◌, length, true, false, List, [], ◌∷◌, append-nil, Option, option_map, Some, None, inl, inr, refl, sym, ◌∙◌, ap, subst, arith}
-use Rattle.std.specs.Prelude.{IsSome, IsSomeAnd, is_some}
+use Rattle.std.specs.Prelude.{Bool, IsSome, IsSomeAnd, is_some, if◌then◌else◌}
 use Rattle.fr_shape.specs.declared.error.ReflectErrorKind.{ReflectErrorKind}
 use Rattle.fr_shape.specs.Checked.{IsChecked}
 use Rattle.fr_shape.specs.Hooks.{Meanings}
 use Rattle.fr_shape.specs.Look.{Table}
 use Rattle.fr_shape.specs.Fits.{count_vals}
 use Rattle.fr_shape.specs.Tokens.{occurs}
-use Rattle.fr_shape.specs.Val.{Val, Vals, no_vals, first, product, variant, some, ok, err, ptr}
+use Rattle.fr_shape.specs.Val.{Val, Vals, no_vals, first, product, variant, some, ok, err, list_of, ptr}
 use Rattle.fr_model.specs.Complete.{complete, complete_all, hole_takes, valid_child, value_as}
 use Rattle.fr_model.specs.Failing.{own_lack}
 use Rattle.fr_model.specs.Finish.{begun_with, finished_here}
 use Rattle.fr_model.specs.Laws.{CompletingKeepsTokens}
 use Rattle.fr_model.specs.Places.{Place, deferred_column, one_more, vals_nth}
-use Rattle.fr_model.specs.Tree.{Form, as_struct, as_array, as_variant, as_some, as_ok, as_err, as_pointer, Tree, hole, whole, begun, Trees, no_trees, branch, change_at, child_as, count_trees, for_hole, shape_in, tree_at, tree_occurs, wholes}
+use Rattle.fr_model.specs.Tree.{Form, as_struct, as_array, as_variant, as_some, as_ok, as_err, as_pointer, as_list, as_slice, as_closed_slice, Tree, hole, whole, begun, Trees, no_trees, branch, change_at, child_as, count_trees, for_hole, shape_in, tree_at, tree_occurs, wholes}
 use Rattle.fr_model.specs.Well.{Suits}
 use Rattle.fr_plan.specs.LookupLaws.{LookupsAgree, LookupPathsAgree}
 use Rattle.fr_plan.specs.TypePlan.{Plan}
@@ -34,7 +34,7 @@ use Rattle.fr_store.specs.Stands.{IsOpen}
 use Rattle.fr_store.specs.Stored.{NothingStored}
 use Rattle.fr_store.specs.TopLaws.{MayHaveIts, closed_occur, held_may_have, closed_tree, keeps_closed, loses_none, slot_here, slot_other}
 use Rattle.fr_store.specs.TurnedLaws.{along_open, count_of, may_complete, shape_along}
-use Rattle.fr_store.specs.Turning.{FinishedHere, LacksHere, is_entered, kid_here}
+use Rattle.fr_store.specs.Turning.{FinishedHere, LacksHere, becomes_whole, kid_here}
 use Rattle.fr_store.specs.Turns.{root_shape}
 use Rattle.fr_store.specs.Ways.{kid_at, node_along, Leads, Reaches}
 use Rattle.fr_store.specs.WayLaws.{leads_reach, same_or_other, tree_of_at, tree_tokens}
@@ -112,6 +112,9 @@ same_one (first v no_vals) (first w no_vals) count few e = ap (λ (x : Val). fir
 same_one (first v no_vals) (first w (first x ws)) count few e = absurd (omega arith)
 same_one (first v (first x vs)) (first w ws) count few e = absurd (omega arith)
 
+same_list : (one others : Vals) → list_of one ≡ list_of others → one ≡ others
+same_list one others e = cc
+
 -- as many values of which the same is made, being so many as there may be, are the same
 same_made : (form : Form) (one others : Vals) (v : Val) → count_vals one ≡ count_vals others
     → MayHave form (count_vals one) → value_as form one ≡ v → value_as form others ≡ v → one ≡ others
@@ -131,6 +134,13 @@ same_made as_err one others v count may e f =
 same_made as_pointer one others v count may e f =
     let same : ptr (vals_nth one 0) ≡ ptr (vals_nth others 0) = e ∙ sym f in
     same_one one others count may (cc)
+same_made as_list one others v count may e f = let same : list_of one ≡ list_of others = e ∙ sym f in cc
+same_made as_slice one others v count may e f =
+    let same : ptr (list_of one) ≡ ptr (list_of others) = e ∙ sym f in
+    same_list one others (cc)
+same_made as_closed_slice one others v count may e f =
+    let same : ptr (list_of one) ≡ ptr (list_of others) = e ∙ sym f in
+    same_list one others (cc)
 
 value_closed : (body : Body) (v : Val) → value_of body ≡ Some v → IsClosed body
 value_closed entered_body v e = tt
@@ -139,8 +149,8 @@ value_closed (begun_body form cells) v e =
     let values = made_of form (values_of cells) v (made_value form cells v e) in
     values_unplaced cells values.0 values.1
 
--- what a place that isn't just entered becomes, by the place that it was
-finished_as : (means : Meanings) (table : Table) (s : ℕ) (was now : Body) (v : Val) → is_entered was ≡ false
+-- what a place that doesn't become whole becomes, by the place that it was
+finished_as : (means : Meanings) (table : Table) (s : ℕ) (was now : Body) (v : Val) → becomes_whole was ≡ false
     → MayHaveIts was → KeepsForm was now → complete deferred_column means table s (own_tree was) ≡ Some v → value_of now ≡ Some v
     → finished_here means table s (own_tree was) ≡ Some (own_tree now)
 finished_as means table s entered_body now v e may form makes held = absurd (cc)
@@ -158,12 +168,13 @@ finished_as means table s (begun_body form cells) (begun_body other others) v e 
     (subst (λ (n : ℕ). MayHave form n) (sym made_count) may) was.2
     (ap (λ (f : Form). value_as f now.0) (sym keeps.0) ∙ now.2) in
     ap (option_map (begun_with form)) was.1
+    ∙ ap (λ (b : Bool). Some (if b then whole (value_as form was.0) else begun form (wholes was.0))) e
     ∙ ap (λ (vs : Vals). Some (begun form (wholes vs))) same
     ∙ ap (λ (ts : Trees). Some (begun form ts)) (sym (values_whole others now.0 now.1))
     ∙ ap (λ (f : Form). Some (begun f (trees_of others))) (sym keeps.0)
 
 -- it has as many children as before
-kept_may_have : (was now : Body) → is_entered was ≡ false → MayHaveIts was → KeepsForm was now → MayHaveIts now
+kept_may_have : (was now : Body) → becomes_whole was ≡ false → MayHaveIts was → KeepsForm was now → MayHaveIts now
 kept_may_have entered_body now e may keeps = absurd (cc)
 kept_may_have (whole_body v) now e may keeps = subst (λ (b : Body). MayHaveIts b) (sym keeps) tt
 kept_may_have (begun_body form cells) entered_body e may keeps = absurd keeps
@@ -171,10 +182,17 @@ kept_may_have (begun_body form cells) (whole_body w) e may keeps = absurd keeps
 kept_may_have (begun_body form cells) (begun_body other others) e may keeps =
     subst (λ (n : ℕ). MayHave other n) (sym keeps.1) (subst (λ (f : Form). MayHave f (length cells)) (sym keeps.0) may)
 
-entered_is : (body : Body) → is_entered body ≡ true → body ≡ entered_body
-entered_is entered_body e = refl
-entered_is (whole_body v) e = absurd (cc)
-entered_is (begun_body form cells) e = absurd (cc)
+-- what becomes whole does so with the value that it makes
+whole_as : (means : Meanings) (table : Table) (s : ℕ) (was : Body) (v : Val) → becomes_whole was ≡ true
+    → complete deferred_column means table s (own_tree was) ≡ Some v
+    → finished_here means table s (own_tree was) ≡ Some (whole v)
+whole_as means table s entered_body v e makes = ap (option_map whole) makes
+whole_as means table s (whole_body w) v e makes = absurd (cc)
+whole_as means table s (begun_body form cells) v e makes =
+    let was = made_of form (complete_all deferred_column means table s form 0 (trees_of cells)) v makes in
+    ap (option_map (begun_with form)) was.1
+    ∙ ap (λ (b : Bool). Some (if b then whole (value_as form was.0) else begun form (wholes was.0))) e
+    ∙ ap (λ (x : Val). Some (whole x)) was.2
 
 -- The top, before it is completed.
 module _ (plan : Plan) (before : List Slot) (stack : List ℕ) (open_now : IsOpen plan before stack) (n : ℕ)
@@ -355,10 +373,10 @@ module _ (plan : Plan) (before : List Slot) (stack : List ℕ) (open_now : IsOpe
                 ne)
                 ∙ strict m
 
-      -- one that wasn't just entered
+      -- one that stays as it was
       module _ (keeps_tokens : CompletingKeepsTokens) (tokens : SameTokens before first)
           (form : IfInUse before n (λ (x : Node). IfInUse first n (λ (y : Node). KeepsForm x.body y.body)))
-          (plain : IfInUse before n (λ (x : Node). false ≡ is_entered x.body)) where
+          (plain : IfInUse before n (λ (x : Node). false ≡ becomes_whole x.body)) where
         kept_so : KeepsForm (top_node plan before stack open_now n last).body fills.body
         kept_so =
             subst
@@ -367,19 +385,19 @@ module _ (plan : Plan) (before : List Slot) (stack : List ℕ) (open_now : IsOpe
             (top_so plan before stack open_now n last
             (λ (x : Node). IfInUse first n (λ (y : Node). KeepsForm x.body y.body)) form)
 
-        not_entered : is_entered (top_node plan before stack open_now n last).body ≡ false
-        not_entered = sym (top_so plan before stack open_now n last (λ (x : Node). false ≡ is_entered x.body) plain)
+        not_whole : becomes_whole (top_node plan before stack open_now n last).body ≡ false
+        not_whole = sym (top_so plan before stack open_now n last (λ (x : Node). false ≡ becomes_whole x.body) plain)
 
         it_may_have : MayHaveIts fills.body
         it_may_have =
-            kept_may_have (top_node plan before stack open_now n last).body fills.body not_entered its_may_have kept_so
+            kept_may_have (top_node plan before stack open_now n last).body fills.body not_whole its_may_have kept_so
 
         as_it_was : finished_here means table (shape_of plan (top_node plan before stack open_now n last).node)
             (own_tree (top_node plan before stack open_now n last).body)
             ≡ Some (own_tree fills.body)
         as_it_was =
             finished_as means table (shape_of plan (top_node plan before stack open_now n last).node)
-            (top_node plan before stack open_now n last).body fills.body fills.filled.value not_entered its_may_have kept_so
+            (top_node plan before stack open_now n last).body fills.body fills.filled.value not_whole its_may_have kept_so
             fills.filled.meant fills.filled.held
 
         pub finished_begun : FinishedHere means table plan before stack first
@@ -389,10 +407,10 @@ module _ (plan : Plan) (before : List Slot) (stack : List ℕ) (open_now : IsOpe
         pub nothing_begun : NothingStored first
         nothing_begun = nothing_now keeps_tokens first fills.body fills.filled.held it_may_have as_it_was fills.becomes tokens
 
-      -- one that was just entered becomes whole
+      -- one that becomes whole
       module _ (keeps_tokens : CompletingKeepsTokens) (after : List Slot) (tokens : SameTokens before after)
           (whole_then : IfInUse first n (λ (x : Node). (v : Val) → value_of x.body ≡ Some v → Becomes first after n x (whole_body v)))
-          (plain : IfInUse before n (λ (x : Node). true ≡ is_entered x.body)) where
+          (plain : IfInUse before n (λ (x : Node). true ≡ becomes_whole x.body)) where
         becomes : Becomes first after n (record (top_node plan before stack open_now n last) { body = fills.body })
             (whole_body fills.filled.value)
         becomes =
@@ -425,24 +443,16 @@ module _ (plan : Plan) (before : List Slot) (stack : List ℕ) (open_now : IsOpe
                 becomes m ∙ slot_other (heap_of first) n (Some new) m ne ∙ fills.becomes m
                 ∙ slot_other (heap_of before) n (Some mid) m ne ∙ sym (slot_other (heap_of before) n (Some new) m ne)
 
-        as_entered : finished_here means table (shape_of plan (top_node plan before stack open_now n last).node)
+        as_whole : finished_here means table (shape_of plan (top_node plan before stack open_now n last).node)
             (own_tree (top_node plan before stack open_now n last).body)
             ≡ Some (own_tree (whole_body fills.filled.value))
-        as_entered =
-            let is : (top_node plan before stack open_now n last).body ≡ entered_body
-            = entered_is (top_node plan before stack open_now n last).body
-            (sym (top_so plan before stack open_now n last (λ (x : Node). true ≡ is_entered x.body) plain)) in
-            ap
-            (λ (b : Body). finished_here means table (shape_of plan (top_node plan before stack open_now n last).node) (own_tree b))
-            is
-            ∙ ap (option_map whole)
-            (ap
-            (λ (b : Body). complete deferred_column means table
-            (shape_of plan (top_node plan before stack open_now n last).node) (own_tree b)) (sym is)
-            ∙ fills.filled.meant)
+        as_whole =
+            whole_as means table (shape_of plan (top_node plan before stack open_now n last).node)
+            (top_node plan before stack open_now n last).body fills.filled.value
+            (sym (top_so plan before stack open_now n last (λ (x : Node). true ≡ becomes_whole x.body) plain)) fills.filled.meant
 
         pub finished_whole : FinishedHere means table plan before stack after
-        finished_whole = finished_now keeps_tokens after (whole_body fills.filled.value) refl tt as_entered shows_whole tokens
+        finished_whole = finished_now keeps_tokens after (whole_body fills.filled.value) refl tt as_whole shows_whole tokens
 
         pub nothing_whole : NothingStored after
-        nothing_whole = nothing_now keeps_tokens after (whole_body fills.filled.value) refl tt as_entered shows_whole tokens
+        nothing_whole = nothing_now keeps_tokens after (whole_body fills.filled.value) refl tt as_whole shows_whole tokens

@@ -6,7 +6,7 @@ use Rattle.std.proofs.lemmas.Grind.{common_steps}
 use Rattle.std.proofs.lemmas.Bool.Decides.{nat_tests}
 use Rattle.fr_model.specs.Paths.{step_as}
 use Rattle.fr_model.specs.Places.{Place, is_root, up}
-use Rattle.fr_model.specs.Tree.{Form, as_struct, as_array, as_variant, as_some, as_ok, as_err, as_pointer}
+use Rattle.fr_model.specs.Tree.{Form, as_struct, as_array, as_variant, as_some, as_ok, as_err, as_pointer, as_list, as_slice, as_closed_slice}
 use Rattle.fr_plan.specs.TypePlan.{Plan}
 use Rattle.fr_frame.specs.declared.places.FrameOwner.{FrameOwner}
 use Rattle.fr_frame.specs.Bodies.{Body, begun_body, cell_at, with_cell, with_nth, unlinked, unlinked_by, child_number, AreUnplaced}
@@ -85,6 +85,9 @@ number_of_child as_some count i may h = ap (λ (n : ℕ). Some n) (only_one coun
 number_of_child as_ok count i may h = ap (λ (n : ℕ). Some n) (only_one count i may h)
 number_of_child as_err count i may h = ap (λ (n : ℕ). Some n) (only_one count i may h)
 number_of_child as_pointer count i may h = ap (λ (n : ℕ). Some n) (only_one count i may h)
+number_of_child as_list count i may h = refl
+number_of_child as_slice count i may h = refl
+number_of_child as_closed_slice count i may h = refl
 
 pub cell_of_child : (form : Form) (i : ℕ) (ks : Kids) → MayHave form (count_kids ks) → i < count_kids ks
     → cell_at (begun_body form (cells_in ks)) (step_as form i) ≡ Some (cell_of (kid_nth i ks))

@@ -12,7 +12,7 @@ use Rattle.fr_frame.specs.declared.places.FrameOwner.{FrameOwner}
 use Rattle.fr_frame.specs.declared.places.Slot.{Slot}
 use Rattle.fr_frame.specs.Bodies.{Body, whole_body, body_occurs, IsClosed}
 use Rattle.fr_frame.specs.Changes.{IfInUse, IsInUse, SameTokens, Shows}
-use Rattle.fr_frame.specs.Heap.{Node, with_body, heap_of, slots_occur}
+use Rattle.fr_frame.specs.Heap.{Node, Heap, with_body, heap_of, slots_occur}
 use Rattle.fr_frame.specs.Kids.{Kid, at, Plot, whole_plot, tree_of, tree_in, body_in, kid_occurs, plot_occurs}
 use Rattle.fr_store.specs.Moves.{IsOpenAt, cursor_in, tree_in_slots, tree_here, tokens_here}
 use Rattle.fr_store.specs.Numbers.{IsLast}
@@ -144,19 +144,19 @@ pub tokens_kept : (before after : List Slot) (k now : Kid) → SameTokens before
 tokens_kept before after k now tokens was same t = tokens t ∙ was t ∙ sym (same t)
 
 -- Something else is put at the top: of its children those that are in slots were there before, and stay as they are.
-pub top_stands : (plan : Plan) (before after : List Slot) (stack : List ℕ) (open_now : IsOpen plan before stack) (n : ℕ)
-    → IsLast stack n → (change : Body → Body) (new : Plot)
+pub top_stands_in : (plan : Plan) (before : List Slot) (other : Heap) (stack : List ℕ) (open_now : IsOpen plan before stack)
+    (n : ℕ) → IsLast stack n → (change : Body → Body) (new : Plot)
     → body_in new ≡ change (body_in (open_top plan before stack open_now).plot)
     → KeepsChildren (open_top plan before stack open_now).plot new
-    → Shows after (with_body (heap_of before) n change)
-    → Stands plan (heap_of after) stack (cursor_in before stack)
+    → ((m : ℕ) → other m ≡ with_body (heap_of before) n change m)
+    → Stands plan other stack (cursor_in before stack)
     (put_at (cursor_in before stack) (at (open_top plan before stack open_now).slot false new) (kid_here before stack))
-top_stands plan before after stack open_now n last change new is keeps shows =
+top_stands_in plan before other stack open_now n last change new is keeps shows =
     let k : Kid = kid_shown (heap_of before) stack in
     let place : Place = cursor_in before stack in
     let top = open_top plan before stack open_now in
     let same : top.slot ≡ n = top_slot plan before stack open_now n last in
-    let here : heap_of after top.slot ≡ Some (record {
+    let here : other top.slot ≡ Some (record {
       node = node_along plan plan.root place k;
       owner = owner_along FrameOwner.Root place k;
       stored = false;
@@ -178,10 +178,20 @@ top_stands plan before after stack open_now n last change new is keeps shows =
       depth = length place;
       body = b;
     })) (sym is) in
-    let beside : (m : ℕ) → m ≢ top.slot → heap_of after m ≡ heap_of before m
+    let beside : (m : ℕ) → m ≢ top.slot → other m ≡ heap_of before m
     = λ m ne. shows m ∙ ap (λ (x : ℕ). with_body (heap_of before) x change m) (sym same)
     ∙ body_other (heap_of before) top.slot change m ne in
-    top_replaced plan (heap_of before) (heap_of after) stack place k new open_now.stands top keeps here beside
+    top_replaced plan (heap_of before) other stack place k new open_now.stands top keeps here beside
+
+pub top_stands : (plan : Plan) (before after : List Slot) (stack : List ℕ) (open_now : IsOpen plan before stack) (n : ℕ)
+    → IsLast stack n → (change : Body → Body) (new : Plot)
+    → body_in new ≡ change (body_in (open_top plan before stack open_now).plot)
+    → KeepsChildren (open_top plan before stack open_now).plot new
+    → Shows after (with_body (heap_of before) n change)
+    → Stands plan (heap_of after) stack (cursor_in before stack)
+    (put_at (cursor_in before stack) (at (open_top plan before stack open_now).slot false new) (kid_here before stack))
+top_stands plan before after stack open_now n last change new is keeps shows =
+    top_stands_in plan before (heap_of after) stack open_now n last change new is keeps shows
 
 -- the builder is open then, where no child that was in a slot is lost
 pub top_changed : (plan : Plan) (before after : List Slot) (stack : List ℕ) (open_now : IsOpen plan before stack) (n : ℕ)

@@ -1,10 +1,11 @@
 -- What the moves of a builder do, as contracts see it.
 use Rattle.std.specs.Prelude.{◌≡◌, ℕ, ◌<◌, List, Option, Some, None}
+use Rattle.fr_shape.specs.declared.shape.Def.{Def}
 use Rattle.fr_shape.specs.Val.{Val}
 use Rattle.fr_path.specs.declared.path_steps.PathStep.{PathStep}
 use Rattle.fr_model.specs.Contents.{around, content_of}
 use Rattle.fr_model.specs.Places.{Place}
-use Rattle.fr_model.specs.Tree.{Form, as_struct, as_array, as_variant, as_some, as_ok, as_err, as_pointer, Tree, hole, entered, whole, begun, count_trees, change_at, tree_at, tree_occurs}
+use Rattle.fr_model.specs.Tree.{Form, as_struct, as_array, as_variant, as_some, as_ok, as_err, as_pointer, as_list, as_slice, as_closed_slice, Tree, hole, entered, whole, begun, and_last, count_below, count_trees, fresh, change_at, tree_at, tree_occurs}
 use Rattle.fr_plan.specs.declared.nodes.NodeId.{NodeId}
 use Rattle.fr_plan.specs.TypePlan.{Plan}
 use Rattle.fr_frame.specs.declared.places.FrameOwner.{FrameOwner}
@@ -49,17 +50,7 @@ tokens_in slots stack t = tree_occurs (tree_in_slots slots stack) t
 abbrev pub AtTop : List Slot → List ℕ → (Node → Type 0) → Type 0
 AtTop slots stack So = (n : ℕ) → IsLast stack n → IfInUse slots n So
 
--- the step leads to a place of this owner from the one above
-abbrev pub IsStepTo : PathStep → FrameOwner → Type 0
-IsStepTo step FrameOwner.Root = ⊥
-IsStepTo step (FrameOwner.Child parent to) = step ≡ to
-
--- the place above one of this owner is in this slot
-abbrev pub OwnerIsIn : ℕ → FrameOwner → Type 0
-OwnerIsIn n FrameOwner.Root = ⊥
-OwnerIsIn n (FrameOwner.Child parent step) = n ≡ parent.0
-
--- the step leads to a field or an element, or, as to number 0, to a content, a side or a pointee
+-- the step leads to a field, an element or an item, or, as to number 0, to a content, a side or a pointee
 abbrev pub IsNumberedStep : PathStep → Type 0
 IsNumberedStep (PathStep.Field i) = Unit {0}
 IsNumberedStep (PathStep.Index i) = Unit {0}
@@ -88,6 +79,9 @@ TakesMany as_some = ⊥
 TakesMany as_ok = ⊥
 TakesMany as_err = ⊥
 TakesMany as_pointer = ⊥
+TakesMany as_list = Unit {0}
+TakesMany as_slice = Unit {0}
+TakesMany as_closed_slice = Unit {0}
 
 -- with this content, if it has one, the place is begun as an option around it; else it stays as it was
 abbrev pub around_content : (content : Option Val) → (old : Tree) → Tree
@@ -107,6 +101,51 @@ HasChild form i hole = ⊥
 HasChild form i entered = ⊥
 HasChild form i (whole v) = ⊥
 HasChild form i (begun made ts) = (made ≡ form) × (i < count_trees ts)
+
+-- the place is begun so
+abbrev pub HasForm : Form → Tree → Type 0
+HasForm form hole = ⊥
+HasForm form entered = ⊥
+HasForm form (whole v) = ⊥
+HasForm form (begun made ts) = made ≡ form
+
+-- how many children the place has at which it works, as far as it is begun
+abbrev pub count_here : List Slot → List ℕ → ℕ
+count_here slots stack = count_below (tree_here slots stack)
+
+-- a begun place with one more item of this definition behind its children, just entered; any other place stays as it was
+abbrev pub with_item_of : Def → Tree → Tree
+with_item_of def hole = hole
+with_item_of def entered = entered
+with_item_of def (whole v) = whole v
+with_item_of def (begun form ts) = begun form (and_last ts (fresh def))
+
+-- a place that is begun so is a pointer to a slice, open or closed
+abbrev pub IsSlice : Form → Type 0
+IsSlice as_slice = Unit {0}
+IsSlice as_closed_slice = Unit {0}
+IsSlice as_struct = ⊥
+IsSlice as_array = ⊥
+IsSlice (as_variant k) = ⊥
+IsSlice as_some = ⊥
+IsSlice as_ok = ⊥
+IsSlice as_err = ⊥
+IsSlice as_pointer = ⊥
+IsSlice as_list = ⊥
+
+-- the place is begun as one
+abbrev pub IsBegunSlice : Tree → Type 0
+IsBegunSlice hole = ⊥
+IsBegunSlice entered = ⊥
+IsBegunSlice (whole v) = ⊥
+IsBegunSlice (begun form ts) = IsSlice form
+
+-- a begun place, begun so instead, with the children that it has; any other place stays as it was
+abbrev pub begun_as : Form → Tree → Tree
+begun_as form hole = hole
+begun_as form entered = entered
+begun_as form (whole v) = whole v
+begun_as form (begun made ts) = begun form ts
 
 -- the plan's node of the place at which it works
 abbrev pub node_here : Plan → List Slot → List ℕ → NodeId

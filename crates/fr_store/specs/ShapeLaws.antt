@@ -1,15 +1,19 @@
 -- The shapes of the plan's nodes along a way through places in slots: those that the table has there.
-use Rattle.std.proofs.Common.{◌≡◌, ℕ, zero, suc, ◌+◌, ◌<◌, List, [], ◌∷◌, length, Option, Some, None, option_map, slice_get, refl, sym, ◌∙◌, ap, subst, arith}
+use Rattle.std.proofs.Common.{◌≡◌, ℕ, zero, suc, ◌+◌, ◌<◌, Bool, true, false, List, [], ◌∷◌, length, Option, Some, None, option_map, slice_get, refl, sym, ◌∙◌, ap, subst, arith}
+use Rattle.std.specs.Prelude.{if◌then◌else◌}
+use Rattle.fr_shape.specs.declared.error.Operation.{Operation}
 use Rattle.fr_shape.specs.declared.shape.Def.{Def}
 use Rattle.fr_shape.specs.declared.shape.Field.{Field}
+use Rattle.fr_shape.specs.declared.shape.PointerDef.{PointerDef}
 use Rattle.fr_shape.specs.declared.shape.Shape.{Shape}
 use Rattle.fr_shape.specs.declared.shape.ShapeId.{ShapeId}
 use Rattle.fr_shape.specs.declared.shape.VariantDef.{VariantDef}
 use Rattle.fr_shape.specs.Checked.{IsChecked}
 use Rattle.fr_shape.specs.Look.{Table, IsIn, def_of, def_or_other}
-use Rattle.fr_model.specs.Places.{Place, child_shape}
-use Rattle.fr_model.specs.Tree.{Form, as_struct, as_array, as_variant, as_some, as_ok, as_err, as_pointer, Tree, Trees, no_trees, branch, tree_nth, tree_at, child_as, shapes_from, shape_in, count_trees}
-use Rattle.fr_model.specs.Well.{HasContent, HasElements, HasFields, HasFieldsOf, HasPointee, HasSide, HasVariantFields, IsFullAs, PointsTo, Suits, SuitAll}
+use Rattle.fr_model.specs.Places.{Place, child_shape, item_shape, pointee_shape, shape_or_zero}
+use Rattle.fr_model.specs.Tree.{Form, as_struct, as_array, as_variant, as_some, as_ok, as_err, as_pointer, as_list, as_slice, as_closed_slice, Tree, Trees, no_trees, branch, tree_nth, tree_at, child_as, shapes_from, shape_in, count_trees}
+use Rattle.fr_model.specs.Contents.{is_slice, pointee_refusal, pointer_refusal, points_to_slice}
+use Rattle.fr_model.specs.Well.{HasContent, HasElements, HasFields, HasFieldsOf, HasPointee, HasSide, HasVariantFields, IsBegunRightly, IsFullAs, IsList, MayPoint, PointsTo, Suits, SuitAll}
 use Rattle.fr_plan.specs.declared.nodes.NodeId.{NodeId}
 use Rattle.fr_plan.specs.declared.nodes.TypePlanNode.{TypePlanNode}
 use Rattle.fr_plan.specs.Lookups.{node_at}
@@ -25,7 +29,20 @@ pub record IsOfShape (plan : Plan) (node : NodeId) (s : ℕ) : Type 0 where
   pub there : node_at plan node ≡ Some found
   pub shape : found.shape.0 ≡ s
 
--- the lookup of a child of a place that is begun so
+-- a child of a place that is begun so is one lookup away; what a pointer to a slice has as its items is two
+abbrev pub IsLookedUp : Form → Type 0
+IsLookedUp as_struct = Unit {0}
+IsLookedUp as_array = Unit {0}
+IsLookedUp (as_variant k) = Unit {0}
+IsLookedUp as_some = Unit {0}
+IsLookedUp as_ok = Unit {0}
+IsLookedUp as_err = Unit {0}
+IsLookedUp as_pointer = Unit {0}
+IsLookedUp as_list = Unit {0}
+IsLookedUp as_slice = ⊥
+IsLookedUp as_closed_slice = ⊥
+
+-- the lookup of a child of a place that is begun so, and the first one of a slice's item
 abbrev pub step_of : Form → ℕ → Step
 step_of as_struct i = struct_field_step i
 step_of as_array i = list_item_step
@@ -34,6 +51,9 @@ step_of as_some i = option_inner_step
 step_of as_ok i = result_ok_step
 step_of as_err i = result_err_step
 step_of as_pointer i = pointer_pointee_step
+step_of as_list i = list_item_step
+step_of as_slice i = pointer_pointee_step
+step_of as_closed_slice i = pointer_pointee_step
 
 -- what is looked up
 record Leads (plan : Plan) (found : TypePlanNode) (step : Step) (t : ShapeId) : Type 0 where
@@ -107,26 +127,101 @@ module _ (table : Table) (id : ShapeId) (shape : Shape) (is : slice_get table id
       go None f full = absurd full
   pointee_child _ e full = absurd full
 
-has_child : (table : Table) (id : ShapeId) (form : Form) (count i : ℕ) → IsFullAs (def_of table id.0) form count → i < count
-    → Has table id (step_of form i) (child_as table id.0 form i)
-has_child table id form count i full below = go (slice_get table id.0) refl form full
+  list_child : (def : Def) → shape.def ≡ def → IsList def → Has table id list_item_step (child_as table id.0 as_list i)
+  list_child (Def.List item) e full = record { child = item; there = rw (is, e) refl; number = rw (is, e) refl }
+  list_child _ e full = absurd full
+
+has_child : (table : Table) (id : ShapeId) (form : Form) (count i : ℕ) → IsLookedUp form
+    → IsFullAs (def_of table id.0) form count → i < count → Has table id (step_of form i) (child_as table id.0 form i)
+has_child table id form count i one full below = go (slice_get table id.0) refl form one full
   where
-    go : (found : Option Shape) → slice_get table id.0 ≡ found → (form : Form) → IsFullAs (def_or_other found) form count
-        → Has table id (step_of form i) (child_as table id.0 form i)
-    go (Some shape) is as_struct full = struct_child table id shape is count i below shape.def refl full
-    go (Some shape) is as_array full = array_child table id shape is count i below shape.def refl full
-    go (Some shape) is (as_variant k) full = variant_child table id shape is count i below k shape.def refl full
-    go (Some shape) is as_some full = some_child table id shape is count i below shape.def refl full
-    go (Some shape) is as_ok full = ok_child table id shape is count i below shape.def refl full
-    go (Some shape) is as_err full = err_child table id shape is count i below shape.def refl full
-    go (Some shape) is as_pointer full = pointee_child table id shape is count i below shape.def refl full
-    go None is as_struct full = absurd full
-    go None is as_array full = absurd full
-    go None is (as_variant k) full = absurd full
-    go None is as_some full = absurd full
-    go None is as_ok full = absurd full
-    go None is as_err full = absurd full
-    go None is as_pointer full = absurd full
+    go : (found : Option Shape) → slice_get table id.0 ≡ found → (form : Form) → IsLookedUp form
+        → IsFullAs (def_or_other found) form count → Has table id (step_of form i) (child_as table id.0 form i)
+    go (Some shape) is as_struct one full = struct_child table id shape is count i below shape.def refl full
+    go (Some shape) is as_array one full = array_child table id shape is count i below shape.def refl full
+    go (Some shape) is (as_variant k) one full = variant_child table id shape is count i below k shape.def refl full
+    go (Some shape) is as_some one full = some_child table id shape is count i below shape.def refl full
+    go (Some shape) is as_ok one full = ok_child table id shape is count i below shape.def refl full
+    go (Some shape) is as_err one full = err_child table id shape is count i below shape.def refl full
+    go (Some shape) is as_pointer one full = pointee_child table id shape is count i below shape.def refl full
+    go (Some shape) is as_list one full = list_child table id shape is count i below shape.def refl full
+    go (Some shape) is as_slice one full = absurd one
+    go (Some shape) is as_closed_slice one full = absurd one
+    go None is as_struct one full = absurd full
+    go None is as_array one full = absurd full
+    go None is (as_variant k) one full = absurd full
+    go None is as_some one full = absurd full
+    go None is as_ok one full = absurd full
+    go None is as_err one full = absurd full
+    go None is as_pointer one full = absurd full
+    go None is as_list one full = absurd full
+    go None is as_slice one full = absurd one
+    go None is as_closed_slice one full = absurd one
+
+-- What a pointer to a slice points to, and the items of that.
+record SliceAt (table : Table) (id : ShapeId) : Type 0 where
+  slice : ShapeId
+  points : child_in table id pointer_pointee_step ≡ Some slice
+  items : Has table slice list_item_step (item_shape (def_of table (pointee_shape (def_of table id.0))))
+
+slice_items : (table : Table) (slice : ShapeId) (found : Option Shape) → slice_get table slice.0 ≡ found → (def : Def)
+    → def_or_other found ≡ def → is_slice def ≡ true → Has table slice list_item_step (item_shape (def_of table slice.0))
+slice_items table slice (Some shape) is (Def.Slice item) e h =
+    record { child = item; there = rw (is, e) refl; number = rw (is, e) refl }
+slice_items table slice (Some shape) is _ e h = absurd (cc)
+slice_items table slice None is def e h = let wrong : false ≡ true = ap is_slice e ∙ h in absurd (cc)
+
+slice_at : (table : Table) (id : ShapeId) → MayPoint table id.0 true → SliceAt table id
+slice_at table id may = found (slice_get table id.0) refl may.0 may.1
+  where
+    pointed : (shape : Shape) → slice_get table id.0 ≡ Some shape → (pointer : PointerDef) → shape.def ≡ Def.Pointer pointer
+        → (constructible : Bool) (pointee : Option ShapeId) → pointer.pointee ≡ pointee
+        → (if constructible then pointee_refusal table pointer.known pointee else Some Operation.PointerNotConstructible) ≡ None
+        → is_slice (def_of table (shape_or_zero pointee)) ≡ true → SliceAt table id
+    pointed shape is pointer e true (Some slice) f may h = record {
+      slice = slice;
+      points = rw (is, e, f) refl;
+      items = rw (is, e, f) (slice_items table slice (slice_get table slice.0) refl (def_of table slice.0) refl h);
+    }
+    pointed shape is pointer e true None f may h = absurd (cc)
+    pointed shape is pointer e false pointee f may h = absurd (cc)
+
+    by_def : (shape : Shape) → slice_get table id.0 ≡ Some shape → (def : Def) → shape.def ≡ def
+        → pointer_refusal table def ≡ None → points_to_slice table def ≡ true → SliceAt table id
+    by_def shape is (Def.Pointer pointer) e may h =
+        pointed shape is pointer e pointer.constructible pointer.pointee refl may h
+    by_def shape is _ e may h = absurd (cc)
+
+    found : (shape : Option Shape) → slice_get table id.0 ≡ shape → pointer_refusal table (def_or_other shape) ≡ None
+        → points_to_slice table (def_or_other shape) ≡ true → SliceAt table id
+    found (Some shape) is may h = by_def shape is shape.def refl may h
+    found None is may h = absurd (cc)
+
+-- a pointer that is begun as one to a slice may be begun so
+abbrev pub PointsRightly : Table → (s : ℕ) → Form → Type 0
+PointsRightly table s as_struct = Unit {0}
+PointsRightly table s as_array = Unit {0}
+PointsRightly table s (as_variant k) = Unit {0}
+PointsRightly table s as_some = Unit {0}
+PointsRightly table s as_ok = Unit {0}
+PointsRightly table s as_err = Unit {0}
+PointsRightly table s as_pointer = Unit {0}
+PointsRightly table s as_list = Unit {0}
+PointsRightly table s as_slice = MayPoint table s true
+PointsRightly table s as_closed_slice = MayPoint table s true
+
+pub points_rightly : (table : Table) (s : ℕ) (form : Form) (ts : Trees) → IsBegunRightly table s form ts
+    → PointsRightly table s form
+points_rightly table s as_struct ts rightly = tt
+points_rightly table s as_array ts rightly = tt
+points_rightly table s (as_variant k) ts rightly = tt
+points_rightly table s as_some ts rightly = tt
+points_rightly table s as_ok ts rightly = tt
+points_rightly table s as_err ts rightly = tt
+points_rightly table s as_pointer ts rightly = tt
+points_rightly table s as_list ts rightly = tt
+points_rightly table s as_slice ts rightly = rightly.1
+points_rightly table s as_closed_slice ts rightly = rightly.1
 
 count_in : (ks : Kids) → count_trees (trees_in ks) ≡ count_kids ks
 count_in no_kids = refl
@@ -172,15 +267,28 @@ module _ (agree : LookupsAgree) (table : Table) (root : ShapeId) (plan : Plan) (
           record { found = found; there = is; shape = ap (λ (x : ShapeId). x.0) same }
       go None is h = cc
 
+  met_at : (id : NodeId) (t : ShapeId) → shape_at plan id ≡ Some t
+      → (found : TypePlanNode) × (node_at plan id ≡ Some found) × (found.shape ≡ t)
+  met_at id t e = go (node_at plan id) refl e
+    where
+      go : (x : Option TypePlanNode) → node_at plan id ≡ x → option_map (λ (n : TypePlanNode). n.shape) x ≡ Some t
+          → (found : TypePlanNode) × (node_at plan id ≡ Some found) × (found.shape ≡ t)
+      go (Some found) is h = (found, is, cc)
+      go None is h = cc
+
   -- the node of a child
   pub child_shaped : (node : NodeId) (s : ℕ) (form : Form) (count i : ℕ) → IsOfShape plan node s
-      → IsFullAs (def_of table s) form count → i < count
+      → IsFullAs (def_of table s) form count → PointsRightly table s form → i < count
       → IsOfShape plan (child_node plan node form i) (child_as table s form i)
-  child_shaped node s form count i is full below =
-      let here = subst (λ (n : ℕ). IsFullAs (def_of table n) form count) (sym is.shape) full in
+  child_shaped node s form count i is full points below =
       subst (λ (n : ℕ). IsOfShape plan (child_node plan node form i) (child_as table n form i)) is.shape
-      (go form here (has_child table is.found.shape form count i here below))
+      (go form (subst (λ (n : ℕ). IsFullAs (def_of table n) form count) (sym is.shape) full)
+      (subst (λ (n : ℕ). PointsRightly table n form) (sym is.shape) points))
     where
+      has : (form : Form) → IsLookedUp form → IsFullAs (def_of table is.found.shape.0) form count
+          → Has table is.found.shape (step_of form i) (child_as table is.found.shape.0 form i)
+      has form one full = has_child table is.found.shape form count i one full below
+
       of_child : (form : Form) (next : NodeId) (child : ShapeId) → child.0 ≡ child_as table is.found.shape.0 form i
           → child_node plan node form i ≡ next → shape_at plan next ≡ Some child
           → IsOfShape plan (child_node plan node form i) (child_as table is.found.shape.0 form i)
@@ -188,41 +296,68 @@ module _ (agree : LookupsAgree) (table : Table) (root : ShapeId) (plan : Plan) (
           subst (λ (n : ℕ). IsOfShape plan (child_node plan node form i) n) number
           (subst (λ (id : NodeId). IsOfShape plan id child.0) (sym same) (found_at next child shape))
 
-      go : (form : Form) → IsFullAs (def_of table is.found.shape.0) form count
-          → Has table is.found.shape (step_of form i) (child_as table is.found.shape.0 form i)
+      -- two lookups
+      slice_shaped : (form : Form) → child_as table is.found.shape.0 form i ≡ child_as table is.found.shape.0 as_slice i
+          → child_node plan node form i ≡ child_node plan node as_slice i → MayPoint table is.found.shape.0 true
           → IsOfShape plan (child_node plan node form i) (child_as table is.found.shape.0 form i)
-      go as_struct full has =
-          let next = looked node is.found (struct_field_step i) has.child is.there has.there in
+      slice_shaped form number node_is points =
+          let pointed = slice_at table is.found.shape points in
+          let first = looked node is.found pointer_pointee_step pointed.slice is.there pointed.points in
+          let met = met_at first.node pointed.slice first.shape in
+          let next = looked first.node met.0 list_item_step pointed.items.child met.1
+          (subst (λ (id : ShapeId). child_in table id list_item_step ≡ Some pointed.items.child) (sym met.2)
+          pointed.items.there) in
+          let same : child_node plan node as_slice i ≡ next.node = rw (is.there, first.is, met.1, next.is) refl in
+          of_child form next.node pointed.items.child (pointed.items.number ∙ sym number) (node_is ∙ same) next.shape
+
+      go : (form : Form) → IsFullAs (def_of table is.found.shape.0) form count → PointsRightly table is.found.shape.0 form
+          → IsOfShape plan (child_node plan node form i) (child_as table is.found.shape.0 form i)
+      go as_struct full points =
+          let child = has as_struct tt full in
+          let next = looked node is.found (struct_field_step i) child.child is.there child.there in
           let same : child_node plan node as_struct i ≡ next.node = rw (is.there, next.is) refl in
-          of_child as_struct next.node has.child has.number same next.shape
-      go as_array full has =
-          let next = looked node is.found (list_item_step) has.child is.there has.there in
+          of_child as_struct next.node child.child child.number same next.shape
+      go as_array full points =
+          let child = has as_array tt full in
+          let next = looked node is.found list_item_step child.child is.there child.there in
           let same : child_node plan node as_array i ≡ next.node = rw (is.there, next.is) refl in
-          of_child as_array next.node has.child has.number same next.shape
-      go (as_variant k) full has =
-          let next = looked node is.found (enum_variant_field_step k i) has.child is.there has.there in
+          of_child as_array next.node child.child child.number same next.shape
+      go (as_variant k) full points =
+          let child = has (as_variant k) tt full in
+          let next = looked node is.found (enum_variant_field_step k i) child.child is.there child.there in
           let same : child_node plan node (as_variant k) i ≡ next.node = rw (is.there, next.is) refl in
-          of_child (as_variant k) next.node has.child has.number same next.shape
-      go as_some full has =
-          let next = looked node is.found (option_inner_step) has.child is.there has.there in
+          of_child (as_variant k) next.node child.child child.number same next.shape
+      go as_some full points =
+          let child = has as_some tt full in
+          let next = looked node is.found option_inner_step child.child is.there child.there in
           let same : child_node plan node as_some i ≡ next.node = rw (is.there, next.is) refl in
-          of_child as_some next.node has.child has.number same next.shape
-      go as_ok full has =
-          let next = looked node is.found (result_ok_step) has.child is.there has.there in
-          let other = has_child table is.found.shape as_err count i full below in
+          of_child as_some next.node child.child child.number same next.shape
+      go as_ok full points =
+          let child = has as_ok tt full in
+          let next = looked node is.found result_ok_step child.child is.there child.there in
+          let other = has as_err tt full in
           let beside = looked node is.found result_err_step other.child is.there other.there in
           let same : child_node plan node as_ok i ≡ next.node = rw (is.there, next.is, beside.is) refl in
-          of_child as_ok next.node has.child has.number same next.shape
-      go as_err full has =
-          let next = looked node is.found (result_err_step) has.child is.there has.there in
-          let other = has_child table is.found.shape as_ok count i full below in
+          of_child as_ok next.node child.child child.number same next.shape
+      go as_err full points =
+          let child = has as_err tt full in
+          let next = looked node is.found result_err_step child.child is.there child.there in
+          let other = has as_ok tt full in
           let beside = looked node is.found result_ok_step other.child is.there other.there in
           let same : child_node plan node as_err i ≡ next.node = rw (is.there, next.is, beside.is) refl in
-          of_child as_err next.node has.child has.number same next.shape
-      go as_pointer full has =
-          let next = looked node is.found (pointer_pointee_step) has.child is.there has.there in
+          of_child as_err next.node child.child child.number same next.shape
+      go as_pointer full points =
+          let child = has as_pointer tt full in
+          let next = looked node is.found pointer_pointee_step child.child is.there child.there in
           let same : child_node plan node as_pointer i ≡ next.node = rw (is.there, next.is) refl in
-          of_child as_pointer next.node has.child has.number same next.shape
+          of_child as_pointer next.node child.child child.number same next.shape
+      go as_list full points =
+          let child = has as_list tt full in
+          let next = looked node is.found list_item_step child.child is.there child.there in
+          let same : child_node plan node as_list i ≡ next.node = rw (is.there, next.is) refl in
+          of_child as_list next.node child.child child.number same next.shape
+      go as_slice full points = slice_shaped as_slice refl refl points
+      go as_closed_slice full points = slice_shaped as_closed_slice refl refl points
 
   pub along : (place : Place) (k : Kid) (node : NodeId) (s : ℕ) → IsOfShape plan node s → Suits table s (tree_of k)
       → Reaches place k
@@ -231,7 +366,8 @@ module _ (agree : LookupsAgree) (table : Table) (root : ShapeId) (plan : Plan) (
   along (i ∷ place) (at slot stored (begun_plot form kids)) node s is suits reach =
       let count = count_in kids in
       let below : i < count_trees (trees_in kids) = omega (arith, reach.0) in
-      let child = child_shaped node s form (count_trees (trees_in kids)) i is suits.0.0 below in
+      let child = child_shaped node s form (count_trees (trees_in kids)) i is suits.0.0
+      (points_rightly table s form (trees_in kids) suits.2) below in
       let fits = suits_nth table s form 0 (trees_in kids) i i (omega arith) below suits.1 in
       let nth = tree_of_nth i kids in
       subst

@@ -10,7 +10,7 @@ use Rattle.fr_plan.specs.declared.nodes.NodeId.{NodeId}
 use Rattle.fr_plan.specs.TypePlan.{Plan}
 use Rattle.fr_frame.specs.declared.places.FrameOwner.{FrameOwner}
 use Rattle.fr_frame.specs.Bodies.{Body, begun_body, cell_at, with_cell, unlinked, IsClosed}
-use Rattle.fr_frame.specs.Cells.{absent, given, placed}
+use Rattle.fr_frame.specs.Cells.{given, placed}
 use Rattle.fr_frame.specs.Heap.{Node, Heap, stored_in, marked, with_slot, with_body, without}
 use Rattle.fr_frame.specs.Kids.{Kid, gone, there, at, Plot, entered_plot, whole_plot, begun_plot, Kids, no_kids, kid, MayHave, cell_of, cells_in, body_in, child_node, child_owner, Holds, HoldsAll}
 use Rattle.fr_store.specs.HoldLaws.{AgreeBeside, Replaces, holds_at, holds_frame, may_have_all, replaces_at}
@@ -39,7 +39,7 @@ module _ (heap first mid last : Heap) (n q i : ℕ) (below above : Node) (body :
   left : (m : ℕ) → mid m ≡ with_body (with_slot first n None) q (unlinked n (step_as form i)) m
   left m = leaves m ∙ ap (λ (o : FrameOwner). without first n o m) owner
 
-  pub mid_over : mid q ≡ Some (record above { body = begun_body form (cells_in (put_nth i gone kids)) })
+  mid_over : mid q ≡ Some (record above { body = begun_body form (cells_in (put_nth i gone kids)) })
   mid_over =
       left q
       ∙ body_here (with_slot first n None) q (unlinked n (step_as form i)) above
@@ -55,12 +55,6 @@ module _ (heap first mid last : Heap) (n q i : ℕ) (below above : Node) (body :
   mid_other m a b =
       left m ∙ body_other (with_slot first n None) q (unlinked n (step_as form i)) m a ∙ slot_other first n None m b
       ∙ puts m ∙ slot_other heap n (Some (record below { body = body })) m b
-
-  -- it isn't there
-  pub mid_absent : cell_at (begun_body form (cells_in (put_nth i gone kids))) (step_as form i) ≡ Some absent
-  mid_absent =
-      cell_of_child form i (put_nth i gone kids) (may_have_put form i gone kids may) (within_put i gone kids within)
-      ∙ ap (λ (x : Kid). Some (cell_of x)) (nth_put i gone kids within)
 
   module _ (ends : (m : ℕ) → last m ≡ with_body mid q (λ old. with_cell old (step_as form i) (given v)) m) where
     pub last_over : last q ≡ Some (record above { body = begun_body form (cells_in (put_nth i (there v) kids)) })

@@ -1,5 +1,6 @@
 -- Laws of a turn in slots, for proofs: from what its calls say to what it owes.
 use Rattle.std.proofs.Common.{◌≡◌, ◌≢◌, ◌⊎◌, ℕ, zero, suc, ◌+◌, ◌<◌, true, false, List, [], ◌∷◌, append-nil, length, slice_get, Option, Some, None, option_map, unwrap_or, inl, inr, refl, sym, ◌∙◌, ap, subst, arith}
+use Rattle.std.specs.Option.{option_and_then}
 use Rattle.std.specs.Prelude.{is_some, IsSome, IsSomeAnd}
 use Rattle.fr_shape.specs.declared.error.ReflectErrorKind.{ReflectErrorKind}
 use Rattle.fr_shape.specs.Checked.{IsChecked}
@@ -7,7 +8,6 @@ use Rattle.fr_shape.specs.Hooks.{Meanings}
 use Rattle.fr_shape.specs.Look.{Table, def_of}
 use Rattle.fr_shape.specs.Tokens.{occurs}
 use Rattle.fr_shape.specs.Val.{Val}
-use Rattle.fr_path.specs.declared.path_steps.PathStep.{PathStep}
 use Rattle.fr_model.specs.Complete.{complete}
 use Rattle.fr_model.specs.Failing.{own_lack}
 use Rattle.fr_model.specs.Finish.{finished, failures_off}
@@ -17,7 +17,7 @@ use Rattle.fr_model.specs.Laws.{CompletingKeepsTokens}
 use Rattle.fr_model.specs.Paths.{step_as}
 use Rattle.fr_model.specs.Places.{Place, deferred_column}
 use Rattle.fr_model.specs.Relation.{HasPlace}
-use Rattle.fr_model.specs.Tree.{Form, as_struct, as_array, as_variant, as_some, as_ok, as_err, as_pointer, Tree, count_trees, shape_in, tree_at, tree_occurs}
+use Rattle.fr_model.specs.Tree.{Tree, count_trees, shape_in, tree_at, tree_occurs}
 use Rattle.fr_model.specs.Well.{IsFullAs, Suits}
 use Rattle.fr_plan.specs.declared.nodes.NodeId.{NodeId}
 use Rattle.fr_plan.specs.declared.nodes.TypePlanNode.{TypePlanNode}
@@ -30,16 +30,17 @@ use Rattle.fr_frame.specs.Cells.{Cell, absent, given, placed}
 use Rattle.fr_frame.specs.Changes.{IfInUse, IsInUse, SameTokens, Shows}
 use Rattle.fr_frame.specs.Completing.{shape_of, FillsAt, IsFull, IsPlanFor, MayComplete}
 use Rattle.fr_frame.specs.Defaults.{WhyNotDefault}
-use Rattle.fr_frame.specs.Heap.{Node, heap_of, slots_occur, with_body, without}
+use Rattle.fr_frame.specs.Heap.{Node, Heap, gives, held_by, heap_of, slots_occur, with_body, without}
 use Rattle.fr_frame.specs.Kids.{Kid, gone, there, MayHave, tree_of, cell_of, cells_in, kid_occurs, child_owner}
 use Rattle.fr_store.specs.ClosingLaws.{completes_still}
-use Rattle.fr_store.specs.Moves.{OwnerIsIn, OwnerIsNumbered, IsOpenAt, IsStepTo, cursor_in, tree_in_slots}
+use Rattle.fr_store.specs.LeaveLaws.{cell_of_child}
+use Rattle.fr_store.specs.Moves.{IsOpenAt, cursor_in, tree_in_slots}
 use Rattle.fr_store.specs.OffLaws.{reach_place}
 use Rattle.fr_store.specs.ShapeLaws.{IsOfShape, Along, along, root_shaped}
 use Rattle.fr_store.specs.StandLaws.{cursor_is, kid_is, stands_shown, tree_is}
 use Rattle.fr_store.specs.Stands.{IsOpen, Stands}
-use Rattle.fr_store.specs.TopLaws.{closed_tree, closed_uses, slot_here}
-use Rattle.fr_store.specs.TurnLaws.{Over, due_apart, due_found, due_node, due_off, due_over, in_use_last, last_here, last_other, last_over, marked_last, mid_absent, mid_over, over_found, over_may_have, over_node, stands_turned}
+use Rattle.fr_store.specs.TopLaws.{closed_tree, closed_uses, slot_here, slot_other}
+use Rattle.fr_store.specs.TurnLaws.{Over, due_apart, due_found, due_node, due_off, due_over, in_use_last, last_here, last_other, last_over, marked_last, over_found, over_may_have, over_node, stands_turned}
 use Rattle.fr_store.specs.Turning.{HasTurned, IsLackingAt, KeepsTheRest, MayTurn, kid_here}
 use Rattle.fr_store.specs.Turns.{CompletesAsBefore, root_shape}
 use Rattle.fr_store.specs.Walks.{IsStoredAt}
@@ -122,6 +123,9 @@ module _ (plan : Plan) (before : List Slot) (stack : List ℕ) (n : ℕ) (open_n
       due_found plan (heap_of before) stack (cursor_in before stack) due.place (kid_here before stack) n due.plot
       open_now.stands due.reaches due.is
 
+  pub due_in_use : IsInUse before n
+  due_in_use = ap is_some found
+
   pub over : Over due.place (kid_here before stack) n due.plot
   over =
       due_over plan (heap_of before) stack (cursor_in before stack) due.place (kid_here before stack) n due.plot
@@ -137,28 +141,6 @@ module _ (plan : Plan) (before : List Slot) (stack : List ℕ) (n : ℕ) (open_n
   owner : below.owner ≡ child_owner over.slot over.form over.i
   unfolding below
   owner = over.owner
-
-  pub numbered : IfInUse before n (λ (x : Node). OwnerIsNumbered x.owner)
-  numbered =
-      so_said (λ (x : Node). OwnerIsNumbered x.owner)
-      (subst (λ (o : FrameOwner). OwnerIsNumbered o) (sym owner) (go over.form))
-    where
-      go : (form : Form) → OwnerIsNumbered (child_owner over.slot form over.i)
-      go as_struct = tt
-      go as_array = tt
-      go (as_variant k) = tt
-      go as_some = tt
-      go as_ok = tt
-      go as_err = tt
-      go as_pointer = tt
-
-  -- the step and the slot that the owner tells
-  pub step_is : (step : PathStep) → IfInUse before n (λ (x : Node). IsStepTo step x.owner) → step ≡ step_as over.form over.i
-  step_is step told =
-      subst (λ (o : FrameOwner). IsStepTo step o) owner (said (λ (x : Node). IsStepTo step x.owner) told)
-
-  pub slot_is : (m : ℕ) → IfInUse before n (λ (x : Node). OwnerIsIn m x.owner) → m ≡ over.slot
-  slot_is m told = subst (λ (o : FrameOwner). OwnerIsIn m o) owner (said (λ (x : Node). OwnerIsIn m x.owner) told)
 
   own : own_tree below.body ≡ tree_at due.place (tree_in_slots before stack)
   unfolding below
@@ -212,14 +194,9 @@ module _ (plan : Plan) (before : List Slot) (stack : List ℕ) (n : ℕ) (open_n
         })
         go (inr wants) = inl wants.memory
 
-    -- It is completed, and its value goes into the place above.
-    module _ (means : Meanings) (keeps_tokens : CompletingKeepsTokens) (first mid last : List Slot) (parent : ℕ)
-        (step : PathStep) (v : Val)
-        (to : IfInUse before n (λ (x : Node). IsStepTo step x.owner))
-        (from : IfInUse before n (λ (x : Node). OwnerIsIn parent x.owner))
-        (filled : IfInUse before n (FillsAt deferred_column means table plan before first n))
-        (worth : IfInUse first n (λ (x : Node). value_of x.body ≡ Some v))
-        (left : IfInUse first n (λ (x : Node). Shows mid (without (heap_of first) n x.owner))) where
+    -- It is completed, and its value is handed up.
+    module _ (means : Meanings) (keeps_tokens : CompletingKeepsTokens) (first last : List Slot)
+        (filled : IfInUse before n (FillsAt deferred_column means table plan before first n)) where
       fills : FillsAt deferred_column means table plan before first n below
       fills = said (λ (x : Node). FillsAt deferred_column means table plan before first n x) filled
 
@@ -252,20 +229,15 @@ module _ (plan : Plan) (before : List Slot) (stack : List ℕ) (n : ℕ) (open_n
       first_found : heap_of first n ≡ Some (record below { body = fills.body })
       first_found = fills.becomes n ∙ slot_here (heap_of before) n (Some (record below { body = fills.body }))
 
-      leaves : (m : ℕ) → heap_of mid m ≡ without (heap_of first) n below.owner m
-      leaves =
-          subst (λ (o : Option Node). IsSomeAnd o (λ (x : Node). Shows mid (without (heap_of first) n x.owner))) first_found
-          left
+      -- the value that the place makes
+      abbrev v : Val
+      v = fills.filled.value
 
-      -- the value is what the place makes
-      same_value : fills.filled.value ≡ v
-      same_value =
-          let held : value_of fills.body ≡ Some v
-          = subst (λ (o : Option Node). IsSomeAnd o (λ (x : Node). value_of x.body ≡ Some v)) first_found worth in
-          let both : Some fills.filled.value ≡ Some v = sym fills.filled.held ∙ held in
-          cc
+      -- all slots once its own is free and the place above hasn't it any more
+      abbrev mid : Heap
+      mid = without (heap_of first) n below.owner
 
-      pub makes :
+      makes :
           complete deferred_column means table
           (shape_in table (root_shape plan) due.place (tree_in_slots before stack))
           (tree_at due.place (tree_in_slots before stack))
@@ -273,38 +245,37 @@ module _ (plan : Plan) (before : List Slot) (stack : List ℕ) (n : ℕ) (open_n
       makes =
           ap (λ (s : ℕ). complete deferred_column means table s (tree_at due.place (tree_in_slots before stack))) (sym shape)
           ∙ ap (complete deferred_column means table (shape_of plan below.node)) (sym own) ∙ fills.filled.meant
-          ∙ ap (λ (x : Val). Some x) same_value
 
-      pub above_in_use : IsInUse mid parent
-      above_in_use =
-          ap (λ (m : ℕ). is_some (heap_of mid m)) (slot_is parent from)
-          ∙ ap is_some
-          (mid_over (heap_of before) (heap_of first) (heap_of mid) (heap_of last) n over.slot over.i below above fills.body
-          over.form over.kids v apart found above_found above_begun may over.within child owner fills.becomes leaves)
+      -- the place above has it there
+      pub owned_first : IfInUse first n (λ (x : Node). held_by (heap_of first) x.owner ≡ Some (placed n))
+      owned_first =
+          subst (λ (o : Option Node). IsSomeAnd o (λ (x : Node). held_by (heap_of first) x.owner ≡ Some (placed n)))
+          (sym first_found)
+          (ap (held_by (heap_of first)) owner
+          ∙ ap (option_and_then (λ (x : Node). cell_at x.body (step_as over.form over.i))) first_over
+          ∙ ap (λ (b : Body). cell_at b (step_as over.form over.i)) above_begun
+          ∙ cell_of_child over.form over.i over.kids may over.within ∙ ap (λ (c : Cell). Some c) child)
+        where
+          first_over : heap_of first over.slot ≡ Some above
+          first_over =
+              fills.becomes over.slot
+              ∙ slot_other (heap_of before) n (Some (record below { body = fills.body })) over.slot (λ e. apart (sym e))
+              ∙ above_found
 
-      pub child_absent : IfInUse mid parent (λ (x : Node). cell_at x.body step ≡ Some absent)
-      child_absent =
-          subst (λ (o : Option Node). IsSomeAnd o (λ (x : Node). cell_at x.body step ≡ Some absent))
-          (sym (ap (heap_of mid) (slot_is parent from)
-          ∙ mid_over (heap_of before) (heap_of first) (heap_of mid) (heap_of last) n over.slot over.i below above fills.body
-          over.form over.kids v apart found above_found above_begun may over.within child owner fills.becomes leaves))
-          (ap (cell_at (begun_body over.form (cells_in (put_nth over.i gone over.kids)))) (step_is step to)
-          ∙ mid_absent (heap_of before) (heap_of first) (heap_of mid) (heap_of last) n over.slot over.i below above fills.body
-          over.form over.kids v apart found above_found above_begun may over.within child owner fills.becomes leaves)
-
-      module _ (filling : SameTokens before first) (taken : (t : ℕ) → slots_occur first t ≡ slots_occur mid t + occurs v t)
-          (put : Shows last (with_body (heap_of mid) parent (λ old. with_cell old step (given v))))
-          (given_back : (t : ℕ) → slots_occur last t ≡ slots_occur mid t + occurs v t) where
+      module _ (filling : SameTokens before first) (handing : SameTokens first last)
+          (handed : IfInUse first n (λ (x : Node). (w : Val) → value_of x.body ≡ Some w
+          → Shows last (gives x.owner w (without (heap_of first) n x.owner)))) where
         pub same_tokens : SameTokens before last
-        same_tokens t = omega (arith, filling t, taken t, given_back t)
+        same_tokens t = omega (arith, filling t, handing t)
 
         ends : (m : ℕ)
-            → heap_of last m
-            ≡ with_body (heap_of mid) over.slot (λ old. with_cell old (step_as over.form over.i) (given v)) m
+            → heap_of last m ≡ with_body mid over.slot (λ old. with_cell old (step_as over.form over.i) (given v)) m
         ends m =
-            put m
-            ∙ ap (λ (q : ℕ). with_body (heap_of mid) q (λ old. with_cell old step (given v)) m) (slot_is parent from)
-            ∙ ap (λ (s : PathStep). with_body (heap_of mid) over.slot (λ old. with_cell old s (given v)) m) (step_is step to)
+            subst
+            (λ (o : Option Node). IsSomeAnd o (λ (x : Node). (w : Val) → value_of x.body ≡ Some w
+            → Shows last (gives x.owner w (without (heap_of first) n x.owner))))
+            first_found handed v fills.filled.held m
+            ∙ ap (λ (o : FrameOwner). gives o v mid m) owner
 
         kid_after : Kid
         kid_after = put_at due.place (there v) (kid_here before stack)
@@ -314,10 +285,10 @@ module _ (plan : Plan) (before : List Slot) (stack : List ℕ) (n : ℕ) (open_n
         stands_after =
             stands_turned plan (heap_of before) stack (cursor_in before stack) due.place (kid_here before stack) n due.plot
             open_now.stands due.reaches due.is over (heap_of last) v due.closed
-            (last_over (heap_of before) (heap_of first) (heap_of mid) (heap_of last) n over.slot over.i below above fills.body
-            over.form over.kids v apart found above_found above_begun may over.within child owner fills.becomes leaves ends)
-            (last_other (heap_of before) (heap_of first) (heap_of mid) (heap_of last) n over.slot over.i below above
-            fills.body over.form over.kids v apart found above_found above_begun may over.within child owner fills.becomes leaves
+            (last_over (heap_of before) (heap_of first) mid (heap_of last) n over.slot over.i below above fills.body
+            over.form over.kids v apart found above_found above_begun may over.within child owner fills.becomes (λ m. refl) ends)
+            (last_other (heap_of before) (heap_of first) mid (heap_of last) n over.slot over.i below above
+            fills.body over.form over.kids v apart found above_found above_begun may over.within child owner fills.becomes (λ m. refl)
             ends)
 
         tokens_after : (t : ℕ) → slots_occur last t ≡ kid_occurs kid_after t
@@ -340,14 +311,14 @@ module _ (plan : Plan) (before : List Slot) (stack : List ℕ) (n : ℕ) (open_n
           where
             free : heap_of last n ≡ None
             free =
-                last_here (heap_of before) (heap_of first) (heap_of mid) (heap_of last) n over.slot over.i below above fills.body
-                over.form over.kids v apart found above_found above_begun may over.within child owner fills.becomes leaves ends
+                last_here (heap_of before) (heap_of first) mid (heap_of last) n over.slot over.i below above fills.body
+                over.form over.kids v apart found above_found above_begun may over.within child owner fills.becomes (λ m. refl) ends
 
             as_before : m ≢ n → is_some (heap_of last m) ≡ is_some (heap_of before m)
             as_before =
-                in_use_last (heap_of before) (heap_of first) (heap_of mid) (heap_of last) n over.slot over.i below above
+                in_use_last (heap_of before) (heap_of first) mid (heap_of last) n over.slot over.i below above
                 fills.body over.form over.kids v apart found above_found above_begun may over.within child owner fills.becomes
-                leaves ends m
+                (λ m. refl) ends m
 
             go : (m ≡ n) ⊎ (m ≢ n) → 0 < uses (put_at due.place (there v) (kid_here before stack)) m
             go (inl e) =
@@ -382,16 +353,16 @@ module _ (plan : Plan) (before : List Slot) (stack : List ℕ) (n : ℕ) (open_n
           stands = open_after;
           here = kid_is_after;
           free =
-              last_here (heap_of before) (heap_of first) (heap_of mid) (heap_of last) n over.slot over.i below above fills.body
-              over.form over.kids v apart found above_found above_begun may over.within child owner fills.becomes leaves ends;
+              last_here (heap_of before) (heap_of first) mid (heap_of last) n over.slot over.i below above fills.body
+              over.form over.kids v apart found above_found above_begun may over.within child owner fills.becomes (λ m. refl) ends;
           others =
-              in_use_last (heap_of before) (heap_of first) (heap_of mid) (heap_of last) n over.slot over.i below above
+              in_use_last (heap_of before) (heap_of first) mid (heap_of last) n over.slot over.i below above
               fills.body over.form over.kids v apart found above_found above_begun may over.within child owner fills.becomes
-              leaves ends;
+              (λ m. refl) ends;
           marks =
-              marked_last (heap_of before) (heap_of first) (heap_of mid) (heap_of last) n over.slot over.i below above
+              marked_last (heap_of before) (heap_of first) mid (heap_of last) n over.slot over.i below above
               fills.body over.form over.kids v apart found above_found above_begun may over.within child owner fills.becomes
-              leaves ends;
+              (λ m. refl) ends;
         }
 
         closing : Closes means table (root_shape plan) due.place v (tree_in_slots before stack)

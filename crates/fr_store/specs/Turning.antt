@@ -8,7 +8,7 @@ use Rattle.fr_shape.specs.Val.{Val}
 use Rattle.fr_path.specs.declared.path_steps.PathStep.{PathStep}
 use Rattle.fr_model.specs.Complete.{complete}
 use Rattle.fr_model.specs.Failing.{own_lack}
-use Rattle.fr_model.specs.Finish.{finished, finished_here, failures_off}
+use Rattle.fr_model.specs.Finish.{finished, finished_here, failures_off, is_closed_slice}
 use Rattle.fr_model.specs.Paths.{steps_in}
 use Rattle.fr_model.specs.Places.{Place, deferred_column}
 use Rattle.fr_model.specs.Tree.{Tree, whole, tree_at, change_at, shape_in}
@@ -27,11 +27,11 @@ use Rattle.fr_store.specs.Turns.{root_shape, CompletesAsBefore, KeepThoseLeft, T
 use Rattle.fr_store.specs.Walks.{IsStoredAt, AreInWalkOrder, IsWalk}
 use Rattle.fr_store.specs.Ways.{kid_at, put_at, Reaches}
 
--- nothing was put at the place but that it was entered
-abbrev pub is_entered : Body → Bool
-is_entered entered_body = true
-is_entered (whole_body v) = false
-is_entered (begun_body form cells) = false
+-- where the builder works, the place becomes whole at the end of deferred mode: it was only entered, or is a closed pointer to a slice
+abbrev pub becomes_whole : Body → Bool
+becomes_whole entered_body = true
+becomes_whole (whole_body v) = false
+becomes_whole (begun_body form cells) = is_closed_slice form
 
 -- it is a place's turn: the place in this slot is stored, and nothing beneath it is in a slot
 pub record MayTurn (slots : List Slot) (stack : List ℕ) (slot : ℕ) : Type 0 where

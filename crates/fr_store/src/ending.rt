@@ -5,50 +5,21 @@ ghost use Rattle.fr_shape.specs.Val.{Val};
 ghost use Rattle.fr_model.specs.Places.{is_root, up};
 ghost use Rattle.fr_model.specs.Tree.{whole};
 ghost use Rattle.fr_frame.specs.Bodies.{takes_box, value_of};
-ghost use Rattle.fr_frame.specs.Changes.{IfInUse, SameTokens};
+ghost use Rattle.fr_frame.specs.Changes.{SameTokens};
 ghost use Rattle.fr_frame.specs.Heap.{slots_occur};
-ghost use Rattle.fr_store.specs.Moves.{changed_here, cursor_in, tokens_here, tree_in_slots, AtTop, OwnerIsNumbered, IsOpenAt, IsStepTo};
+ghost use Rattle.fr_store.specs.Moves.{changed_here, cursor_in, tokens_here, tree_in_slots, AtTop, IsOpenAt};
 ghost use Rattle.fr_store.specs.Stands.{kid_here, IsOpen};
 ghost use Rattle.fr_store.specs.Staying.{AllStayPut, StayPutBut};
 ghost use Rattle.fr_store.specs.Stored.{IsKept, NothingStored};
 
 use crate::{FrameStore, Stack};
-use fr_frame::{FrameOwner, SlotId, Slots};
-use fr_path::PathStep;
+use fr_frame::Slots;
 use fr_plan::TypePlanCore;
 use fr_shape::{Ledger, OutOfMemory};
 
-/// The step to a field, an element, a content, a side or a pointee.
-pub(crate) fn step_to(slots: &Slots, place: SlotId) -> PathStep
-    requires { IfInUse slots.now place.0 (λ at. OwnerIsNumbered at.owner) }
-    ensures { IfInUse slots.now place.0 (λ at. IsStepTo result at.owner) }
-{
-    let Some(found) = slots.place(place) else {
-        unreachable!()
-    };
-    match &found.owner {
-        FrameOwner::Child(_, PathStep::Field(i)) => PathStep::Field(*i),
-        FrameOwner::Child(_, PathStep::Index(i)) => PathStep::Index(*i),
-        FrameOwner::Child(_, PathStep::OptionSome) => PathStep::OptionSome,
-        FrameOwner::Child(_, PathStep::ResultOk) => PathStep::ResultOk,
-        FrameOwner::Child(_, PathStep::ResultErr) => PathStep::ResultErr,
-        FrameOwner::Child(_, PathStep::Deref) => PathStep::Deref,
-        FrameOwner::Root
-        | FrameOwner::Child(
-            _,
-            PathStep::Inner
-            | PathStep::Proxy
-            | PathStep::MapKey(_)
-            | PathStep::MapValue(_)
-            | PathStep::SetItem
-            | PathStep::Entry(_),
-        ) => unreachable!(),
-    }
-}
-
 impl Stack {
     /// Strict mode: the value of the place on top goes into the place above, where the builder then works. Only a begun option, result
-    /// or pointer takes memory: a box for what it holds. Where there is none, what was put there is released.
+    /// or pointer, also one to a slice, takes memory: a box for what it holds. Where there is none, what was put there is released.
     #[inline(always)]
     pub fn end(
         &mut self,
@@ -77,15 +48,7 @@ impl Stack {
         let Some(place) = self.pop() else {
             unreachable!()
         };
-        let step = step_to(slots, place);
-        let Ok(value) = place.into_value(slots, ledger) else {
-            return Err(OutOfMemory);
-        };
-        let Some(above) = self.top() else {
-            unreachable!()
-        };
-        above.put_child(slots, &step, value);
-        Ok(())
+        place.hand_up(slots, ledger)
     }
 
     /// Deferred mode: the place on top is stored as it is, and the builder works at the place above.

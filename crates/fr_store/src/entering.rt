@@ -20,7 +20,7 @@ use fr_shape::{OutOfMemory, ShapeTable};
 
 impl Stack {
     /// Begins the place on top, so that its children can be entered: an entered one has none of so many children yet, of a
-    /// whole one each has its part of the value, a begun one stays as it is.
+    /// whole one each has its part of the value, those of a list being its items, a begun one stays as it is.
     pub fn begin(
         &self,
         slots: &mut Slots,
@@ -29,7 +29,7 @@ impl Stack {
         count: usize,
     ) -> Result<(), OutOfMemory>
         requires is_open { IsOpen plan.now slots.old self.now }
-        requires may_open { AtTop slots.old self.now (λ at. MayOpen at.body) }
+        requires may_open { AtTop slots.old self.now (λ at. MayOpen (as_form form) at.body) }
         requires many { TakesMany (as_form form) }
         ensures begun { OnOk result (IsOpenAt plan.now slots.new self.now
             (cursor_in slots.old self.now)

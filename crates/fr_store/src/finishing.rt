@@ -7,36 +7,21 @@ ghost use Rattle.fr_model.specs.Well.{Suits};
 ghost use Rattle.fr_frame.specs.Changes.{IfInUse, IsInUse, SameTokens};
 ghost use Rattle.fr_frame.specs.Completing.{IsPlanFor};
 ghost use Rattle.fr_frame.specs.Heap.{slots_occur};
-ghost use Rattle.fr_store.specs.Moves.{cursor_in, tokens_in, tree_in_slots, OwnerIsIn, OwnerIsNumbered};
+ghost use Rattle.fr_store.specs.Moves.{cursor_in, tokens_in, tree_in_slots};
 ghost use Rattle.fr_store.specs.Stands.{IsOpen};
 ghost use Rattle.fr_store.specs.Stored.{IsKept, NothingStored};
-ghost use Rattle.fr_store.specs.Turning.{is_entered, kid_here, CameByTurns, FinishedHere, HasTurned, IsLackingAt, KeepsTheRest, LacksHere, MayTurn, OpenStayPut, StoppedByTurns, Walked};
+ghost use Rattle.fr_store.specs.Turning.{becomes_whole, kid_here, CameByTurns, FinishedHere, HasTurned, IsLackingAt, KeepsTheRest, LacksHere, MayTurn, OpenStayPut, StoppedByTurns, Walked};
 ghost use Rattle.fr_store.specs.Turns.{root_shape, IsFinished, IsHeldUp};
 ghost use Rattle.fr_store.specs.Walks.{IsWalk};
 
-use crate::ending::step_to;
 use crate::{FrameStore, Stack};
-use fr_frame::{FrameOwner, Piece, SlotId, Slots};
+use fr_frame::{Form, Piece, SlotId, Slots};
 use fr_model::{law_closing, law_completes, law_failing};
 use fr_plan::{TypePlanCore, law_plan_lookups};
-use fr_shape::{Hooks, Ledger, ReflectErrorKind, ShapeTable};
-
-/// The slot of the place above.
-fn above(slots: &Slots, place: SlotId) -> SlotId
-    requires { IfInUse slots.now place.0 (λ at. OwnerIsNumbered at.owner) }
-    ensures { IfInUse slots.now place.0 (λ at. OwnerIsIn result.0 at.owner) }
-{
-    let Some(found) = slots.place(place) else {
-        unreachable!()
-    };
-    match &found.owner {
-        FrameOwner::Child(parent, _) => *parent,
-        FrameOwner::Root => unreachable!(),
-    }
-}
+use fr_shape::{Hooks, Ledger, OutOfMemory, ReflectErrorKind, ShapeTable};
 
 /// The turn of a stored place that has no child in a slot: it is completed, and its value goes into the place above. Where there is
-/// no memory for the box that a begun option, result or pointer takes, what was put at the place is released.
+/// no memory for the box that a begun option, result or pointer takes, also one to a slice, what was put at the place is released.
 pub(crate) fn turn<H: Hooks>(
     slots: &mut Slots,
     stack: &Stack,
@@ -67,14 +52,11 @@ pub(crate) fn turn<H: Hooks>(
     law_completes();
     law_plan_lookups();
     let _stack = stack;
-    let step = step_to(slots, place);
-    let parent = above(slots, place);
     place.complete_by_defaults(slots, table, plan, hooks)?;
-    let Ok(value) = place.into_value(slots, ledger) else {
-        return Err(ReflectErrorKind::OutOfMemory);
-    };
-    parent.put_child(slots, &step, value);
-    Ok(())
+    match place.hand_up(slots, ledger) {
+        Ok(()) => Ok(()),
+        Err(OutOfMemory) => Err(ReflectErrorKind::OutOfMemory),
+    }
 }
 
 /// The turns of all places of a walk.
@@ -115,21 +97,34 @@ fn take_turns<H: Hooks>(
     Ok(())
 }
 
-/// Whether the place was only entered.
-fn is_entered(slots: &Slots, place: SlotId) -> bool
+/// Whether the place becomes whole where the builder works: it was only entered, or is a closed pointer to a slice.
+fn becomes_whole(slots: &Slots, place: SlotId) -> bool
     requires { IsInUse slots.now place.0 }
-    ensures { IfInUse slots.now place.0 (λ at. result ≡ is_entered at.body) }
+    ensures { IfInUse slots.now place.0 (λ at. result ≡ becomes_whole at.body) }
 {
     let Some(found) = slots.place(place) else {
         unreachable!()
     };
     match &found.piece {
-        Piece::Entered => true,
-        Piece::Whole(_) | Piece::Begun(_, _) => false,
+        Piece::Entered | Piece::Begun(Form::ClosedSlice, _) => true,
+        Piece::Whole(_) => false,
+        Piece::Begun(
+            Form::Struct
+            | Form::Array
+            | Form::Variant(_)
+            | Form::Some
+            | Form::Ok
+            | Form::Err
+            | Form::Pointer
+            | Form::List
+            | Form::Slice,
+            _,
+        ) => false,
     }
 }
 
-/// Completes the place on top of the stack, nothing being stored. It stays begun where it is; one that was only entered becomes whole.
+/// Completes the place on top of the stack, nothing being stored. It stays begun where it is; one that was only entered becomes
+/// whole, and so does a closed pointer to a slice.
 fn complete_top<H: Hooks>(
     slots: &mut Slots,
     stack: &Stack,
@@ -154,12 +149,15 @@ fn complete_top<H: Hooks>(
     let Some(top) = stack.top() else {
         unreachable!()
     };
-    let entered = is_entered(slots, top);
+    let whole = becomes_whole(slots, top);
     top.complete_by_defaults(slots, table, plan, hooks)?;
-    if entered {
-        top.make_whole(slots);
+    if !whole {
+        return Ok(());
     }
-    Ok(())
+    match top.make_whole(slots) {
+        Ok(()) => Ok(()),
+        Err(OutOfMemory) => Err(ReflectErrorKind::OutOfMemory),
+    }
 }
 
 impl FrameStore {
@@ -209,8 +207,8 @@ impl FrameStore {
     }
 
     /// Completes every stored place, the longest path first, then step by step, and then the place on top of the stack, which stays
-    /// begun where it is. The first place that fails gives the refusal; all is released then. Only templates, and boxes for what options,
-    /// results and pointers hold, want memory.
+    /// begun where it is, but a closed pointer to a slice. The first place that fails gives the refusal; all is released then. Only
+    /// templates, and boxes for what options, results and pointers hold, want memory.
     pub fn finish<H: Hooks>(
         &mut self,
         slots: &mut Slots,

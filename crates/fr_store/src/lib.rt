@@ -4,6 +4,7 @@
 mod ending;
 mod entering;
 mod finishing;
+mod items;
 mod pruning;
 mod restarting;
 mod setting;
@@ -18,5 +19,7 @@ pub use store::FrameStore;
 
 #[cfg(test)]
 mod finish_tests;
+#[cfg(test)]
+mod item_tests;
 #[cfg(test)]
 mod tests;

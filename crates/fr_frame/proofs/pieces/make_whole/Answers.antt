@@ -6,11 +6,14 @@ use Rattle.fr_frame.specs.Heap.{body_of}
 use Rattle.fr_frame.proofs.BodyLaws.{value_occurs_same, whole_as_meant}
 use Rattle.fr_frame.proofs.pieces.make_whole.Goals as goal
 
-pub returns : goal.returns
-returns c =
-    let is : value_of (body_of c.args.piece.now) ≡ Some (view c.unboxed_value.result)
-    = ap (λ (p : Piece). value_of (body_of p)) (sym c.replace-before.ensures.value) ∙ c.unboxed_value.ensures in
-    record {
-      whole = λ v meant. whole_as_meant (view c.unboxed_value.result) v (sym is ∙ meant);
-      tokens = λ t. sym (value_occurs_same (body_of c.args.piece.now) (view c.unboxed_value.result) t is);
-    }
+pub returns-clause-whole : goal.returns-clause-whole
+returns-clause-whole c v meant =
+    let is : value_of (body_of c.args.piece.now) ≡ Some (view c.value_with.result)
+    = ap (λ (p : Piece). value_of (body_of p)) (sym c.replace-before.ensures.value) ∙ c.value_with.ensures in
+    whole_as_meant (view c.value_with.result) v (sym is ∙ meant)
+
+pub returns-clause-tokens : goal.returns-clause-tokens
+returns-clause-tokens c t =
+    let is : value_of (body_of c.args.piece.now) ≡ Some (view c.value_with.result)
+    = ap (λ (p : Piece). value_of (body_of p)) (sym c.replace-before.ensures.value) ∙ c.value_with.ensures in
+    sym (value_occurs_same (body_of c.args.piece.now) (view c.value_with.result) t is)

@@ -170,3 +170,84 @@ returns-clause-finishes c = record {
   inside_option_half_done = refl;
   above_starts_anew = refl;
 }
+
+pub returns-clause-lists : goal.returns-clause-lists
+returns-clause-lists c = record {
+  empty = refl;
+  items = refl;
+  with_capacity = refl;
+  only_entered = refl;
+  base_stays = refl;
+  begun_twice = refl;
+  begun_twice_deferred = refl;
+  in_an_option = refl;
+  left_half_done = refl;
+  left_missing = refl;
+  in_a_struct = refl;
+  path = refl;
+  path_behind_base = refl;
+  path_inside = refl;
+  finished_inside = refl;
+  finished_at_a_list = refl;
+  no_list = refl;
+  no_list_with_capacity = refl;
+  no_whole_list = refl;
+  begun_as_struct = refl;
+  begun_as_pointer = refl;
+  begun_as_option = refl;
+  begun_as_result = refl;
+  begun_as_variant = refl;
+  begun_as_array = refl;
+  item_of_entered = refl;
+  item_of_whole = refl;
+  item_of_other = refl;
+  no_field_of_list = refl;
+  set_drops = refl;
+  begin_drops_none = refl;
+  item_drops_none = refl;
+}
+
+pub returns-clause-arrays : goal.returns-clause-arrays
+returns-clause-arrays c = record {
+  begun = refl;
+  begun_twice = refl;
+  of_no_elements = refl;
+  only_entered = refl;
+  missing = refl;
+  no_array = refl;
+  too_large = refl;
+  whole_already = refl;
+}
+
+pub returns-clause-slices : goal.returns-clause-slices
+returns-clause-slices c = record {
+  items = refl;
+  items_deferred = refl;
+  empty = refl;
+  open_at_build = refl;
+  path = refl;
+  in_a_struct = refl;
+  in_a_struct_deferred = refl;
+  end_at_root = refl;
+  end_at_start = refl;
+  closed_takes_none = refl;
+  closed_is_left = refl;
+  open_again = refl;
+  path_again = refl;
+  begun_anew = refl;
+  whole_anew = refl;
+  whole_takes_none = refl;
+  finished_open = refl;
+  finished_closed = refl;
+  left_missing = refl;
+  borrowed = refl;
+  anew_drops = refl;
+  open_drops_none = refl;
+  closed_drops_none = refl;
+  end_drops_none = refl;
+  shared = refl;
+  shared_of_number = refl;
+  shared_of_owner = refl;
+  shared_of_unknown = refl;
+  shared_of_other = refl;
+}

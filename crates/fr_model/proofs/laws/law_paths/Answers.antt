@@ -1,4 +1,4 @@
-use Rattle.fr_model.proofs.Paths.{as_deep, content_adds, default_keeps, enter_adds, leave_as_it_is, leave_drops, put_keeps, select_keeps, some_adds}
+use Rattle.fr_model.proofs.Paths.{as_deep, close_slice_keeps, content_adds, default_keeps, enter_adds, item_adds, leave_as_it_is, leave_drops, open_keeps, open_slice_keeps, put_keeps, select_keeps, some_adds}
 use Rattle.fr_model.specs.Tree.{cursor_shape}
 use Rattle.fr_model.proofs.Finishes.{finish_keeps_path}
 use Rattle.fr_model.proofs.laws.law_paths.Goals as goal
@@ -33,3 +33,15 @@ returns-clause-select c table s state k leads = select_keeps table s state k lea
 
 pub returns-clause-default : goal.returns-clause-default
 returns-clause-default c table s state i v leads = default_keeps table s state i v leads
+
+pub returns-clause-enter_item : goal.returns-clause-enter_item
+returns-clause-enter_item c table s state form children leads is = item_adds table s state form children leads is
+
+pub returns-clause-open : goal.returns-clause-open
+returns-clause-open c table s state leads = open_keeps table s state leads
+
+pub returns-clause-open_slice : goal.returns-clause-open_slice
+returns-clause-open_slice c table s state leads = open_slice_keeps table s state leads
+
+pub returns-clause-close_slice : goal.returns-clause-close_slice
+returns-clause-close_slice c state leads = close_slice_keeps state leads

@@ -1,4 +1,4 @@
-use Rattle.fr_model.proofs.Moves.{step_keeps_order, step_keeps_distinct, start_is_well}
+use Rattle.fr_model.proofs.Moves.{step_keeps_order, step_keeps_rest, step_keeps_distinct, start_is_well}
 use Rattle.fr_model.proofs.laws.law_well.Goals as goal
 
 pub returns-clause-start : goal.returns-clause-start
@@ -11,3 +11,7 @@ returns-clause-in_order c hooks table root state next command checked order fit 
 pub returns-clause-distinct : goal.returns-clause-distinct
 returns-clause-distinct c hooks table root state next command checked well fresh e =
     step_keeps_distinct hooks table root state next command checked well fresh e
+
+pub returns-clause-rests : goal.returns-clause-rests
+returns-clause-rests c hooks table root state next command checked order rests fit e =
+    step_keeps_rest hooks table root state next command checked order rests fit e

@@ -6,10 +6,9 @@ use Rattle.fr_store.specs.MoveLaws.{top_in_use}
 use Rattle.fr_store.specs.Stored.{NothingStored}
 use Rattle.fr_store.specs.Turning.{FinishedHere, LacksHere}
 use Rattle.fr_store.proofs.finishing.complete_top.Goals as goal
-use Rattle.fr_store.proofs.finishing.complete_top.Goals.{then-entered, else-entered}
 
-pub is_entered-entered-requires : goal.is_entered-entered-requires
-is_entered-entered-requires g c =
+pub becomes_whole-whole-requires : goal.becomes_whole-whole-requires
+becomes_whole-whole-requires g c =
     top_in_use c.args.plan.now c.args.slots.now c.args.stack.now c.requires.is_open c.in-Some.top.0 c.in-Some.ensures.last
 
 pub complete_by_defaults-requires-clause-place : goal.complete_by_defaults-requires-clause-place
@@ -31,50 +30,36 @@ returns-in_err-complete_by_defaults-clause-why g c =
     c.requires.plan c.requires.suits (g.H.Hooks.means c.args.hooks.now) c.in_err-complete_by_defaults.field-0.0
     c.in_err-complete_by_defaults.ensures.why))
 
-pub returns-clause-finished : goal.returns-clause-finished
-returns-clause-finished g c =
-    elim c.if-entered.branch [
-      | then-entered w ↦ (
-          subst
-          (FinishedHere (g.H.Hooks.means c.args.hooks.now) c.args.table.now c.args.plan.now c.args.slots.now c.args.stack.now)
-          (sym w.slots-is)
-          (finished_whole c.args.plan.now c.args.slots.now c.args.stack.now c.requires.is_open c.in-Some.top.0
-          c.in-Some.ensures.last c.requires.strict c.law_plan_lookups.ensures.agree c.law_plan_lookups.ensures.paths
-          c.args.table.now c.requires.checked c.requires.plan c.requires.suits (g.H.Hooks.means c.args.hooks.now)
-          c.complete_by_defaults.new.slots c.in_ok-complete_by_defaults.ensures.filled c.law_completes.ensures.tokens
-          w.make_whole.new.slots (λ t. w.make_whole.ensures.tokens t ∙ c.complete_by_defaults.ensures.tokens t)
-          w.make_whole.ensures.whole w.if-entered.ensures)
-          )
-      | else-entered w ↦ (
-          subst
-          (FinishedHere (g.H.Hooks.means c.args.hooks.now) c.args.table.now c.args.plan.now c.args.slots.now c.args.stack.now)
-          (sym w.slots-is)
-          (finished_begun c.args.plan.now c.args.slots.now c.args.stack.now c.requires.is_open c.in-Some.top.0
-          c.in-Some.ensures.last c.requires.strict c.law_plan_lookups.ensures.agree c.law_plan_lookups.ensures.paths
-          c.args.table.now c.requires.checked c.requires.plan c.requires.suits (g.H.Hooks.means c.args.hooks.now)
-          c.complete_by_defaults.new.slots c.in_ok-complete_by_defaults.ensures.filled c.law_completes.ensures.tokens
-          c.complete_by_defaults.ensures.tokens c.in_ok-complete_by_defaults.ensures.form w.if-entered.ensures)
-          )
-    ]
+pub returns-then-not-whole-clause-finished : goal.returns-then-not-whole-clause-finished
+returns-then-not-whole-clause-finished g c =
+    finished_begun c.args.plan.now c.args.slots.now c.args.stack.now c.requires.is_open c.in-Some.top.0 c.in-Some.ensures.last
+    c.requires.strict c.law_plan_lookups.ensures.agree c.law_plan_lookups.ensures.paths c.args.table.now c.requires.checked
+    c.requires.plan c.requires.suits (g.H.Hooks.means c.args.hooks.now) c.complete_by_defaults.new.slots
+    c.in_ok-complete_by_defaults.ensures.filled c.law_completes.ensures.tokens c.complete_by_defaults.ensures.tokens
+    c.in_ok-complete_by_defaults.ensures.form c.if-not-whole.ensures
 
-pub returns-clause-strict : goal.returns-clause-strict
-returns-clause-strict g c =
-    elim c.if-entered.branch [
-      | then-entered w ↦ (
-          subst NothingStored (sym w.slots-is)
-          (nothing_whole c.args.plan.now c.args.slots.now c.args.stack.now c.requires.is_open c.in-Some.top.0
-          c.in-Some.ensures.last c.requires.strict c.law_plan_lookups.ensures.agree c.law_plan_lookups.ensures.paths
-          c.args.table.now c.requires.checked c.requires.plan c.requires.suits (g.H.Hooks.means c.args.hooks.now)
-          c.complete_by_defaults.new.slots c.in_ok-complete_by_defaults.ensures.filled c.law_completes.ensures.tokens
-          w.make_whole.new.slots (λ t. w.make_whole.ensures.tokens t ∙ c.complete_by_defaults.ensures.tokens t)
-          w.make_whole.ensures.whole w.if-entered.ensures)
-          )
-      | else-entered w ↦ (
-          subst NothingStored (sym w.slots-is)
-          (nothing_begun c.args.plan.now c.args.slots.now c.args.stack.now c.requires.is_open c.in-Some.top.0
-          c.in-Some.ensures.last c.requires.strict c.law_plan_lookups.ensures.agree c.law_plan_lookups.ensures.paths
-          c.args.table.now c.requires.checked c.requires.plan c.requires.suits (g.H.Hooks.means c.args.hooks.now)
-          c.complete_by_defaults.new.slots c.in_ok-complete_by_defaults.ensures.filled c.law_completes.ensures.tokens
-          c.complete_by_defaults.ensures.tokens c.in_ok-complete_by_defaults.ensures.form w.if-entered.ensures)
-          )
-    ]
+pub returns-then-not-whole-clause-strict : goal.returns-then-not-whole-clause-strict
+returns-then-not-whole-clause-strict g c =
+    nothing_begun c.args.plan.now c.args.slots.now c.args.stack.now c.requires.is_open c.in-Some.top.0 c.in-Some.ensures.last
+    c.requires.strict c.law_plan_lookups.ensures.agree c.law_plan_lookups.ensures.paths c.args.table.now c.requires.checked
+    c.requires.plan c.requires.suits (g.H.Hooks.means c.args.hooks.now) c.complete_by_defaults.new.slots
+    c.in_ok-complete_by_defaults.ensures.filled c.law_completes.ensures.tokens c.complete_by_defaults.ensures.tokens
+    c.in_ok-complete_by_defaults.ensures.form c.if-not-whole.ensures
+
+pub returns-in-Ok-clause-finished : goal.returns-in-Ok-clause-finished
+returns-in-Ok-clause-finished g c =
+    finished_whole c.args.plan.now c.args.slots.now c.args.stack.now c.requires.is_open c.in-Some.top.0 c.in-Some.ensures.last
+    c.requires.strict c.law_plan_lookups.ensures.agree c.law_plan_lookups.ensures.paths c.args.table.now c.requires.checked
+    c.requires.plan c.requires.suits (g.H.Hooks.means c.args.hooks.now) c.complete_by_defaults.new.slots
+    c.in_ok-complete_by_defaults.ensures.filled c.law_completes.ensures.tokens c.make_whole.new.slots
+    (λ t. c.make_whole.ensures.tokens t ∙ c.complete_by_defaults.ensures.tokens t) c.in-Ok.ensures.whole
+    c.if-not-whole.ensures
+
+pub returns-in-Ok-clause-strict : goal.returns-in-Ok-clause-strict
+returns-in-Ok-clause-strict g c =
+    nothing_whole c.args.plan.now c.args.slots.now c.args.stack.now c.requires.is_open c.in-Some.top.0 c.in-Some.ensures.last
+    c.requires.strict c.law_plan_lookups.ensures.agree c.law_plan_lookups.ensures.paths c.args.table.now c.requires.checked
+    c.requires.plan c.requires.suits (g.H.Hooks.means c.args.hooks.now) c.complete_by_defaults.new.slots
+    c.in_ok-complete_by_defaults.ensures.filled c.law_completes.ensures.tokens c.make_whole.new.slots
+    (λ t. c.make_whole.ensures.tokens t ∙ c.complete_by_defaults.ensures.tokens t) c.in-Ok.ensures.whole
+    c.if-not-whole.ensures

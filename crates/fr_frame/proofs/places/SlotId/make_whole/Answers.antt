@@ -1,22 +1,34 @@
 use Rattle.std.proofs.Common.{◌≡◌, List, Some, set, subst, arith}
+use Rattle.std.proofs.lemmas.Result.{on_ok_weaker, IfErr-weaker}
 use Rattle.fr_shape.specs.Val.{Val}
 use Rattle.fr_frame.specs.declared.places.Slot.{Slot}
 use Rattle.fr_frame.specs.Bodies.{Body, value_of, whole_body}
 use Rattle.fr_frame.specs.Changes.{Becomes}
 use Rattle.fr_frame.specs.Heap.{Node, node_of}
-use Rattle.fr_frame.proofs.PlaceLaws.{repieced, of_place, becomes, occur_change}
+use Rattle.fr_frame.proofs.PlaceLaws.{repieced, of_place, becomes, shows_same, occur_change}
 use Rattle.fr_frame.proofs.places.SlotId.make_whole.Goals as goal
 
 pub returns-clause-whole : goal.returns-clause-whole
 returns-clause-whole c =
     let after : List Slot
     = set c.args.slots.now c.args.self.0 (Slot.Used (repieced c.place_mut-place.result.now c.make_whole.new.piece)) in
+    on_ok_weaker c.make_whole.result
+    (λ whole.
     of_place c.args.slots.now c.args.self.0 c.place_mut-place.result.now c.place_mut-place.ensures.value
     (λ (at : Node). (v : Val) → value_of at.body ≡ Some v → Becomes c.args.slots.now after c.args.self.0 at (whole_body v))
     (λ v is.
     subst (λ (body : Body). Becomes c.args.slots.now after c.args.self.0 (node_of c.place_mut-place.result.now) body)
-    (c.make_whole.ensures.whole v is)
-    (becomes c.args.slots.now c.args.self.0 c.place_mut-place.result.now c.place_mut-place.ensures.value c.make_whole.new.piece))
+    (whole v is)
+    (becomes c.args.slots.now c.args.self.0 c.place_mut-place.result.now c.place_mut-place.ensures.value
+    c.make_whole.new.piece)))
+    c.make_whole.ensures.whole
+
+pub returns-clause-refused : goal.returns-clause-refused
+returns-clause-refused c =
+    IfErr-weaker c.make_whole.result _ _
+    (λ e.
+    shows_same c.args.slots.now c.args.self.0 c.place_mut-place.result.now c.place_mut-place.ensures.value c.make_whole.new.piece)
+    c.make_whole.ensures.refused
 
 pub returns-clause-tokens : goal.returns-clause-tokens
 returns-clause-tokens c t =

@@ -1,0 +1,234 @@
+-- Lists, arrays and pointers to slices: what is begun suits its shape and holds what was there, and so it is with one more item.
+use Rattle.std.proofs.Common.{◌≡◌, ℕ, suc, ◌+◌, ◌≤◌, leb-true, nat_le, Bool, true, false, if◌then◌else◌, [], ◌∷◌, Option, Some, None, refl, sym, subst, arith}
+use Rattle.std.specs.Option.{option_or}
+use Rattle.fr_shape.specs.declared.shape.Def.{Def}
+use Rattle.fr_shape.specs.declared.shape.KnownPointer.{KnownPointer}
+use Rattle.fr_shape.specs.declared.shape.ShapeId.{ShapeId}
+use Rattle.fr_shape.specs.declared.error.Operation.{Operation}
+use Rattle.fr_shape.specs.Fits.{fits, all_fit, points_at}
+use Rattle.fr_shape.specs.Look.{Table, def_of}
+use Rattle.fr_shape.specs.Val.{Val, Vals, unit, list_of, ptr, no_vals, first}
+use Rattle.fr_model.specs.Contents.{is_slice}
+use Rattle.fr_model.specs.Items.{unless_list, init_array_refusal, whole_array_refusal, begun_item_refusal, item_refusal, with_item, is_open_slice, closed_slice, shared_slice_by, shared_slice_refusal}
+use Rattle.fr_model.specs.Places.{array_limit}
+use Rattle.fr_model.specs.Step.{at_shape, opened, init_list_refusal}
+use Rattle.fr_model.specs.Tree.{Form, as_array, as_list, as_slice, Tree, hole, entered, whole, begun, Trees, no_trees, branch, and_last, child_as, count_trees, count_below, holes, wholes, fresh, tree_occurs, trees_occur, Mode}
+use Rattle.fr_model.specs.Well.{IsTouched, AreTouched, Suits, AllOff, AtCursor, OffBut}
+use Rattle.fr_model.proofs.Becoming.{Placed, closed_suits}
+use Rattle.fr_model.proofs.Opening.{enter_touched, fresh_suits, fresh_at_cursor, holes_off, wholes_off}
+use Rattle.fr_model.proofs.Structs.{SuitFrom, count_holes, holes_suit, settled_list, settled_pointer, settled_slice}
+use Rattle.fr_model.proofs.Templates.{both_true}
+use Rattle.fr_model.proofs.Tokens.{fresh_holds}
+
+-- A list or an array is begun
+
+items_suit : (table : Table) (s : ℕ) (item : ShapeId) → def_of table s ≡ Def.List item → (i : ℕ) (vs : Vals)
+    → all_fit table item.0 vs ≡ true → SuitFrom table s as_list i (wholes vs)
+items_suit table s item is i no_vals fit = tt
+items_suit table s item is i (first v vs) fit =
+    let both : (fits table item.0 v ≡ true) × (all_fit table item.0 vs ≡ true)
+    = both_true (fits table item.0 v) (all_fit table item.0 vs) fit in
+    let shape : child_as table s as_list i ≡ item.0 = rw is refl in
+    (rw shape both.0, items_suit table s item is (suc i) vs both.1)
+
+wholes_touched : (vs : Vals) → AreTouched (wholes vs)
+wholes_touched no_vals = tt
+wholes_touched (first v vs) = (tt, wholes_touched vs)
+
+whole_list : (mode : Mode) (table : Table) (s : ℕ) (item : ShapeId) (v : Val) → def_of table s ≡ Def.List item
+    → fits table s v ≡ true → Placed mode table s [] (opened (Def.List item) (whole v))
+whole_list mode table s item (list_of vs) is fit =
+    let items : all_fit table item.0 vs ≡ true = rw (settled_list table s item is) at fit in
+    record {
+      suits = ((rw is tt, tt), items_suit table s item is 0 vs items, wholes_touched vs);
+      leads = wholes_off mode vs;
+    }
+whole_list mode table s item unit is fit = cc
+whole_list mode table s item _ is fit = let none = rw (settled_list table s item is) at fit in cc
+
+pub list_opens : (mode : Mode) (table : Table) (s : ℕ) (t : Tree) → init_list_refusal s (def_of table s) t ≡ None
+    → Placed mode table s [] t → Placed mode table s [] (opened (def_of table s) t)
+list_opens mode table s hole e there = absurd there.leads
+list_opens mode table s entered e there = go (def_of table s) refl e
+  where
+    go : (def : Def) → def_of table s ≡ def → at_shape s (unless_list Operation.InitListOfOther def) ≡ None
+        → Placed mode table s [] (opened (def_of table s) entered)
+    go (Def.List item) is e =
+        subst (λ (def : Def). Placed mode table s [] (opened def entered)) (sym is)
+        (record { suits = ((rw is tt, tt), tt, tt); leads = tt })
+    go _ is e = cc
+list_opens mode table s (whole v) e there = go (def_of table s) refl e
+  where
+    go : (def : Def) → def_of table s ≡ def → at_shape s (unless_list Operation.InitListOfWholeOther def) ≡ None
+        → Placed mode table s [] (opened (def_of table s) (whole v))
+    go (Def.List item) is e =
+        subst (λ (def : Def). Placed mode table s [] (opened def (whole v))) (sym is)
+        (whole_list mode table s item v is there.suits)
+    go _ is e = cc
+list_opens mode table s (begun form ts) e there = there
+
+pub array_opens : (mode : Mode) (table : Table) (s : ℕ) (t : Tree) → at_shape s (init_array_refusal (def_of table s) t) ≡ None
+    → Placed mode table s [] t → Placed mode table s [] (opened (def_of table s) t)
+array_opens mode table s hole e there = absurd there.leads
+array_opens mode table s entered e there = go (def_of table s) refl e
+  where
+    few : (item : ShapeId) (n : ℕ) (b : Bool) → nat_le n array_limit ≡ b → def_of table s ≡ Def.Array item n
+        → at_shape s (option_or (if b then None else Some Operation.ArrayTooLarge) None) ≡ None
+        → Placed mode table s [] (opened (def_of table s) entered)
+    few item n true small is e =
+        let count : count_trees (holes n) ≡ n = count_holes n in
+        let limit : n ≤ array_limit = leb-true n array_limit small in
+        subst (λ (def : Def). Placed mode table s [] (opened def entered)) (sym is)
+        (record {
+          suits = ((rw is count, omega (arith, count, limit)), holes_suit table s as_array 0 n, tt);
+          leads = holes_off mode n;
+        })
+    few item n false small is e = cc
+
+    go : (def : Def) → def_of table s ≡ def → at_shape s (init_array_refusal def entered) ≡ None
+        → Placed mode table s [] (opened (def_of table s) entered)
+    go (Def.Array item n) is e = few item n (nat_le n array_limit) refl is e
+    go _ is e = cc
+array_opens mode table s (whole v) e there = go (def_of table s) e
+  where
+    go : (def : Def) → at_shape s (init_array_refusal def (whole v)) ≡ None
+        → Placed mode table s [] (opened (def_of table s) (whole v))
+    go (Def.Array item n) e = of_whole (nat_le n array_limit) e
+      where
+        of_whole : (b : Bool)
+            → at_shape s (option_or (if b then None else Some Operation.ArrayTooLarge) (whole_array_refusal (whole v))) ≡ None
+            → Placed mode table s [] (opened (def_of table s) (whole v))
+        of_whole true e = cc
+        of_whole false e = cc
+    go _ e = cc
+array_opens mode table s (begun form ts) e there = there
+
+-- An item is added
+
+-- a place begun so takes items
+abbrev pub TakesItems : Form → Type 0
+TakesItems as_list = Unit {0}
+TakesItems as_slice = Unit {0}
+TakesItems _ = ⊥
+
+pub record TakesAnItem (t : Tree) : Type 0 where
+  pub form : Form
+  pub children : Trees
+  pub is : t ≡ begun form children
+  pub takes : TakesItems form
+
+pub takes_an_item : (def : Def) (t : Tree) → item_refusal def t ≡ None → TakesAnItem t
+takes_an_item def (begun form ts) e = go form e
+  where
+    go : (form : Form) → begun_item_refusal def form ≡ None → TakesAnItem (begun form ts)
+    go as_list e = record { form = as_list; children = ts; is = refl; takes = tt }
+    go as_slice e = record { form = as_slice; children = ts; is = refl; takes = tt }
+    go _ e = cc
+takes_an_item def _ e = cc
+
+last_suits : (table : Table) (s : ℕ) (form : Form) (k i : ℕ) (ts : Trees) (last : Tree) → k ≡ i + count_trees ts
+    → SuitFrom table s form i ts → Suits table (child_as table s form k) last → SuitFrom table s form i (and_last ts last)
+last_suits table s form k i no_trees last is suit here =
+    (subst (λ (n : ℕ). Suits table (child_as table s form n) last) (omega arith) here, tt)
+last_suits table s form k i (branch t ts) last is suit here =
+    (suit.0, last_suits table s form k (suc i) ts last (omega arith) suit.1 here)
+
+last_touched : (ts : Trees) (last : Tree) → AreTouched ts → IsTouched last → AreTouched (and_last ts last)
+last_touched no_trees last touched here = (here, tt)
+last_touched (branch t ts) last touched here = (touched.0, last_touched ts last touched.1 here)
+
+last_leads : (mode : Mode) (ts : Trees) (last : Tree) → AllOff mode ts → AtCursor mode last
+    → OffBut mode (count_trees ts) (λ child. AtCursor mode child) (and_last ts last)
+last_leads mode no_trees last off here = (here, tt)
+last_leads mode (branch t ts) last off here = (off.0, last_leads mode ts last off.1 here)
+
+pub last_holds : (ts : Trees) (last : Tree) (t : ℕ)
+    → trees_occur (and_last ts last) t ≡ trees_occur ts t + tree_occurs last t
+last_holds no_trees last t = omega arith
+last_holds (branch tree ts) last t = let rest = last_holds ts last t in omega arith
+
+-- the place with one more item, to which the cursor may go
+pub item_placed : (mode : Mode) (table : Table) (s : ℕ) (t : Tree) → TakesAnItem t → Placed mode table s [] t
+    → Placed mode table s (count_below t ∷ []) (with_item table s t)
+item_placed mode table s t takes there =
+    subst (λ (u : Tree). Placed mode table s (count_below u ∷ []) (with_item table s u)) (sym takes.is)
+    (go takes.form takes.children takes.takes
+    (subst (λ (u : Tree). Placed mode table s [] u) takes.is there))
+  where
+    go : (form : Form) (ts : Trees) → TakesItems form → Placed mode table s [] (begun form ts)
+        → Placed mode table s (count_trees ts ∷ []) (with_item table s (begun form ts))
+    go as_list ts takes there =
+        let shape : ℕ = child_as table s as_list (count_trees ts) in
+        record {
+          suits = (
+            there.suits.0,
+            last_suits table s as_list (count_trees ts) 0 ts (fresh (def_of table shape)) (omega arith) there.suits.1
+                (fresh_suits table shape),
+            last_touched ts (fresh (def_of table shape)) there.suits.2 (enter_touched (def_of table shape) hole),
+          );
+          leads = last_leads mode ts (fresh (def_of table shape)) there.leads (fresh_at_cursor mode (def_of table shape));
+        }
+    go as_slice ts takes there =
+        let shape : ℕ = child_as table s as_slice (count_trees ts) in
+        record {
+          suits = (
+            there.suits.0,
+            last_suits table s as_slice (count_trees ts) 0 ts (fresh (def_of table shape)) (omega arith) there.suits.1
+                (fresh_suits table shape),
+            (last_touched ts (fresh (def_of table shape)) there.suits.2.0 (enter_touched (def_of table shape) hole), there.suits.2.1),
+          );
+          leads = last_leads mode ts (fresh (def_of table shape)) there.leads (fresh_at_cursor mode (def_of table shape));
+        }
+    go _ ts takes there = absurd takes
+
+pub item_holds : (table : Table) (s : ℕ) (t : Tree) (token : ℕ) → tree_occurs (with_item table s t) token ≡ tree_occurs t token
+item_holds table s (begun form ts) token =
+    let shape : ℕ = child_as table s form (count_trees ts) in
+    let last = last_holds ts (fresh (def_of table shape)) token in
+    let none = fresh_holds (def_of table shape) token in
+    omega arith
+item_holds table s hole token = refl
+item_holds table s entered token = refl
+item_holds table s (whole v) token = refl
+
+-- Pointers to slices
+
+-- a pointer to a slice that is open is closed
+pub slice_closes : (mode : Mode) (table : Table) (s : ℕ) (t : Tree) → is_open_slice t ≡ true → Placed mode table s [] t
+    → Placed mode table s [] (closed_slice t)
+slice_closes mode table s (begun as_slice ts) e there =
+    record { suits = closed_suits table s ts there.suits; leads = there.leads }
+slice_closes mode table s (begun _ ts) e there = cc
+slice_closes mode table s hole e there = cc
+slice_closes mode table s entered e there = cc
+slice_closes mode table s (whole v) e there = cc
+
+pub closed_holds : (t : Tree) (token : ℕ) → tree_occurs (closed_slice t) token ≡ tree_occurs t token
+closed_holds hole token = refl
+closed_holds entered token = refl
+closed_holds (whole v) token = refl
+closed_holds (begun form ts) token = refl
+
+-- an empty borrowed slice fits where it may be put
+pub shared_fits : (table : Table) (s : ℕ) → shared_slice_refusal table (def_of table s) ≡ None
+    → fits table s (ptr (list_of no_vals)) ≡ true
+shared_fits table s e = go (def_of table s) refl e
+  where
+    of_slice : (t : ShapeId) (def : Def) → def_of table t.0 ≡ def
+        → (if is_slice def then None else Some Operation.PointeeNotSlice) ≡ None → fits table t.0 (list_of no_vals) ≡ true
+    of_slice t (Def.Slice item) to e = rw (settled_slice table t.0 item to) refl
+    of_slice t _ to e = cc
+
+    by_known : (known : Option KnownPointer) (pointee : Option ShapeId) → shared_slice_by table known pointee ≡ None
+        → points_at pointee (λ t. fits table t (list_of no_vals)) ≡ true
+    by_known (Some KnownPointer.SharedReference) (Some t) e = of_slice t (def_of table t.0) refl e
+    by_known (Some KnownPointer.SharedReference) None e = cc
+    by_known (Some KnownPointer.Box) pointee e = cc
+    by_known (Some KnownPointer.Arc) pointee e = cc
+    by_known (Some KnownPointer.Rc) pointee e = cc
+    by_known None pointee e = cc
+
+    go : (def : Def) → def_of table s ≡ def → shared_slice_refusal table def ≡ None → fits table s (ptr (list_of no_vals)) ≡ true
+    go (Def.Pointer pointer) is e =
+        rw (settled_pointer table s pointer is) (by_known pointer.known pointer.pointee e)
+    go _ is e = cc

@@ -1,0 +1,389 @@
+-- Laws of items, for proofs: the top has one more child behind the others, which gets a slot and is on top then.
+use Rattle.std.proofs.Common.{◌≡◌, ◌≢◌, ℕ, zero, suc, ◌+◌, ◌<◌, ◌≤◌, true, false, List, [], ◌∷◌, ◌++◌, length, Option, Some, None, refl, sym, ◌∙◌, ap, subst, arith}
+use Rattle.std.specs.Prelude.{IsSome}
+use Rattle.fr_shape.specs.declared.shape.Def.{Def}
+use Rattle.fr_path.specs.declared.path_steps.PathStep.{PathStep}
+use Rattle.fr_model.specs.Paths.{step_as}
+use Rattle.fr_model.specs.Places.{Place}
+use Rattle.fr_model.specs.Tree.{Form, as_struct, as_array, as_variant, as_some, as_ok, as_err, as_pointer, as_list, as_slice, as_closed_slice, Tree, Trees, begun, branch, and_last, count_below, count_trees, tree_at, change_at}
+use Rattle.fr_plan.specs.declared.nodes.NodeId.{NodeId}
+use Rattle.fr_plan.specs.TypePlan.{Plan}
+use Rattle.fr_frame.specs.declared.places.FrameOwner.{FrameOwner}
+use Rattle.fr_frame.specs.declared.places.Slot.{Slot}
+use Rattle.fr_frame.specs.Bodies.{Body, begun_body, added, count_cells, IsGrowing, IsUnplaced, TakesItems}
+use Rattle.fr_frame.specs.Cells.{Cell, absent}
+use Rattle.fr_frame.specs.Changes.{IfInUse, SameMarks, SameTokens, Shows}
+use Rattle.fr_frame.specs.Heap.{Node, Heap, depth_above, depth_below, depth_limit, heap_of, item_owner, stored_in, with_body, with_entered}
+use Rattle.fr_frame.specs.Kids.{Kid, gone, there, at, Plot, entered_plot, whole_plot, begun_plot, Kids, no_kids, kid, MayHave, tree_of, tree_in, trees_in, cell_of, cells_in, body_in, kid_occurs, kids_occur, plot_occurs, child_node, child_owner, HoldsAll}
+use Rattle.fr_store.specs.ChildLaws.{count_kids_trees, plot_formed}
+use Rattle.fr_store.specs.EnterLaws.{all_entered, child_plot, entered_kid, fresh_plot, fresh_tree, stands_entered, stay_entered, tokens_entered}
+use Rattle.fr_store.specs.MoveLaws.{open_at_from, open_reach, open_top, so_top, tokens_kept, top_found, top_node, top_slot, top_so, top_stands_in}
+use Rattle.fr_store.specs.Moves.{HasForm, IsOpenAt, count_here, cursor_in, node_here, tree_here, tree_in_slots, with_item_of}
+use Rattle.fr_store.specs.Numbers.{IsLast}
+use Rattle.fr_store.specs.Places.{IsPlaced, slot_at, slot_here}
+use Rattle.fr_store.specs.StandLaws.{all_kept, AllServe}
+use Rattle.fr_store.specs.Stands.{IsOpen, Stands, kid_here}
+use Rattle.fr_store.specs.StayLaws.{stay_all, stay_shown}
+use Rattle.fr_store.specs.Staying.{AllStayPut}
+use Rattle.fr_store.specs.TopLaws.{KeepsChildren, Top, body_here, body_other, cells_count, marked_body, marked_entered, top_of, top_uses, used_mapped}
+use Rattle.fr_store.specs.Ways.{count_kids, kid_at, kid_nth, node_along, put_at, put_nth, uses, uses_among, AllMarkedAmong, Reaches}
+use Rattle.fr_store.specs.WayLaws.{kid_put_at, occurs_put_at, put_at_twice, tree_change_at, tree_of_at}
+
+-- One child more.
+
+abbrev pub kids_and_last : Kids → (last : Kid) → Kids
+kids_and_last no_kids last = kid last no_kids
+kids_and_last (kid k ks) last = kid k (kids_and_last ks last)
+
+count_and_last : (ks : Kids) (last : Kid) → count_kids (kids_and_last ks last) ≡ suc (count_kids ks)
+count_and_last no_kids last = refl
+count_and_last (kid k ks) last = ap suc (count_and_last ks last)
+
+cells_and_last : (ks : Kids) → cells_in (kids_and_last ks gone) ≡ cells_in ks ++ absent ∷ []
+cells_and_last no_kids = refl
+cells_and_last (kid k ks) = ap (λ (cs : List Cell). cell_of k ∷ cs) (cells_and_last ks)
+
+trees_and_last : (ks : Kids) (last : Kid) → trees_in (kids_and_last ks last) ≡ and_last (trees_in ks) (tree_of last)
+trees_and_last no_kids last = refl
+trees_and_last (kid k ks) last = ap (λ (ts : Trees). branch (tree_of k) ts) (trees_and_last ks last)
+
+nth_last : (ks : Kids) (last : Kid) → kid_nth (count_kids ks) (kids_and_last ks last) ≡ last
+nth_last no_kids last = refl
+nth_last (kid k ks) last = nth_last ks last
+
+nth_before : (i : ℕ) (ks : Kids) (last : Kid) → i < count_kids ks → kid_nth i (kids_and_last ks last) ≡ kid_nth i ks
+nth_before i no_kids last h = absurd (omega arith)
+nth_before zero (kid k ks) last h = refl
+nth_before (suc i) (kid k ks) last h = nth_before i ks last (omega arith)
+
+put_last : (ks : Kids) (old new : Kid) → put_nth (count_kids ks) new (kids_and_last ks old) ≡ kids_and_last ks new
+put_last no_kids old new = refl
+put_last (kid k ks) old new = ap (λ (xs : Kids). kid k xs) (put_last ks old new)
+
+-- while it isn't there, it has no slots and no tokens
+uses_and_last : (ks : Kids) (n : ℕ) → uses_among (kids_and_last ks gone) n ≡ uses_among ks n
+uses_and_last no_kids n = refl
+uses_and_last (kid k ks) n = ap (λ (m : ℕ). uses k n + m) (uses_and_last ks n)
+
+occurs_and_last : (ks : Kids) (t : ℕ) → kids_occur (kids_and_last ks gone) t ≡ kids_occur ks t
+occurs_and_last no_kids t = refl
+occurs_and_last (kid k ks) t = ap (λ (m : ℕ). kid_occurs k t + m) (occurs_and_last ks t)
+
+marked_and_last : (ks : Kids) → AllMarkedAmong true ks → AllMarkedAmong true (kids_and_last ks gone)
+marked_and_last no_kids all = (tt, tt)
+marked_and_last (kid k ks) all = (all.0, marked_and_last ks all.1)
+
+holds_and_last : (plan : Plan) (heap : Heap) (node : NodeId) (slot : ℕ) (form : Form) (i depth : ℕ) (ks : Kids)
+    → ((count : ℕ) → MayHave form count) → HoldsAll plan heap node slot form i depth ks
+    → HoldsAll plan heap node slot form i depth (kids_and_last ks gone)
+holds_and_last plan heap node slot form i depth no_kids may holds = (tt, may (suc i))
+holds_and_last plan heap node slot form i depth (kid k ks) may holds =
+    (holds.0, holds_and_last plan heap node slot form (suc i) depth ks may holds.1)
+
+-- Forms that take items.
+
+items_may_have : (form : Form) (count : ℕ) → TakesItems form → MayHave form count
+items_may_have as_list count takes = tt
+items_may_have as_slice count takes = tt
+items_may_have as_closed_slice count takes = absurd takes
+items_may_have as_struct count takes = absurd takes
+items_may_have as_array count takes = absurd takes
+items_may_have (as_variant k) count takes = absurd takes
+items_may_have as_some count takes = absurd takes
+items_may_have as_ok count takes = absurd takes
+items_may_have as_err count takes = absurd takes
+items_may_have as_pointer count takes = absurd takes
+
+step_of_item : (form : Form) (i : ℕ) → TakesItems form → step_as form i ≡ PathStep.Index i
+step_of_item as_list i takes = refl
+step_of_item as_slice i takes = refl
+step_of_item as_closed_slice i takes = absurd takes
+step_of_item as_struct i takes = absurd takes
+step_of_item as_array i takes = absurd takes
+step_of_item (as_variant k) i takes = absurd takes
+step_of_item as_some i takes = absurd takes
+step_of_item as_ok i takes = absurd takes
+step_of_item as_err i takes = absurd takes
+step_of_item as_pointer i takes = absurd takes
+
+-- the place keeps its other children
+grown_keeps : (form : Form) (kids : Kids) → TakesItems form
+    → KeepsChildren (begun_plot form kids) (begun_plot form (kids_and_last kids gone))
+grown_keeps form kids takes = record {
+  marked = λ h. marked_and_last kids h;
+  once = λ n. omega (arith, uses_and_last kids n);
+  holds = λ plan heap node slot depth h.
+      holds_and_last plan heap node slot form 0 depth kids (λ count. items_may_have form count takes) h;
+}
+
+grown_stay : (slot : ℕ) (form : Form) (kids : Kids)
+    → AllStayPut (at slot false (begun_plot form kids)) (at slot false (begun_plot form (kids_and_last kids gone)))
+grown_stay slot form kids [] placed = (record { reaches = tt; here = tt }, refl)
+grown_stay slot form kids (i ∷ place) placed =
+    let same = nth_before i kids gone placed.reaches.0 in
+    let below = subst (λ (x : Kid). IsPlaced x place) (sym same) (record { reaches = placed.reaches.1; here = placed.here }) in (
+      record {
+        reaches = (omega (arith, placed.reaches.0, count_and_last kids gone), below.reaches);
+        here = below.here;
+      },
+      ap (λ (x : Kid). slot_here (kid_at place x)) same,
+    )
+
+-- An open builder's top takes items.
+module _ (plan : Plan) (before : List Slot) (stack : List ℕ) (open_now : IsOpen plan before stack) (p : ℕ) (last : IsLast stack p)
+    (form : Form) (kids : Kids) (begun_now : (open_top plan before stack open_now).plot ≡ begun_plot form kids)
+    (takes : TakesItems form) where
+  abbrev k : Kid
+  k = kid_here before stack
+
+  abbrev place : Place
+  place = cursor_in before stack
+
+  abbrev top : Top plan (heap_of before) stack (cursor_in before stack) (kid_here before stack)
+  top = open_top plan before stack open_now
+
+  -- with one child more, which isn't there yet
+  abbrev grown : Heap
+  grown = with_body (heap_of before) p added
+
+  abbrev more : Kids
+  more = kids_and_last kids gone
+
+  abbrev new : Kid
+  new = at top.slot false (begun_plot form more)
+
+  abbrev first : Kid
+  first = put_at place new k
+
+  reach : Reaches place k
+  reach = open_reach plan before stack open_now
+
+  pub takes_here : IfInUse before p (λ (found : Node). IsGrowing found.body)
+  unfolding top_node
+  takes_here =
+      so_top plan before stack open_now p last (λ (found : Node). IsGrowing found.body)
+      (subst (λ (plot : Plot). IsGrowing (body_in plot)) (sym begun_now) takes)
+
+  grown_body : begun_body form (cells_in more) ≡ added (body_in top.plot)
+  grown_body = ap (begun_body form) (cells_and_last kids) ∙ ap (λ (plot : Plot). added (body_in plot)) (sym begun_now)
+
+  stands_grown : Stands plan grown stack place first
+  stands_grown =
+      top_stands_in plan before grown stack open_now p last added (begun_plot form more) grown_body
+      (subst (λ (plot : Plot). KeepsChildren plot (begun_plot form more)) (sym begun_now) (grown_keeps form kids takes))
+      (λ m. refl)
+
+  stay_grown : AllStayPut k first
+  stay_grown =
+      stay_all place new k reach
+      (subst (λ (x : Kid). AllStayPut x new) (sym (top.is ∙ ap (λ (plot : Plot). at top.slot false plot) begun_now))
+      (grown_stay top.slot form kids))
+
+  -- each slot in use is still that of a place
+  all_grown : AllServe grown first
+  all_grown =
+      all_kept (heap_of before) grown place new k reach open_now.all
+      (λ m used. used_mapped (heap_of before) p (λ (x : Node). record x { body = added x.body }) m used)
+      (λ m.
+      let was : uses (kid_at place k) m ≡ uses (at top.slot false (begun_plot form kids)) m
+      = ap (λ (x : Kid). uses x m) (top.is ∙ ap (λ (plot : Plot). at top.slot false plot) begun_now) in
+      omega (arith, was, uses_and_last kids m))
+
+  occurs_grown : (t : ℕ) → kid_occurs first t ≡ kid_occurs k t
+  occurs_grown t =
+      let was : kid_occurs (kid_at place k) t ≡ kids_occur kids t
+      = ap (λ (x : Kid). kid_occurs x t) (top.is ∙ ap (λ (plot : Plot). at top.slot false plot) begun_now) in
+      omega (arith, occurs_put_at place new k t reach, was, occurs_and_last kids t)
+
+  -- what is on top of that
+  abbrev now : Top plan grown stack place first
+  now = top_of plan grown stack place first stands_grown
+
+  now_is : new ≡ at now.slot false now.plot
+  now_is = sym (kid_put_at place new k reach) ∙ now.is
+
+  slot_same : now.slot ≡ top.slot
+  slot_same = let is = now_is in cc
+
+  plot_same : now.plot ≡ begun_plot form more
+  plot_same = let is = now_is in cc
+
+  slot_is : now.slot ≡ p
+  slot_is = slot_same ∙ top_slot plan before stack open_now p last
+
+  same_node : node_along plan plan.root place first ≡ node_along plan plan.root place k
+  unfolding top_node
+  same_node =
+      ap (λ (found : Option Node). node_of found)
+      (sym now.here ∙ ap grown slot_is ∙ body_here (heap_of before) p added (top_node plan before stack open_now p last)
+      (top_found plan before stack open_now p last))
+    where
+      node_of : Option Node → NodeId
+      node_of (Some found) = found.node
+      node_of None = plan.root
+
+  within : count_kids kids < count_kids more
+  within = omega (arith, count_and_last kids gone)
+
+  unplaced : IsUnplaced (cell_of (kid_nth (count_kids kids) more))
+  unplaced = subst (λ (x : Kid). IsUnplaced (cell_of x)) (sym (nth_last kids gone)) tt
+
+  owner_same : item_owner p (body_in top.plot) ≡ child_owner now.slot form (count_kids kids)
+  owner_same =
+      ap (λ (count : ℕ). FrameOwner.Child (record { 0 = p }) (PathStep.Index count))
+      (ap (λ (plot : Plot). count_cells (body_in plot)) begun_now ∙ cells_count kids)
+      ∙ ap (λ (step : PathStep). FrameOwner.Child (record { 0 = p }) step) (sym (step_of_item form (count_kids kids) takes))
+      ∙ ap (λ (m : ℕ). child_owner m form (count_kids kids)) (sym slot_is)
+
+  module _ (after : List Slot) (next : List ℕ) (def : Def) (n : ℕ) (node : NodeId)
+      (is : node ≡ child_node plan (node_along plan plan.root place k) form (count_kids kids)) (vacant : heap_of before n ≡ None)
+      (shows : IfInUse before p (λ (found : Node). Shows after
+      (with_entered def (with_body (heap_of before) p added) node (item_owner p found.body) n)))
+      (limit : IfInUse before p (λ (found : Node). depth_below (heap_of before) (item_owner p found.body) < depth_limit))
+      (tokens : SameTokens before after) (along : next ≡ stack ++ n ∷ []) where
+    apart : n ≢ p
+    apart e = let wrong = sym vacant ∙ ap (heap_of before) e ∙ top_found plan before stack open_now p last in cc
+
+    free : grown n ≡ None
+    free = body_other (heap_of before) p added n apart ∙ vacant
+
+    shown : (m : ℕ) → heap_of after m
+        ≡ with_entered def grown (child_node plan (node_along plan plan.root place first) form (count_kids kids))
+        (child_owner now.slot form (count_kids kids)) n m
+    unfolding top_node
+    shown m =
+        top_so plan before stack open_now p last
+        (λ (found : Node). Shows after (with_entered def grown node (item_owner p found.body) n)) shows m
+        ∙ ap (λ (o : FrameOwner). with_entered def grown node o n m) owner_same
+        ∙ ap (λ (x : NodeId). with_entered def grown x (child_owner now.slot form (count_kids kids)) n m)
+        (is ∙ ap (λ (x : NodeId). child_node plan x form (count_kids kids)) (sym same_node))
+
+    deep : depth_below grown (child_owner now.slot form (count_kids kids)) < depth_limit
+    unfolding top_node
+    deep =
+        let was : depth_above (heap_of before p) < depth_limit
+        = top_so plan before stack open_now p last
+        (λ (found : Node). depth_below (heap_of before) (item_owner p found.body) < depth_limit) limit in
+        subst (λ (d : ℕ). d < depth_limit)
+        (ap depth_above (top_found plan before stack open_now p last) ∙ sym (ap depth_above now.here)) was
+
+    abbrev item : Kid
+    item =
+        entered_kid plan grown (heap_of after) stack place first stands_grown now form more plot_same (count_kids kids) within
+        unplaced def n free shown deep
+
+    abbrev second : Kid
+    second = put_at place item first
+
+    tree_second : tree_of second ≡ change_at place (with_item_of def) (tree_of k)
+    tree_second =
+        let fresh_child : child_plot def (kid_nth (count_kids kids) more) ≡ fresh_plot def
+        = ap (child_plot def) (nth_last kids gone) in
+        let children : put_nth (count_kids kids) (at n false (child_plot def (kid_nth (count_kids kids) more))) more
+        ≡ kids_and_last kids (at n false (fresh_plot def))
+        = ap (λ (plot : Plot). put_nth (count_kids kids) (at n false plot) more) fresh_child
+        ∙ put_last kids gone (at n false (fresh_plot def)) in
+        let was : tree_at place (tree_of k) ≡ begun form (trees_in kids)
+        = sym (tree_of_at place k) ∙ ap tree_of top.is ∙ ap tree_in begun_now in
+        ap tree_of (put_at_twice place new item k reach)
+        ∙ tree_change_at place (with_item_of def) item k
+        (ap (λ (ks : Kids). begun form (trees_in ks)) children
+        ∙ ap (begun form) (trees_and_last kids (at n false (fresh_plot def)))
+        ∙ ap (λ (t : Tree). begun form (and_last (trees_in kids) t)) (fresh_tree def)
+        ∙ ap (with_item_of def) (sym was))
+
+    stands_second : Stands plan (heap_of after) (stack ++ n ∷ []) (place ++ count_kids kids ∷ []) second
+    stands_second =
+        stands_entered plan grown (heap_of after) stack place first stands_grown now form more plot_same (count_kids kids) within
+        unplaced def n free shown deep
+
+    occurs_second : (t : ℕ) → kid_occurs second t ≡ kid_occurs k t
+    occurs_second t =
+        tokens_entered plan grown (heap_of after) stack place first stands_grown now form more plot_same (count_kids kids) within
+        unplaced def n free shown deep t
+        ∙ occurs_grown t
+
+    all_second : AllServe (heap_of after) second
+    all_second =
+        all_entered plan grown (heap_of after) stack place first stands_grown now form more plot_same (count_kids kids) within
+        unplaced def n free shown deep all_grown
+
+    stay_second : AllStayPut k second
+    stay_second way placed =
+        let one = stay_grown way placed in
+        let two = stay_entered plan grown (heap_of after) stack place first stands_grown now form more plot_same (count_kids kids)
+        within unplaced def n free shown deep way one.0 in
+        (two.0, two.1 ∙ one.1)
+
+    open_item : IsOpenAt plan after next (place ++ count_kids kids ∷ []) (change_at place (with_item_of def) (tree_of k))
+        × AllStayPut k (kid_here after next)
+    open_item =
+        subst
+        (λ (s : List ℕ). IsOpenAt plan after s (place ++ count_kids kids ∷ []) (change_at place (with_item_of def) (tree_of k))
+        × AllStayPut k (kid_here after s)) (sym along) (
+          open_at_from plan after (stack ++ n ∷ []) (place ++ count_kids kids ∷ []) second
+              (change_at place (with_item_of def) (tree_of k)) stands_second
+              (tokens_kept before after k second tokens open_now.tokens occurs_second) all_second tree_second,
+          stay_shown plan after (stack ++ n ∷ []) (place ++ count_kids kids ∷ []) second k stands_second stay_second,
+        )
+
+    marks_item : SameMarks before after
+    marks_item m =
+        ap stored_in (shown m)
+        ∙ marked_entered def grown (child_node plan (node_along plan plan.root place first) form (count_kids kids))
+        (child_owner now.slot form (count_kids kids)) n m free
+        ∙ marked_body (heap_of before) p added m
+
+-- The same, as the calls say it.
+module _ (plan : Plan) (before : List Slot) (stack : List ℕ) (open_now : IsOpen plan before stack) (p : ℕ) (last : IsLast stack p)
+    (form : Form) (has : HasForm form (tree_here before stack)) (takes : TakesItems form) where
+  formed : (kids : Kids) × ((open_top plan before stack open_now).plot ≡ begun_plot form kids)
+  formed =
+      let top = open_top plan before stack open_now in
+      plot_formed form top.plot
+      (subst (λ (t : Tree). HasForm form t) (sym (tree_of_at (cursor_in before stack) (kid_here before stack)) ∙ ap tree_of top.is) has)
+
+  counted : count_here before stack ≡ count_kids formed.0
+  counted =
+      let top = open_top plan before stack open_now in
+      ap count_below
+      (sym (tree_of_at (cursor_in before stack) (kid_here before stack)) ∙ ap tree_of top.is ∙ ap tree_in formed.1)
+      ∙ count_kids_trees formed.0
+
+  pub takes_item : IfInUse before p (λ (found : Node). IsGrowing found.body)
+  takes_item = takes_here plan before stack open_now p last form formed.0 formed.1 takes
+
+  module _ (after : List Slot) (next : List ℕ) (def : Def) (n : ℕ) (node : NodeId)
+      (is : node ≡ child_node plan (node_here plan before stack) form (count_here before stack)) (vacant : heap_of before n ≡ None)
+      (shows : IfInUse before p (λ (found : Node). Shows after
+      (with_entered def (with_body (heap_of before) p added) node (item_owner p found.body) n)))
+      (limit : IfInUse before p (λ (found : Node). depth_below (heap_of before) (item_owner p found.body) < depth_limit))
+      (tokens : SameTokens before after) (along : next ≡ stack ++ n ∷ []) where
+    numbered : node ≡ child_node plan (node_here plan before stack) form (count_kids formed.0)
+    numbered = is ∙ ap (child_node plan (node_here plan before stack) form) counted
+
+    entered : IsOpenAt plan after next (cursor_in before stack ++ count_kids formed.0 ∷ [])
+        (change_at (cursor_in before stack) (with_item_of def) (tree_in_slots before stack))
+        × AllStayPut (kid_here before stack) (kid_here after next)
+    entered =
+        open_item plan before stack open_now p last form formed.0 formed.1 takes after next def n node numbered vacant shows limit
+        tokens along
+
+    -- the item is on top
+    pub item_entered : IsOpenAt plan after next (cursor_in before stack ++ count_here before stack ∷ [])
+        (change_at (cursor_in before stack) (with_item_of def) (tree_in_slots before stack))
+    item_entered =
+        subst
+        (λ (count : ℕ). IsOpenAt plan after next (cursor_in before stack ++ count ∷ [])
+        (change_at (cursor_in before stack) (with_item_of def) (tree_in_slots before stack)))
+        (sym counted) entered.0
+
+    -- no place leaves its slot
+    pub item_stay : AllStayPut (kid_here before stack) (kid_here after next)
+    item_stay = entered.1
+
+    -- and none is stored that wasn't, nor taken out of the store
+    pub item_marks : SameMarks before after
+    item_marks =
+        marks_item plan before stack open_now p last form formed.0 formed.1 takes after next def n node numbered vacant shows limit
+        tokens along

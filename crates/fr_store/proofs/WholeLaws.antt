@@ -1,0 +1,106 @@
+-- Laws of the top that becomes whole where it is, for proofs: nothing is stored.
+use Rattle.std.proofs.Common.{◌≡◌, ℕ, ◌+◌, true, false, List, [], ◌∷◌, Option, option_map, Some, None, refl, sym, ◌∙◌, ap, subst, arith}
+use Rattle.std.specs.Prelude.{IsSome, IsSomeAnd}
+use Rattle.fr_shape.specs.Tokens.{occurs}
+use Rattle.fr_shape.specs.Val.{Val}
+use Rattle.fr_model.specs.Places.{Place}
+use Rattle.fr_model.specs.Tree.{whole, change_at}
+use Rattle.fr_plan.specs.TypePlan.{Plan}
+use Rattle.fr_frame.specs.declared.places.Slot.{Slot}
+use Rattle.fr_frame.specs.Bodies.{whole_body, body_occurs, value_of, IsClosed}
+use Rattle.fr_frame.specs.Changes.{Becomes, IfInUse, SameTokens, Shows}
+use Rattle.fr_frame.specs.Heap.{Node, heap_of, stored_in, with_body, with_slot}
+use Rattle.fr_frame.specs.Kids.{Kid, at, Plot, whole_plot, body_in, plot_occurs}
+use Rattle.fr_store.specs.EndLaws.{value_tokens}
+use Rattle.fr_store.specs.MoveLaws.{closed_open, open_reach, open_top, so_top, top_changed, top_found, top_node, top_slot, top_so, top_stands}
+use Rattle.fr_store.specs.Moves.{AtTop, IsOpenAt, cursor_in, tree_in_slots}
+use Rattle.fr_store.specs.Numbers.{IsLast}
+use Rattle.fr_store.specs.Stands.{IsOpen, kid_here}
+use Rattle.fr_store.specs.StayLaws.{closed_below, stay_all, stay_shown}
+use Rattle.fr_store.specs.Staying.{AllStayPut}
+use Rattle.fr_store.specs.Stored.{NothingStored}
+use Rattle.fr_store.specs.TopLaws.{MayHaveIts, closed_occur, held_may_have, keeps_closed, loses_none, marked_body}
+use Rattle.fr_store.specs.Ways.{node_along, put_at}
+
+module _ (plan : Plan) (before after : List Slot) (stack : List ℕ) (open_now : IsOpen plan before stack) (n : ℕ)
+    (last : IsLast stack n) (strict : NothingStored before)
+    (becomes : IfInUse before n (λ (found : Node). (v : Val) → value_of found.body ≡ Some v
+    → Becomes before after n found (whole_body v))) where
+  closed : IsClosed (body_in (open_top plan before stack open_now).plot)
+  closed = closed_open plan before stack open_now strict
+
+  may : MayHaveIts (body_in (open_top plan before stack open_now).plot)
+  may =
+      let top = open_top plan before stack open_now in
+      held_may_have plan (heap_of before) (node_along plan plan.root (cursor_in before stack) (kid_here before stack)) top.slot
+      _ top.plot top.children
+
+  shows : (v : Val) → value_of (body_in (open_top plan before stack open_now).plot) ≡ Some v
+      → Shows after (with_body (heap_of before) n (λ old. whole_body v))
+  unfolding top_node
+  shows v is m =
+      top_so plan before stack open_now n last
+      (λ (found : Node). (w : Val) → value_of found.body ≡ Some w → Becomes before after n found (whole_body w)) becomes v is m
+      ∙ ap (λ (found : Option Node). with_slot (heap_of before) n (option_map (λ (x : Node). record x { body = whole_body v }) found) m)
+      (sym (top_found plan before stack open_now n last))
+
+  open_whole : (v : Val) → value_of (body_in (open_top plan before stack open_now).plot) ≡ Some v → SameTokens before after
+      → IsOpenAt plan after stack (cursor_in before stack)
+      (change_at (cursor_in before stack) (λ old. whole v) (tree_in_slots before stack))
+  open_whole v is tokens =
+      let top = open_top plan before stack open_now in
+      top_changed plan before after stack open_now n last (λ old. whole_body v) (whole_plot v) refl
+      (keeps_closed top.plot (whole_plot v) tt tt) (loses_none top.plot (whole_plot v) closed) (shows v is)
+      (λ t.
+      let worth : body_occurs (body_in top.plot) t ≡ occurs v t = value_tokens (body_in top.plot) v t may is in
+      omega (arith, tokens t, worth, closed_occur top.plot t closed))
+
+  stay_by : (v : Val) → value_of (body_in (open_top plan before stack open_now).plot) ≡ Some v
+      → AllStayPut (kid_here before stack) (kid_here after stack)
+  stay_by v is =
+      let place : Place = cursor_in before stack in
+      let k : Kid = kid_here before stack in
+      let top = open_top plan before stack open_now in
+      let new : Kid = at top.slot false (whole_plot v) in
+      stay_shown plan after stack place (put_at place new k) k
+      (top_stands plan before after stack open_now n last (λ old. whole_body v) (whole_plot v) refl
+      (keeps_closed top.plot (whole_plot v) tt tt) (shows v is))
+      (stay_all place new k (open_reach plan before stack open_now)
+      (subst (λ (x : Kid). AllStayPut x new) (sym top.is) (here top.slot top.plot closed)))
+    where
+      here : (slot : ℕ) (plot : Plot) → IsClosed (body_in plot) → AllStayPut (at slot false plot) (at slot false (whole_plot v))
+      here slot plot shut [] placed = (record { reaches = tt; here = tt }, refl)
+      here slot plot shut (i ∷ place) placed = absurd (closed_below (at slot false plot) slot false plot refl shut i place placed)
+
+  -- it has a value
+  valued : IfInUse before n (λ (found : Node). IsSome (value_of found.body))
+      → (v : Val) × (value_of (body_in (open_top plan before stack open_now).plot) ≡ Some v)
+  unfolding top_node
+  valued complete =
+      go (value_of (body_in (open_top plan before stack open_now).plot)) refl
+      (top_so plan before stack open_now n last (λ (found : Node). IsSome (value_of found.body)) complete)
+    where
+      go : (value : Option Val) → value_of (body_in (open_top plan before stack open_now).plot) ≡ value → IsSome value
+          → (v : Val) × (value_of (body_in (open_top plan before stack open_now).plot) ≡ Some v)
+      go (Some v) e some = (v, e)
+      go None e some = absurd (cc)
+
+  pub whole_now : SameTokens before after → AtTop before stack (λ (found : Node). (v : Val) → value_of found.body ≡ Some v
+      → IsOpenAt plan after stack (cursor_in before stack)
+      (change_at (cursor_in before stack) (λ old. whole v) (tree_in_slots before stack)))
+  unfolding top_node
+  whole_now tokens p ends =
+      so_top plan before stack open_now p ends
+      (λ (found : Node). (v : Val) → value_of found.body ≡ Some v
+      → IsOpenAt plan after stack (cursor_in before stack)
+      (change_at (cursor_in before stack) (λ old. whole v) (tree_in_slots before stack)))
+      (λ v is. open_whole v is tokens)
+
+  pub whole_stay : IfInUse before n (λ (found : Node). IsSome (value_of found.body))
+      → AllStayPut (kid_here before stack) (kid_here after stack)
+  whole_stay complete = let held = valued complete in stay_by held.0 held.1
+
+  pub whole_strict : IfInUse before n (λ (found : Node). IsSome (value_of found.body)) → NothingStored after
+  whole_strict complete m =
+      let held = valued complete in
+      ap stored_in (shows held.0 held.1 m) ∙ marked_body (heap_of before) n (λ old. whole_body held.0) m ∙ strict m
