@@ -8,15 +8,16 @@ use Rattle.fr_shape.specs.declared.shape.Field.{Field}
 use Rattle.fr_shape.specs.Fills.{preset_of, is_option}
 use Rattle.fr_shape.specs.Hooks.{Meanings}
 use Rattle.fr_shape.specs.Look.{Table, def_of, field_in, variants_of}
-use Rattle.fr_shape.specs.Val.{Val}
+use Rattle.fr_shape.specs.Val.{Val, list_of, ptr, no_vals}
 use Rattle.fr_model.specs.Commands.{Call}
 use Rattle.fr_model.specs.Complete.{complete}
-use Rattle.fr_model.specs.Contents.{is_result, pointer_refusal}
+use Rattle.fr_model.specs.Contents.{is_result, pointer_refusal, points_to_slice}
 use Rattle.fr_model.specs.Finish.{finished}
+use Rattle.fr_model.specs.Items.{init_array_refusal, item_refusal, is_open_slice, shared_slice_refusal}
 use Rattle.fr_model.specs.Places.{strict_column, is_root}
 use Rattle.fr_model.specs.Run.{run_from, and_then}
-use Rattle.fr_model.specs.Step.{unless_refused, at_shape, was_not_a, field_refusal, named_refusal, set_refusal, enters, begins_named, puts, puts_default, field_default, puts_child_default, defaults_field, option_kept, content_kept, enters_content, selects, select_found, ended, leaves, end_in, begins_deferred, finishes, finish_in, violates, step_at, step}
-use Rattle.fr_model.specs.Tree.{as_some, as_ok, as_err, as_pointer, selected, Tree, Mode, strict, deferred, State, cursor_shape, cursor_tree, one_more_call}
+use Rattle.fr_model.specs.Step.{unless_refused, at_shape, was_not_a, field_refusal, named_refusal, set_refusal, enters, begins_named, puts, puts_default, field_default, puts_child_default, defaults_field, option_kept, content_kept, enters_content, begins_pointer, opens, init_list_refusal, enters_item, selects, select_found, ended, leaves, end_in, leaves_place, puts_made, closes_slice, begins_deferred, finishes, finish_in, violates, step_at, step}
+use Rattle.fr_model.specs.Tree.{as_some, as_ok, as_err, selected, Tree, Mode, strict, deferred, State, cursor_shape, cursor_tree, one_more_call}
 use Rattle.fr_model.specs.Variants.{is_enum, field_found, variant_numbered, variant_named, variant_told_by, selection_refusal}
 
 -- the same command over the same hooks, table and root
@@ -83,6 +84,14 @@ module _ (hooks : Meanings) (table : Table) (root s : ℕ) (state : State) where
   field_default_counts i None (Some field) = child_default_counts i (field_default table field)
   field_default_counts i None None = tt
 
+  list_counts : Counts (one_more_call state.calls)
+      (unless_refused (init_list_refusal s (def_of table s) (cursor_tree state)) (opens table s state))
+  list_counts = unless_counts (init_list_refusal s (def_of table s) (cursor_tree state)) (opens table s state) refl
+
+  pointer_counts : (to_slice : Bool) → (begins_pointer table s state to_slice).calls ≡ one_more_call state.calls
+  pointer_counts true = refl
+  pointer_counts false = refl
+
   found_counts : (found : Option ℕ) (unknown : Operation)
       → Counts (one_more_call state.calls) (select_found table s state found unknown)
   unfolding Counts
@@ -112,12 +121,28 @@ module _ (hooks : Meanings) (table : Table) (root s : ℕ) (state : State) where
   end_in_counts strict = ended_counts (complete strict_column hooks table s (cursor_tree state))
   end_in_counts (deferred start) = left_counts (nat_lt start (length state.cursor))
 
-  end_counts : (at_root : Bool)
+  leave_counts : (at_root : Bool)
       → Counts (one_more_call state.calls)
       (if at_root then Err (violates Invariant.EndAtRoot) else end_in hooks table s state state.mode)
   unfolding Counts
-  end_counts true = tt
-  end_counts false = end_in_counts state.mode
+  leave_counts true = tt
+  leave_counts false = end_in_counts state.mode
+
+  made_counts : (value : Option Val) → Counts (one_more_call state.calls) (puts_made hooks table s state value)
+  unfolding Counts
+  made_counts (Some v) = refl
+  made_counts None = tt
+
+  close_counts : (mode : Mode) → Counts (one_more_call state.calls) (closes_slice hooks table s state mode)
+  unfolding Counts
+  close_counts strict = made_counts (complete strict_column hooks table s (cursor_tree state))
+  close_counts (deferred start) = refl
+
+  end_counts : (open_slice : Bool)
+      → Counts (one_more_call state.calls)
+      (if open_slice then closes_slice hooks table s state state.mode else leaves_place hooks table s state)
+  end_counts true = close_counts state.mode
+  end_counts false = leave_counts (is_root state.cursor)
 
   defers_counts : (mode : Mode) → Counts (one_more_call state.calls) (begins_deferred state mode)
   unfolding Counts
@@ -145,6 +170,14 @@ module _ (hooks : Meanings) (table : Table) (root s : ℕ) (state : State) where
       (field_in (def_of table s) (selected (cursor_tree state)) i)
   step_counts (Call.Set given v) = unless_counts (set_refusal table s given) (puts state v) refl
   step_counts Call.SetDefault = default_counts (preset_of table s)
+  step_counts Call.SetEmptySharedSlice =
+      unless_counts (at_shape s (shared_slice_refusal table (def_of table s))) (puts state (ptr (list_of no_vals))) refl
+  step_counts Call.InitList = list_counts
+  step_counts (Call.InitListWithCapacity n) = list_counts
+  step_counts Call.InitArray =
+      unless_counts (at_shape s (init_array_refusal (def_of table s) (cursor_tree state))) (opens table s state) refl
+  step_counts Call.BeginListItem =
+      unless_counts (at_shape s (item_refusal (def_of table s) (cursor_tree state))) (enters_item table s state) refl
   step_counts Call.BeginSome =
       where_counts (is_option (def_of table s)) (enters_content table s state as_some (option_kept table s state))
       (was_not_a Expected.Option s) refl
@@ -156,7 +189,8 @@ module _ (hooks : Meanings) (table : Table) (root s : ℕ) (state : State) where
       (was_not_a Expected.Result s) refl
   step_counts Call.BeginSmartPtr =
       unless_counts (at_shape s (pointer_refusal table (def_of table s)))
-      (enters_content table s state as_pointer (content_kept state as_pointer)) refl
+      (begins_pointer table s state (points_to_slice table (def_of table s)))
+      (pointer_counts (points_to_slice table (def_of table s)))
   step_counts (Call.SelectNthVariant i) =
       select_counts (is_enum (def_of table s)) (variant_numbered i (variants_of (def_of table s)))
       Operation.VariantIndexOutOfBounds
@@ -166,7 +200,7 @@ module _ (hooks : Meanings) (table : Table) (root s : ℕ) (state : State) where
   step_counts (Call.SelectVariant discriminant) =
       select_counts (is_enum (def_of table s)) (variant_told_by discriminant (variants_of (def_of table s)))
       Operation.DiscriminantUnknown
-  step_counts Call.End = end_counts (is_root state.cursor)
+  step_counts Call.End = end_counts (is_open_slice (cursor_tree state))
   step_counts Call.BeginDeferred = defers_counts state.mode
   step_counts Call.FinishDeferred = finish_counts state.mode
 

@@ -14,6 +14,10 @@ unfoldable pub call_of_none : List ℕ → Option Call
 call_of_none word =
     if bytes_eq word (codes "end") then Some Call.End else
     if bytes_eq word (codes "set_default") then Some Call.SetDefault else
+    if bytes_eq word (codes "set_empty_shared_slice") then Some Call.SetEmptySharedSlice else
+    if bytes_eq word (codes "init_list") then Some Call.InitList else
+    if bytes_eq word (codes "init_array") then Some Call.InitArray else
+    if bytes_eq word (codes "begin_list_item") then Some Call.BeginListItem else
     if bytes_eq word (codes "begin_some") then Some Call.BeginSome else
     if bytes_eq word (codes "begin_ok") then Some Call.BeginOk else
     if bytes_eq word (codes "begin_err") then Some Call.BeginErr else
@@ -27,6 +31,7 @@ call_of_one word a =
     if bytes_eq word (codes "begin_field") then option_map Call.BeginField (as_str a) else
     if bytes_eq word (codes "begin_nth_field") then option_map Call.BeginNthField (whole_number a) else
     if bytes_eq word (codes "set_nth_field_to_default") then option_map Call.SetNthFieldToDefault (whole_number a) else
+    if bytes_eq word (codes "init_list_with_capacity") then option_map Call.InitListWithCapacity (whole_number a) else
     if bytes_eq word (codes "select_nth_variant") then option_map Call.SelectNthVariant (whole_number a) else
     if bytes_eq word (codes "select_variant_named") then option_map Call.SelectVariantNamed (as_str a) else
     if bytes_eq word (codes "select_variant") then option_map Call.SelectVariant (small_int_form a) else None

@@ -119,6 +119,11 @@ fn call<'t, H: Hooks>(
         Command::SetNthFieldToDefault(i) => partial.set_nth_field_to_default(i as usize, ledger),
         Command::Set(shape, value) => partial.set_shape(Shaped::new(table, shape, value), ledger),
         Command::SetDefault => partial.set_default(ledger),
+        Command::SetEmptySharedSlice => partial.set_empty_shared_slice(ledger),
+        Command::InitList => partial.init_list(ledger),
+        Command::InitListWithCapacity(n) => partial.init_list_with_capacity(n as usize, ledger),
+        Command::InitArray => partial.init_array(ledger),
+        Command::BeginListItem => partial.begin_list_item(ledger),
         Command::BeginSome => partial.begin_some(ledger),
         Command::BeginOk => partial.begin_ok(ledger),
         Command::BeginErr => partial.begin_err(ledger),
@@ -150,6 +155,8 @@ fn release_command(command: Command, ledger: &mut Ledger)
         Command::Set(_, value) => release(value, ledger),
         Command::BeginField(_) | Command::BeginNthField(_) => {}
         Command::SetNthFieldToDefault(_) | Command::SetDefault => {}
+        Command::SetEmptySharedSlice | Command::InitList | Command::InitListWithCapacity(_) => {}
+        Command::InitArray | Command::BeginListItem => {}
         Command::BeginSome | Command::BeginOk | Command::BeginErr | Command::BeginSmartPtr => {}
         Command::SelectNthVariant(_) | Command::SelectVariantNamed(_) => {}
         Command::SelectVariant(_) | Command::End => {}

@@ -69,7 +69,11 @@ fn find_bare(word: &str) -> Option<Command>
 {
     match word {
         "end" => Some(Command::End),
+        "begin_list_item" => Some(Command::BeginListItem),
         "set_default" => Some(Command::SetDefault),
+        "init_list" => Some(Command::InitList),
+        "init_array" => Some(Command::InitArray),
+        "set_empty_shared_slice" => Some(Command::SetEmptySharedSlice),
         "begin_some" => Some(Command::BeginSome),
         "begin_ok" => Some(Command::BeginOk),
         "begin_err" => Some(Command::BeginErr),
@@ -97,6 +101,10 @@ fn read_with_one(alloc: Global, word: &str, a: &Json) -> Result<Option<Command>,
         },
         "set_nth_field_to_default" => match count_of(a) {
             Some(i) => Ok(Some(Command::SetNthFieldToDefault(i))),
+            None => Ok(None),
+        },
+        "init_list_with_capacity" => match count_of(a) {
+            Some(n) => Ok(Some(Command::InitListWithCapacity(n))),
             None => Ok(None),
         },
         "select_nth_variant" => match count_of(a) {

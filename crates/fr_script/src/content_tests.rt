@@ -173,7 +173,7 @@ const LINKS: &str =
 const STEPS: usize = 332;
 
 /// `front`, then `part` so many times, then `back`.
-fn repeated(
+pub(crate) fn repeated(
     alloc: Global,
     front: &str,
     part: &str,

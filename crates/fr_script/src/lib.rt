@@ -14,6 +14,8 @@ mod document_laws;
 mod document_tests;
 #[cfg(test)]
 mod limit_tests;
+#[cfg(test)]
+mod list_tests;
 mod marking;
 mod members;
 #[cfg(test)]

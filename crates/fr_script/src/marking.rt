@@ -21,6 +21,8 @@ pub fn mark_command(table: &ShapeTable, command: &Command, marks: &mut [bool]) -
         }
         Command::BeginField(_) | Command::BeginNthField(_) => true,
         Command::SetNthFieldToDefault(_) | Command::SetDefault => true,
+        Command::SetEmptySharedSlice | Command::InitList | Command::InitListWithCapacity(_) => true,
+        Command::InitArray | Command::BeginListItem => true,
         Command::BeginSome | Command::BeginOk | Command::BeginErr | Command::BeginSmartPtr => true,
         Command::SelectNthVariant(_) | Command::SelectVariantNamed(_) => true,
         Command::SelectVariant(_) | Command::End => true,

@@ -36,9 +36,10 @@ fn is_served_def(def: &Def) -> bool
         | Def::Set(_)
         | Def::Array(_, _)
         | Def::Pointer(_)
+        | Def::Slice(_)
         | Def::Undefined
         | Def::Other => true,
-        Def::Slice(_) | Def::Dynamic => false,
+        Def::Dynamic => false,
     }
 }
 

@@ -1,7 +1,7 @@
 //! The limits of what a document may have.
-ghost use Rattle.std.specs.Prelude.{◌≡◌, ◌+◌, ◌<◌, ◌^◌, length, sum_by, nat_le};
-ghost use Rattle.fr_model.specs.Commands.{calls_of};
-ghost use Rattle.fr_script.specs.Documents.{part_count, part_total, sizes_pass, too_deep};
+ghost use Rattle.std.specs.Prelude.{◌≡◌, ◌+◌, ◌<◌, ◌≤◌, ◌^◌, length, sum_by, nat_le};
+ghost use Rattle.fr_model.specs.Commands.{call_of, calls_of};
+ghost use Rattle.fr_script.specs.Documents.{begins, ends, part_count, part_total, sizes_pass, too_deep};
 ghost use Rattle.fr_script.specs.Reading.{document_view};
 ghost use Rattle.fr_script.specs.Sizes.{CountsOff};
 
@@ -101,6 +101,36 @@ fn count_off_variants(variants: &[VariantDef], limit: usize) -> Option<usize>
     Some(left)
 }
 
+/// How many places a command enters, and how many it leaves: one at most.
+fn levels(command: &Command) -> (usize, usize)
+    ensures begins { result.0 ≡ begins (call_of command.now) }
+    ensures ends { result.1 ≡ ends (call_of command.now) }
+    ensures few { (result.0 ≤ 1) × (result.1 ≤ 1) }
+{
+    match command {
+        Command::BeginField(_)
+        | Command::BeginNthField(_)
+        | Command::BeginListItem
+        | Command::BeginSome
+        | Command::BeginOk
+        | Command::BeginErr
+        | Command::BeginSmartPtr => (1, 0),
+        Command::End => (0, 1),
+        Command::SetNthFieldToDefault(_)
+        | Command::Set(_, _)
+        | Command::SetDefault
+        | Command::SetEmptySharedSlice
+        | Command::InitList
+        | Command::InitListWithCapacity(_)
+        | Command::InitArray
+        | Command::SelectNthVariant(_)
+        | Command::SelectVariantNamed(_)
+        | Command::SelectVariant(_)
+        | Command::BeginDeferred
+        | Command::FinishDeferred => (0, 0),
+    }
+}
+
 /// Whether begins outnumber ends by more than the limit after some command.
 fn is_too_deep(script: &[Command]) -> bool
     ensures { result ≡ too_deep 0 0 (calls_of script.now) }
@@ -108,23 +138,9 @@ fn is_too_deep(script: &[Command]) -> bool
     let mut begun: usize = 0;
     let mut ended: usize = 0;
     for command in script {
-        match command {
-            Command::BeginField(_)
-            | Command::BeginNthField(_)
-            | Command::BeginSome
-            | Command::BeginOk
-            | Command::BeginErr
-            | Command::BeginSmartPtr => begun += 1,
-            Command::End => ended += 1,
-            Command::SetNthFieldToDefault(_)
-            | Command::Set(_, _)
-            | Command::SetDefault
-            | Command::SelectNthVariant(_)
-            | Command::SelectVariantNamed(_)
-            | Command::SelectVariant(_)
-            | Command::BeginDeferred
-            | Command::FinishDeferred => {}
-        }
+        let (begins, ends) = levels(command);
+        begun += begins;
+        ended += ends;
         if begun.saturating_sub(DEPTH_LIMIT) > ended {
             return true;
         }

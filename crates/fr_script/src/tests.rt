@@ -127,7 +127,7 @@ const FAULTS: [(&str, &str, &str); 17] = [
     ),
     (
         "a shape that isn't built yet",
-        r#"{"shapes":[{"name":"a","def":"u32"},{"name":"b","def":{"slice":0}}],"root":0,"commands":[]}"#,
+        r#"{"shapes":[{"name":"a","def":"u32"},{"name":"b","def":"dynamic"}],"root":0,"commands":[]}"#,
         r#"{"fault":"BadForm","place":"shape 1"}"#,
     ),
     (
@@ -151,8 +151,8 @@ const FAULTS: [(&str, &str, &str); 17] = [
         r#"{"fault":"BadForm","place":"commands"}"#,
     ),
     (
-        "the first of two broken commands",
-        r#"{"shapes":[{"name":"a","def":"u32"}],"root":0,"commands":[["end"],["ends"],["end",0]]}"#,
+        "the first of three broken commands",
+        r#"{"shapes":[{"name":"a","def":"u32"}],"root":0,"commands":[["end"],["init_list_with_capacity",-1],["ends"],["end",0]]}"#,
         r#"{"fault":"BadForm","place":"command 1"}"#,
     ),
     (

@@ -11,7 +11,6 @@ pub mod HeadLaws
 pub mod HeldLaws
 pub mod HereLaws
 pub mod HoldLaws
-pub mod ItemTests
 pub mod LeaveLaws
 pub mod MoveLaws
 pub mod Moves

@@ -50,7 +50,7 @@ fn limited_table(rt: &impl Abort, alloc: Global) -> ShapeTable {
 }
 
 /// The plan of the second shape.
-pub(crate) fn plan_of(alloc: Global, table: &ShapeTable) -> Result<TypePlanCore, PlanError>
+fn plan_of(alloc: Global, table: &ShapeTable) -> Result<TypePlanCore, PlanError>
     ensures checked { OnOk result (IsChecked table.now) }
     ensures plan { IfOk result (IsPlanFor table.now) }
 {
@@ -79,7 +79,7 @@ fn shape_of_field(table: &ShapeTable, plan: &TypePlanCore) -> Option<ShapeId>
 }
 
 /// The slot of the root, which was just entered, and the stack of it alone.
-pub(crate) fn at_root(
+fn at_root(
     rt: &impl Abort,
     alloc: Global,
     table: &ShapeTable,
@@ -101,7 +101,7 @@ pub(crate) fn at_root(
 }
 
 /// The plan's node of the place on top.
-pub(crate) fn node_on_top(plan: &TypePlanCore, slots: &Slots, stack: &Stack) -> NodeId
+fn node_on_top(plan: &TypePlanCore, slots: &Slots, stack: &Stack) -> NodeId
     requires { IsOpen plan.now slots.now stack.now }
     ensures { result ≡ node_here plan.now slots.now stack.now }
 {

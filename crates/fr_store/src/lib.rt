@@ -20,6 +20,4 @@ pub use store::FrameStore;
 #[cfg(test)]
 mod finish_tests;
 #[cfg(test)]
-mod item_tests;
-#[cfg(test)]
 mod tests;
