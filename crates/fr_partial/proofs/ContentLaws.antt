@@ -1,11 +1,11 @@
 -- Entering a content, a side or a pointee: what it means.
-use Rattle.std.proofs.Common.{◌≡◌, ℕ, zero, suc, ◌+◌, ◌<◌, true, List, [], ◌∷◌, ◌++◌, Option, None, Ok, refl, sym, ◌∙◌, ap, subst, arith}
+use Rattle.std.proofs.Common.{◌≡◌, ℕ, zero, suc, ◌+◌, ◌<◌, true, false, List, [], ◌∷◌, ◌++◌, Option, None, Ok, refl, sym, ◌∙◌, ap, subst, arith}
 use Rattle.fr_shape.specs.declared.error.Operation.{Operation}
 use Rattle.fr_shape.specs.declared.shape.Def.{Def}
 use Rattle.fr_shape.specs.Fills.{is_option}
 use Rattle.fr_shape.specs.Look.{Table, def_of}
 use Rattle.fr_path.specs.declared.path_steps.PathStep.{PathStep}
-use Rattle.fr_model.specs.Contents.{is_result, pointer_refusal}
+use Rattle.fr_model.specs.Contents.{is_result, pointer_refusal, points_to_slice}
 use Rattle.fr_model.specs.Paths.{path_of, step_as}
 use Rattle.fr_model.specs.PathLaws.{EnteringContentAddsAStep, EnteringSomeAddsAStep}
 use Rattle.fr_model.specs.Places.{Place, content_shape}
@@ -51,12 +51,16 @@ suits_along mode table s (i ∷ place) hole suits leads = absurd leads
 suits_along mode table s (i ∷ place) entered suits leads = absurd leads
 suits_along mode table s (i ∷ place) (whole v) suits leads = absurd leads
 
+pub suits_here : {H : Type 0} (builder : Builder H) → IsBuilderInOrder builder
+    → Suits builder.shapes (here builder) (cursor_tree builder.state)
+suits_here builder ordered =
+    suits_along builder.state.mode builder.shapes builder.root builder.state.cursor builder.state.tree ordered.state.suits
+    ordered.state.leads
+
 pub full_here : {H : Type 0} (builder : Builder H) → IsBuilderInOrder builder
     → IsFullTree (def_of builder.shapes (here builder)) (cursor_tree builder.state)
 full_here builder ordered =
-    full_tree builder.shapes (here builder) (cursor_tree builder.state)
-    (suits_along builder.state.mode builder.shapes builder.root builder.state.cursor builder.state.tree ordered.state.suits
-    ordered.state.leads)
+    full_tree builder.shapes (here builder) (cursor_tree builder.state) (suits_here builder ordered)
 
 module _ {H : Type 0} (builder : Builder H) (beginning : Beginning) where
   -- an option
@@ -111,10 +115,11 @@ module _ {H : Type 0} (builder : Builder H) (beginning : Beginning) where
 
   pub pointer_means : beginning ≡ beginning_in builder.state.mode as_pointer (cursor_tree builder.state)
       → pointer_refusal builder.shapes (def_of builder.shapes (here builder)) ≡ None
+      → points_to_slice builder.shapes (def_of builder.shapes (here builder)) ≡ false
       → begin_smart_ptr builder.shapes (here builder) builder.state
       ≡ Ok (enters_content builder.shapes (here builder) builder.state as_pointer
       (kept_by beginning (cursor_tree builder.state)))
-  pointer_means is admitted =
-      rw admitted
+  pointer_means is admitted behind =
+      rw (admitted, behind)
       (ap (λ (kept : Option Tree). Ok (enters_content builder.shapes (here builder) builder.state as_pointer kept))
       (sym (content_is as_pointer is)))

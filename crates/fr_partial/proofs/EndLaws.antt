@@ -12,7 +12,8 @@ use Rattle.fr_model.specs.Complete.{complete}
 use Rattle.fr_model.specs.PathLaws.{LeavingAsItIs, PathIsAsDeep}
 use Rattle.fr_model.specs.Paths.{path_of}
 use Rattle.fr_model.specs.Places.{strict_column, Place, is_root}
-use Rattle.fr_model.specs.Step.{end, build, leaves, puts_and_leaves, violates}
+use Rattle.fr_model.specs.Items.{is_open_slice}
+use Rattle.fr_model.specs.Step.{end, build, closes, leaves, leaves_place, puts, puts_and_leaves, violates}
 use Rattle.fr_model.specs.Tree.{Mode, strict, deferred, State, cursor_tree}
 use Rattle.fr_model.specs.Well.{Leads}
 use Rattle.fr_plan.specs.TypePlan.{Plan}
@@ -82,29 +83,37 @@ keeps_none (deferred start) store after is stores none n = cc
 
 -- what they mean
 
-pub ends_at_root : (hooks : Meanings) (table : Table) (s : ℕ) (state : State) → state.cursor ≡ []
-    → end hooks table s state ≡ Err (violates Invariant.EndAtRoot)
-ends_at_root hooks table s state e = rw e refl
+-- the place is left
+pub leaves_it : (hooks : Meanings) (table : Table) (s : ℕ) (state : State) → is_open_slice (cursor_tree state) ≡ false
+    → end hooks table s state ≡ leaves_place hooks table s state
+leaves_it hooks table s state left = rw left refl
 
-pub ends : (hooks : Meanings) (table : Table) (s : ℕ) (state : State) (v : Val) → state.mode ≡ strict
-    → is_root state.cursor ≡ false → complete strict_column hooks table s (cursor_tree state) ≡ Some v
+pub ends_at_root : (hooks : Meanings) (table : Table) (s : ℕ) (state : State) → is_open_slice (cursor_tree state) ≡ false
+    → state.cursor ≡ [] → end hooks table s state ≡ Err (violates Invariant.EndAtRoot)
+ends_at_root hooks table s state left e = leaves_it hooks table s state left ∙ go
+  where
+    go : leaves_place hooks table s state ≡ Err (violates Invariant.EndAtRoot)
+    go = rw e refl
+
+pub ends : (hooks : Meanings) (table : Table) (s : ℕ) (state : State) (v : Val) → is_open_slice (cursor_tree state) ≡ false
+    → state.mode ≡ strict → is_root state.cursor ≡ false → complete strict_column hooks table s (cursor_tree state) ≡ Some v
     → end hooks table s state ≡ Ok (puts_and_leaves state v)
-ends hooks table s state v mode e made = rw (e, mode, made) refl
+ends hooks table s state v left mode e made = rw (left, e, mode, made) refl
 
-pub ends_not : (hooks : Meanings) (table : Table) (s : ℕ) (state : State) (kind : ReflectErrorKind) → state.mode ≡ strict
-    → is_root state.cursor ≡ false → IsLacking hooks table s (cursor_tree state) kind
+pub ends_not : (hooks : Meanings) (table : Table) (s : ℕ) (state : State) (kind : ReflectErrorKind)
+    → is_open_slice (cursor_tree state) ≡ false → state.mode ≡ strict → is_root state.cursor ≡ false → IsLacking hooks table s (cursor_tree state) kind
     → end hooks table s state ≡ Err kind
-ends_not hooks table s state kind mode e lacking =
-    rw (e, mode, lacking.incomplete) (ap (λ (k : ReflectErrorKind). Err k) (sym lacking.lacks))
+ends_not hooks table s state kind left mode e lacking =
+    rw (left, e, mode, lacking.incomplete) (ap (λ (k : ReflectErrorKind). Err k) (sym lacking.lacks))
 
-pub never_refused : (hooks : Meanings) (table : Table) (s : ℕ) (state : State) → state.mode ≡ strict
-    → is_root state.cursor ≡ false → IsSome (complete strict_column hooks table s (cursor_tree state))
+pub never_refused : (hooks : Meanings) (table : Table) (s : ℕ) (state : State) → is_open_slice (cursor_tree state) ≡ false
+    → state.mode ≡ strict → is_root state.cursor ≡ false → IsSome (complete strict_column hooks table s (cursor_tree state))
     → IsErr (end hooks table s state) → ⊥
-never_refused hooks table s state mode e some refused =
+never_refused hooks table s state left mode e some refused =
     go (complete strict_column hooks table s (cursor_tree state)) refl some
   where
     go : (made : Option Val) → complete strict_column hooks table s (cursor_tree state) ≡ made → IsSome made → ⊥
-    go (Some v) is h = let no : false ≡ true = rw (ends hooks table s state v mode e is) at refused in cc
+    go (Some v) is h = let no : false ≡ true = rw (ends hooks table s state v left mode e is) at refused in cc
     go None is h = cc
 
 pub builds : (hooks : Meanings) (table : Table) (root : ℕ) (state : State) (v : Val) → state.mode ≡ strict → state.cursor ≡ []
@@ -132,37 +141,71 @@ never_unbuilt hooks table root state mode e some refused = go (complete strict_c
     go (Some v) is h = let no : false ≡ true = rw (builds hooks table root state v mode e is) at refused in cc
     go None is h = cc
 
+-- an open pointer to a slice
+
+pub makes_whole : (hooks : Meanings) (table : Table) (s : ℕ) (state : State) (v : Val) → is_open_slice (cursor_tree state) ≡ true
+    → state.mode ≡ strict → complete strict_column hooks table s (cursor_tree state) ≡ Some v
+    → end hooks table s state ≡ Ok (puts state v)
+makes_whole hooks table s state v stays mode made = rw (stays, mode, made) refl
+
+pub makes_none : (hooks : Meanings) (table : Table) (s : ℕ) (state : State) (kind : ReflectErrorKind)
+    → is_open_slice (cursor_tree state) ≡ true → state.mode ≡ strict → IsLacking hooks table s (cursor_tree state) kind
+    → end hooks table s state ≡ Err kind
+makes_none hooks table s state kind stays mode lacking =
+    rw (stays, mode, lacking.incomplete) (ap (λ (k : ReflectErrorKind). Err k) (sym lacking.lacks))
+
+pub never_unmade : (hooks : Meanings) (table : Table) (s : ℕ) (state : State) → is_open_slice (cursor_tree state) ≡ true
+    → state.mode ≡ strict → IsSome (complete strict_column hooks table s (cursor_tree state))
+    → IsErr (end hooks table s state) → ⊥
+never_unmade hooks table s state stays mode some refused =
+    go (complete strict_column hooks table s (cursor_tree state)) refl some
+  where
+    go : (made : Option Val) → complete strict_column hooks table s (cursor_tree state) ≡ made → IsSome made → ⊥
+    go (Some v) is h = let no : false ≡ true = rw (makes_whole hooks table s state v stays mode is) at refused in cc
+    go None is h = cc
+
 -- at the root what stands there is the whole tree
 pub root_tree : (state : State) → state.cursor ≡ [] → cursor_tree state ≡ state.tree
 root_tree state e = rw e refl
 
 -- Deferred mode.
 
-pub ends_at_start : (hooks : Meanings) (table : Table) (s : ℕ) (state : State) (start : ℕ) → state.mode ≡ deferred start
+pub ends_at_start : (hooks : Meanings) (table : Table) (s : ℕ) (state : State) (start : ℕ)
+    → is_open_slice (cursor_tree state) ≡ false → state.mode ≡ deferred start
     → is_root state.cursor ≡ false → length state.cursor ≤ start
     → end hooks table s state ≡ Err (violates Invariant.EndAtStart)
-ends_at_start hooks table s state start mode e high =
+ends_at_start hooks table s state start left mode e high =
     let not_below : nat_lt start (length state.cursor) ≡ false = le-ltb start (length state.cursor) high in
-    rw (e, mode, not_below) refl
+    rw (left, e, mode, not_below) refl
 
-pub ends_left : (hooks : Meanings) (table : Table) (s : ℕ) (state : State) (start : ℕ) → state.mode ≡ deferred start
-    → is_root state.cursor ≡ false → start < length state.cursor → end hooks table s state ≡ Ok (leaves state)
-ends_left hooks table s state start mode e deep =
+pub ends_left : (hooks : Meanings) (table : Table) (s : ℕ) (state : State) (start : ℕ)
+    → is_open_slice (cursor_tree state) ≡ false → state.mode ≡ deferred start → is_root state.cursor ≡ false
+    → start < length state.cursor → end hooks table s state ≡ Ok (leaves state)
+ends_left hooks table s state start left mode e deep =
     let below_start : nat_lt start (length state.cursor) ≡ true = lt-ltb start (length state.cursor) deep in
-    rw (e, mode, below_start) refl
+    rw (left, e, mode, below_start) refl
+
+-- an open pointer to a slice is closed
+pub closes_it : (hooks : Meanings) (table : Table) (s : ℕ) (state : State) → is_open_slice (cursor_tree state) ≡ true
+    → ¬ (state.mode ≡ strict) → end hooks table s state ≡ Ok (closes state)
+closes_it hooks table s state stays other = go state.mode refl other
+  where
+    go : (mode : Mode) → state.mode ≡ mode → ¬ (mode ≡ strict) → end hooks table s state ≡ Ok (closes state)
+    go strict is not_so = absurd (not_so refl)
+    go (deferred start) is not_so = rw (stays, is) refl
 
 -- what lies deeper than where deferred mode began isn't the root
 pub not_root : (mode : Mode) (cursor : Place) → IsBelowStart mode cursor → is_root cursor ≡ false
 not_root strict cursor deep = absurd deep
 not_root (deferred start) cursor deep = below_root cursor (λ none. omega (arith, deep, none))
 
-pub ends_below : (hooks : Meanings) (table : Table) (s : ℕ) (state : State) → IsBelowStart state.mode state.cursor
-    → end hooks table s state ≡ Ok (leaves state)
-ends_below hooks table s state deep = go state.mode refl deep
+pub ends_below : (hooks : Meanings) (table : Table) (s : ℕ) (state : State) → is_open_slice (cursor_tree state) ≡ false
+    → IsBelowStart state.mode state.cursor → end hooks table s state ≡ Ok (leaves state)
+ends_below hooks table s state left deep = go state.mode refl deep
   where
     go : (mode : Mode) → state.mode ≡ mode → IsBelowStart mode state.cursor → end hooks table s state ≡ Ok (leaves state)
     go strict is far = absurd far
-    go (deferred start) is far = ends_left hooks table s state start is (not_root state.mode state.cursor deep) far
+    go (deferred start) is far = ends_left hooks table s state start left is (not_root state.mode state.cursor deep) far
 
 -- in deferred mode anything may be stored
 pub may_store : (mode : Mode) (cursor : Place) (store : List ℕ) → IsBelowStart mode cursor → StoresNothing mode store

@@ -11,14 +11,14 @@ use Rattle.fr_shape.specs.Val.{Val, Vals}
 use Rattle.fr_model.specs.Complete.{complete}
 use Rattle.fr_model.specs.Places.{strict_column, Place, one_more, up}
 use Rattle.fr_model.specs.Step.{cause}
-use Rattle.fr_model.specs.Tree.{Form, as_struct, as_array, as_variant, as_some, as_ok, as_err, as_pointer, Tree, hole, entered, whole, begun, Trees, no_trees, branch, change_at, change_nth, count_trees, shape_in, tree_at, tree_occurs, trees_occur, deferred}
+use Rattle.fr_model.specs.Tree.{Form, as_struct, as_array, as_variant, as_some, as_ok, as_err, as_pointer, as_list, as_slice, as_closed_slice, Tree, hole, entered, whole, begun, Trees, no_trees, branch, change_at, change_nth, count_trees, shape_in, tree_at, tree_occurs, trees_occur, deferred}
 use Rattle.fr_model.specs.Well.{IsFullAs, Suits}
 use Rattle.fr_plan.specs.declared.nodes.NodeId.{NodeId}
 use Rattle.fr_plan.specs.declared.nodes.TypePlanNode.{TypePlanNode}
 use Rattle.fr_plan.specs.LookupLaws.{LookupsAgree, LookupPathsAgree}
 use Rattle.fr_plan.specs.TypePlan.{Plan}
 use Rattle.fr_frame.specs.declared.places.Slot.{Slot}
-use Rattle.fr_frame.specs.Bodies.{Body, entered_body, whole_body, begun_body, body_occurs, is_around, own_tree, takes_box, trees_of, value_of, IsClosed}
+use Rattle.fr_frame.specs.Bodies.{Body, entered_body, whole_body, begun_body, body_occurs, boxes, own_tree, takes_box, trees_of, value_of, IsClosed}
 use Rattle.fr_frame.specs.Defaults.{KeepsForm}
 use Rattle.fr_frame.specs.Cells.{Cell, absent, given, placed, cells_occur, values_of}
 use Rattle.fr_frame.specs.Changes.{IfInUse, SameTokens}
@@ -34,7 +34,7 @@ use Rattle.fr_store.specs.Stands.{IsOpen, kid_shown}
 use Rattle.fr_store.specs.Stored.{NothingStored}
 use Rattle.fr_store.specs.TopLaws.{closed_occur, closed_tree, held_may_have, keeps_closed, loses_none, slot_here, MayHaveIts}
 use Rattle.fr_store.specs.WayLaws.{tree_of_at}
-use Rattle.fr_partial.specs.Ending.{IsEnded, WhyNot}
+use Rattle.fr_partial.specs.Ending.{IsEnded, IsMadeWhole, WhyNot}
 use Rattle.fr_partial.specs.Filling.{takes_no_memory, has_no_hole}
 use Rattle.fr_partial.specs.Underway.{shape_here, IsReady}
 use Rattle.fr_partial.proofs.EnterLaws.{changed_at}
@@ -47,7 +47,7 @@ use Rattle.fr_store.specs.ShapeLaws.{IsOfShape}
 
 -- A place none of whose children is in a slot.
 
-count_of : (cells : List Cell) → count_trees (trees_of cells) ≡ length cells
+pub count_of : (cells : List Cell) → count_trees (trees_of cells) ≡ length cells
 count_of [] = refl
 count_of (c ∷ cells) = ap suc (count_of cells)
 
@@ -73,9 +73,9 @@ has_hole (placed n ∷ cells) h = refl
 takes : (body : Body) → takes_template body ≡ true → takes_no_memory (own_tree body) ≡ false
 takes entered_body h = refl
 takes (whole_body v) h = cc
-takes (begun_body form cells) h = go (is_around form) refl
+takes (begun_body form cells) h = go (boxes form) refl
   where
-    go : (b : Bool) → is_around form ≡ b → takes_no_memory (begun form (trees_of cells)) ≡ false
+    go : (b : Bool) → boxes form ≡ b → takes_no_memory (begun form (trees_of cells)) ≡ false
     go true e = rw e refl
     go false e = rw e (has_hole cells h)
 
@@ -88,11 +88,11 @@ boxed (whole_body v) now keeps h = let no : false ≡ true = sym (ap takes_box k
 boxed (begun_body form cells) entered_body keeps h = absurd keeps
 boxed (begun_body form cells) (whole_body v) keeps h = absurd keeps
 boxed (begun_body form cells) (begun_body other others) keeps h =
-    let around : is_around form ≡ true = ap is_around (sym keeps.0) ∙ h in
-    rw around refl
+    let box : boxes form ≡ true = ap boxes (sym keeps.0) ∙ h in
+    rw box refl
 
 -- it has no more children than it may
-many_may : (form : Form) (count : ℕ) → is_around form ≡ false → MayHave form count
+many_may : (form : Form) (count : ℕ) → boxes form ≡ false → MayHave form count
 many_may as_struct count h = tt
 many_may as_array count h = tt
 many_may (as_variant k) count h = tt
@@ -100,6 +100,9 @@ many_may as_some count h = cc
 many_may as_ok count h = cc
 many_may as_err count h = cc
 many_may as_pointer count h = cc
+many_may as_list count h = tt
+many_may as_slice count h = cc
+many_may as_closed_slice count h = cc
 
 keeps_may : (was now : Body) → KeepsForm was now → MayHaveIts was → MayHaveIts now
 keeps_may entered_body entered_body keeps may = tt
@@ -437,6 +440,35 @@ module _ (plan : Plan) (before after : List Slot) (stack : List ℕ) (shown : Is
               ∙ put_twice (cursor_in before stack) (own_tree kept.body) (whole v) (tree_in_slots before stack))
               (subst
               (λ (p : Place). IsOpenAt plan slots next (up p) (change_at p (λ old. whole v) (tree_in_slots after stack)))
+              cursor_after now);
+          stores = stores;
+        }
+
+    -- or is whole with it, where it is
+    pub made_whole : (slots : List Slot) → NothingStored slots
+        → AtTop after stack (λ (at : Node). (v : Val) → value_of at.body ≡ Some v
+        → IsOpenAt plan slots stack (cursor_in after stack)
+        (change_at (cursor_in after stack) (λ old. whole v) (tree_in_slots after stack)))
+        → IsMadeWhole means table (shape_here table root.0 before stack) plan slots stack (tree_in_slots before stack)
+        (cursor_in before stack)
+    made_whole slots stores stays =
+        let v : Val = fills.filled.value in
+        let now : IsOpenAt plan slots stack (cursor_in after stack)
+        (change_at (cursor_in after stack) (λ old. whole v) (tree_in_slots after stack))
+        = after_so
+        (λ (at : Node). (v : Val) → value_of at.body ≡ Some v
+        → IsOpenAt plan slots stack (cursor_in after stack)
+        (change_at (cursor_in after stack) (λ old. whole v) (tree_in_slots after stack)))
+        (stays n last) v held in
+        record {
+          value = v;
+          meant = meant;
+          after =
+              subst (λ (t : Tree). IsOpenAt plan slots stack (cursor_in before stack) t)
+              (ap (λ (t : Tree). change_at (cursor_in before stack) (λ old. whole v) t) filled_at.built
+              ∙ put_twice (cursor_in before stack) (own_tree kept.body) (whole v) (tree_in_slots before stack))
+              (subst
+              (λ (p : Place). IsOpenAt plan slots stack p (change_at p (λ old. whole v) (tree_in_slots after stack)))
               cursor_after now);
           stores = stores;
         }

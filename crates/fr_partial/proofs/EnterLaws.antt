@@ -9,9 +9,9 @@ use Rattle.fr_shape.specs.declared.shape.StructDef.{StructDef}
 use Rattle.fr_shape.specs.Fits.{fits, fields_fit, count_vals}
 use Rattle.fr_shape.specs.Look.{Table, def_of, settled}
 use Rattle.fr_shape.specs.Val.{Val, Vals, unit, product, no_vals, first}
-use Rattle.fr_model.specs.Places.{Place, array_limit, parts_of}
-use Rattle.fr_model.specs.Step.{field_refusal, enter, enter_child, opened, opened_as, opened_value}
-use Rattle.fr_model.specs.Tree.{Form, as_variant, form_at, selected, child_as, Tree, hole, entered, whole, begun, Trees, no_trees, branch, tree_nth, change_nth, child_tree, tree_at, change_child, change_at, wholes, holes, count_trees, Mode}
+use Rattle.fr_model.specs.Places.{Place, array_limit}
+use Rattle.fr_model.specs.Step.{field_refusal, enter, enter_child, opened, opened_as, opened_value, parts_as}
+use Rattle.fr_model.specs.Tree.{Form, as_struct, as_variant, form_at, selected, child_as, Tree, hole, entered, whole, begun, Trees, no_trees, branch, tree_nth, change_nth, child_tree, tree_at, change_child, change_at, wholes, holes, count_trees, Mode}
 use Rattle.fr_model.specs.Well.{IsFullAs, Suits, OffBut, Leads}
 use Rattle.fr_plan.specs.declared.nodes.NodeId.{NodeId}
 use Rattle.fr_plan.specs.TypePlan.{Plan}
@@ -102,13 +102,13 @@ count_fields table (field ∷ fields) (first v vs) h =
     ap suc (count_fields table fields vs (both_true (fits table field.shape.0 v) (fields_fit table fields vs) h).1)
 
 -- a whole struct has as many parts as fields
-record Parts (v : Val) (count : ℕ) : Type 0 where
+record Parts (form : Form) (v : Val) (count : ℕ) : Type 0 where
   parts : Vals
-  are : parts_of v ≡ Some parts
+  are : parts_as form v ≡ Some parts
   counts : count_vals parts ≡ count
 
 struct_parts : (table : Table) (s : ℕ) (struct : StructDef) → def_of table s ≡ Def.Struct struct → (v : Val)
-    → fits table s v ≡ true → Parts v (length struct.fields)
+    → fits table s v ≡ true → Parts as_struct v (length struct.fields)
 struct_parts table s struct is (product vs) h = record {
   parts = vs;
   are = refl;
@@ -118,12 +118,14 @@ struct_parts table s struct is unit h = cc
 struct_parts table s struct is _ h = let no = rw (settled_struct table s struct is) at h in cc
 
 whole_parts : (table : Table) (s i : ℕ) (v : Val) (form : Form) (count : ℕ) → IsFullAs (def_of table s) form count
-    → fits table s v ≡ true → field_refusal (def_of table s) (whole v) i ≡ None → Parts v count
+    → fits table s v ≡ true → field_refusal (def_of table s) (whole v) i ≡ None → Parts form v count
 whole_parts table s i v form count full fit may = go (def_of table s) refl full may
   where
-    go : (def : Def) → def_of table s ≡ def → IsFullAs def form count → field_refusal def (whole v) i ≡ None → Parts v count
+    go : (def : Def) → def_of table s ≡ def → IsFullAs def form count → field_refusal def (whole v) i ≡ None → Parts form v count
     go (Def.Struct struct) e b none =
-        subst (λ (n : ℕ). Parts v n) (sym (struct_form struct form count b).1) (struct_parts table s struct e v fit)
+        subst (λ (n : ℕ). Parts form v n) (sym (struct_form struct form count b).1)
+        (subst (λ (f : Form). Parts f v (length struct.fields)) (sym (struct_form struct form count b).0)
+        (struct_parts table s struct e v fit))
     go (Def.Array t n) e b none =
         absurd
         (both_none (if nat_lt i n then None else Some Operation.ArrayIndexOutOfBounds)
@@ -139,7 +141,7 @@ count_wholes no_vals = refl
 count_wholes (first v vs) = ap suc (count_wholes vs)
 
 pub may_open : (table : Table) (s i : ℕ) (form : Form) (count : ℕ) (plot : Plot) → IsFullAs (def_of table s) form count
-    → Suits table s (tree_in plot) → field_refusal (def_of table s) (tree_in plot) i ≡ None → MayOpen (body_in plot)
+    → Suits table s (tree_in plot) → field_refusal (def_of table s) (tree_in plot) i ≡ None → MayOpen form (body_in plot)
 may_open table s i form count entered_plot full suits may = tt
 may_open table s i form count (begun_plot made kids) full suits may = tt
 may_open table s i form count (whole_plot v) full suits may =

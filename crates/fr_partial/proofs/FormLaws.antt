@@ -11,10 +11,11 @@ use Rattle.fr_shape.specs.Look.{Table, def_of}
 use Rattle.fr_shape.specs.Val.{Val}
 use Rattle.fr_model.specs.Places.{count_children}
 use Rattle.fr_model.specs.Step.{field_refusal, opened, opened_as, variant_field_refusal}
-use Rattle.fr_model.specs.Tree.{Form, as_struct, as_array, as_variant, as_some, as_ok, as_err, as_pointer, form_at, form_of, selected, variant_of, Tree, hole, entered, whole, begun, Trees, count_trees}
+use Rattle.fr_model.specs.Tree.{Form, as_struct, as_array, as_variant, as_some, as_ok, as_err, as_pointer, as_list, as_slice, as_closed_slice, form_at, form_of, selected, variant_of, Tree, hole, entered, whole, begun, Trees, count_trees}
 use Rattle.fr_model.specs.Variants.{fields_or_none, variant_fields}
 use Rattle.fr_model.specs.Well.{HasFieldsOf, IsFullAs, Suits}
 use Rattle.fr_store.specs.Moves.{TakesMany}
+use Rattle.fr_store.specs.ShapeLaws.{PointsRightly}
 
 pub struct_form : (struct : StructDef) (form : Form) (n : ℕ) → IsFullAs (Def.Struct struct) form n
     → (form ≡ as_struct) × (n ≡ length struct.fields)
@@ -25,6 +26,9 @@ struct_form struct as_some n full = absurd full
 struct_form struct as_ok n full = absurd full
 struct_form struct as_err n full = absurd full
 struct_form struct as_pointer n full = absurd full
+struct_form struct as_list n full = absurd full
+struct_form struct as_slice n full = absurd full
+struct_form struct as_closed_slice n full = absurd full
 
 pub array_form : (item : ShapeId) (m : ℕ) (form : Form) (n : ℕ) → IsFullAs (Def.Array item m) form n
     → (form ≡ as_array) × (n ≡ m)
@@ -35,6 +39,9 @@ array_form item m as_some n full = absurd full
 array_form item m as_ok n full = absurd full
 array_form item m as_err n full = absurd full
 array_form item m as_pointer n full = absurd full
+array_form item m as_list n full = absurd full
+array_form item m as_slice n full = absurd full
+array_form item m as_closed_slice n full = absurd full
 
 fields_of : (found : Option VariantDef) (n : ℕ) → HasFieldsOf found n → n ≡ length (fields_or_none found)
 fields_of (Some variant) n full = full
@@ -55,6 +62,9 @@ enum_form enumeration as_some n full = absurd full
 enum_form enumeration as_ok n full = absurd full
 enum_form enumeration as_err n full = absurd full
 enum_form enumeration as_pointer n full = absurd full
+enum_form enumeration as_list n full = absurd full
+enum_form enumeration as_slice n full = absurd full
+enum_form enumeration as_closed_slice n full = absurd full
 
 -- so many children as a variant has fields
 pub variant_count : (enumeration : EnumDef) (k n : ℕ) → IsFullAs (Def.Enum enumeration) (as_variant k) n
@@ -82,6 +92,9 @@ same_variant as_some k e = cc
 same_variant as_ok k e = cc
 same_variant as_err k e = cc
 same_variant as_pointer k e = cc
+same_variant as_list k e = cc
+same_variant as_slice k e = cc
+same_variant as_closed_slice k e = cc
 
 -- the place may be begun as any of its kind, with as many children
 pub takes_many : (def : Def) (tree : Tree) (form : Form) (n i : ℕ) → IsFullAs def form n → field_refusal def tree i ≡ None
@@ -93,6 +106,19 @@ takes_many (Def.Enum enumeration) tree form n i full may =
 takes_many (Def.Slice item) tree form n i full may = cc
 takes_many Def.Opaque tree form n i full may = cc
 takes_many _ tree form n i full may = cc
+
+-- its children are one lookup away
+pub points_so : (table : Table) (s : ℕ) (def : Def) (tree : Tree) (form : Form) (n i : ℕ) → IsFullAs def form n
+    → field_refusal def tree i ≡ None → PointsRightly table s form
+points_so table s (Def.Struct struct) tree form n i full may =
+    subst (PointsRightly table s) (sym (struct_form struct form n full).0) tt
+points_so table s (Def.Array item m) tree form n i full may =
+    subst (PointsRightly table s) (sym (array_form item m form n full).0) tt
+points_so table s (Def.Enum enumeration) tree form n i full may =
+    subst (PointsRightly table s) (sym (enum_form enumeration form n full).form_is) tt
+points_so table s (Def.Slice item) tree form n i full may = cc
+points_so table s Def.Opaque tree form n i full may = cc
+points_so table s _ tree form n i full may = cc
 
 -- one that isn't begun yet is begun as its definition says
 not_begun : (def : Def) (tree : Tree) (form : Form) (n i : ℕ) → IsFullAs def form n → selected tree ≡ None

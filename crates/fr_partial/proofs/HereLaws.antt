@@ -1,11 +1,12 @@
 -- The body of the place on top, by what stands there.
 use Rattle.std.proofs.Common.{◌≡◌, ℕ, false, List, Option, Some, IsSome, is_some, refl, sym, ◌∙◌, ap, subst}
 use Rattle.std.specs.Prelude.{IsSomeAnd}
+use Rattle.fr_shape.specs.declared.shape.Def.{Def}
 use Rattle.fr_shape.specs.Val.{Val}
-use Rattle.fr_model.specs.Tree.{Tree, whole}
+use Rattle.fr_model.specs.Tree.{Form, Tree, whole}
 use Rattle.fr_plan.specs.TypePlan.{Plan}
 use Rattle.fr_frame.specs.declared.places.Slot.{Slot}
-use Rattle.fr_frame.specs.Bodies.{Body, takes_box, value_of, HoldsSome}
+use Rattle.fr_frame.specs.Bodies.{Body, takes_box, value_of, HoldsSome, MayOpen}
 use Rattle.fr_frame.specs.Changes.{IfInUse}
 use Rattle.fr_frame.specs.Heap.{Node, heap_of}
 use Rattle.fr_frame.specs.Kids.{Plot, entered_plot, whole_plot, begun_plot, tree_in, body_in}
@@ -14,6 +15,7 @@ use Rattle.fr_store.specs.Moves.{tree_here}
 use Rattle.fr_store.specs.Numbers.{IsLast}
 use Rattle.fr_store.specs.Stands.{IsOpen}
 use Rattle.fr_partial.specs.Beginnings.{IsWholeSome}
+use Rattle.fr_partial.specs.Openings.{MayOpenAs}
 use Rattle.fr_partial.proofs.PlaceLaws.{here_found, plot_here}
 
 some_plot : (plot : Plot) → IsWholeSome (tree_in plot) → HoldsSome (body_in plot)
@@ -30,6 +32,12 @@ unboxed_plot : (plot : Plot) (v : Val) → tree_in plot ≡ whole v → takes_bo
 unboxed_plot entered_plot v e = cc
 unboxed_plot (whole_plot w) v e = refl
 unboxed_plot (begun_plot form kids) v e = cc
+
+may_plot : (def : Def) (form : Form) (count : ℕ) (plot : Plot) → MayOpenAs def form count (tree_in plot)
+    → MayOpen form (body_in plot)
+may_plot def form count entered_plot may = tt
+may_plot def form count (whole_plot v) may = may.1
+may_plot def form count (begun_plot made kids) may = tt
 
 module _ (plan : Plan) (slots : List Slot) (stack : List ℕ) (shown : IsOpen plan slots stack) where
   here_body : (So : Body → Type 0) → So (body_in (open_top plan slots stack shown).plot) → (n : ℕ) → IsLast stack n
@@ -51,6 +59,13 @@ module _ (plan : Plan) (slots : List Slot) (stack : List ℕ) (shown : IsOpen pl
       here_body HoldsSome
       (some_plot (open_top plan slots stack shown).plot
       (subst IsWholeSome (sym (plot_here plan slots stack shown)) h))
+
+  pub may_open_here : (def : Def) (form : Form) (count : ℕ) → MayOpenAs def form count (tree_here slots stack) → (n : ℕ)
+      → IsLast stack n → IfInUse slots n (λ (at : Node). MayOpen form at.body)
+  may_open_here def form count may =
+      here_body (MayOpen form)
+      (may_plot def form count (open_top plan slots stack shown).plot
+      (subst (MayOpenAs def form count) (sym (plot_here plan slots stack shown)) may))
 
   module _ (v : Val) (is : tree_here slots stack ≡ whole v) where
     pub value_here : value_of (body_in (open_top plan slots stack shown).plot) ≡ Some v

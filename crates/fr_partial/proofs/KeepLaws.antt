@@ -6,10 +6,11 @@ use Rattle.fr_model.specs.Places.{Place}
 use Rattle.fr_model.specs.Tree.{Form, Tree, hole, begun, holes, tree_at, tree_occurs, deferred}
 use Rattle.fr_plan.specs.TypePlan.{Plan}
 use Rattle.fr_frame.specs.declared.places.Slot.{Slot}
-use Rattle.fr_frame.specs.Changes.{SameTokens}
+use Rattle.fr_frame.specs.Changes.{SameMarks, SameTokens}
 use Rattle.fr_frame.specs.Heap.{heap_of, slots_occur}
 use Rattle.fr_store.specs.Moves.{changed_here, cursor_in, tokens_here, tree_here, tree_in_slots, IsOpenAt}
 use Rattle.fr_store.specs.Stands.{kid_shown, IsOpen}
+use Rattle.fr_store.specs.Stored.{IsKept}
 use Rattle.fr_partial.proofs.PlaceLaws.{held_is}
 use Rattle.fr_partial.proofs.ReachLaws.{tree_leads}
 use Rattle.fr_partial.proofs.TreeLaws.{changed_occur, holes_occur}
@@ -22,6 +23,12 @@ kept_same before after ledger same = record {
   kept_or_released = λ t. omega (arith, same t);
   none_falls = λ t. omega arith;
 }
+
+-- where the same places are stored, the store lists them still
+pub marks_kept : (store : List ℕ) (before after : List Slot) → SameMarks before after → IsKept store before
+    → IsKept store after
+marks_kept store before after same kept n =
+    ((λ stored. (kept n).0 (sym (same n) ∙ stored)), (λ listed. same n ∙ (kept n).1 listed))
 
 -- one change after another
 pub kept_through : (held between left : ℕ → ℕ) (old middle new : List ℕ) → Conserved held old between middle

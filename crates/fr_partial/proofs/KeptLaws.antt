@@ -6,12 +6,13 @@ use Rattle.fr_shape.specs.Look.{Table, def_of}
 use Rattle.fr_shape.specs.Val.{Val}
 use Rattle.fr_model.specs.Contents.{around, content_anew, content_of, is_entered_in_place, kept_in, kept_option, kept_so, variant_anew}
 use Rattle.fr_model.specs.Step.{enter}
-use Rattle.fr_model.specs.Tree.{Form, as_struct, as_array, as_variant, as_some, as_ok, as_err, as_pointer, form_number, same_form, child_as, fresh, Tree, hole, entered, whole, begun, Trees, no_trees, branch, change_child, count_trees, holes, Mode, strict, deferred}
+use Rattle.fr_model.specs.Tree.{Form, as_struct, as_array, as_variant, as_some, as_ok, as_err, as_pointer, as_list, as_slice, as_closed_slice, form_number, same_form, child_as, fresh, Tree, hole, entered, whole, begun, Trees, no_trees, branch, change_child, count_trees, holes, Mode, strict, deferred}
 use Rattle.fr_model.specs.Variants.{variant_fields}
 use Rattle.fr_model.specs.Well.{HasContent, HasSide, HasPointee, IsFullAs, IsBegunRightly, IsContent, PointsTo, Suits}
 use Rattle.fr_frame.specs.Bodies.{is_around}
 use Rattle.fr_frame.specs.Kids.{MayHave}
 use Rattle.fr_store.specs.Moves.{around_content, around_some, HasChild}
+use Rattle.fr_store.specs.ShapeLaws.{PointsRightly}
 use Rattle.fr_partial.specs.Beginnings.{kept_by, begun_by, beginning_so, beginning_in, beginning_of_some, IsWholeSome, MayBegin}
 use Rattle.fr_partial.specs.declared.beginning.Beginning.{Beginning}
 use Rattle.fr_partial.proofs.FormLaws.{IsFullTree}
@@ -25,6 +26,9 @@ number_form as_some as_some e = refl
 number_form as_ok as_ok e = refl
 number_form as_err as_err e = refl
 number_form as_pointer as_pointer e = refl
+number_form as_list as_list e = refl
+number_form as_slice as_slice e = refl
+number_form as_closed_slice as_closed_slice e = refl
 number_form (as_variant k) (as_variant j) e = let same : k ≡ j = omega arith in ap (λ (n : ℕ). as_variant n) same
 number_form _ _ e = absurd (omega arith)
 
@@ -87,7 +91,22 @@ one_child as_err h def n full = one_side def n full
 one_child as_pointer h def n full = one_pointee def n full
 one_child as_struct h def n full = cc
 one_child as_array h def n full = cc
+one_child as_list h def n full = cc
+one_child as_slice h def n full = cc
+one_child as_closed_slice h def n full = cc
 one_child (as_variant k) h def n full = cc
+
+pub points_around : (table : Table) (s : ℕ) (form : Form) → is_around form ≡ true → PointsRightly table s form
+points_around table s as_some h = tt
+points_around table s as_ok h = tt
+points_around table s as_err h = tt
+points_around table s as_pointer h = tt
+points_around table s as_struct h = tt
+points_around table s as_array h = tt
+points_around table s (as_variant k) h = tt
+points_around table s as_list h = tt
+points_around table s as_slice h = cc
+points_around table s as_closed_slice h = cc
 
 pub may_have_one : (form : Form) → MayHave form 1
 may_have_one as_some = omega arith
@@ -97,6 +116,9 @@ may_have_one as_pointer = omega arith
 may_have_one as_struct = tt
 may_have_one as_array = tt
 may_have_one (as_variant k) = tt
+may_have_one as_list = tt
+may_have_one as_slice = tt
+may_have_one as_closed_slice = tt
 
 pub may_begin_so : (form : Form) → is_around form ≡ true → (def : Def) (tree : Tree) → IsFullTree def tree
     → MayBegin (beginning_so form tree) form tree
@@ -182,6 +204,9 @@ content_stays table s form h t ts right def = go t (touched form h right)
     touched as_struct h right = cc
     touched as_array h right = cc
     touched (as_variant k) h right = cc
+    touched as_list h right = cc
+    touched as_slice h right = cc
+    touched as_closed_slice h right = cc
 
     go : (t : Tree) → IsContent (branch t ts) → enter def t ≡ t
     go hole touch = absurd touch

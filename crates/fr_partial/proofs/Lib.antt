@@ -13,6 +13,7 @@ pub mod HereLaws
 pub mod KeepLaws
 pub mod KeptLaws
 pub mod LackLaws
+pub mod ListLaws
 pub mod LookLaws
 pub mod PlaceLaws
 pub mod PutLaws
@@ -20,9 +21,12 @@ pub mod ReachLaws
 pub mod ReleaseLaws
 pub mod RemovedLaws
 pub mod SeenLaws
+pub mod SliceLaws
 pub mod StartLaws
 pub mod StateLaws
+pub mod StayLaws
 pub mod TemplateLaws
 pub mod TestLaws
 pub mod TreeLaws
 pub mod WayLaws
+pub mod WorkLaws

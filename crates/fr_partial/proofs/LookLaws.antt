@@ -1,10 +1,16 @@
--- What is known of a place by its looks: which of its children may be entered, and what of it is kept.
-use Rattle.std.proofs.Common.{◌≡◌, ℕ, Option, refl, sym, ◌∙◌, ap}
+-- What is known of a place by its looks: which of its children may be entered, how many it has, and what of it is kept.
+use Rattle.std.proofs.Common.{◌≡◌, ℕ, zero, suc, nat_le, Option, Some, None, is_some, if◌then◌else◌, refl, sym, ◌∙◌, ap, subst}
+use Rattle.std.specs.Option.{option_or}
+use Rattle.fr_shape.specs.declared.error.Operation.{Operation}
 use Rattle.fr_shape.specs.declared.shape.Def.{Def}
-use Rattle.fr_model.specs.Step.{field_refusal, named_refusal}
-use Rattle.fr_model.specs.Tree.{Form, Mode, strict, deferred, selected, Tree, hole, entered, whole, begun}
+use Rattle.fr_model.specs.Contents.{kept_slice}
+use Rattle.fr_model.specs.Items.{init_array_refusal, is_open_slice, item_refusal, whole_array_refusal}
+use Rattle.fr_model.specs.Places.{array_limit}
+use Rattle.fr_model.specs.Step.{field_refusal, init_list_refusal, named_refusal}
+use Rattle.fr_model.specs.Tree.{Form, as_struct, as_array, as_variant, as_some, as_ok, as_err, as_pointer, as_list, as_slice, as_closed_slice, Mode, strict, deferred, selected, Tree, hole, entered, whole, begun, holes, count_trees}
 use Rattle.fr_partial.specs.Beginnings.{beginning_so, beginning_in, beginning_of_some}
 use Rattle.fr_partial.specs.Looks.{bare, LooksLike}
+use Rattle.fr_partial.specs.Openings.{is_begun, HasItems}
 
 bare_refusal : (def : Def) (tree : Tree) (i : ℕ) → field_refusal def tree i ≡ field_refusal def (bare tree) i
 bare_refusal def hole i = refl
@@ -56,6 +62,85 @@ bare_some mode content (whole v) = refl
 bare_some strict content (begun form ts) = refl
 bare_some (deferred start) content (begun form ts) = refl
 
+-- lists, arrays and pointers to slices
+
+bare_begun : (tree : Tree) → is_begun tree ≡ is_begun (bare tree)
+bare_begun hole = refl
+bare_begun entered = refl
+bare_begun (whole v) = refl
+bare_begun (begun form ts) = refl
+
+bare_open : (tree : Tree) → is_open_slice tree ≡ is_open_slice (bare tree)
+bare_open hole = refl
+bare_open entered = refl
+bare_open (whole v) = refl
+bare_open (begun as_slice ts) = refl
+bare_open (begun as_closed_slice ts) = refl
+bare_open (begun as_list ts) = refl
+bare_open (begun as_struct ts) = refl
+bare_open (begun as_array ts) = refl
+bare_open (begun (as_variant k) ts) = refl
+bare_open (begun as_some ts) = refl
+bare_open (begun as_ok ts) = refl
+bare_open (begun as_err ts) = refl
+bare_open (begun as_pointer ts) = refl
+
+bare_slice : (mode : Mode) (tree : Tree) → is_some (kept_slice mode tree) ≡ is_some (kept_slice mode (bare tree))
+bare_slice strict tree = refl
+bare_slice (deferred start) hole = refl
+bare_slice (deferred start) entered = refl
+bare_slice (deferred start) (whole v) = refl
+bare_slice (deferred start) (begun as_slice ts) = refl
+bare_slice (deferred start) (begun as_closed_slice ts) = refl
+bare_slice (deferred start) (begun as_struct ts) = refl
+bare_slice (deferred start) (begun as_array ts) = refl
+bare_slice (deferred start) (begun (as_variant k) ts) = refl
+bare_slice (deferred start) (begun as_some ts) = refl
+bare_slice (deferred start) (begun as_ok ts) = refl
+bare_slice (deferred start) (begun as_err ts) = refl
+bare_slice (deferred start) (begun as_pointer ts) = refl
+bare_slice (deferred start) (begun as_list ts) = refl
+
+bare_init : (s : ℕ) (def : Def) (tree : Tree) → init_list_refusal s def tree ≡ init_list_refusal s def (bare tree)
+bare_init s def hole = refl
+bare_init s def entered = refl
+bare_init s def (whole v) = refl
+bare_init s def (begun form ts) = refl
+
+bare_whole_array : (tree : Tree) → whole_array_refusal tree ≡ whole_array_refusal (bare tree)
+bare_whole_array hole = refl
+bare_whole_array entered = refl
+bare_whole_array (whole v) = refl
+bare_whole_array (begun form ts) = refl
+
+bare_array : (def : Def) (tree : Tree) → init_array_refusal def tree ≡ init_array_refusal def (bare tree)
+bare_array (Def.Array item n) tree =
+    ap (λ (rest : Option Operation). option_or (if nat_le n array_limit then None else Some Operation.ArrayTooLarge) rest)
+    (bare_whole_array tree)
+bare_array _ tree = refl
+
+bare_item : (def : Def) (tree : Tree) → item_refusal def tree ≡ item_refusal def (bare tree)
+bare_item def hole = refl
+bare_item def entered = refl
+bare_item def (whole v) = refl
+bare_item def (begun form ts) = refl
+
+count_holes : (n : ℕ) → count_trees (holes n) ≡ n
+count_holes zero = refl
+count_holes (suc n) = ap suc (count_holes n)
+
+items_told : (form : Form) (count : ℕ) (tree : Tree) → HasItems form count tree → HasItems form count (bare tree)
+items_told form count hole has = has
+items_told form count entered has = has
+items_told form count (whole v) has = has
+items_told form count (begun made ts) has = (has.0, count_holes (count_trees ts) ∙ has.1)
+
+items_there : (form : Form) (count : ℕ) (tree : Tree) → HasItems form count (bare tree) → HasItems form count tree
+items_there form count hole has = has
+items_there form count entered has = has
+items_there form count (whole v) has = has
+items_there form count (begun made ts) has = (has.0, sym (count_holes (count_trees ts)) ∙ has.1)
+
 module _ (one other : Tree) (alike : LooksLike one other) where
   pub refusal_alike : (def : Def) (i : ℕ) → field_refusal def one i ≡ field_refusal def other i
   refusal_alike def i =
@@ -76,3 +161,26 @@ module _ (one other : Tree) (alike : LooksLike one other) where
   pub some_alike : (mode : Mode) (content : Def) → beginning_of_some mode content one ≡ beginning_of_some mode content other
   some_alike mode content =
       bare_some mode content one ∙ ap (beginning_of_some mode content) alike ∙ sym (bare_some mode content other)
+
+  pub begun_alike : is_begun one ≡ is_begun other
+  begun_alike = bare_begun one ∙ ap is_begun alike ∙ sym (bare_begun other)
+
+  pub open_alike : is_open_slice one ≡ is_open_slice other
+  open_alike = bare_open one ∙ ap is_open_slice alike ∙ sym (bare_open other)
+
+  pub slice_alike : (mode : Mode) → is_some (kept_slice mode one) ≡ is_some (kept_slice mode other)
+  slice_alike mode =
+      bare_slice mode one ∙ ap (λ (t : Tree). is_some (kept_slice mode t)) alike ∙ sym (bare_slice mode other)
+
+  pub init_alike : (s : ℕ) (def : Def) → init_list_refusal s def one ≡ init_list_refusal s def other
+  init_alike s def = bare_init s def one ∙ ap (init_list_refusal s def) alike ∙ sym (bare_init s def other)
+
+  pub array_alike : (def : Def) → init_array_refusal def one ≡ init_array_refusal def other
+  array_alike def = bare_array def one ∙ ap (init_array_refusal def) alike ∙ sym (bare_array def other)
+
+  pub item_alike : (def : Def) → item_refusal def one ≡ item_refusal def other
+  item_alike def = bare_item def one ∙ ap (item_refusal def) alike ∙ sym (bare_item def other)
+
+  pub items_alike : (form : Form) (count : ℕ) → HasItems form count one → HasItems form count other
+  items_alike form count has =
+      items_there form count other (subst (HasItems form count) alike (items_told form count one has))

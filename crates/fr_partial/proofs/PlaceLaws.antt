@@ -1,21 +1,21 @@
 -- The place on top of the stack: its shape, and what stands there.
-use Rattle.std.proofs.Common.{◌≡◌, ℕ, ◌<◌, false, List, [], length, append-nil, Option, Some, None, refl, sym, ◌∙◌, ap, subst}
+use Rattle.std.proofs.Common.{◌≡◌, ℕ, suc, ◌<◌, false, List, [], length, append-nil, Option, Some, None, refl, sym, ◌∙◌, ap, subst}
 use Rattle.std.specs.Prelude.{IsSome}
 use Rattle.fr_shape.specs.declared.shape.ShapeId.{ShapeId}
 use Rattle.fr_shape.specs.Look.{Table}
 use Rattle.fr_model.specs.Places.{Place}
-use Rattle.fr_model.specs.Tree.{Tree, tree_occurs}
+use Rattle.fr_model.specs.Tree.{Tree, begun, holes, count_trees, tree_occurs}
 use Rattle.fr_plan.specs.declared.nodes.TypePlanNode.{TypePlanNode}
 use Rattle.fr_plan.specs.Lookups.{node_at}
 use Rattle.fr_plan.specs.LookupLaws.{LookupsAgree, LookupPathsAgree}
 use Rattle.fr_plan.specs.TypePlan.{Plan}
 use Rattle.fr_frame.specs.declared.places.Place.{Place as Entry}
 use Rattle.fr_frame.specs.declared.places.Slot.{Slot}
-use Rattle.fr_frame.specs.Bodies.{own_tree}
+use Rattle.fr_frame.specs.Bodies.{own_tree, trees_of}
 use Rattle.fr_frame.specs.Heap.{Node, body_of, node_of, heap_of, slots_occur}
 use Rattle.fr_frame.specs.declared.places.FrameOwner.{FrameOwner}
 use Rattle.fr_frame.specs.Changes.{SameTokens, Shows}
-use Rattle.fr_frame.specs.Kids.{Plot, entered_plot, whole_plot, begun_plot, tree_of, tree_in, body_in}
+use Rattle.fr_frame.specs.Kids.{Plot, entered_plot, whole_plot, begun_plot, Kids, no_kids, kid, tree_of, tree_in, trees_in, body_in, cells_in}
 use Rattle.fr_store.specs.HoldLaws.{holds_frame}
 use Rattle.fr_store.specs.StandLaws.{open_from}
 use Rattle.fr_store.specs.MoveLaws.{open_top, top_slot}
@@ -58,10 +58,14 @@ module _ (plan : Plan) (slots : List Slot) (stack : List ℕ) (shown : IsOpen pl
 
 -- Where a child is in a slot, what was put at the place above doesn't tell it; but it looks like what stands there.
 
+count_told : (kids : Kids) → count_trees (trees_of (cells_in kids)) ≡ count_trees (trees_in kids)
+count_told no_kids = refl
+count_told (kid k ks) = ap suc (count_told ks)
+
 own_looks : (plot : Plot) → LooksLike (own_tree (body_in plot)) (tree_in plot)
 own_looks entered_plot = refl
 own_looks (whole_plot v) = refl
-own_looks (begun_plot form kids) = refl
+own_looks (begun_plot form kids) = ap (λ (n : ℕ). begun form (holes n)) (count_told kids)
 
 -- what was put there looks like what stands at the place at which the builder works
 pub looks_found : (plan : Plan) (slots : List Slot) (stack : List ℕ) (shown : IsOpen plan slots stack) (n : ℕ)

@@ -3,15 +3,17 @@ use Rattle.std.proofs.Common.{◌≡◌, ℕ, List, refl, sym, ◌∙◌, ap}
 use Rattle.fr_shape.specs.declared.shape.Def.{Def}
 use Rattle.fr_shape.specs.declared.shape.ShapeId.{ShapeId}
 use Rattle.fr_shape.specs.Look.{Table, def_of}
-use Rattle.fr_model.specs.Step.{field_refusal, named_refusal}
+use Rattle.fr_model.specs.Items.{init_array_refusal, is_open_slice, item_refusal}
+use Rattle.fr_model.specs.Step.{field_refusal, init_list_refusal, named_refusal}
 use Rattle.fr_model.specs.Tree.{Form, Mode, selected, Tree, cursor_tree}
 use Rattle.fr_frame.specs.declared.places.Slot.{Slot}
 use Rattle.fr_store.specs.Moves.{tree_here}
 use Rattle.fr_partial.specs.Beginnings.{beginning_so, beginning_in, beginning_of_some}
 use Rattle.fr_partial.specs.Builder.{Builder, here}
 use Rattle.fr_partial.specs.Looks.{bare, LooksLike}
+use Rattle.fr_partial.specs.Openings.{HasItems}
 use Rattle.fr_partial.specs.Underway.{shape_here}
-use Rattle.fr_partial.proofs.LookLaws.{refusal_alike, selected_alike, named_alike, so_alike, in_alike, some_alike}
+use Rattle.fr_partial.proofs.LookLaws.{array_alike, in_alike, init_alike, item_alike, items_alike, named_alike, open_alike, refusal_alike, selected_alike, so_alike, some_alike}
 use Rattle.fr_partial.proofs.StateLaws.{builder_of}
 
 -- its table, the shape of the place, and how the place looks
@@ -66,3 +68,28 @@ module _ {H : Type 0} {builder : Builder H} {table : Table} {shape : ShapeId} {s
   pub some_seen : (mode : Mode) (content : Def)
       → beginning_of_some mode content seen ≡ beginning_of_some mode content (cursor_tree builder.state)
   some_seen mode content = some_alike seen (cursor_tree builder.state) at.looks mode content
+
+  pub init_seen : init_list_refusal shape.0 (def_of table shape.0) seen
+      ≡ init_list_refusal (here builder) (def_of builder.shapes (here builder)) (cursor_tree builder.state)
+  init_seen =
+      init_alike seen (cursor_tree builder.state) at.looks shape.0 (def_of table shape.0)
+      ∙ ap (λ (s : ℕ). init_list_refusal s (def_of table shape.0) (cursor_tree builder.state)) at.shape_is
+      ∙ ap (λ (def : Def). init_list_refusal (here builder) def (cursor_tree builder.state)) def_seen
+
+  pub array_seen : init_array_refusal (def_of table shape.0) seen
+      ≡ init_array_refusal (def_of builder.shapes (here builder)) (cursor_tree builder.state)
+  array_seen =
+      array_alike seen (cursor_tree builder.state) at.looks (def_of table shape.0)
+      ∙ ap (λ (def : Def). init_array_refusal def (cursor_tree builder.state)) def_seen
+
+  pub item_seen : item_refusal (def_of table shape.0) seen
+      ≡ item_refusal (def_of builder.shapes (here builder)) (cursor_tree builder.state)
+  item_seen =
+      item_alike seen (cursor_tree builder.state) at.looks (def_of table shape.0)
+      ∙ ap (λ (def : Def). item_refusal def (cursor_tree builder.state)) def_seen
+
+  pub items_seen : (form : Form) (count : ℕ) → HasItems form count seen → HasItems form count (cursor_tree builder.state)
+  items_seen form count has = items_alike seen (cursor_tree builder.state) at.looks form count has
+
+  pub open_seen : is_open_slice seen ≡ is_open_slice (cursor_tree builder.state)
+  open_seen = open_alike seen (cursor_tree builder.state) at.looks

@@ -22,6 +22,13 @@ pub record IsEnded (means : Meanings) (table : Table) (s : ℕ) (plan : Plan) (s
   pub after : IsOpenAt plan slots stack (up place) (change_at place (λ old. whole value) tree)
   pub stores : NothingStored slots
 
+-- the same, but the place at which the builder works is where it was
+pub record IsMadeWhole (means : Meanings) (table : Table) (s : ℕ) (plan : Plan) (slots : List Slot) (stack : List ℕ) (tree : Tree) (place : Place) : Type 0 where
+  pub value : Val
+  pub meant : complete strict_column means table s (tree_at place tree) ≡ Some value
+  pub after : IsOpenAt plan slots stack place (change_at place (λ old. whole value) tree)
+  pub stores : NothingStored slots
+
 -- what stands at a place of shape s makes no value, and this is the cause
 pub record IsLacking (means : Meanings) (table : Table) (s : ℕ) (t : Tree) (kind : ReflectErrorKind) : Type 0 where
   pub incomplete : complete strict_column means table s t ≡ None

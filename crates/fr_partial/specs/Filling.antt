@@ -1,17 +1,17 @@
 -- Which places complete without memory.
 use Rattle.std.specs.Prelude.{Bool, true, false, if◌then◌else◌}
 use Rattle.fr_model.specs.Tree.{Tree, hole, entered, whole, begun, Trees, no_trees, branch}
-use Rattle.fr_frame.specs.Bodies.{is_around}
+use Rattle.fr_frame.specs.Bodies.{boxes}
 
 abbrev pub has_no_hole : Trees → Bool
 has_no_hole no_trees = true
 has_no_hole (branch hole ts) = false
 has_no_hole (branch t ts) = has_no_hole ts
 
--- Completing the place takes no memory: it is whole, or begun with no hole among its children, and not around one child, which would be
--- put behind a pointer of its own.
+-- Completing the place takes no memory: it is whole, or begun with no hole among its children, and neither around one child nor as a
+-- pointer to a slice: the one child, and the list of the items, would be put behind a pointer of its own.
 abbrev pub takes_no_memory : Tree → Bool
 takes_no_memory hole = false
 takes_no_memory entered = false
 takes_no_memory (whole v) = true
-takes_no_memory (begun form ts) = if is_around form then false else has_no_hole ts
+takes_no_memory (begun form ts) = if boxes form then false else has_no_hole ts

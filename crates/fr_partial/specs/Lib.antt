@@ -10,5 +10,6 @@ pub mod HeldPlan
 pub mod Looks
 pub mod Meant
 pub mod Modes
+pub mod Openings
 pub mod Starting
 pub mod Underway

@@ -25,7 +25,7 @@ pub struct Opening {
 }
 
 /// The largest array whose elements can be entered.
-const MOST_ELEMENTS: u32 = 4096;
+pub const MOST_ELEMENTS: u32 = 4096;
 
 /// Why element `i` of an array of `count` may not be entered, if so.
 fn element_refusal(item: ShapeId, count: u32, piece: &Piece, i: usize) -> Option<Operation>
@@ -52,6 +52,7 @@ pub fn selected(piece: &Piece) -> Option<u32>
         Piece::Begun(form, _) => match *form {
             Form::Variant(k) => Some(k),
             Form::Struct | Form::Array | Form::Some | Form::Ok | Form::Err | Form::Pointer => None,
+            Form::List | Form::Slice | Form::ClosedSlice => None,
         },
         Piece::Entered | Piece::Whole(_) => None,
     }

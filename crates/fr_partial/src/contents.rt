@@ -20,8 +20,9 @@ ghost use Rattle.fr_partial.specs.Meant.{IsMeant};
 ghost use Rattle.fr_partial.specs.Underway.{shape_here, IsReady};
 
 use crate::beginning::Beginning;
-use crate::entering::{child_node, node_here, out_of_memory};
+use crate::entering::{child_node, node_here};
 use crate::paths::step_back;
+use crate::work::fail;
 use crate::{Partial, ReflectError};
 use fr_frame::{Form, Slots};
 use fr_model::law_well;
@@ -119,34 +120,29 @@ impl<'t, H: Hooks> Partial<'t, H> {
         ensures tokens { Conserved (holds self.entry) ledger.old (left result) ledger.new }
     {
         law_well();
-        let Ok(()) = self.path.push(form.step(0)) else {
+        let work = &mut *self.work;
+        let table = work.table;
+        let root = work.root;
+        let Ok(()) = work.path.push(form.step(0)) else {
             return Err(self.refuse(ReflectErrorKind::OutOfMemory, ledger));
         };
-        let (table, root) = (self.table, self.root);
-        let work = &mut self.work;
         let plan = work.plan.core();
         let (slots, stack, store) = (&mut work.slots, &mut work.stack, &mut work.store);
         match begin_content(
             table, root, plan, slots, stack, store, form, beginning, ledger,
         ) {
             Ok(()) => {
-                self.calls = self.calls.saturating_add(1);
+                work.calls = work.calls.saturating_add(1);
                 Ok(self)
             }
             Err(OutOfMemory) => {
+                step_back(&mut work.path);
                 let Partial {
                     alloc: _,
-                    table: _,
                     hooks: _,
-                    root: _,
                     work,
-                    mut path,
-                    mode: _,
-                    calls: _,
                 } = self;
-                work.release(ledger);
-                step_back(&mut path);
-                Err(out_of_memory(path))
+                Err(fail(work, ReflectErrorKind::OutOfMemory, ledger))
             }
         }
     }

@@ -26,7 +26,7 @@ impl<'t, H: Hooks> Partial<'t, H> {
         ensures memory { IsNotOutOfMemory result }
     {
         law_removed();
-        match self.mode {
+        match self.work.mode {
             Mode::Strict => Ok(self.enter_deferred()),
             Mode::Deferred(_) => {
                 let invariant = Invariant::AlreadyDeferred;
@@ -45,9 +45,10 @@ impl<'t, H: Hooks> Partial<'t, H> {
         ensures hooks { result.hooks ≡ self.entry.hooks }
     {
         law_well();
-        let start = self.work.stack.len() - 1;
-        self.mode = Mode::Deferred(start);
-        self.calls = self.calls.saturating_add(1);
+        let work = &mut *self.work;
+        let start = work.stack.len() - 1;
+        work.mode = Mode::Deferred(start);
+        work.calls = work.calls.saturating_add(1);
         self
     }
 
@@ -63,7 +64,7 @@ impl<'t, H: Hooks> Partial<'t, H> {
             Call.FinishDeferred result ledger.old ledger.new }
     {
         law_removed();
-        match self.mode {
+        match self.work.mode {
             Mode::Strict => {
                 let invariant = Invariant::NotDeferred;
                 let kind = ReflectErrorKind::InvariantViolation { invariant };
@@ -85,33 +86,34 @@ impl<'t, H: Hooks> Partial<'t, H> {
         law_plan_lookups();
         law_removed();
         law_well();
-        let (table, hooks) = (self.table, self.hooks);
-        let work = &mut self.work;
+        let hooks = self.hooks;
+        let work = &mut *self.work;
+        let table = work.table;
         let plan = work.plan.core();
         let (slots, stack) = (&mut work.slots, &mut work.stack);
         match work.store.finish(slots, stack, table, plan, hooks, ledger) {
             Ok(()) => {
-                self.mode = Mode::Strict;
-                self.calls = self.calls.saturating_add(1);
+                work.mode = Mode::Strict;
+                work.calls = work.calls.saturating_add(1);
                 Ok(self)
             }
             Err(kind) => {
                 let Partial {
                     alloc: _,
-                    table: _,
                     hooks: _,
-                    root: _,
                     work,
-                    path,
-                    mode: _,
-                    calls: _,
                 } = self;
                 let Work {
+                    table: _,
+                    root: _,
                     plan,
                     slots: _,
                     stack: _,
                     store: _,
-                } = work;
+                    path,
+                    mode: _,
+                    calls: _,
+                } = Box::into_inner(work);
                 drop(plan);
                 Err(ReflectError { kind, path })
             }

@@ -1,13 +1,12 @@
 //! Going on to a child of the place at which the builder works.
 ghost use Rattle.std.specs.Prelude.{◌≡◌, ◌<◌, ◌^◌, [], ◌∷◌, ◌++◌, Ok, None, OnOk};
-ghost use Rattle.fr_shape.specs.declared.error.ReflectErrorKind.{ReflectErrorKind};
 ghost use Rattle.fr_shape.specs.Look.{def_of};
 ghost use Rattle.fr_shape.specs.Released.{Room, Conserved};
 ghost use Rattle.fr_model.specs.Step.{enter_child, enters, field_refusal};
 ghost use Rattle.fr_model.specs.Tree.{change_at, cursor_tree};
 ghost use Rattle.fr_frame.specs.Changes.{SameTokens};
 ghost use Rattle.fr_frame.specs.Heap.{as_form};
-ghost use Rattle.fr_frame.specs.Kids.{child_node};
+ghost use Rattle.fr_frame.specs.Kids.{child_node, slice_item_found};
 ghost use Rattle.fr_store.specs.Moves.{cursor_in, node_here, tree_here, tree_in_slots, IsOpenAt};
 ghost use Rattle.fr_store.specs.Stands.{IsOpen};
 ghost use Rattle.fr_store.specs.Stored.{IsKept, StoresNoMore};
@@ -17,24 +16,13 @@ ghost use Rattle.fr_partial.specs.Underway.{shape_here, IsReady};
 
 use crate::admitting::Opening;
 use crate::paths::step_back;
+use crate::work::fail;
 use crate::{Partial, ReflectError};
 use fr_frame::{Form, Slots};
 use fr_model::{law_paths, law_removed, law_well};
-use fr_path::Path;
 use fr_plan::{NodeId, TypePlanCore, law_plan_lookups};
 use fr_shape::{Hooks, Ledger, OutOfMemory, ReflectErrorKind, ShapeId, ShapeTable};
 use fr_store::{FrameStore, Stack};
-
-/// The error of a call that finds no memory.
-pub(crate) fn out_of_memory(path: Path) -> ReflectError
-    ensures kind { result.kind ≡ ReflectErrorKind.OutOfMemory }
-    ensures path { result.path ≡ path }
-{
-    ReflectError {
-        kind: ReflectErrorKind::OutOfMemory,
-        path,
-    }
-}
 
 impl<'t, H: Hooks> Partial<'t, H> {
     /// Enters a child that may be entered; the place is opened as this for it, which may need memory.
@@ -57,32 +45,27 @@ impl<'t, H: Hooks> Partial<'t, H> {
         law_plan_lookups();
         law_removed();
         law_well();
-        let Ok(()) = self.path.push(opening.form.step(i as u32)) else {
+        let work = &mut *self.work;
+        let table = work.table;
+        let root = work.root;
+        let Ok(()) = work.path.push(opening.form.step(i as u32)) else {
             return Err(self.refuse(ReflectErrorKind::OutOfMemory, ledger));
         };
-        let (table, root) = (self.table, self.root);
-        let work = &mut self.work;
         let plan = work.plan.core();
         let (slots, stack, store) = (&mut work.slots, &mut work.stack, &mut work.store);
         match enter_child(table, root, plan, slots, stack, store, i, opening) {
             Ok(()) => {
-                self.calls = self.calls.saturating_add(1);
+                work.calls = work.calls.saturating_add(1);
                 Ok(self)
             }
             Err(OutOfMemory) => {
+                step_back(&mut work.path);
                 let Partial {
                     alloc: _,
-                    table: _,
                     hooks: _,
-                    root: _,
                     work,
-                    mut path,
-                    mode: _,
-                    calls: _,
                 } = self;
-                work.release(ledger);
-                step_back(&mut path);
-                Err(out_of_memory(path))
+                Err(fail(work, ReflectErrorKind::OutOfMemory, ledger))
             }
         }
     }
@@ -103,6 +86,13 @@ pub(crate) fn node_here(plan: &TypePlanCore, slots: &Slots, stack: &Stack) -> No
     }
 }
 
+/// The plan's node of the items of the slice behind a pointer of this node.
+fn slice_item(plan: &TypePlanCore, node: NodeId) -> Option<NodeId>
+    ensures { result ≡ slice_item_found plan.now node }
+{
+    plan.list_item_node_id(plan.pointer_inner_node_id(node)?)
+}
+
 /// The plan's node of child `i` of a place of this node that is begun so.
 #[inline]
 pub(crate) fn child_node(plan: &TypePlanCore, node: NodeId, form: Form, i: usize) -> NodeId
@@ -110,12 +100,13 @@ pub(crate) fn child_node(plan: &TypePlanCore, node: NodeId, form: Form, i: usize
 {
     let found = match form {
         Form::Struct => plan.struct_field_node_id(node, i),
-        Form::Array => plan.list_item_node_id(node),
+        Form::Array | Form::List => plan.list_item_node_id(node),
         Form::Variant(k) => plan.enum_variant_field_node_id(node, k as usize, i),
         Form::Some => plan.option_some_node_id(node),
         Form::Ok => plan.result_nodes_id(node).map(|sides| sides.0),
         Form::Err => plan.result_nodes_id(node).map(|sides| sides.1),
         Form::Pointer => plan.pointer_inner_node_id(node),
+        Form::Slice | Form::ClosedSlice => slice_item(plan, node),
     };
     match found {
         Some(child) => child,

@@ -19,7 +19,8 @@ impl<'t, H: Hooks> Partial<'t, H> {
         ledger: &mut Ledger,
     ) -> Result<Partial<'t, H>, ReflectError>
         requires room { Room (holds self) ledger.old }
-        ensures step { IsStep (H.means self.entry.hooks) self.entry (Call.SelectNthVariant index) result }
+        ensures step { IsStep (H.means self.entry.hooks) self.entry
+            (Call.SelectNthVariant index) result }
         ensures path { TellsPlaceBefore self.entry result }
         ensures tokens { Conserved (holds self.entry) ledger.old (left result) ledger.new }
         ensures removed { RisesByRemoved (H.means self.entry.hooks) self.entry
@@ -29,7 +30,7 @@ impl<'t, H: Hooks> Partial<'t, H> {
     {
         law_removed();
         let shape = self.shape();
-        match nth_variant(self.table, shape, index) {
+        match nth_variant(self.work.table, shape, index) {
             Ok(chosen) => self.select(chosen, ledger),
             Err(kind) => Err(self.refuse(kind, ledger)),
         }
@@ -43,7 +44,8 @@ impl<'t, H: Hooks> Partial<'t, H> {
         ledger: &mut Ledger,
     ) -> Result<Partial<'t, H>, ReflectError>
         requires room { Room (holds self) ledger.old }
-        ensures step { IsStep (H.means self.entry.hooks) self.entry (Call.SelectVariantNamed variant_name.now) result }
+        ensures step { IsStep (H.means self.entry.hooks) self.entry
+            (Call.SelectVariantNamed variant_name.now) result }
         ensures path { TellsPlaceBefore self.entry result }
         ensures tokens { Conserved (holds self.entry) ledger.old (left result) ledger.new }
         ensures removed { RisesByRemoved (H.means self.entry.hooks) self.entry
@@ -53,7 +55,7 @@ impl<'t, H: Hooks> Partial<'t, H> {
     {
         law_removed();
         let shape = self.shape();
-        match variant_named(self.table, shape, variant_name) {
+        match variant_named(self.work.table, shape, variant_name) {
             Ok(chosen) => self.select(chosen, ledger),
             Err(kind) => Err(self.refuse(kind, ledger)),
         }
@@ -67,7 +69,8 @@ impl<'t, H: Hooks> Partial<'t, H> {
         ledger: &mut Ledger,
     ) -> Result<Partial<'t, H>, ReflectError>
         requires room { Room (holds self) ledger.old }
-        ensures step { IsStep (H.means self.entry.hooks) self.entry (Call.SelectVariant discriminant) result }
+        ensures step { IsStep (H.means self.entry.hooks) self.entry
+            (Call.SelectVariant discriminant) result }
         ensures path { TellsPlaceBefore self.entry result }
         ensures tokens { Conserved (holds self.entry) ledger.old (left result) ledger.new }
         ensures removed { RisesByRemoved (H.means self.entry.hooks) self.entry
@@ -77,7 +80,7 @@ impl<'t, H: Hooks> Partial<'t, H> {
     {
         law_removed();
         let shape = self.shape();
-        match variant_told_by(self.table, shape, discriminant) {
+        match variant_told_by(self.work.table, shape, discriminant) {
             Ok(chosen) => self.select(chosen, ledger),
             Err(kind) => Err(self.refuse(kind, ledger)),
         }

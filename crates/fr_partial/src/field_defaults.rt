@@ -20,8 +20,9 @@ ghost use Rattle.fr_partial.specs.Modes.{mode_of};
 ghost use Rattle.fr_partial.specs.Underway.{shape_here, IsReady, StoresNothing};
 
 use crate::admitting::{Opening, field_of, named_refusal, selected};
-use crate::entering::{enter_child, out_of_memory};
+use crate::entering::enter_child;
 use crate::mode::Mode;
+use crate::work::fail;
 use crate::{Partial, ReflectError};
 use fr_frame::{Piece, Slots};
 use fr_model::{law_paths, law_well};
@@ -178,8 +179,10 @@ impl<'t, H: Hooks> Partial<'t, H> {
     {
         law_paths();
         law_well();
-        let (table, root, mode) = (self.table, self.root, self.mode);
-        let work = &mut self.work;
+        let work = &mut *self.work;
+        let table = work.table;
+        let root = work.root;
+        let mode = work.mode;
         let plan = work.plan.core();
         let (slots, stack, store) = (&mut work.slots, &mut work.stack, &mut work.store);
         let answer = put_in_child(
@@ -187,22 +190,16 @@ impl<'t, H: Hooks> Partial<'t, H> {
         );
         match answer {
             Ok(()) => {
-                self.calls = self.calls.saturating_add(1);
+                work.calls = work.calls.saturating_add(1);
                 Ok(self)
             }
             Err(OutOfMemory) => {
                 let Partial {
                     alloc: _,
-                    table: _,
                     hooks: _,
-                    root: _,
                     work,
-                    path,
-                    mode: _,
-                    calls: _,
                 } = self;
-                work.release(ledger);
-                Err(out_of_memory(path))
+                Err(fail(work, ReflectErrorKind::OutOfMemory, ledger))
             }
         }
     }

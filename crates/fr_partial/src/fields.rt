@@ -32,9 +32,11 @@ impl<'t, H: Hooks> Partial<'t, H> {
             (Call.BeginField field_name.now) result }
     {
         law_removed();
-        let (table, root) = (self.table, self.root);
-        let plan = self.work.plan.core();
-        let (slots, stack) = (&self.work.slots, &self.work.stack);
+        let work = &*self.work;
+        let table = work.table;
+        let root = work.root;
+        let plan = work.plan.core();
+        let (slots, stack) = (&work.slots, &work.stack);
         let (shape, piece) = place_here(table, root, plan, slots, stack);
         if let Some(operation) = named_refusal(table, shape, piece) {
             let kind = ReflectErrorKind::OperationFailed { shape, operation };
@@ -68,10 +70,11 @@ impl<'t, H: Hooks> Partial<'t, H> {
             (Call.BeginNthField idx) result }
     {
         law_removed();
-        let plan = self.work.plan.core();
-        let (slots, stack) = (&self.work.slots, &self.work.stack);
-        let (shape, piece) = place_here(self.table, self.root, plan, slots, stack);
-        match nth_opening(self.table, shape, piece, idx) {
+        let work = &*self.work;
+        let plan = work.plan.core();
+        let (slots, stack) = (&work.slots, &work.stack);
+        let (shape, piece) = place_here(work.table, work.root, plan, slots, stack);
+        match nth_opening(work.table, shape, piece, idx) {
             Ok(opening) => self.enter(idx, opening, ledger),
             Err(operation) => {
                 let kind = ReflectErrorKind::OperationFailed { shape, operation };
@@ -101,10 +104,11 @@ impl<'t, H: Hooks> Partial<'t, H> {
             (Call.SetNthFieldToDefault idx) result }
     {
         law_removed();
-        let table = self.table;
-        let plan = self.work.plan.core();
-        let (slots, stack) = (&self.work.slots, &self.work.stack);
-        let (shape, piece) = place_here(table, self.root, plan, slots, stack);
+        let work = &*self.work;
+        let table = work.table;
+        let plan = work.plan.core();
+        let (slots, stack) = (&work.slots, &work.stack);
+        let (shape, piece) = place_here(table, work.root, plan, slots, stack);
         let template = match default_in(table, shape, piece, idx) {
             Ok(template) => template,
             Err(kind) => return Err(self.refuse(kind, ledger)),

@@ -3,6 +3,7 @@ ghost use Rattle.std.specs.Prelude.{◌≡◌, true, false, IfOk, Ok};
 ghost use Rattle.fr_shape.specs.Fits.{fits};
 ghost use Rattle.fr_shape.specs.Released.{Room, RoseBy, Conserved};
 ghost use Rattle.fr_model.specs.Commands.{Call};
+ghost use Rattle.fr_model.specs.Items.{is_open_slice};
 ghost use Rattle.fr_model.specs.Paths.{path_of};
 ghost use Rattle.fr_model.specs.Places.{is_root};
 ghost use Rattle.fr_model.specs.Step.{leaves};
@@ -14,7 +15,9 @@ ghost use Rattle.fr_partial.specs.Builder.{holds, left, left_built, BuildRefuses
 use crate::finishing::{abandon, end_here, take_root};
 use crate::mode::Mode;
 use crate::paths::step_back;
-use crate::work::Work;
+use crate::placing::place_here;
+use crate::slices::is_open_slice;
+use crate::work::{Work, fail};
 use crate::{Built, Partial, ReflectError};
 use fr_model::{law_completes, law_paths, law_removed, law_well};
 use fr_path::Path;
@@ -22,8 +25,10 @@ use fr_shape::{Hooks, Invariant, Ledger, ReflectErrorKind};
 
 impl<'t, H: Hooks> Partial<'t, H> {
     /// Leaves the place for the one above. In strict mode it is completed, and its value written there: only copies of templates, and
-    /// what an option, a result or a pointer holds, need memory, and what is lacking is found before any is made. In deferred mode it is left as it is, to be entered again or
-    /// completed by `finish_deferred`; it has to lie deeper than the place at which deferred mode began.
+    /// what an option, a result or a pointer holds, need memory, and what is lacking is found before any is made. In deferred mode it is
+    /// left as it is, to be entered again or completed by `finish_deferred`; it has to lie deeper than the place at which deferred mode
+    /// began. At an open pointer to a slice the builder stays instead: the pointer becomes whole in strict mode, and in deferred mode it
+    /// is closed.
     pub fn end(self, ledger: &mut Ledger) -> Result<Partial<'t, H>, ReflectError>
         requires room { Room (holds self) ledger.old }
         ensures step { IsStep (H.means self.entry.hooks) self.entry Call.End result }
@@ -37,8 +42,19 @@ impl<'t, H: Hooks> Partial<'t, H> {
             Call.End result }
     {
         law_removed();
-        let depth = self.work.stack.len() - 1;
-        match self.mode {
+        let work = &*self.work;
+        let plan = work.plan.core();
+        let (slots, stack) = (&work.slots, &work.stack);
+        let (_, piece) = place_here(work.table, work.root, plan, slots, stack);
+        let stays = is_open_slice(piece);
+        if stays {
+            return match work.mode {
+                Mode::Strict => self.complete_slice(ledger),
+                Mode::Deferred(_) => Ok(self.close_slice()),
+            };
+        }
+        let depth = work.stack.len() - 1;
+        match work.mode {
             Mode::Strict | Mode::Deferred(_) if depth == 0 => {
                 let invariant = Invariant::EndAtRoot;
                 let kind = ReflectErrorKind::InvariantViolation { invariant };
@@ -58,6 +74,7 @@ impl<'t, H: Hooks> Partial<'t, H> {
     fn end_strict(mut self, ledger: &mut Ledger) -> Result<Partial<'t, H>, ReflectError>
         requires room { Room (holds self) ledger.old }
         requires strict { self.state.mode ≡ strict }
+        requires not_open { is_open_slice (cursor_tree self.state) ≡ false }
         requires below { is_root self.state.cursor ≡ false }
         ensures step { IsStep (H.means self.entry.hooks) self.entry Call.End result }
         ensures path { TellsPlaceBefore self.entry result }
@@ -72,28 +89,24 @@ impl<'t, H: Hooks> Partial<'t, H> {
         law_paths();
         law_removed();
         law_well();
-        let (table, root, hooks) = (self.table, self.root, self.hooks);
-        let work = &mut self.work;
+        let hooks = self.hooks;
+        let work = &mut *self.work;
+        let table = work.table;
+        let root = work.root;
         let (slots, stack) = (&mut work.slots, &mut work.stack);
         match end_here(table, root, work.plan.core(), hooks, slots, stack, ledger) {
             Ok(()) => {
-                step_back(&mut self.path);
-                self.calls = self.calls.saturating_add(1);
+                step_back(&mut work.path);
+                work.calls = work.calls.saturating_add(1);
                 Ok(self)
             }
             Err(kind) => {
                 let Partial {
                     alloc: _,
-                    table: _,
                     hooks: _,
-                    root: _,
                     work,
-                    path,
-                    mode: _,
-                    calls: _,
                 } = self;
-                work.release(ledger);
-                Err(ReflectError { kind, path })
+                Err(fail(work, kind, ledger))
             }
         }
     }
@@ -101,6 +114,7 @@ impl<'t, H: Hooks> Partial<'t, H> {
     /// `end` in deferred mode, below the place at which that began.
     fn leave(mut self, ledger: &mut Ledger) -> Result<Partial<'t, H>, ReflectError>
         requires room { Room (holds self) ledger.old }
+        requires not_open { is_open_slice (cursor_tree self.state) ≡ false }
         requires below { IsBelowStart self.state.mode self.state.cursor }
         ensures step { IsStepTo self.entry (Ok (leaves self.entry.state)) result }
         ensures path { TellsPlaceBefore self.entry result }
@@ -109,13 +123,13 @@ impl<'t, H: Hooks> Partial<'t, H> {
         law_paths();
         law_removed();
         law_well();
-        let work = &mut self.work;
+        let work = &mut *self.work;
         let (slots, store) = (&mut work.slots, &mut work.store);
         let Ok(()) = work.stack.leave(slots, store, work.plan.core()) else {
             return Err(self.refuse(ReflectErrorKind::OutOfMemory, ledger));
         };
-        step_back(&mut self.path);
-        self.calls = self.calls.saturating_add(1);
+        step_back(&mut work.path);
+        work.calls = work.calls.saturating_add(1);
         Ok(self)
     }
 
@@ -135,7 +149,7 @@ impl<'t, H: Hooks> Partial<'t, H> {
         ensures refused { BuildRefusesBeforeMemory (H.means self.entry.hooks) self.entry result }
     {
         law_removed();
-        match self.mode {
+        match self.work.mode {
             Mode::Strict => self.build_strict(ledger),
             Mode::Deferred(_) => {
                 let invariant = Invariant::BuildDeferred;
@@ -164,20 +178,20 @@ impl<'t, H: Hooks> Partial<'t, H> {
         law_removed();
         let Partial {
             alloc: _,
-            table,
             hooks,
-            root,
             work,
-            path,
-            mode: _,
-            calls,
         } = self;
         let Work {
+            table,
+            root,
             plan,
             slots,
             stack,
             store: _,
-        } = work;
+            path,
+            mode: _,
+            calls,
+        } = Box::into_inner(work);
         let open = stack.len();
         if open == 1 {
             let result = take_root(table, root, plan.core(), hooks, slots, stack, ledger);
@@ -222,20 +236,20 @@ impl<'t, H: Hooks> Partial<'t, H> {
     {
         let Partial {
             alloc: _,
-            table: _,
             hooks: _,
-            root: _,
             work,
-            path,
-            mode: _,
-            calls: _,
         } = self;
         let Work {
+            table: _,
+            root: _,
             plan,
             slots,
             stack,
             store: _,
-        } = work;
+            path,
+            mode: _,
+            calls: _,
+        } = Box::into_inner(work);
         abandon(slots, stack, plan.core(), ledger);
         drop(plan);
         path

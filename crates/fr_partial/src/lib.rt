@@ -2,6 +2,7 @@
 #![tactic(auto)]
 
 mod admitting;
+mod arrays;
 mod beginning;
 mod built;
 mod choosing;
@@ -14,7 +15,10 @@ mod fields;
 mod finish;
 mod finishing;
 mod held_plan;
+mod items;
+mod lists;
 mod mode;
+mod opening;
 mod options;
 mod partial;
 mod paths;
@@ -25,6 +29,7 @@ mod reflect_error;
 mod results;
 mod selecting;
 mod set;
+mod slices;
 mod starting;
 #[cfg(test)]
 mod tests;

@@ -45,12 +45,13 @@ impl<'t, H: Hooks> Partial<'t, H> {
     {
         law_paths();
         law_removed();
-        let plan = self.work.plan.core();
-        let (slots, stack) = (&self.work.slots, &self.work.stack);
-        let (shape, piece) = place_here(self.table, self.root, plan, slots, stack);
-        match content_of(self.table, shape) {
+        let work = &*self.work;
+        let plan = work.plan.core();
+        let (slots, stack) = (&work.slots, &work.stack);
+        let (shape, piece) = place_here(work.table, work.root, plan, slots, stack);
+        match content_of(work.table, shape) {
             Some(content) => {
-                let beginning = beginning_of_some(self.table, content, self.mode, piece);
+                let beginning = beginning_of_some(work.table, content, work.mode, piece);
                 self.enter_content(Form::Some, beginning, ledger)
             }
             None => {

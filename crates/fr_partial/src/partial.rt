@@ -5,10 +5,8 @@ ghost use Rattle.fr_shape.specs.Numbered.{IsNumbered};
 ghost use Rattle.fr_model.specs.Served.{IsServed};
 ghost use Rattle.fr_model.specs.Well.{IsInOrder};
 
-use crate::mode::Mode;
 use crate::work::Work;
-use fr_path::Path;
-use fr_shape::{Hooks, ShapeId, ShapeTable};
+use fr_shape::{Hooks, ShapeTable};
 use std::alloc::Global;
 use std::marker::Model;
 
@@ -16,14 +14,8 @@ use std::marker::Model;
 /// a refusal has released every token that it held. It has no `Drop`: `build` or `abandon` ends it.
 pub struct Partial<'t, H> {
     pub(crate) alloc: Global,
-    pub(crate) table: &'t ShapeTable,
     pub(crate) hooks: &'t H,
-    pub(crate) root: ShapeId,
-    pub(crate) work: Work<'t>,
-    /// The path of the place at which it works.
-    pub(crate) path: Path,
-    pub(crate) mode: Mode,
-    pub(crate) calls: u32,
+    pub(crate) work: Box<Work<'t>>,
 }
 
 impl<'t, H> Model for Partial<'t, H> {
@@ -38,15 +30,17 @@ impl<'t, H> Model for Partial<'t, H> {
     ghost use Rattle.fr_partial.specs.Underway.{state_of, IsUnderway};
 
     ghost view = { λ p. record {
-      shapes = p.table.now;
+      shapes = p.work.value.table.now;
       hooks = p.hooks.now;
-      root = p.root.0;
-      state = state_of p.work.slots p.work.stack (mode_of p.mode) p.calls;
+      root = p.work.value.root.0;
+      state = state_of p.work.value.slots p.work.value.stack (mode_of p.work.value.mode)
+          p.work.value.calls;
     } };
 
     ghost invariant = { λ p.
-        IsUnderway p.table.now p.root (plan_in p.work.plan) p.path p.work.slots p.work.stack
-        p.work.store (mode_of p.mode) p.calls };
+        IsUnderway p.work.value.table.now p.work.value.root (plan_in p.work.value.plan)
+        p.work.value.path p.work.value.slots p.work.value.stack p.work.value.store
+        (mode_of p.work.value.mode) p.work.value.calls };
 }
 
 impl<'t, H: Hooks> Partial<'t, H> {

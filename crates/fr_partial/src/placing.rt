@@ -59,10 +59,10 @@ impl<'t, H: Hooks> Partial<'t, H> {
         law_paths();
         law_removed();
         law_well();
-        let work = &mut self.work;
+        let work = &mut *self.work;
         let (slots, store) = (&mut work.slots, &mut work.store);
         work.stack
             .set(slots, store, work.plan.core(), value, ledger);
-        self.calls = self.calls.saturating_add(1);
+        work.calls = work.calls.saturating_add(1);
     }
 }

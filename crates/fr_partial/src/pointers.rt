@@ -1,9 +1,12 @@
-//! `begin_smart_ptr`: on to what a pointer points to.
-ghost use Rattle.std.specs.Prelude.{◌≡◌, IfSome, IfNone, None, Some};
+//! `begin_smart_ptr`: on to what a pointer points to; and `set_empty_shared_slice`.
+ghost use Rattle.std.specs.Prelude.{◌≡◌, IfOk, IfSome, IfNone, None, Some};
 ghost use Rattle.fr_shape.specs.Look.{def_of};
 ghost use Rattle.fr_shape.specs.Released.{Room, Conserved};
 ghost use Rattle.fr_model.specs.Commands.{Call};
-ghost use Rattle.fr_model.specs.Contents.{inside_refusal, pointer_refusal};
+ghost use Rattle.fr_shape.specs.Val.{list_of, no_vals, ptr};
+ghost use Rattle.fr_shape.specs.View.{view};
+ghost use Rattle.fr_model.specs.Contents.{inside_refusal, is_slice, pointer_refusal, points_to_slice};
+ghost use Rattle.fr_model.specs.Items.{shared_slice_by, shared_slice_refusal};
 ghost use Rattle.fr_path.specs.Places.{owns};
 ghost use Rattle.fr_partial.specs.Builder.{holds, left, IsStep, RefusesBeforeMemory, RisesByRemoved, TellsPlaceBefore};
 
@@ -13,8 +16,10 @@ use crate::{Partial, ReflectError};
 use fr_frame::Form;
 use fr_model::{law_paths, law_removed};
 use fr_shape::{
-    Def, Hooks, KnownPointer, Ledger, Operation, PointerDef, ReflectErrorKind, ShapeId, ShapeTable,
+    Def, Hooks, Items, KnownPointer, Ledger, Operation, OutOfMemory, PointerDef, ReflectErrorKind,
+    ShapeId, ShapeTable, Value,
 };
+use std::alloc::Global;
 
 /// Whether the pointer is known to own what it points to.
 fn owns(pointer: &PointerDef) -> bool
@@ -31,9 +36,10 @@ fn inside_refusal(table: &ShapeTable, owned: bool, pointee: ShapeId) -> Option<O
     ensures { result ≡ inside_refusal owned (def_of table.now pointee.0) }
 {
     match &table.get(pointee)?.def {
-        Def::Slice(_) => Some(Operation::SlicePointerNotBuildable),
+        Def::Slice(_) if !owned => Some(Operation::SlicePointerNotBuildable),
         Def::Str if !owned => Some(Operation::PointeeNotBuildable),
-        Def::Str | Def::Scalar(_) | Def::Opaque | Def::Struct(_) | Def::Enum(_) => None,
+        Def::Slice(_) | Def::Str | Def::Scalar(_) | Def::Opaque | Def::Struct(_) | Def::Enum(_) =>
+            None,
         Def::Option(_) | Def::Result(_, _) | Def::List(_) | Def::Map(_, _) | Def::Set(_) => None,
         Def::Array(_, _) | Def::Pointer(_) | Def::Dynamic | Def::Undefined | Def::Other => None,
     }
@@ -67,9 +73,88 @@ fn pointer_refusal(table: &ShapeTable, shape: ShapeId) -> Option<Operation>
     }
 }
 
+/// Whether the shape is a slice.
+fn is_slice(table: &ShapeTable, shape: ShapeId) -> bool
+    ensures { result ≡ is_slice (def_of table.now shape.0) }
+{
+    match table.get(shape) {
+        Some(entry) => matches!(&entry.def, Def::Slice(_)),
+        None => false,
+    }
+}
+
+/// Whether a place of this shape, which can be begun as a pointer, points to a slice.
+fn points_to_slice(table: &ShapeTable, shape: ShapeId) -> bool
+    requires { pointer_refusal table.now (def_of table.now shape.0) ≡ None }
+    ensures { result ≡ points_to_slice table.now (def_of table.now shape.0) }
+{
+    let Some(entry) = table.get(shape) else {
+        return false;
+    };
+    match &entry.def {
+        Def::Pointer(pointer) => match pointer.pointee {
+            Some(pointee) => is_slice(table, pointee),
+            None => false,
+        },
+        Def::Scalar(_) | Def::Str | Def::Opaque | Def::Struct(_) | Def::Enum(_) => false,
+        Def::Option(_) | Def::Result(_, _) | Def::List(_) | Def::Map(_, _) | Def::Set(_) => false,
+        Def::Array(_, _) | Def::Slice(_) | Def::Dynamic | Def::Undefined | Def::Other => false,
+    }
+}
+
+/// Why a pointer isn't one to a borrowed slice, if it isn't.
+fn shared_slice_by(table: &ShapeTable, pointer: &PointerDef) -> Option<Operation>
+    ensures { result ≡ shared_slice_by table.now pointer.now.known pointer.now.pointee }
+{
+    match pointer.known {
+        Some(KnownPointer::SharedReference) => {}
+        Some(KnownPointer::Box | KnownPointer::Arc | KnownPointer::Rc) | None => {
+            return Some(Operation::NotSharedReference);
+        }
+    }
+    let Some(pointee) = pointer.pointee else {
+        return Some(Operation::SharedReferenceWithoutPointee);
+    };
+    if is_slice(table, pointee) {
+        None
+    } else {
+        Some(Operation::PointeeNotSlice)
+    }
+}
+
+/// Why a place of this shape can't be set to an empty borrowed slice, if it can't.
+fn shared_slice_refusal(table: &ShapeTable, shape: ShapeId) -> Option<Operation>
+    ensures { result ≡ shared_slice_refusal table.now (def_of table.now shape.0) }
+{
+    match table.get(shape) {
+        Some(entry) => match &entry.def {
+            Def::Pointer(pointer) => shared_slice_by(table, pointer),
+            Def::Scalar(_) | Def::Str | Def::Opaque | Def::Struct(_) | Def::Enum(_) => {
+                Some(Operation::NotSharedReference)
+            }
+            Def::Option(_) | Def::Result(_, _) | Def::List(_) | Def::Map(_, _) | Def::Set(_) => {
+                Some(Operation::NotSharedReference)
+            }
+            Def::Array(_, _) | Def::Slice(_) | Def::Dynamic | Def::Undefined | Def::Other => {
+                Some(Operation::NotSharedReference)
+            }
+        },
+        None => Some(Operation::NotSharedReference),
+    }
+}
+
+/// A pointer to no items.
+fn empty_slice(alloc: Global) -> Result<Value, OutOfMemory>
+    ensures { IfOk result (λ v. view v ≡ ptr (list_of no_vals)) }
+{
+    Ok(Value::Ptr(Box::new(alloc, Value::List(Items::new(alloc)))?))
+}
+
 impl<'t, H: Hooks> Partial<'t, H> {
     /// Enters what a pointer points to, a `str` only where the pointer is known to own it. A pointer that is begun is entered again
-    /// as it is in deferred mode; any other starts anew. Where it can't be begun, that is the refusal, and never out of memory.
+    /// as it is in deferred mode; any other starts anew. At a pointer to a slice, which has to own it too, the builder stays, and the
+    /// pointer is open for items; in deferred mode one that is begun keeps those that it has. Where it can't be begun, that is the
+    /// refusal, and never out of memory.
     #[inline(never)]
     pub fn begin_smart_ptr(self, ledger: &mut Ledger) -> Result<Partial<'t, H>, ReflectError>
         requires room { Room (holds self) ledger.old }
@@ -83,18 +168,55 @@ impl<'t, H: Hooks> Partial<'t, H> {
     {
         law_paths();
         law_removed();
-        let plan = self.work.plan.core();
-        let (slots, stack) = (&self.work.slots, &self.work.stack);
-        let (shape, piece) = place_here(self.table, self.root, plan, slots, stack);
-        match pointer_refusal(self.table, shape) {
+        let work = &*self.work;
+        let plan = work.plan.core();
+        let (slots, stack) = (&work.slots, &work.stack);
+        let (shape, piece) = place_here(work.table, work.root, plan, slots, stack);
+        match pointer_refusal(work.table, shape) {
             Some(operation) => {
                 let kind = ReflectErrorKind::OperationFailed { shape, operation };
                 Err(self.refuse(kind, ledger))
             }
             None => {
-                let beginning = beginning_in(self.mode, Form::Pointer, piece);
-                self.enter_content(Form::Pointer, beginning, ledger)
+                let to_slice = points_to_slice(work.table, shape);
+                if to_slice {
+                    self.open_slice(ledger)
+                } else {
+                    let beginning = beginning_in(work.mode, Form::Pointer, piece);
+                    self.enter_content(Form::Pointer, beginning, ledger)
+                }
             }
+        }
+    }
+
+    /// Sets a pointer that is known as a shared reference to a slice to no items, in the stead of all that was put at the place and
+    /// beneath it. Any other place is refused, and never out of memory.
+    #[inline(never)]
+    pub fn set_empty_shared_slice(
+        mut self,
+        ledger: &mut Ledger,
+    ) -> Result<Partial<'t, H>, ReflectError>
+        requires room { Room (holds self) ledger.old }
+        ensures step { IsStep (H.means self.entry.hooks) self.entry Call.SetEmptySharedSlice result }
+        ensures path { TellsPlaceBefore self.entry result }
+        ensures tokens { Conserved (holds self.entry) ledger.old (left result) ledger.new }
+        ensures removed { RisesByRemoved (H.means self.entry.hooks) self.entry
+            Call.SetEmptySharedSlice result ledger.old ledger.new }
+        ensures refused { RefusesBeforeMemory (H.means self.entry.hooks) self.entry
+            Call.SetEmptySharedSlice result }
+    {
+        law_removed();
+        let shape = self.shape();
+        if let Some(operation) = shared_slice_refusal(self.work.table, shape) {
+            let kind = ReflectErrorKind::OperationFailed { shape, operation };
+            return Err(self.refuse(kind, ledger));
+        }
+        match empty_slice(self.alloc) {
+            Ok(value) => {
+                self.put(value, ledger);
+                Ok(self)
+            }
+            Err(_) => Err(self.refuse(ReflectErrorKind::OutOfMemory, ledger)),
         }
     }
 }

@@ -17,14 +17,14 @@ impl<'t, H: Hooks> Partial<'t, H> {
     pub fn path(&self) -> &Path
         ensures path { result.now ≡ path_of self.now.state }
     {
-        &self.path
+        &self.work.path
     }
 
     /// Whether the builder is in deferred mode.
     pub fn is_deferred(&self) -> bool
         ensures mode { IsTrue result ↔ (self.now.state.mode ≢ strict) }
     {
-        self.mode != Mode::Strict
+        self.work.mode != Mode::Strict
     }
 
     /// The path of the place at which it works, in deferred mode alone.
@@ -32,9 +32,9 @@ impl<'t, H: Hooks> Partial<'t, H> {
         ensures path { IfSome result (λ path. path.now ≡ path_of self.now.state) }
         ensures strict { IsNone result ↔ (self.now.state.mode ≡ strict) }
     {
-        match self.mode {
+        match self.work.mode {
             Mode::Strict => None,
-            Mode::Deferred(_) => Some(&self.path),
+            Mode::Deferred(_) => Some(&self.work.path),
         }
     }
 
@@ -50,10 +50,10 @@ impl<'t, H: Hooks> Partial<'t, H> {
     pub fn shape(&self) -> ShapeId
         ensures shape { result.0 ≡ here self.now }
     {
-        let work = &self.work;
+        let work = &*self.work;
         place_here(
-            self.table,
-            self.root,
+            work.table,
+            work.root,
             work.plan.core(),
             &work.slots,
             &work.stack,
@@ -65,7 +65,7 @@ impl<'t, H: Hooks> Partial<'t, H> {
     pub fn root_shape(&self) -> ShapeId
         ensures root { result.0 ≡ self.now.root }
     {
-        self.root
+        self.work.root
     }
 
     /// An error of this kind at the place at which it works, for a caller who refuses something there.
@@ -73,7 +73,7 @@ impl<'t, H: Hooks> Partial<'t, H> {
         ensures kind { IfOk result (λ error. error.kind ≡ kind) }
         ensures path { IfOk result (λ error. error.path ≡ path_of self.now.state) }
     {
-        let path = copy_path(self.alloc, &self.path)?;
+        let path = copy_path(self.alloc, &self.work.path)?;
         Ok(ReflectError { kind, path })
     }
 }

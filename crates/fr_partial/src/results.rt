@@ -49,11 +49,12 @@ impl<'t, H: Hooks> Partial<'t, H> {
     {
         law_paths();
         law_removed();
-        let plan = self.work.plan.core();
-        let (slots, stack) = (&self.work.slots, &self.work.stack);
-        let (shape, piece) = place_here(self.table, self.root, plan, slots, stack);
-        if is_result(self.table, shape) {
-            let beginning = beginning_in(self.mode, Form::Ok, piece);
+        let work = &*self.work;
+        let plan = work.plan.core();
+        let (slots, stack) = (&work.slots, &work.stack);
+        let (shape, piece) = place_here(work.table, work.root, plan, slots, stack);
+        if is_result(work.table, shape) {
+            let beginning = beginning_in(work.mode, Form::Ok, piece);
             self.enter_content(Form::Ok, beginning, ledger)
         } else {
             Err(self.refuse(no_result(shape), ledger))
@@ -74,11 +75,12 @@ impl<'t, H: Hooks> Partial<'t, H> {
     {
         law_paths();
         law_removed();
-        let plan = self.work.plan.core();
-        let (slots, stack) = (&self.work.slots, &self.work.stack);
-        let (shape, piece) = place_here(self.table, self.root, plan, slots, stack);
-        if is_result(self.table, shape) {
-            let beginning = beginning_in(self.mode, Form::Err, piece);
+        let work = &*self.work;
+        let plan = work.plan.core();
+        let (slots, stack) = (&work.slots, &work.stack);
+        let (shape, piece) = place_here(work.table, work.root, plan, slots, stack);
+        if is_result(work.table, shape) {
+            let beginning = beginning_in(work.mode, Form::Err, piece);
             self.enter_content(Form::Err, beginning, ledger)
         } else {
             Err(self.refuse(no_result(shape), ledger))

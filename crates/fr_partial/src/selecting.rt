@@ -16,13 +16,13 @@ ghost use Rattle.fr_partial.specs.Underway.{shape_here, IsReady};
 use crate::beginning::beginning_so;
 use crate::choosing::Chosen;
 use crate::contents::begin_so;
-use crate::entering::out_of_memory;
 use crate::placing::place_here;
+use crate::work::fail;
 use crate::{Partial, ReflectError};
 use fr_frame::{Form, Slots};
 use fr_model::{law_paths, law_well};
 use fr_plan::TypePlanCore;
-use fr_shape::{Hooks, Ledger, OutOfMemory, ShapeId, ShapeTable};
+use fr_shape::{Hooks, Ledger, OutOfMemory, ReflectErrorKind, ShapeId, ShapeTable};
 use fr_store::{FrameStore, Stack};
 
 /// Begins the place on top, an enum, as this variant: one that is begun so stays as it is, and any other starts anew.
@@ -85,28 +85,23 @@ impl<'t, H: Hooks> Partial<'t, H> {
     {
         law_paths();
         law_well();
-        let (table, root) = (self.table, self.root);
-        let work = &mut self.work;
+        let work = &mut *self.work;
+        let table = work.table;
+        let root = work.root;
         let plan = work.plan.core();
         let (slots, store) = (&mut work.slots, &mut work.store);
         match begin_variant(table, root, plan, slots, &work.stack, store, chosen, ledger) {
             Ok(()) => {
-                self.calls = self.calls.saturating_add(1);
+                work.calls = work.calls.saturating_add(1);
                 Ok(self)
             }
             Err(OutOfMemory) => {
                 let Partial {
                     alloc: _,
-                    table: _,
                     hooks: _,
-                    root: _,
                     work,
-                    path,
-                    mode: _,
-                    calls: _,
                 } = self;
-                work.release(ledger);
-                Err(out_of_memory(path))
+                Err(fail(work, ReflectErrorKind::OutOfMemory, ledger))
             }
         }
     }

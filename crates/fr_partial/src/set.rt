@@ -75,7 +75,7 @@ impl<'t, H: Hooks> Partial<'t, H> {
         self.law_in_order();
         let expected = self.shape();
         let actual = value.shape();
-        if takes_shape(self.table, expected, actual) {
+        if takes_shape(self.work.table, expected, actual) {
             self.put(value.into_value(), ledger);
             Ok(self)
         } else {
@@ -98,7 +98,7 @@ impl<'t, H: Hooks> Partial<'t, H> {
     {
         law_removed();
         let shape = self.shape();
-        let Some(template) = self.table.preset(shape) else {
+        let Some(template) = self.work.table.preset(shape) else {
             let operation = Operation::NoDefault;
             let kind = ReflectErrorKind::OperationFailed { shape, operation };
             return Err(self.refuse(kind, ledger));

@@ -190,20 +190,20 @@ impl<'t, H: Hooks> Partial<'t, H> {
         let Ok((slots, stack)) = first_place(alloc, table, plan.core(), root) else {
             return Err(PlanError::OutOfMemory);
         };
-        Ok(Partial {
-            alloc,
+        let work = Work {
             table,
-            hooks,
             root,
-            work: Work {
-                plan,
-                slots,
-                stack,
-                store: FrameStore::new(alloc),
-            },
+            plan,
+            slots,
+            stack,
+            store: FrameStore::new(alloc),
             path: Path::new(alloc),
             mode: Mode::Strict,
             calls: 0,
-        })
+        };
+        let Ok(work) = Box::new(alloc, work) else {
+            return Err(PlanError::OutOfMemory);
+        };
+        Ok(Partial { alloc, hooks, work })
     }
 }

@@ -206,8 +206,9 @@ fn shaped(rt: &impl Abort, partial: &Partial<'_, NoHooks>, id: u32, value: Value
     ensures fits { fits partial.now.shapes result.shape result.value ≡ true }
     ensures value { result.value ≡ view value }
 {
-    assert!(rt; fits(partial.table, ShapeId(id), &value));
-    Shaped::new(partial.table, ShapeId(id), value)
+    let table = partial.work.table;
+    assert!(rt; fits(table, ShapeId(id), &value));
+    Shaped::new(table, ShapeId(id), value)
 }
 
 fn put_number<'t>(

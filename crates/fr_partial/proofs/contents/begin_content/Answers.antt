@@ -17,7 +17,7 @@ use Rattle.fr_partial.specs.Beginnings.{begun_by, kept_by}
 use Rattle.fr_partial.specs.Underway.{shape_here}
 use Rattle.fr_partial.proofs.EnterLaws.{changed_at, changed_twice, node_stays, def_entered}
 use Rattle.fr_partial.proofs.FitLaws.{is_there}
-use Rattle.fr_partial.proofs.KeptLaws.{has_content, content_so}
+use Rattle.fr_partial.proofs.KeptLaws.{has_content, content_so, points_around}
 use Rattle.fr_partial.proofs.PlaceLaws.{here_along}
 use Rattle.fr_partial.proofs.ReachLaws.{tree_leads}
 use Rattle.fr_partial.proofs.TreeLaws.{alike_here}
@@ -39,7 +39,7 @@ child_is c =
     ∙ ap (λ (n : NodeId). child_node c.args.plan.now n (as_form c.args.form) 0) c.node_here.ensures))
     (child_shaped c.law_plan_lookups.ensures.agree c.args.table.now c.args.root c.args.plan.now ready.checked ready.inside
     ready.planned (node_on_top c.args.plan.now c.args.slots.now c.args.stack.now) s (as_form c.args.form) 1 0 along.node_is
-    c.requires.one (omega arith))
+    c.requires.one (points_around c.args.table.now s (as_form c.args.form) c.requires.around) (omega arith))
 
 leads : (c : In_ok-begin_so) → Leads (deferred 0) (cursor_in c.args.slots.now c.args.stack.now)
     (tree_in_slots c.args.slots.now c.args.stack.now)

@@ -22,7 +22,7 @@ use Rattle.fr_partial.specs.Underway.{shape_here, IsReady}
 use Rattle.fr_partial.proofs.BeginLaws.{opened_within}
 use Rattle.fr_partial.proofs.EnterLaws.{may_open, has_child, changed_at, entered_so, node_stays, def_entered}
 use Rattle.fr_partial.proofs.FitLaws.{is_there}
-use Rattle.fr_partial.proofs.FormLaws.{form_is_at, full_tree, opened_same, takes_many}
+use Rattle.fr_partial.proofs.FormLaws.{form_is_at, full_tree, opened_same, points_so, takes_many}
 use Rattle.fr_partial.proofs.PlaceLaws.{here_found, here_along, plot_here}
 use Rattle.fr_partial.proofs.ReachLaws.{tree_leads}
 use Rattle.fr_store.specs.ShapeLaws.{IsOfShape, child_shaped}
@@ -33,9 +33,9 @@ module _ (agree : LookupsAgree) (paths : LookupPathsAgree) (table : Table) (root
     (full : IsFullAs (def_of table (shape_here table root.0 slots stack)) form count) (below : i < count)
     (variant : (k : ℕ) → form ≡ as_variant k → selected (tree_here slots stack) ≡ Some k)
     (may : field_refusal (def_of table (shape_here table root.0 slots stack)) (tree_here slots stack) i ≡ None) where
-  opens : (n : ℕ) (last : IsLast stack n) → IsSomeAnd (heap_of slots n) (λ (found : Node). MayOpen found.body)
+  opens : (n : ℕ) (last : IsLast stack n) → IsSomeAnd (heap_of slots n) (λ (found : Node). MayOpen form found.body)
   opens n last =
-      subst (λ (found : Option Node). IsSomeAnd found (λ (x : Node). MayOpen x.body))
+      subst (λ (found : Option Node). IsSomeAnd found (λ (x : Node). MayOpen form x.body))
       (sym (here_found plan slots stack ready.shown n last))
       (may_open table (shape_here table root.0 slots stack) i form count (open_top plan slots stack ready.shown).plot full
       (subst (λ (t : Tree). Suits table (shape_here table root.0 slots stack) t)
@@ -50,7 +50,10 @@ module _ (agree : LookupsAgree) (paths : LookupPathsAgree) (table : Table) (root
   child_is =
       child_shaped agree table root plan ready.checked ready.inside ready.planned (node_on_top plan slots stack)
       (shape_here table root.0 slots stack) form count i (here_along agree paths table root plan slots stack ready).node_is
-      full below
+      full
+      (points_so table (shape_here table root.0 slots stack) (def_of table (shape_here table root.0 slots stack))
+      (tree_here slots stack) form count i full may)
+      below
 
   module _ (after : List Slot)
       (begun : IsOpenAt plan after stack (cursor_in slots stack)

@@ -1,7 +1,7 @@
 use Rattle.std.proofs.Common.{refl}
 use Rattle.fr_shape.specs.declared.error.ReflectErrorKind.{ReflectErrorKind}
 use Rattle.fr_shape.specs.View.{view}
-use Rattle.fr_partial.proofs.EndingLaws.{box_wanted, may_complete, no_box, room_top, root_value, taken_kept, why_here, why_root}
+use Rattle.fr_partial.proofs.EndingLaws.{box_wanted, may_complete, no_box, room_top, root_value, taken_kept, value_there, why_here, why_root}
 use Rattle.fr_partial.proofs.ReleaseLaws.{released_kept, released_still, room_kept, room_still}
 use Rattle.fr_partial.proofs.finishing.take_root.Goals as goal
 
@@ -28,6 +28,15 @@ returns-in-Err-clause-why g c =
     c.args.plan.now c.args.slots c.args.stack c.requires.ready c.requires.strict (g.H.Hooks.means c.args.hooks.now)
     c.in-Some.top.0
     c.in-Some.ensures.last c.in-Err.kind c.in-Err.ensures.why)
+
+pub into_value-requires-clause-complete : goal.into_value-requires-clause-complete
+into_value-requires-clause-complete g c =
+    value_there c.args.plan.now c.args.slots c.fill_and_require_fields.new.slots c.args.stack c.requires.ready.shown
+    c.requires.strict
+    c.in-Some.top.0 c.in-Some.ensures.last c.fill_and_require_fields.ensures.closed c.fill_and_require_fields.ensures.tokens
+    c.in-Ok.ensures.form
+    (g.H.Hooks.means c.args.hooks.now) c.args.table.now c.args.root c.law_plan_lookups.ensures.agree
+    c.law_plan_lookups.ensures.paths c.requires.ready c.in-Ok.ensures.filled
 
 pub into_value-requires-clause-room : goal.into_value-requires-clause-room
 into_value-requires-clause-room g c =

@@ -16,22 +16,25 @@ use Rattle.fr_partial.proofs.KeptLaws.{may_begin_in}
 use Rattle.fr_partial.proofs.RemovedLaws.{rises_by_removed}
 use Rattle.fr_partial.proofs.SeenLaws.{def_seen, in_seen, Sees, sees}
 use Rattle.fr_partial.proofs.StateLaws.{in_order}
+use Rattle.fr_partial.proofs.WorkLaws.{works_with}
 use Rattle.fr_partial.proofs.partial.Partial.begin_err.Goals as goal
 use Rattle.fr_partial.proofs.partial.Partial.begin_err.Given.{Over}
 use Rattle.fr_partial.proofs.partial.Partial.begin_err.Goals.{Then-is_result}
 
 seen : (g : Over) (c : Then-is_result g)
-    → Sees c.args.self c.self.inside.table.now c.place_here.result.0 (own_tree (body_of c.place_here.result.1.now))
+    → Sees c.args.self c.deref-work.result.now.table.now c.place_here.result.0 (own_tree (body_of c.place_here.result.1.now))
 seen g c =
-    sees c.self.inside.work.slots c.self.inside.work.stack c.self.view_is c.place_here.result.0
+    let lent = works_with c.deref-work.ensures c.self.view_is c.self.invariant in
+    sees c.deref-work.result.now.slots c.deref-work.result.now.stack lent.view_is c.place_here.result.0
     (own_tree (body_of c.place_here.result.1.now)) c.place_here.ensures.shape c.place_here.ensures.piece
 
 is : (g : Over) (c : Then-is_result g) (b : Beginning)
-    → b ≡ beginning_in (mode_of c.self.inside.mode) as_err (own_tree (body_of c.place_here.result.1.now)) → b
+    → b ≡ beginning_in (mode_of c.deref-work.result.now.mode) as_err (own_tree (body_of c.place_here.result.1.now)) → b
     ≡ beginning_in c.args.self.state.mode as_err (cursor_tree c.args.self.state)
 is g c b e =
+    let lent = works_with c.deref-work.ensures c.self.view_is c.self.invariant in
     e
-    ∙ ap (λ (x : Builder _). beginning_in x.state.mode as_err (own_tree (body_of c.place_here.result.1.now))) c.self.view_is
+    ∙ ap (λ (x : Builder _). beginning_in x.state.mode as_err (own_tree (body_of c.place_here.result.1.now))) lent.view_is
     ∙ in_seen (seen g c) c.args.self.state.mode as_err
 
 result_here : (g : Over) (c : Then-is_result g) → is_result (def_of c.args.self.shapes (here c.args.self)) ≡ true

@@ -12,36 +12,39 @@ use Rattle.fr_partial.proofs.BeginLaws.{named_admitted, named_refused, named_wit
 use Rattle.fr_partial.proofs.RemovedLaws.{rises_by_removed, all_released}
 use Rattle.fr_partial.proofs.SeenLaws.{refusal_seen, Sees, sees}
 use Rattle.fr_partial.proofs.StateLaws.{in_order}
+use Rattle.fr_partial.proofs.WorkLaws.{works_with}
 use Rattle.fr_partial.proofs.partial.Partial.begin_field.Goals as goal
 use Rattle.fr_partial.proofs.partial.Partial.begin_field.Given.{Over}
 use Rattle.fr_partial.proofs.partial.Partial.begin_field.Goals.{In-Some, In-Some-field_named}
 
 seen_refused : (g : Over) (c : In-Some g)
-    → Sees c.args.self c.self.inside.table.now c.place_here.result.0 (own_tree (body_of c.place_here.result.1.now))
+    → Sees c.args.self c.deref-work.result.now.table.now c.place_here.result.0 (own_tree (body_of c.place_here.result.1.now))
 seen_refused g c =
-    sees c.self.inside.work.slots c.self.inside.work.stack c.self.view_is c.place_here.result.0
+    let lent = works_with c.deref-work.ensures c.self.view_is c.self.invariant in
+    sees c.deref-work.result.now.slots c.deref-work.result.now.stack lent.view_is c.place_here.result.0
     (own_tree (body_of c.place_here.result.1.now)) c.place_here.ensures.shape c.place_here.ensures.piece
 
 seen : (g : Over) (c : In-Some-field_named g)
-    → Sees c.args.self c.self.inside.table.now c.place_here.result.0 (own_tree (body_of c.place_here.result.1.now))
+    → Sees c.args.self c.deref-work.result.now.table.now c.place_here.result.0 (own_tree (body_of c.place_here.result.1.now))
 seen g c =
-    sees c.self.inside.work.slots c.self.inside.work.stack c.self.view_is c.place_here.result.0
+    let lent = works_with c.deref-work.ensures c.self.view_is c.self.invariant in
+    sees c.deref-work.result.now.slots c.deref-work.result.now.stack lent.view_is c.place_here.result.0
     (own_tree (body_of c.place_here.result.1.now)) c.place_here.ensures.shape c.place_here.ensures.piece
 
 -- the field that was found
 found : (g : Over) (c : In-Some-field_named g)
-    → field_found c.args.field_name.now (def_of c.self.inside.table.now c.place_here.result.0.0)
+    → field_found c.args.field_name.now (def_of c.deref-work.result.now.table.now c.place_here.result.0.0)
     (selected (own_tree (body_of c.place_here.result.1.now))) ≡ Some c.in-Some-field_named.i
 found g c =
-    ap (field_found c.args.field_name.now (def_of c.self.inside.table.now c.place_here.result.0.0))
+    ap (field_found c.args.field_name.now (def_of c.deref-work.result.now.table.now c.place_here.result.0.0))
     (sym c.selected-variant.ensures)
     ∙ sym c.in-Some-field_named.ensures
 
 admitted : (g : Over) (c : In-Some-field_named g)
-    → field_refusal (def_of c.self.inside.table.now c.place_here.result.0.0) (own_tree (body_of c.place_here.result.1.now))
+    → field_refusal (def_of c.deref-work.result.now.table.now c.place_here.result.0.0) (own_tree (body_of c.place_here.result.1.now))
     c.in-Some-field_named.i ≡ None
 admitted g c =
-    named_within (def_of c.self.inside.table.now c.place_here.result.0.0) (own_tree (body_of c.place_here.result.1.now))
+    named_within (def_of c.deref-work.result.now.table.now c.place_here.result.0.0) (own_tree (body_of c.place_here.result.1.now))
     c.args.field_name.now c.in-Some-field_named.i (sym c.in_default.ensures) (found g c)
 
 pub returns-in-Some-clause-step : goal.returns-in-Some-clause-step

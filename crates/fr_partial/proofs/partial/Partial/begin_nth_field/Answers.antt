@@ -11,20 +11,23 @@ use Rattle.fr_partial.proofs.BeginLaws.{begin_admitted, begin_refused, describes
 use Rattle.fr_partial.proofs.RemovedLaws.{rises_by_removed, all_released}
 use Rattle.fr_partial.proofs.SeenLaws.{refusal_seen, Sees, sees}
 use Rattle.fr_partial.proofs.StateLaws.{in_order}
+use Rattle.fr_partial.proofs.WorkLaws.{works_with}
 use Rattle.fr_partial.proofs.partial.Partial.begin_nth_field.Goals as goal
 use Rattle.fr_partial.proofs.partial.Partial.begin_nth_field.Given.{Over}
 use Rattle.fr_partial.proofs.partial.Partial.begin_nth_field.Goals.{In-Ok, In-Err}
 
 seen : (g : Over) (c : In-Ok g)
-    → Sees c.args.self c.self.inside.table.now c.place_here.result.0 (own_tree (body_of c.place_here.result.1.now))
+    → Sees c.args.self c.deref-work.result.now.table.now c.place_here.result.0 (own_tree (body_of c.place_here.result.1.now))
 seen g c =
-    sees c.self.inside.work.slots c.self.inside.work.stack c.self.view_is c.place_here.result.0
+    let lent = works_with c.deref-work.ensures c.self.view_is c.self.invariant in
+    sees c.deref-work.result.now.slots c.deref-work.result.now.stack lent.view_is c.place_here.result.0
     (own_tree (body_of c.place_here.result.1.now)) c.place_here.ensures.shape c.place_here.ensures.piece
 
 seen_refused : (g : Over) (c : In-Err g)
-    → Sees c.args.self c.self.inside.table.now c.place_here.result.0 (own_tree (body_of c.place_here.result.1.now))
+    → Sees c.args.self c.deref-work.result.now.table.now c.place_here.result.0 (own_tree (body_of c.place_here.result.1.now))
 seen_refused g c =
-    sees c.self.inside.work.slots c.self.inside.work.stack c.self.view_is c.place_here.result.0
+    let lent = works_with c.deref-work.ensures c.self.view_is c.self.invariant in
+    sees c.deref-work.result.now.slots c.deref-work.result.now.stack lent.view_is c.place_here.result.0
     (own_tree (body_of c.place_here.result.1.now)) c.place_here.ensures.shape c.place_here.ensures.piece
 
 admitted : (g : Over) (c : In-Ok g)

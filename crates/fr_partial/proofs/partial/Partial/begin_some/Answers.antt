@@ -17,30 +17,33 @@ use Rattle.fr_partial.proofs.KeptLaws.{may_begin_some}
 use Rattle.fr_partial.proofs.RemovedLaws.{rises_by_removed}
 use Rattle.fr_partial.proofs.SeenLaws.{def_seen, some_seen, Sees, sees}
 use Rattle.fr_partial.proofs.StateLaws.{in_order}
+use Rattle.fr_partial.proofs.WorkLaws.{works_with}
 use Rattle.fr_partial.proofs.partial.Partial.begin_some.Goals as goal
 use Rattle.fr_partial.proofs.partial.Partial.begin_some.Given.{Over}
 use Rattle.fr_partial.proofs.partial.Partial.begin_some.Goals.{In-Some}
 
 seen : (g : Over) (c : In-Some g)
-    → Sees c.args.self c.self.inside.table.now c.place_here.result.0 (own_tree (body_of c.place_here.result.1.now))
+    → Sees c.args.self c.deref-work.result.now.table.now c.place_here.result.0 (own_tree (body_of c.place_here.result.1.now))
 seen g c =
-    sees c.self.inside.work.slots c.self.inside.work.stack c.self.view_is c.place_here.result.0
+    let lent = works_with c.deref-work.ensures c.self.view_is c.self.invariant in
+    sees c.deref-work.result.now.slots c.deref-work.result.now.stack lent.view_is c.place_here.result.0
     (own_tree (body_of c.place_here.result.1.now)) c.place_here.ensures.shape c.place_here.ensures.piece
 
 is : (g : Over) (c : In-Some g) (b : Beginning)
-    → b ≡ beginning_of_some (mode_of c.self.inside.mode) (def_of c.self.inside.table.now c.in-Some.content.0)
+    → b ≡ beginning_of_some (mode_of c.deref-work.result.now.mode) (def_of c.deref-work.result.now.table.now c.in-Some.content.0)
     (own_tree (body_of c.place_here.result.1.now)) → b
     ≡ beginning_of_some c.args.self.state.mode
     (def_of c.args.self.shapes (content_shape (def_of c.args.self.shapes (here c.args.self)))) (cursor_tree c.args.self.state)
 is g c b e =
+    let lent = works_with c.deref-work.ensures c.self.view_is c.self.invariant in
     e
-    ∙ ap (λ (n : ℕ). beginning_of_some (mode_of c.self.inside.mode) (def_of c.self.inside.table.now n)
+    ∙ ap (λ (n : ℕ). beginning_of_some (mode_of c.deref-work.result.now.mode) (def_of c.deref-work.result.now.table.now n)
     (own_tree (body_of c.place_here.result.1.now))) c.in-Some.ensures.content
-    ∙ ap (λ (def : Def). beginning_of_some (mode_of c.self.inside.mode) (def_of c.self.inside.table.now (content_shape def))
+    ∙ ap (λ (def : Def). beginning_of_some (mode_of c.deref-work.result.now.mode) (def_of c.deref-work.result.now.table.now (content_shape def))
     (own_tree (body_of c.place_here.result.1.now))) (def_seen (seen g c))
     ∙ ap (λ (x : Builder _). beginning_of_some x.state.mode
     (def_of x.shapes (content_shape (def_of c.args.self.shapes (here c.args.self))))
-    (own_tree (body_of c.place_here.result.1.now))) c.self.view_is
+    (own_tree (body_of c.place_here.result.1.now))) lent.view_is
     ∙ some_seen (seen g c) c.args.self.state.mode
     (def_of c.args.self.shapes (content_shape (def_of c.args.self.shapes (here c.args.self))))
 

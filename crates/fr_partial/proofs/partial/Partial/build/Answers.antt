@@ -8,15 +8,17 @@ use Rattle.fr_partial.specs.Underway.{state_of}
 use Rattle.fr_partial.proofs.EndLaws.{builds_deferred}
 use Rattle.fr_partial.proofs.RemovedLaws.{rises_by_removed_at_build, all_released}
 use Rattle.fr_partial.proofs.StateLaws.{in_order}
+use Rattle.fr_partial.proofs.WorkLaws.{works_with}
 use Rattle.fr_partial.proofs.partial.Partial.build.Goals as goal
 
 pub returns-in-Deferred-clause-built : goal.returns-in-Deferred-clause-built
 returns-in-Deferred-clause-built g c =
+    let lent = works_with c.deref.ensures c.self.view_is c.self.invariant in
     inr
     (subst (λ (b : Builder _). meaning_of_build (g.H.Hooks.means b.hooks) b ≡ Err (violates Invariant.BuildDeferred))
-    c.self.view_is
-    (builds_deferred (g.H.Hooks.means c.self.inside.hooks.now) c.self.inside.table.now c.self.inside.root.0
-    (state_of c.self.inside.work.slots c.self.inside.work.stack (mode_of c.self.inside.mode) c.self.inside.calls)
+    lent.view_is
+    (builds_deferred (g.H.Hooks.means c.self.inside.hooks.now) c.deref.result.now.table.now c.deref.result.now.root.0
+    (state_of c.deref.result.now.slots c.deref.result.now.stack (mode_of c.deref.result.now.mode) c.deref.result.now.calls)
     c.in-Deferred.field-0 (ap mode_of c.in-Deferred.is))
     ∙ ap (λ (kind : ReflectErrorKind). Err kind) (sym c.refuse.ensures.kind))
 

@@ -17,84 +17,95 @@ use Rattle.fr_partial.proofs.EndLaws.{below, only_root, builds, builds_not, buil
 use Rattle.fr_partial.proofs.LackLaws.{only_wants, only_takes}
 use Rattle.fr_partial.proofs.RemovedLaws.{rises_by_removed_at_build, all_released}
 use Rattle.fr_partial.proofs.StateLaws.{in_order, strict_stores}
+use Rattle.fr_partial.proofs.WorkLaws.{works_with}
 use Rattle.fr_partial.proofs.partial.Partial.build_strict.Goals as goal
 
 pub take_root-result-requires-clause-strict : goal.take_root-result-requires-clause-strict
 take_root-result-requires-clause-strict g c =
-    strict_stores (mode_of c.self.inside.mode) c.self.inside.work.store c.self.inside.work.slots
-    (ap (λ (b : Builder _). b.state.mode) c.self.view_is ∙ c.requires.strict) c.self.invariant.stores c.self.invariant.kept
+    let lent = works_with c.into_inner-plan.ensures c.self.view_is c.self.invariant in
+    strict_stores (mode_of c.into_inner-plan.result.mode) c.into_inner-plan.result.store c.into_inner-plan.result.slots
+    (ap (λ (b : Builder _). b.state.mode) lent.view_is ∙ c.requires.strict) lent.invariant.stores lent.invariant.kept
 
 pub take_root-result-requires-clause-at_root : goal.take_root-result-requires-clause-at_root
 take_root-result-requires-clause-at_root g c =
-    only_root _ c.self.inside.work.slots c.self.inside.work.stack c.self.invariant.ready.shown c.len-open.result
+    let lent = works_with c.into_inner-plan.ensures c.self.view_is c.self.invariant in
+    only_root _ c.into_inner-plan.result.slots c.into_inner-plan.result.stack lent.invariant.ready.shown c.len-open.result
     c.len-open.ensures.count c.if-open-eq1.true
 
 pub take_root-result-requires-clause-room : goal.take_root-result-requires-clause-room
 take_root-result-requires-clause-room g c =
-    subst (λ (b : Builder _). Room (holds b) c.args.ledger.now) (sym c.self.view_is) c.requires.room
+    let lent = works_with c.into_inner-plan.ensures c.self.view_is c.self.invariant in
+    subst (λ (b : Builder _). Room (holds b) c.args.ledger.now) (sym lent.view_is) c.requires.room
 
 pub abandon-requires-clause-room : goal.abandon-requires-clause-room
 abandon-requires-clause-room g c =
-    subst (λ (b : Builder _). Room (holds b) c.args.ledger.now) (sym c.self.view_is) c.requires.room
+    let lent = works_with c.into_inner-plan.ensures c.self.view_is c.self.invariant in
+    subst (λ (b : Builder _). Room (holds b) c.args.ledger.now) (sym lent.view_is) c.requires.room
 
 pub returns-in-Ok-clause-built : goal.returns-in-Ok-clause-built
-returns-in-Ok-clause-built g c = (
-  subst (λ (b : Builder _). meaning_of_build (g.H.Hooks.means b.hooks) b ≡ Ok (view c.in-Ok.value)) c.self.view_is
-      (builds (g.H.Hooks.means c.self.inside.hooks.now) c.self.inside.table.now c.self.inside.root.0
-      (state_of c.self.inside.work.slots c.self.inside.work.stack (mode_of c.self.inside.mode) c.self.inside.calls)
-      (view c.in-Ok.value)
-      (ap (λ (b : Builder _). b.state.mode) c.self.view_is ∙ c.requires.strict)
-      (only_root _ c.self.inside.work.slots c.self.inside.work.stack c.self.invariant.ready.shown c.len-open.result
-      c.len-open.ensures.count c.if-open-eq1.true)
-      c.in-Ok.ensures.value),
-  ap (λ (b : Builder _). b.state.calls) c.self.view_is,
-)
+returns-in-Ok-clause-built g c =
+    let lent = works_with c.into_inner-plan.ensures c.self.view_is c.self.invariant in (
+      subst (λ (b : Builder _). meaning_of_build (g.H.Hooks.means b.hooks) b ≡ Ok (view c.in-Ok.value)) lent.view_is
+          (builds (g.H.Hooks.means c.self.inside.hooks.now) c.into_inner-plan.result.table.now c.into_inner-plan.result.root.0
+          (state_of c.into_inner-plan.result.slots c.into_inner-plan.result.stack (mode_of c.into_inner-plan.result.mode) c.into_inner-plan.result.calls)
+          (view c.in-Ok.value)
+          (ap (λ (b : Builder _). b.state.mode) lent.view_is ∙ c.requires.strict)
+          (only_root _ c.into_inner-plan.result.slots c.into_inner-plan.result.stack lent.invariant.ready.shown c.len-open.result
+          c.len-open.ensures.count c.if-open-eq1.true)
+          c.in-Ok.ensures.value),
+      ap (λ (b : Builder _). b.state.calls) lent.view_is,
+    )
 
 pub returns-in-Ok-clause-fits : goal.returns-in-Ok-clause-fits
 returns-in-Ok-clause-fits g c =
-    subst (λ (b : Builder _). fits b.shapes b.root (view c.in-Ok.value) ≡ true) c.self.view_is
-    (c.law_completes.ensures.fits strict_column (g.H.Hooks.means c.self.inside.hooks.now) c.self.inside.table.now
-    c.self.inside.root.0
-    (tree_in_slots c.self.inside.work.slots c.self.inside.work.stack) (view c.in-Ok.value) c.self.invariant.ready.checked
-    c.self.invariant.ready.suits c.in-Ok.ensures.value)
+    let lent = works_with c.into_inner-plan.ensures c.self.view_is c.self.invariant in
+    subst (λ (b : Builder _). fits b.shapes b.root (view c.in-Ok.value) ≡ true) lent.view_is
+    (c.law_completes.ensures.fits strict_column (g.H.Hooks.means c.self.inside.hooks.now) c.into_inner-plan.result.table.now
+    c.into_inner-plan.result.root.0
+    (tree_in_slots c.into_inner-plan.result.slots c.into_inner-plan.result.stack) (view c.in-Ok.value) lent.invariant.ready.checked
+    lent.invariant.ready.suits c.in-Ok.ensures.value)
 
 pub returns-in-Ok-clause-tokens : goal.returns-in-Ok-clause-tokens
-returns-in-Ok-clause-tokens g c = record {
-  same_length = ap length c.in-Ok.ensures.kept;
-  kept_or_released = λ t.
-      let all : holds c.args.self t ≡ tree_occurs (tree_in_slots c.self.inside.work.slots c.self.inside.work.stack) t
-      = ap (λ (b : Builder _). holds b t) (sym c.self.view_is) in
-      let kept : occurs (view c.in-Ok.value) t ≡ tree_occurs (tree_in_slots c.self.inside.work.slots c.self.inside.work.stack) t
-      = c.law_completes.ensures.tokens strict_column (g.H.Hooks.means c.self.inside.hooks.now) c.self.inside.table.now
-      c.self.inside.root.0 (tree_in_slots c.self.inside.work.slots c.self.inside.work.stack) (view c.in-Ok.value) t
-      c.self.invariant.ready.checked c.self.invariant.ready.suits c.in-Ok.ensures.value in
-      let same : slice_index c.take_root-result.new.ledger t ≡ slice_index c.args.ledger.now t
-      = ap (λ ledger. slice_index ledger t) c.in-Ok.ensures.kept in
-      omega arith;
-  none_falls = λ t.
-      let same : slice_index c.take_root-result.new.ledger t ≡ slice_index c.args.ledger.now t
-      = ap (λ ledger. slice_index ledger t) c.in-Ok.ensures.kept in
-      omega arith;
-}
+returns-in-Ok-clause-tokens g c =
+    let lent = works_with c.into_inner-plan.ensures c.self.view_is c.self.invariant in
+    record {
+      same_length = ap length c.in-Ok.ensures.kept;
+      kept_or_released = λ t.
+          let all : holds c.args.self t ≡ tree_occurs (tree_in_slots c.into_inner-plan.result.slots c.into_inner-plan.result.stack) t
+          = ap (λ (b : Builder _). holds b t) (sym lent.view_is) in
+          let kept : occurs (view c.in-Ok.value) t ≡ tree_occurs (tree_in_slots c.into_inner-plan.result.slots c.into_inner-plan.result.stack) t
+          = c.law_completes.ensures.tokens strict_column (g.H.Hooks.means c.self.inside.hooks.now) c.into_inner-plan.result.table.now
+          c.into_inner-plan.result.root.0 (tree_in_slots c.into_inner-plan.result.slots c.into_inner-plan.result.stack) (view c.in-Ok.value) t
+          lent.invariant.ready.checked lent.invariant.ready.suits c.in-Ok.ensures.value in
+          let same : slice_index c.take_root-result.new.ledger t ≡ slice_index c.args.ledger.now t
+          = ap (λ ledger. slice_index ledger t) c.in-Ok.ensures.kept in
+          omega arith;
+      none_falls = λ t.
+          let same : slice_index c.take_root-result.new.ledger t ≡ slice_index c.args.ledger.now t
+          = ap (λ ledger. slice_index ledger t) c.in-Ok.ensures.kept in
+          omega arith;
+    }
 
 pub returns-in-Ok-clause-removed : goal.returns-in-Ok-clause-removed
 returns-in-Ok-clause-removed g c =
+    let lent = works_with c.into_inner-plan.ensures c.self.view_is c.self.invariant in
     rises_by_removed_at_build (g.H.Hooks.means c.args.self.hooks) c.law_removed.ensures.build c.args.self
-    (in_order c.self.invariant c.self.view_is)
-    (Ok (record { value = view c.in-Ok.value; calls = c.self.inside.calls })) c.args.ledger.now
+    (in_order lent.invariant lent.view_is)
+    (Ok (record { value = view c.in-Ok.value; calls = c.into_inner-plan.result.calls })) c.args.ledger.now
     c.take_root-result.new.ledger (returns-in-Ok-clause-built g c) (returns-in-Ok-clause-tokens g c)
 
 pub returns-in-Err-clause-built : goal.returns-in-Err-clause-built
 returns-in-Err-clause-built g c =
+    let lent = works_with c.into_inner-plan.ensures c.self.view_is c.self.invariant in
     elim c.in-Err.ensures.why [
       | inl lacking ↦
           inr
-          (subst (λ (b : Builder _). meaning_of_build (g.H.Hooks.means b.hooks) b ≡ Err c.in-Err.kind) c.self.view_is
-          (builds_not (g.H.Hooks.means c.self.inside.hooks.now) c.self.inside.table.now c.self.inside.root.0
-          (state_of c.self.inside.work.slots c.self.inside.work.stack
-          (mode_of c.self.inside.mode) c.self.inside.calls) c.in-Err.kind
-          (ap (λ (b : Builder _). b.state.mode) c.self.view_is ∙ c.requires.strict)
-          (only_root _ c.self.inside.work.slots c.self.inside.work.stack c.self.invariant.ready.shown c.len-open.result
+          (subst (λ (b : Builder _). meaning_of_build (g.H.Hooks.means b.hooks) b ≡ Err c.in-Err.kind) lent.view_is
+          (builds_not (g.H.Hooks.means c.self.inside.hooks.now) c.into_inner-plan.result.table.now c.into_inner-plan.result.root.0
+          (state_of c.into_inner-plan.result.slots c.into_inner-plan.result.stack
+          (mode_of c.into_inner-plan.result.mode) c.into_inner-plan.result.calls) c.in-Err.kind
+          (ap (λ (b : Builder _). b.state.mode) lent.view_is ∙ c.requires.strict)
+          (only_root _ c.into_inner-plan.result.slots c.into_inner-plan.result.stack lent.invariant.ready.shown c.len-open.result
           c.len-open.ensures.count c.if-open-eq1.true)
           lacking))
       | inr wants ↦ inl wants.memory
@@ -102,62 +113,69 @@ returns-in-Err-clause-built g c =
 
 pub returns-in-Err-clause-tokens : goal.returns-in-Err-clause-tokens
 returns-in-Err-clause-tokens g c =
+    let lent = works_with c.into_inner-plan.ensures c.self.view_is c.self.invariant in
     all_released (holds c.args.self) c.args.ledger.now c.take_root-result.new.ledger
-    (subst (λ (b : Builder _). RoseBy (holds b) c.args.ledger.now c.take_root-result.new.ledger) c.self.view_is
+    (subst (λ (b : Builder _). RoseBy (holds b) c.args.ledger.now c.take_root-result.new.ledger) lent.view_is
     c.in-Err.ensures.released)
 
 pub returns-in-Err-clause-memory : goal.returns-in-Err-clause-memory
 returns-in-Err-clause-memory g c nothing is =
-    let takes = only_takes (g.H.Hooks.means c.self.inside.hooks.now) c.self.inside.table.now c.self.invariant.served _ _
+    let lent = works_with c.into_inner-plan.ensures c.self.view_is c.self.invariant in
+    let takes = only_takes (g.H.Hooks.means c.self.inside.hooks.now) c.into_inner-plan.result.table.now lent.invariant.served _ _
     c.in-Err.kind c.in-Err.ensures.why is in
-    let root = root_tree (state_of c.self.inside.work.slots c.self.inside.work.stack
-    (mode_of c.self.inside.mode) c.self.inside.calls)
-    (only_root _ c.self.inside.work.slots c.self.inside.work.stack c.self.invariant.ready.shown c.len-open.result
+    let root = root_tree (state_of c.into_inner-plan.result.slots c.into_inner-plan.result.stack
+    (mode_of c.into_inner-plan.result.mode) c.into_inner-plan.result.calls)
+    (only_root _ c.into_inner-plan.result.slots c.into_inner-plan.result.stack lent.invariant.ready.shown c.len-open.result
     c.len-open.ensures.count c.if-open-eq1.true) in
     let no : false ≡ true
     = sym takes ∙ ap takes_no_memory (sym root)
-    ∙ ap (λ (b : Builder _). takes_no_memory (cursor_tree b.state)) c.self.view_is ∙ nothing in
+    ∙ ap (λ (b : Builder _). takes_no_memory (cursor_tree b.state)) lent.view_is ∙ nothing in
     cc
 
 pub returns-in-Err-clause-refused : goal.returns-in-Err-clause-refused
 returns-in-Err-clause-refused g c refused is =
-    never_unbuilt (g.H.Hooks.means c.self.inside.hooks.now) c.self.inside.table.now c.self.inside.root.0
-    (state_of c.self.inside.work.slots c.self.inside.work.stack (mode_of c.self.inside.mode) c.self.inside.calls)
-    (ap (λ (b : Builder _). b.state.mode) c.self.view_is ∙ c.requires.strict)
-    (only_root _ c.self.inside.work.slots c.self.inside.work.stack c.self.invariant.ready.shown c.len-open.result
+    let lent = works_with c.into_inner-plan.ensures c.self.view_is c.self.invariant in
+    never_unbuilt (g.H.Hooks.means c.self.inside.hooks.now) c.into_inner-plan.result.table.now c.into_inner-plan.result.root.0
+    (state_of c.into_inner-plan.result.slots c.into_inner-plan.result.stack (mode_of c.into_inner-plan.result.mode) c.into_inner-plan.result.calls)
+    (ap (λ (b : Builder _). b.state.mode) lent.view_is ∙ c.requires.strict)
+    (only_root _ c.into_inner-plan.result.slots c.into_inner-plan.result.stack lent.invariant.ready.shown c.len-open.result
     c.len-open.ensures.count c.if-open-eq1.true)
-    (only_wants (g.H.Hooks.means c.self.inside.hooks.now) c.self.inside.table.now c.self.invariant.served _ _ c.in-Err.kind
+    (only_wants (g.H.Hooks.means c.self.inside.hooks.now) c.into_inner-plan.result.table.now lent.invariant.served _ _ c.in-Err.kind
     c.in-Err.ensures.why is)
-    (subst (λ (b : Builder _). IsErr (meaning_of_build (g.H.Hooks.means b.hooks) b)) (sym c.self.view_is) refused)
+    (subst (λ (b : Builder _). IsErr (meaning_of_build (g.H.Hooks.means b.hooks) b)) (sym lent.view_is) refused)
 
 pub returns-in-Err-clause-removed : goal.returns-in-Err-clause-removed
 returns-in-Err-clause-removed g c =
+    let lent = works_with c.into_inner-plan.ensures c.self.view_is c.self.invariant in
     rises_by_removed_at_build (g.H.Hooks.means c.args.self.hooks) c.law_removed.ensures.build c.args.self
-    (in_order c.self.invariant c.self.view_is)
-    (Err (record { kind = c.in-Err.kind; path = c.self.inside.path })) c.args.ledger.now c.take_root-result.new.ledger
+    (in_order lent.invariant lent.view_is)
+    (Err (record { kind = c.in-Err.kind; path = c.into_inner-plan.result.path })) c.args.ledger.now c.take_root-result.new.ledger
     (returns-in-Err-clause-built g c) (returns-in-Err-clause-tokens g c)
 
 pub returns-else-open-eq1-clause-built : goal.returns-else-open-eq1-clause-built
 returns-else-open-eq1-clause-built g c =
+    let lent = works_with c.into_inner-plan.ensures c.self.view_is c.self.invariant in
     inr
     (subst
     (λ (b : Builder _). meaning_of_build (g.H.Hooks.means b.hooks) b ≡ Err (violates Invariant.BuildOpenFrames))
-    c.self.view_is
-    (builds_below (g.H.Hooks.means c.self.inside.hooks.now) c.self.inside.table.now c.self.inside.root.0
-    (state_of c.self.inside.work.slots c.self.inside.work.stack (mode_of c.self.inside.mode) c.self.inside.calls)
-    (ap (λ (b : Builder _). b.state.mode) c.self.view_is ∙ c.requires.strict)
-    (below _ c.self.inside.work.slots c.self.inside.work.stack c.self.invariant.ready.shown c.len-open.result
+    lent.view_is
+    (builds_below (g.H.Hooks.means c.self.inside.hooks.now) c.into_inner-plan.result.table.now c.into_inner-plan.result.root.0
+    (state_of c.into_inner-plan.result.slots c.into_inner-plan.result.stack (mode_of c.into_inner-plan.result.mode) c.into_inner-plan.result.calls)
+    (ap (λ (b : Builder _). b.state.mode) lent.view_is ∙ c.requires.strict)
+    (below _ c.into_inner-plan.result.slots c.into_inner-plan.result.stack lent.invariant.ready.shown c.len-open.result
     c.len-open.ensures.count c.if-open-eq1.false)))
 
 pub returns-else-open-eq1-clause-tokens : goal.returns-else-open-eq1-clause-tokens
 returns-else-open-eq1-clause-tokens g c =
+    let lent = works_with c.into_inner-plan.ensures c.self.view_is c.self.invariant in
     all_released (holds c.args.self) c.args.ledger.now c.abandon.new.ledger
-    (subst (λ (b : Builder _). RoseBy (holds b) c.args.ledger.now c.abandon.new.ledger) c.self.view_is
+    (subst (λ (b : Builder _). RoseBy (holds b) c.args.ledger.now c.abandon.new.ledger) lent.view_is
     c.abandon.ensures.released)
 
 pub returns-else-open-eq1-clause-removed : goal.returns-else-open-eq1-clause-removed
 returns-else-open-eq1-clause-removed g c =
+    let lent = works_with c.into_inner-plan.ensures c.self.view_is c.self.invariant in
     rises_by_removed_at_build (g.H.Hooks.means c.args.self.hooks) c.law_removed.ensures.build c.args.self
-    (in_order c.self.invariant c.self.view_is)
-    (Err (record { kind = ReflectErrorKind.InvariantViolation Invariant.BuildOpenFrames; path = c.self.inside.path }))
+    (in_order lent.invariant lent.view_is)
+    (Err (record { kind = ReflectErrorKind.InvariantViolation Invariant.BuildOpenFrames; path = c.into_inner-plan.result.path }))
     c.args.ledger.now c.abandon.new.ledger (returns-else-open-eq1-clause-built g c) (returns-else-open-eq1-clause-tokens g c)

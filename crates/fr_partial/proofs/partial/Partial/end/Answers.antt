@@ -1,31 +1,75 @@
-use Rattle.std.proofs.Common.{◌≡◌, Result, IsErr, Err, inr, sym, ap, ◌∙◌, subst, arith}
-use Rattle.fr_shape.specs.declared.error.Invariant.{Invariant}
+use Rattle.std.proofs.Common.{◌≡◌, ◌≤◌, length, true, false, Result, IsErr, Ok, Err, inr, refl, sym, ap, ◌∙◌, subst, arith}
 use Rattle.fr_shape.specs.declared.error.ReflectErrorKind.{ReflectErrorKind}
+use Rattle.fr_shape.specs.Released.{Conserved}
 use Rattle.fr_model.specs.Commands.{Call}
-use Rattle.fr_model.specs.Step.{violates}
-use Rattle.fr_model.specs.Tree.{State, cursor_shape}
-use Rattle.fr_partial.specs.Builder.{Builder, holds, meaning, IsStepTo}
+use Rattle.fr_model.specs.Places.{is_root}
+use Rattle.fr_model.specs.Tree.{deferred, strict, State, cursor_shape}
+use Rattle.fr_frame.specs.Bodies.{own_tree}
+use Rattle.fr_frame.specs.Heap.{body_of}
+use Rattle.fr_partial.specs.Builder.{Builder, holds, IsStepTo}
 use Rattle.fr_partial.specs.Modes.{mode_of}
-use Rattle.fr_partial.specs.Underway.{shape_here, state_of}
-use Rattle.fr_partial.proofs.EndLaws.{as_deep, ends_at_root, ends_at_start, ends_below, far_below, none_above, some_above}
+use Rattle.fr_partial.proofs.EndLaws.{as_deep, closes_it, ends_at_root, ends_at_start, ends_below, far_below, none_above, some_above}
 use Rattle.fr_partial.proofs.RemovedLaws.{rises_by_removed, all_released}
 use Rattle.fr_partial.proofs.StateLaws.{in_order}
+use Rattle.fr_partial.proofs.StayLaws.{held_at_end, open_told}
+use Rattle.fr_partial.proofs.WorkLaws.{works_with}
 use Rattle.fr_partial.proofs.partial.Partial.end.Goals as goal
 
 pub leave-requires-clause-below : goal.leave-requires-clause-below
 leave-requires-clause-below g c =
-    far_below _ c.self.invariant.ready.shown c.self.inside.mode c.in-Deferred.start c.len-depth.result c.len-depth.ensures.count
-    c.in-Deferred.is c.if-depth-start.false c.self.view_is
+    let lent = works_with c.deref-work.ensures c.self.view_is c.self.invariant in
+    far_below _ lent.invariant.ready.shown c.deref-work.result.now.mode c.in-Deferred-mode.start c.len-depth.result c.len-depth.ensures.count
+    c.in-Deferred-mode.is c.if-depth-start.false lent.view_is
+
+pub returns-in-Strict-clause-removed : goal.returns-in-Strict-clause-removed
+returns-in-Strict-clause-removed g c =
+    rises_by_removed (g.H.Hooks.means c.args.self.hooks) c.law_removed.ensures.step c.args.self
+    (in_order c.self.invariant c.self.view_is) Call.End (holds c.args.self) (λ t. omega arith) c.complete_slice.result
+    c.args.ledger.now c.complete_slice.new.ledger c.complete_slice.ensures.step c.complete_slice.ensures.tokens
+
+pub returns-in-Deferred-clause-step : goal.returns-in-Deferred-clause-step
+returns-in-Deferred-clause-step g c =
+    let lent = works_with c.deref-work.ensures c.self.view_is c.self.invariant in (
+      closes_it (g.H.Hooks.means c.args.self.hooks) c.args.self.shapes
+          (cursor_shape c.args.self.shapes c.args.self.root c.args.self.state) c.args.self.state
+          (open_told lent c.place_here.result.0 (own_tree (body_of c.place_here.result.1.now)) c.place_here.ensures.shape
+          c.place_here.ensures.piece c.is_open_slice-stays.result true c.is_open_slice-stays.ensures c.if-stays.true)
+          (λ now_strict.
+          let apart : deferred c.in-Deferred.field-0 ≡ strict
+          = sym (ap mode_of c.in-Deferred.is) ∙ ap (λ (b : Builder _). b.state.mode) lent.view_is ∙ now_strict in
+          cc)
+          ∙ ap (λ (s : State). Ok s) (sym c.close_slice.ensures.state),
+      c.close_slice.ensures.shapes,
+      c.close_slice.ensures.root,
+      c.close_slice.ensures.hooks,
+    )
+
+pub returns-in-Deferred-clause-tokens : goal.returns-in-Deferred-clause-tokens
+returns-in-Deferred-clause-tokens g c =
+    let held = held_at_end (g.H.Hooks.means c.args.self.hooks) c.law_removed.ensures.step c.args.self c.close_slice.result
+    (in_order c.self.invariant c.self.view_is) (returns-in-Deferred-clause-step g c).0 in
+    record {
+      same_length = refl;
+      kept_or_released = λ t. omega (arith, held t);
+      none_falls = λ t. omega arith;
+    }
+
+pub returns-in-Deferred-clause-removed : goal.returns-in-Deferred-clause-removed
+returns-in-Deferred-clause-removed g c =
+    rises_by_removed (g.H.Hooks.means c.args.self.hooks) c.law_removed.ensures.step c.args.self
+    (in_order c.self.invariant c.self.view_is) Call.End (holds c.args.self) (λ t. omega arith) (Ok c.close_slice.result)
+    c.args.ledger.now c.args.ledger.now (returns-in-Deferred-clause-step g c) (returns-in-Deferred-clause-tokens g c)
 
 pub returns-then-depth-eq0-clause-step : goal.returns-then-depth-eq0-clause-step
 returns-then-depth-eq0-clause-step g c =
+    let lent = works_with c.deref-work.ensures c.self.view_is c.self.invariant in
     inr
-    (subst (λ (b : Builder _). meaning (g.H.Hooks.means b.hooks) b Call.End ≡ Err (violates Invariant.EndAtRoot)) c.self.view_is
-    (ends_at_root (g.H.Hooks.means c.self.inside.hooks.now) c.self.inside.table.now
-    (shape_here c.self.inside.table.now c.self.inside.root.0 c.self.inside.work.slots c.self.inside.work.stack)
-    (state_of c.self.inside.work.slots c.self.inside.work.stack (mode_of c.self.inside.mode) c.self.inside.calls)
-    (none_above _ c.self.inside.work.slots c.self.inside.work.stack c.self.invariant.ready.shown c.len-depth.result
-    c.len-depth.ensures.count c.if-depth-eq0.true))
+    (ends_at_root (g.H.Hooks.means c.args.self.hooks) c.args.self.shapes
+    (cursor_shape c.args.self.shapes c.args.self.root c.args.self.state) c.args.self.state
+    (open_told lent c.place_here.result.0 (own_tree (body_of c.place_here.result.1.now)) c.place_here.ensures.shape
+    c.place_here.ensures.piece c.is_open_slice-stays.result false c.is_open_slice-stays.ensures c.if-stays.false)
+    (ap (λ (b : Builder _). b.state.cursor) (sym lent.view_is)
+    ∙ none_above _ c.deref-work.result.now.slots c.deref-work.result.now.stack lent.invariant.ready.shown c.len-depth.result c.len-depth.ensures.count c.if-depth-eq0.true)
     ∙ ap (λ (kind : ReflectErrorKind). Err kind) (sym c.refuse.ensures.kind))
 
 pub returns-then-depth-eq0-clause-removed : goal.returns-then-depth-eq0-clause-removed
@@ -35,38 +79,41 @@ returns-then-depth-eq0-clause-removed g c =
     c.args.ledger.now c.refuse.new.ledger (returns-then-depth-eq0-clause-step g c)
     (all_released (holds c.args.self) c.args.ledger.now c.refuse.new.ledger c.refuse.ensures.released)
 
-pub returns-in-Deferred-clause-step : goal.returns-in-Deferred-clause-step
-returns-in-Deferred-clause-step g c =
+pub returns-in-Deferred-mode-clause-step : goal.returns-in-Deferred-mode-clause-step
+returns-in-Deferred-mode-clause-step g c =
+    let lent = works_with c.deref-work.ensures c.self.view_is c.self.invariant in
     inr
-    (subst (λ (b : Builder _). meaning (g.H.Hooks.means b.hooks) b Call.End ≡ Err
-    (violates Invariant.EndAtStart)) c.self.view_is
-    (ends_at_start (g.H.Hooks.means c.self.inside.hooks.now) c.self.inside.table.now
-    (shape_here c.self.inside.table.now c.self.inside.root.0 c.self.inside.work.slots c.self.inside.work.stack)
-    (state_of c.self.inside.work.slots c.self.inside.work.stack (mode_of c.self.inside.mode) c.self.inside.calls)
-    c.in-Deferred.start (ap mode_of c.in-Deferred.is)
-    (some_above _ c.self.inside.work.slots c.self.inside.work.stack c.self.invariant.ready.shown c.len-depth.result
-    c.len-depth.ensures.count c.if-depth-eq0.false)
-    (let same = as_deep _ c.self.inside.work.slots c.self.inside.work.stack c.self.invariant.ready.shown c.len-depth.result
-    c.len-depth.ensures.count in
+    (ends_at_start (g.H.Hooks.means c.args.self.hooks) c.args.self.shapes
+    (cursor_shape c.args.self.shapes c.args.self.root c.args.self.state) c.args.self.state c.in-Deferred-mode.start
+    (open_told lent c.place_here.result.0 (own_tree (body_of c.place_here.result.1.now)) c.place_here.ensures.shape
+    c.place_here.ensures.piece c.is_open_slice-stays.result false c.is_open_slice-stays.ensures c.if-stays.false)
+    (ap (λ (b : Builder _). b.state.mode) (sym lent.view_is) ∙ ap mode_of c.in-Deferred-mode.is)
+    (subst (λ (b : Builder _). is_root b.state.cursor ≡ false) lent.view_is
+    (some_above _ c.deref-work.result.now.slots c.deref-work.result.now.stack lent.invariant.ready.shown c.len-depth.result c.len-depth.ensures.count c.if-depth-eq0.false))
+    (subst (λ (b : Builder _). length b.state.cursor ≤ c.in-Deferred-mode.start) lent.view_is
+    (let same = as_deep _ c.deref-work.result.now.slots c.deref-work.result.now.stack lent.invariant.ready.shown c.len-depth.result c.len-depth.ensures.count in
     omega (arith, c.if-depth-start.true, same)))
-    ∙ ap (λ (kind : ReflectErrorKind). Err kind) (sym c.refuse-in-Deferred.ensures.kind))
+    ∙ ap (λ (kind : ReflectErrorKind). Err kind) (sym c.refuse-in-Deferred-mode.ensures.kind))
 
-pub returns-in-Deferred-clause-removed : goal.returns-in-Deferred-clause-removed
-returns-in-Deferred-clause-removed g c =
+pub returns-in-Deferred-mode-clause-removed : goal.returns-in-Deferred-mode-clause-removed
+returns-in-Deferred-mode-clause-removed g c =
     rises_by_removed (g.H.Hooks.means c.args.self.hooks) c.law_removed.ensures.step c.args.self
-    (in_order c.self.invariant c.self.view_is) Call.End (holds c.args.self) (λ t. omega arith) (Err c.refuse-in-Deferred.result)
-    c.args.ledger.now c.refuse-in-Deferred.new.ledger (returns-in-Deferred-clause-step g c)
-    (all_released (holds c.args.self) c.args.ledger.now c.refuse-in-Deferred.new.ledger c.refuse-in-Deferred.ensures.released)
+    (in_order c.self.invariant c.self.view_is) Call.End (holds c.args.self) (λ t. omega arith) (Err c.refuse-in-Deferred-mode.result)
+    c.args.ledger.now c.refuse-in-Deferred-mode.new.ledger (returns-in-Deferred-mode-clause-step g c)
+    (all_released (holds c.args.self) c.args.ledger.now c.refuse-in-Deferred-mode.new.ledger
+    c.refuse-in-Deferred-mode.ensures.released)
 
 pub returns-in-Deferred-2-clause-step : goal.returns-in-Deferred-2-clause-step
 returns-in-Deferred-2-clause-step g c =
+    let lent = works_with c.deref-work.ensures c.self.view_is c.self.invariant in
     subst (λ (meant : Result State ReflectErrorKind). IsStepTo c.args.self meant c.leave.result)
     (sym
     (ends_below (g.H.Hooks.means c.args.self.hooks) c.args.self.shapes
     (cursor_shape c.args.self.shapes c.args.self.root c.args.self.state) c.args.self.state
-    (far_below _ c.self.invariant.ready.shown c.self.inside.mode c.in-Deferred.start c.len-depth.result
-    c.len-depth.ensures.count
-    c.in-Deferred.is c.if-depth-start.false c.self.view_is)))
+    (open_told lent c.place_here.result.0 (own_tree (body_of c.place_here.result.1.now)) c.place_here.ensures.shape
+    c.place_here.ensures.piece c.is_open_slice-stays.result false c.is_open_slice-stays.ensures c.if-stays.false)
+    (far_below _ lent.invariant.ready.shown c.deref-work.result.now.mode c.in-Deferred-mode.start c.len-depth.result c.len-depth.ensures.count
+    c.in-Deferred-mode.is c.if-depth-start.false lent.view_is)))
     c.leave.ensures.step
 
 pub returns-in-Deferred-2-clause-removed : goal.returns-in-Deferred-2-clause-removed
@@ -77,11 +124,13 @@ returns-in-Deferred-2-clause-removed g c =
 
 pub returns-in-Deferred-2-clause-refused : goal.returns-in-Deferred-2-clause-refused
 returns-in-Deferred-2-clause-refused g c refused =
+    let lent = works_with c.deref-work.ensures c.self.view_is c.self.invariant in
     let no = subst (λ (meant : Result State ReflectErrorKind). IsErr meant)
     (ends_below (g.H.Hooks.means c.args.self.hooks) c.args.self.shapes
     (cursor_shape c.args.self.shapes c.args.self.root c.args.self.state) c.args.self.state
-    (far_below _ c.self.invariant.ready.shown c.self.inside.mode c.in-Deferred.start c.len-depth.result
-    c.len-depth.ensures.count
-    c.in-Deferred.is c.if-depth-start.false c.self.view_is))
+    (open_told lent c.place_here.result.0 (own_tree (body_of c.place_here.result.1.now)) c.place_here.ensures.shape
+    c.place_here.ensures.piece c.is_open_slice-stays.result false c.is_open_slice-stays.ensures c.if-stays.false)
+    (far_below _ lent.invariant.ready.shown c.deref-work.result.now.mode c.in-Deferred-mode.start c.len-depth.result c.len-depth.ensures.count
+    c.in-Deferred-mode.is c.if-depth-start.false lent.view_is))
     refused in
     cc

@@ -20,72 +20,85 @@ use Rattle.fr_partial.specs.Underway.{shape_here, state_of, IsUnderway}
 use Rattle.fr_partial.proofs.ReleaseLaws.{held_kept, released_kept, room_kept, room_slots}
 use Rattle.fr_partial.proofs.RemovedLaws.{all_released}
 use Rattle.fr_partial.proofs.StateLaws.{builder_of, state_is, stores_after, underway_after, order_after}
+use Rattle.fr_partial.proofs.WorkLaws.{works_with}
 use Rattle.fr_partial.proofs.partial.Partial.enter_content.Goals as goal
 
 pub begin_content-requires-clause-room : goal.begin_content-requires-clause-room
 begin_content-requires-clause-room g c =
-    room_slots c.self.invariant.ready.shown c.args.ledger.now
-    (subst (λ (b : Builder _). Room (holds b) c.args.ledger.now) (sym c.self.view_is) c.requires.room)
+    let lent = works_with c.deref_mut-work.ensures.value c.self.view_is c.self.invariant in
+    room_slots lent.invariant.ready.shown c.args.ledger.now
+    (subst (λ (b : Builder _). Room (holds b) c.args.ledger.now) (sym lent.view_is) c.requires.room)
 
-pub release-requires : goal.release-requires
-release-requires g c = record {
-  room =
-      room_kept c.begin_content.new.slots c.self.invariant.ready.shown c.begin_content.ensures.tokens
-      (subst (λ (b : Builder _). Room (holds b) c.args.ledger.now) (sym c.self.view_is) c.requires.room);
-}
+pub refuse-requires : goal.refuse-requires
+refuse-requires g c =
+    let lent = works_with c.deref_mut-work.ensures.value c.self.view_is c.self.invariant in
+    record { room = subst (λ (b : Builder _). Room (holds b) c.args.ledger.now) (sym lent.view_is) c.requires.room }
+
+pub fail-requires : goal.fail-requires
+fail-requires g c =
+    let lent = works_with c.deref_mut-work.ensures.value c.self.view_is c.self.invariant in
+    record {
+      room =
+          room_kept c.begin_content.new.slots lent.invariant.ready.shown c.begin_content.ensures.tokens
+          (subst (λ (b : Builder _). Room (holds b) c.args.ledger.now) (sym lent.view_is) c.requires.room);
+    }
 
 pub returns-in-Err-clause-tokens : goal.returns-in-Err-clause-tokens
 returns-in-Err-clause-tokens g c =
-    all_released (holds c.args.self) c.args.ledger.now c.release.new.ledger
-    (subst (λ (b : Builder _). RoseBy (holds b) c.args.ledger.now c.release.new.ledger) c.self.view_is
-    (released_kept c.begin_content.new.slots c.self.invariant.ready.shown c.begin_content.ensures.tokens c.release.new.ledger
-    c.release.ensures.released))
+    let lent = works_with c.deref_mut-work.ensures.value c.self.view_is c.self.invariant in
+    all_released (holds c.args.self) c.args.ledger.now c.fail.new.ledger
+    (subst (λ (b : Builder _). RoseBy (holds b) c.args.ledger.now c.fail.new.ledger) lent.view_is
+    (released_kept c.begin_content.new.slots lent.invariant.ready.shown c.begin_content.ensures.tokens c.fail.new.ledger
+    c.fail.ensures.released))
 
 pub invariant_of-self-in-Ok-begin_content : goal.invariant_of-self-in-Ok-begin_content
 invariant_of-self-in-Ok-begin_content g c =
-    let s : ℕ = shape_here c.self.inside.table.now c.self.inside.root.0 c.self.inside.work.slots c.self.inside.work.stack in
-    let state : State = state_of c.self.inside.work.slots c.self.inside.work.stack
-    (mode_of c.self.inside.mode) c.self.inside.calls in
-    let next : State = enters_content c.self.inside.table.now s state (as_form c.args.form)
+    let lent = works_with c.deref_mut-work.ensures.value c.self.view_is c.self.invariant in
+    let s : ℕ = shape_here c.deref_mut-work.result.now.table.now c.deref_mut-work.result.now.root.0 c.deref_mut-work.result.now.slots c.deref_mut-work.result.now.stack in
+    let state : State = state_of c.deref_mut-work.result.now.slots c.deref_mut-work.result.now.stack
+    (mode_of c.deref_mut-work.result.now.mode) c.deref_mut-work.result.now.calls in
+    let next : State = enters_content c.deref_mut-work.result.now.table.now s state (as_form c.args.form)
     (kept_by c.args.beginning (cursor_tree state)) in
     let meant = subst (λ (b : Builder _). IsMeant b (enters_content b.shapes (here b) b.state (as_form c.args.form)
     (kept_by c.args.beginning (cursor_tree b.state))) (path_of b.state ++ step_as (as_form c.args.form) 0 ∷ []))
-    (sym c.self.view_is) c.requires.meant in
-    underway_after c.self.invariant _ c.begin_content.new.slots c.begin_content.new.stack c.begin_content.new.store
-    (mode_of c.self.inside.mode) c.saturating_add.result next
+    (sym lent.view_is) c.requires.meant in
+    underway_after lent.invariant _ c.begin_content.new.slots c.begin_content.new.stack c.begin_content.new.store
+    (mode_of c.deref_mut-work.result.now.mode) c.saturating_add-work.result next
     (subst (λ (p : Plan). IsOpen p c.begin_content.new.slots c.begin_content.new.stack) c.core-plan.ensures
     c.in-Ok-begin_content.ensures.entered.open_still)
     c.in-Ok-begin_content.ensures.stored
-    (stores_after (mode_of c.self.inside.mode) c.self.inside.work.store c.begin_content.new.store c.self.inside.work.slots
-    c.begin_content.new.slots c.self.invariant.stores c.self.invariant.kept c.in-Ok-begin_content.ensures.stored
+    (stores_after (mode_of c.deref_mut-work.result.now.mode) c.deref_mut-work.result.now.store c.begin_content.new.store c.deref_mut-work.result.now.slots
+    c.begin_content.new.slots lent.invariant.stores lent.invariant.kept c.in-Ok-begin_content.ensures.stored
     c.in-Ok-begin_content.ensures.marks)
-    (state_is _ c.begin_content.new.slots c.begin_content.new.stack _ _ (mode_of c.self.inside.mode) c.saturating_add.result _
-    c.in-Ok-begin_content.ensures.entered c.saturating_add.ensures)
-    (order_after c.self.invariant c.law_well.ensures.in_order no_hooks next meant.call meant.fitting meant.meant)
+    (state_is _ c.begin_content.new.slots c.begin_content.new.stack _ _ (mode_of c.deref_mut-work.result.now.mode) c.saturating_add-work.result _
+    c.in-Ok-begin_content.ensures.entered c.saturating_add-work.ensures)
+    (order_after lent.invariant c.law_well.ensures.in_order no_hooks next meant.call meant.fitting meant.meant)
     (c.in-Ok.ensures.appended
-    ∙ ap (λ (step : PathStep). c.self.inside.path ++ step ∷ []) c.step.ensures.step
-    ∙ ap (λ (steps : List PathStep). steps ++ step_as (as_form c.args.form) 0 ∷ []) c.self.invariant.path
+    ∙ ap (λ (step : PathStep). c.deref_mut-work.result.now.path ++ step ∷ []) c.step.ensures.step
+    ∙ ap (λ (steps : List PathStep). steps ++ step_as (as_form c.args.form) 0 ∷ []) lent.invariant.path
     ∙ sym meant.path_is)
 
 pub returns-in-Ok-begin_content-clause-step : goal.returns-in-Ok-begin_content-clause-step
-returns-in-Ok-begin_content-clause-step g c = (
-  ap (λ (b : Builder _). Ok (enters_content b.shapes (here b) b.state (as_form c.args.form)
-      (kept_by c.args.beginning (cursor_tree b.state)))) (sym c.self.view_is)
-      ∙ ap (λ (s : State). Ok s)
-      (sym
-      (state_is _ c.begin_content.new.slots c.begin_content.new.stack _ _ (mode_of c.self.inside.mode) c.saturating_add.result _
-      c.in-Ok-begin_content.ensures.entered c.saturating_add.ensures)),
-  ap (λ (b : Builder _). b.shapes) c.self.view_is,
-  ap (λ (b : Builder _). b.root) c.self.view_is,
-  ap (λ (b : Builder _). b.hooks) c.self.view_is,
-)
+returns-in-Ok-begin_content-clause-step g c =
+    let lent = works_with c.deref_mut-work.ensures.value c.self.view_is c.self.invariant in (
+      ap (λ (b : Builder _). Ok (enters_content b.shapes (here b) b.state (as_form c.args.form)
+          (kept_by c.args.beginning (cursor_tree b.state)))) (sym lent.view_is)
+          ∙ ap (λ (s : State). Ok s)
+          (sym
+          (state_is _ c.begin_content.new.slots c.begin_content.new.stack _ _ (mode_of c.deref_mut-work.result.now.mode) c.saturating_add-work.result _
+          c.in-Ok-begin_content.ensures.entered c.saturating_add-work.ensures)),
+      ap (λ (b : Builder _). b.shapes) lent.view_is,
+      ap (λ (b : Builder _). b.root) lent.view_is,
+      ap (λ (b : Builder _). b.hooks) lent.view_is,
+    )
 
 pub returns-in-Ok-begin_content-clause-tokens : goal.returns-in-Ok-begin_content-clause-tokens
 returns-in-Ok-begin_content-clause-tokens g c =
+    let lent = works_with c.deref_mut-work.ensures.value c.self.view_is c.self.invariant in
     subst
     (λ (b : Builder _). Conserved (holds b) c.args.ledger.now
     (tree_occurs (tree_in_slots c.begin_content.new.slots c.begin_content.new.stack)) c.begin_content.new.ledger)
-    c.self.view_is
-    (held_kept c.begin_content.new.slots c.self.invariant.ready.shown c.begin_content.ensures.tokens c.begin_content.new.stack
+    lent.view_is
+    (held_kept c.begin_content.new.slots lent.invariant.ready.shown c.begin_content.ensures.tokens c.begin_content.new.stack
     (subst (λ (p : Plan). IsOpen p c.begin_content.new.slots c.begin_content.new.stack) c.core-plan.ensures
     c.in-Ok-begin_content.ensures.entered.open_still))

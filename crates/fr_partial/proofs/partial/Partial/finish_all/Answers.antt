@@ -13,132 +13,141 @@ use Rattle.fr_partial.proofs.EndLaws.{keeps_none}
 use Rattle.fr_partial.proofs.FinishLaws.{ends_with, finished_so, held_up, state_with, suits_root}
 use Rattle.fr_partial.proofs.RemovedLaws.{all_released}
 use Rattle.fr_partial.proofs.StateLaws.{state_is, underway_after, order_after, tokens_after}
+use Rattle.fr_partial.proofs.WorkLaws.{works_with}
 use Rattle.fr_partial.proofs.partial.Partial.finish_all.Goals as goal
 
 pub finish-requires-clause-suits : goal.finish-requires-clause-suits
 finish-requires-clause-suits g c =
-    subst (λ (p : Plan). Suits c.self.inside.table.now (root_shape p)
-    (tree_in_slots c.self.inside.work.slots c.self.inside.work.stack))
+    let lent = works_with c.deref_mut-work.ensures.value c.self.view_is c.self.invariant in
+    subst (λ (p : Plan). Suits c.deref_mut-work.result.now.table.now (root_shape p)
+    (tree_in_slots c.deref_mut-work.result.now.slots c.deref_mut-work.result.now.stack))
     (sym c.core-plan.ensures)
-    (suits_root c.law_plan_lookups.ensures.agree c.law_plan_lookups.ensures.paths c.self.inside.table.now c.self.inside.root _
-    c.self.inside.work.slots c.self.inside.work.stack c.self.invariant.ready)
+    (suits_root c.law_plan_lookups.ensures.agree c.law_plan_lookups.ensures.paths c.deref_mut-work.result.now.table.now c.deref_mut-work.result.now.root _
+    c.deref_mut-work.result.now.slots c.deref_mut-work.result.now.stack lent.invariant.ready)
 
 pub finish-requires-clause-room : goal.finish-requires-clause-room
 finish-requires-clause-room g c =
-    subst (λ (b : Builder _). Room (holds b) c.args.ledger.now) (sym c.self.view_is) c.requires.room
+    let lent = works_with c.deref_mut-work.ensures.value c.self.view_is c.self.invariant in
+    subst (λ (b : Builder _). Room (holds b) c.args.ledger.now) (sym lent.view_is) c.requires.room
 
 pub invariant_of-self : goal.invariant_of-self
 invariant_of-self g c =
+    let lent = works_with c.deref_mut-work.ensures.value c.self.view_is c.self.invariant in
     let done = subst
-    (λ (p : Plan). IsFinished (g.H.Hooks.means c.self.inside.hooks.now) c.self.inside.table.now p c.self.inside.work.slots
-    c.self.inside.work.stack c.finish.new.slots c.finish.new.stack)
+    (λ (p : Plan). IsFinished (g.H.Hooks.means c.self.inside.hooks.now) c.deref_mut-work.result.now.table.now p c.deref_mut-work.result.now.slots
+    c.deref_mut-work.result.now.stack c.finish.new.slots c.finish.new.stack)
     c.core-plan.ensures c.in-Ok.ensures.finished in
-    let state : State = state_of c.self.inside.work.slots c.self.inside.work.stack
-    (mode_of c.self.inside.mode) c.self.inside.calls in
-    underway_after c.self.invariant c.self.inside.path c.finish.new.slots c.finish.new.stack c.finish.new.self strict
-    c.saturating_add.result (state_with state done.tree) done.stands.open_still
+    let state : State = state_of c.deref_mut-work.result.now.slots c.deref_mut-work.result.now.stack
+    (mode_of c.deref_mut-work.result.now.mode) c.deref_mut-work.result.now.calls in
+    underway_after lent.invariant c.deref_mut-work.result.now.path c.finish.new.slots c.finish.new.stack c.finish.new.self strict
+    c.saturating_add-work.result (state_with state done.tree) done.stands.open_still
     (keeps_none strict c.finish.new.self c.finish.new.slots refl c.in-Ok.ensures.empty c.in-Ok.ensures.strict)
     c.in-Ok.ensures.empty
-    (state_is _ c.finish.new.slots c.finish.new.stack _ _ strict c.saturating_add.result _ done.stands c.saturating_add.ensures)
-    (order_after c.self.invariant c.law_well.ensures.in_order (g.H.Hooks.means c.self.inside.hooks.now)
+    (state_is _ c.finish.new.slots c.finish.new.stack _ _ strict c.saturating_add-work.result _ done.stands c.saturating_add-work.ensures)
+    (order_after lent.invariant c.law_well.ensures.in_order (g.H.Hooks.means c.self.inside.hooks.now)
     (state_with state done.tree)
     Call.FinishDeferred tt
     (ends_with c.law_plan_lookups.ensures.agree c.law_plan_lookups.ensures.paths (g.H.Hooks.means c.self.inside.hooks.now)
-    c.self.inside.table.now c.self.inside.root _ c.self.inside.work.slots c.self.inside.work.stack (mode_of c.self.inside.mode)
-    c.self.inside.calls c.self.invariant.ready
-    (λ mode. c.requires.deferred (ap (λ (b : Builder _). b.state.mode) (sym c.self.view_is) ∙ mode))
+    c.deref_mut-work.result.now.table.now c.deref_mut-work.result.now.root _ c.deref_mut-work.result.now.slots c.deref_mut-work.result.now.stack (mode_of c.deref_mut-work.result.now.mode)
+    c.deref_mut-work.result.now.calls lent.invariant.ready
+    (λ mode. c.requires.deferred (ap (λ (b : Builder _). b.state.mode) (sym lent.view_is) ∙ mode))
     c.finish.new.slots c.finish.new.stack done))
-    (c.self.invariant.path
+    (lent.invariant.path
     ∙ sym
-    (c.law_paths.ensures.finish (g.H.Hooks.means c.self.inside.hooks.now) c.self.inside.table.now c.self.inside.root.0
-    (cursor_in c.self.inside.work.slots c.self.inside.work.stack)
-    (tree_in_slots c.self.inside.work.slots c.self.inside.work.stack) done.tree
+    (c.law_paths.ensures.finish (g.H.Hooks.means c.self.inside.hooks.now) c.deref_mut-work.result.now.table.now c.deref_mut-work.result.now.root.0
+    (cursor_in c.deref_mut-work.result.now.slots c.deref_mut-work.result.now.stack)
+    (tree_in_slots c.deref_mut-work.result.now.slots c.deref_mut-work.result.now.stack) done.tree
     (finished_so c.law_plan_lookups.ensures.agree c.law_plan_lookups.ensures.paths (g.H.Hooks.means c.self.inside.hooks.now)
-    c.self.inside.table.now c.self.inside.root _ c.self.inside.work.slots c.self.inside.work.stack (mode_of c.self.inside.mode)
-    c.self.inside.calls c.self.invariant.ready
-    (λ mode. c.requires.deferred (ap (λ (b : Builder _). b.state.mode) (sym c.self.view_is) ∙ mode))
+    c.deref_mut-work.result.now.table.now c.deref_mut-work.result.now.root _ c.deref_mut-work.result.now.slots c.deref_mut-work.result.now.stack (mode_of c.deref_mut-work.result.now.mode)
+    c.deref_mut-work.result.now.calls lent.invariant.ready
+    (λ mode. c.requires.deferred (ap (λ (b : Builder _). b.state.mode) (sym lent.view_is) ∙ mode))
     c.finish.new.slots c.finish.new.stack done)))
 
 pub returns-in-Ok-clause-step : goal.returns-in-Ok-clause-step
 returns-in-Ok-clause-step g c =
+    let lent = works_with c.deref_mut-work.ensures.value c.self.view_is c.self.invariant in
     let done = subst
-    (λ (p : Plan). IsFinished (g.H.Hooks.means c.self.inside.hooks.now) c.self.inside.table.now p c.self.inside.work.slots
-    c.self.inside.work.stack c.finish.new.slots c.finish.new.stack)
+    (λ (p : Plan). IsFinished (g.H.Hooks.means c.self.inside.hooks.now) c.deref_mut-work.result.now.table.now p c.deref_mut-work.result.now.slots
+    c.deref_mut-work.result.now.stack c.finish.new.slots c.finish.new.stack)
     c.core-plan.ensures c.in-Ok.ensures.finished in
-    let state : State = state_of c.self.inside.work.slots c.self.inside.work.stack
-    (mode_of c.self.inside.mode) c.self.inside.calls in (
+    let state : State = state_of c.deref_mut-work.result.now.slots c.deref_mut-work.result.now.stack
+    (mode_of c.deref_mut-work.result.now.mode) c.deref_mut-work.result.now.calls in (
       subst
           (λ (b : Builder _). meaning (g.H.Hooks.means b.hooks) b Call.FinishDeferred ≡ Ok (state_with state done.tree))
-          c.self.view_is
+          lent.view_is
           (ends_with c.law_plan_lookups.ensures.agree c.law_plan_lookups.ensures.paths (g.H.Hooks.means c.self.inside.hooks.now)
-          c.self.inside.table.now c.self.inside.root _ c.self.inside.work.slots c.self.inside.work.stack
-          (mode_of c.self.inside.mode)
-          c.self.inside.calls c.self.invariant.ready
-          (λ mode. c.requires.deferred (ap (λ (b : Builder _). b.state.mode) (sym c.self.view_is) ∙ mode))
+          c.deref_mut-work.result.now.table.now c.deref_mut-work.result.now.root _ c.deref_mut-work.result.now.slots c.deref_mut-work.result.now.stack
+          (mode_of c.deref_mut-work.result.now.mode)
+          c.deref_mut-work.result.now.calls lent.invariant.ready
+          (λ mode. c.requires.deferred (ap (λ (b : Builder _). b.state.mode) (sym lent.view_is) ∙ mode))
           c.finish.new.slots c.finish.new.stack done)
           ∙ ap (λ (next : State). Ok next)
           (sym
-          (state_is _ c.finish.new.slots c.finish.new.stack _ _ strict c.saturating_add.result _ done.stands
-          c.saturating_add.ensures)),
-      ap (λ (b : Builder _). b.shapes) c.self.view_is,
-      ap (λ (b : Builder _). b.root) c.self.view_is,
-      ap (λ (b : Builder _). b.hooks) c.self.view_is,
+          (state_is _ c.finish.new.slots c.finish.new.stack _ _ strict c.saturating_add-work.result _ done.stands
+          c.saturating_add-work.ensures)),
+      ap (λ (b : Builder _). b.shapes) lent.view_is,
+      ap (λ (b : Builder _). b.root) lent.view_is,
+      ap (λ (b : Builder _). b.hooks) lent.view_is,
     )
 
 pub returns-in-Ok-clause-tokens : goal.returns-in-Ok-clause-tokens
-returns-in-Ok-clause-tokens g c = record {
-  same_length = ap length c.in-Ok.ensures.kept;
-  kept_or_released = λ t.
-      let done = subst
-      (λ (p : Plan). IsFinished (g.H.Hooks.means c.self.inside.hooks.now) c.self.inside.table.now p c.self.inside.work.slots
-      c.self.inside.work.stack c.finish.new.slots c.finish.new.stack)
-      c.core-plan.ensures c.in-Ok.ensures.finished in
-      let state : State = state_of c.self.inside.work.slots c.self.inside.work.stack
-      (mode_of c.self.inside.mode) c.self.inside.calls in
-      let all : holds c.args.self t ≡ tree_occurs state.tree t
-      = ap (λ (b : Builder _). holds b t) (sym c.self.view_is) in
-      let kept : tree_occurs state.tree t + 0 ≡ tree_occurs done.tree t + 0
-      = tokens_after c.self.invariant c.law_removed.ensures.step (g.H.Hooks.means c.self.inside.hooks.now)
-      (state_with state done.tree) Call.FinishDeferred
-      (ends_with c.law_plan_lookups.ensures.agree c.law_plan_lookups.ensures.paths (g.H.Hooks.means c.self.inside.hooks.now)
-      c.self.inside.table.now c.self.inside.root _ c.self.inside.work.slots c.self.inside.work.stack
-      (mode_of c.self.inside.mode)
-      c.self.inside.calls c.self.invariant.ready
-      (λ mode. c.requires.deferred (ap (λ (b : Builder _). b.state.mode) (sym c.self.view_is) ∙ mode))
-      c.finish.new.slots c.finish.new.stack done)
-      t in
-      let now : tree_occurs (tree_in_slots c.finish.new.slots c.finish.new.stack) t ≡ tree_occurs done.tree t
-      = ap (λ (tree : Tree). tree_occurs tree t) done.stands.built in
-      let same : slice_index c.finish.new.ledger t ≡ slice_index c.args.ledger.now t
-      = ap (λ ledger. slice_index ledger t) c.in-Ok.ensures.kept in
-      omega (arith, all, kept, now, same);
-  none_falls = λ t.
-      let same : slice_index c.finish.new.ledger t ≡ slice_index c.args.ledger.now t
-      = ap (λ ledger. slice_index ledger t) c.in-Ok.ensures.kept in
-      omega (arith, same);
-}
+returns-in-Ok-clause-tokens g c =
+    let lent = works_with c.deref_mut-work.ensures.value c.self.view_is c.self.invariant in
+    record {
+      same_length = ap length c.in-Ok.ensures.kept;
+      kept_or_released = λ t.
+          let done = subst
+          (λ (p : Plan). IsFinished (g.H.Hooks.means c.self.inside.hooks.now) c.deref_mut-work.result.now.table.now p c.deref_mut-work.result.now.slots
+          c.deref_mut-work.result.now.stack c.finish.new.slots c.finish.new.stack)
+          c.core-plan.ensures c.in-Ok.ensures.finished in
+          let state : State = state_of c.deref_mut-work.result.now.slots c.deref_mut-work.result.now.stack
+          (mode_of c.deref_mut-work.result.now.mode) c.deref_mut-work.result.now.calls in
+          let all : holds c.args.self t ≡ tree_occurs state.tree t
+          = ap (λ (b : Builder _). holds b t) (sym lent.view_is) in
+          let kept : tree_occurs state.tree t + 0 ≡ tree_occurs done.tree t + 0
+          = tokens_after lent.invariant c.law_removed.ensures.step (g.H.Hooks.means c.self.inside.hooks.now)
+          (state_with state done.tree) Call.FinishDeferred
+          (ends_with c.law_plan_lookups.ensures.agree c.law_plan_lookups.ensures.paths (g.H.Hooks.means c.self.inside.hooks.now)
+          c.deref_mut-work.result.now.table.now c.deref_mut-work.result.now.root _ c.deref_mut-work.result.now.slots c.deref_mut-work.result.now.stack
+          (mode_of c.deref_mut-work.result.now.mode)
+          c.deref_mut-work.result.now.calls lent.invariant.ready
+          (λ mode. c.requires.deferred (ap (λ (b : Builder _). b.state.mode) (sym lent.view_is) ∙ mode))
+          c.finish.new.slots c.finish.new.stack done)
+          t in
+          let now : tree_occurs (tree_in_slots c.finish.new.slots c.finish.new.stack) t ≡ tree_occurs done.tree t
+          = ap (λ (tree : Tree). tree_occurs tree t) done.stands.built in
+          let same : slice_index c.finish.new.ledger t ≡ slice_index c.args.ledger.now t
+          = ap (λ ledger. slice_index ledger t) c.in-Ok.ensures.kept in
+          omega (arith, all, kept, now, same);
+      none_falls = λ t.
+          let same : slice_index c.finish.new.ledger t ≡ slice_index c.args.ledger.now t
+          = ap (λ ledger. slice_index ledger t) c.in-Ok.ensures.kept in
+          omega (arith, same);
+    }
 
 pub returns-in-Err-clause-step : goal.returns-in-Err-clause-step
 returns-in-Err-clause-step g c =
+    let lent = works_with c.deref_mut-work.ensures.value c.self.view_is c.self.invariant in
     elim c.in-Err.ensures.why [
       | inl memory ↦ inl memory
       | inr held ↦
           inr
-          (subst (λ (b : Builder _). meaning (g.H.Hooks.means b.hooks) b Call.FinishDeferred ≡ Err c.in-Err.kind) c.self.view_is
+          (subst (λ (b : Builder _). meaning (g.H.Hooks.means b.hooks) b Call.FinishDeferred ≡ Err c.in-Err.kind) lent.view_is
           (held_up c.law_plan_lookups.ensures.agree c.law_plan_lookups.ensures.paths (g.H.Hooks.means c.self.inside.hooks.now)
-          c.self.inside.table.now c.self.inside.root _ c.self.inside.work.slots c.self.inside.work.stack
-          (mode_of c.self.inside.mode)
-          c.self.inside.calls c.self.invariant.ready
-          (λ mode. c.requires.deferred (ap (λ (b : Builder _). b.state.mode) (sym c.self.view_is) ∙ mode))
+          c.deref_mut-work.result.now.table.now c.deref_mut-work.result.now.root _ c.deref_mut-work.result.now.slots c.deref_mut-work.result.now.stack
+          (mode_of c.deref_mut-work.result.now.mode)
+          c.deref_mut-work.result.now.calls lent.invariant.ready
+          (λ mode. c.requires.deferred (ap (λ (b : Builder _). b.state.mode) (sym lent.view_is) ∙ mode))
           c.in-Err.kind
           (subst
-          (λ (p : Plan). IsHeldUp (g.H.Hooks.means c.self.inside.hooks.now) c.self.inside.table.now p c.self.inside.work.slots
-          c.self.inside.work.stack c.in-Err.kind)
+          (λ (p : Plan). IsHeldUp (g.H.Hooks.means c.self.inside.hooks.now) c.deref_mut-work.result.now.table.now p c.deref_mut-work.result.now.slots
+          c.deref_mut-work.result.now.stack c.in-Err.kind)
           c.core-plan.ensures held)))
     ]
 
 pub returns-in-Err-clause-tokens : goal.returns-in-Err-clause-tokens
 returns-in-Err-clause-tokens g c =
+    let lent = works_with c.deref_mut-work.ensures.value c.self.view_is c.self.invariant in
     all_released (holds c.args.self) c.args.ledger.now c.finish.new.ledger
-    (subst (λ (b : Builder _). RoseBy (holds b) c.args.ledger.now c.finish.new.ledger) c.self.view_is
+    (subst (λ (b : Builder _). RoseBy (holds b) c.args.ledger.now c.finish.new.ledger) lent.view_is
     c.in-Err.ensures.released)

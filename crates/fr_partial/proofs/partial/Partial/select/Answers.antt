@@ -18,69 +18,77 @@ use Rattle.fr_partial.proofs.ChoiceLaws.{nth_admitted}
 use Rattle.fr_partial.proofs.ReleaseLaws.{held_kept, released_kept, room_kept, room_slots}
 use Rattle.fr_partial.proofs.RemovedLaws.{all_released}
 use Rattle.fr_partial.proofs.StateLaws.{state_is, stores_after, underway_after, order_after}
+use Rattle.fr_partial.proofs.WorkLaws.{works_with}
 use Rattle.fr_partial.proofs.partial.Partial.select.Goals as goal
 
 pub begin_variant-requires-clause-room : goal.begin_variant-requires-clause-room
 begin_variant-requires-clause-room g c =
-    room_slots c.self.invariant.ready.shown c.args.ledger.now
-    (subst (λ (b : Builder _). Room (holds b) c.args.ledger.now) (sym c.self.view_is) c.requires.room)
+    let lent = works_with c.deref_mut-work.ensures.value c.self.view_is c.self.invariant in
+    room_slots lent.invariant.ready.shown c.args.ledger.now
+    (subst (λ (b : Builder _). Room (holds b) c.args.ledger.now) (sym lent.view_is) c.requires.room)
 
-pub release-requires : goal.release-requires
-release-requires g c = record {
-  room =
-      room_kept c.begin_variant.new.slots c.self.invariant.ready.shown c.begin_variant.ensures.tokens
-      (subst (λ (b : Builder _). Room (holds b) c.args.ledger.now) (sym c.self.view_is) c.requires.room);
-}
+pub fail-requires : goal.fail-requires
+fail-requires g c =
+    let lent = works_with c.deref_mut-work.ensures.value c.self.view_is c.self.invariant in
+    record {
+      room =
+          room_kept c.begin_variant.new.slots lent.invariant.ready.shown c.begin_variant.ensures.tokens
+          (subst (λ (b : Builder _). Room (holds b) c.args.ledger.now) (sym lent.view_is) c.requires.room);
+    }
 
 pub returns-in-Err-clause-tokens : goal.returns-in-Err-clause-tokens
 returns-in-Err-clause-tokens g c =
-    all_released (holds c.args.self) c.args.ledger.now c.release.new.ledger
-    (subst (λ (b : Builder _). RoseBy (holds b) c.args.ledger.now c.release.new.ledger) c.self.view_is
-    (released_kept c.begin_variant.new.slots c.self.invariant.ready.shown c.begin_variant.ensures.tokens c.release.new.ledger
-    c.release.ensures.released))
+    let lent = works_with c.deref_mut-work.ensures.value c.self.view_is c.self.invariant in
+    all_released (holds c.args.self) c.args.ledger.now c.fail.new.ledger
+    (subst (λ (b : Builder _). RoseBy (holds b) c.args.ledger.now c.fail.new.ledger) lent.view_is
+    (released_kept c.begin_variant.new.slots lent.invariant.ready.shown c.begin_variant.ensures.tokens c.fail.new.ledger
+    c.fail.ensures.released))
 
 pub invariant_of-self : goal.invariant_of-self
 invariant_of-self g c =
-    let s : ℕ = shape_here c.self.inside.table.now c.self.inside.root.0 c.self.inside.work.slots c.self.inside.work.stack in
-    let state : State = state_of c.self.inside.work.slots c.self.inside.work.stack
-    (mode_of c.self.inside.mode) c.self.inside.calls in
+    let lent = works_with c.deref_mut-work.ensures.value c.self.view_is c.self.invariant in
+    let s : ℕ = shape_here c.deref_mut-work.result.now.table.now c.deref_mut-work.result.now.root.0 c.deref_mut-work.result.now.slots c.deref_mut-work.result.now.stack in
+    let state : State = state_of c.deref_mut-work.result.now.slots c.deref_mut-work.result.now.stack
+    (mode_of c.deref_mut-work.result.now.mode) c.deref_mut-work.result.now.calls in
     let k : ℕ = c.args.chosen.variant in
-    let next : State = selects c.self.inside.table.now s state k in
+    let next : State = selects c.deref_mut-work.result.now.table.now s state k in
     let full = subst (λ (b : Builder _). IsFullAs (def_of b.shapes (here b)) (as_variant k) c.args.chosen.count)
-    (sym c.self.view_is) c.requires.count in
+    (sym lent.view_is) c.requires.count in
     let admitted = subst (λ (b : Builder _). selection_refusal (def_of b.shapes (here b)) k ≡ None)
-    (sym c.self.view_is) c.requires.admitted in
-    underway_after c.self.invariant _ c.begin_variant.new.slots c.self.inside.work.stack c.begin_variant.new.store
-    (mode_of c.self.inside.mode) c.saturating_add.result next
-    (subst (λ (p : Plan). IsOpen p c.begin_variant.new.slots c.self.inside.work.stack) c.core-plan.ensures
+    (sym lent.view_is) c.requires.admitted in
+    underway_after lent.invariant _ c.begin_variant.new.slots c.deref_mut-work.result.now.stack c.begin_variant.new.store
+    (mode_of c.deref_mut-work.result.now.mode) c.saturating_add-work.result next
+    (subst (λ (p : Plan). IsOpen p c.begin_variant.new.slots c.deref_mut-work.result.now.stack) c.core-plan.ensures
     c.in-Ok.ensures.begun.open_still)
     c.in-Ok.ensures.stored
-    (stores_after (mode_of c.self.inside.mode) c.self.inside.work.store c.begin_variant.new.store c.self.inside.work.slots
-    c.begin_variant.new.slots c.self.invariant.stores c.self.invariant.kept c.in-Ok.ensures.stored c.in-Ok.ensures.marks)
-    (state_is _ c.begin_variant.new.slots c.self.inside.work.stack _ _ (mode_of c.self.inside.mode) c.saturating_add.result _
-    c.in-Ok.ensures.begun c.saturating_add.ensures)
-    (order_after c.self.invariant c.law_well.ensures.in_order no_hooks next (Call.SelectNthVariant k) tt
-    (nth_admitted c.self.inside.table.now s state k c.args.chosen.count full admitted))
-    (c.self.invariant.path ∙ sym (c.law_paths.ensures.select c.self.inside.table.now s state k c.self.invariant.leads))
+    (stores_after (mode_of c.deref_mut-work.result.now.mode) c.deref_mut-work.result.now.store c.begin_variant.new.store c.deref_mut-work.result.now.slots
+    c.begin_variant.new.slots lent.invariant.stores lent.invariant.kept c.in-Ok.ensures.stored c.in-Ok.ensures.marks)
+    (state_is _ c.begin_variant.new.slots c.deref_mut-work.result.now.stack _ _ (mode_of c.deref_mut-work.result.now.mode) c.saturating_add-work.result _
+    c.in-Ok.ensures.begun c.saturating_add-work.ensures)
+    (order_after lent.invariant c.law_well.ensures.in_order no_hooks next (Call.SelectNthVariant k) tt
+    (nth_admitted c.deref_mut-work.result.now.table.now s state k c.args.chosen.count full admitted))
+    (lent.invariant.path ∙ sym (c.law_paths.ensures.select c.deref_mut-work.result.now.table.now s state k lent.invariant.leads))
 
 pub returns-in-Ok-clause-step : goal.returns-in-Ok-clause-step
-returns-in-Ok-clause-step g c = (
-  ap (λ (b : Builder _). Ok (selects b.shapes (here b) b.state c.args.chosen.variant)) (sym c.self.view_is)
-      ∙ ap (λ (s : State). Ok s)
-      (sym
-      (state_is _ c.begin_variant.new.slots c.self.inside.work.stack _ _ (mode_of c.self.inside.mode) c.saturating_add.result _
-      c.in-Ok.ensures.begun c.saturating_add.ensures)),
-  ap (λ (b : Builder _). b.shapes) c.self.view_is,
-  ap (λ (b : Builder _). b.root) c.self.view_is,
-  ap (λ (b : Builder _). b.hooks) c.self.view_is,
-)
+returns-in-Ok-clause-step g c =
+    let lent = works_with c.deref_mut-work.ensures.value c.self.view_is c.self.invariant in (
+      ap (λ (b : Builder _). Ok (selects b.shapes (here b) b.state c.args.chosen.variant)) (sym lent.view_is)
+          ∙ ap (λ (s : State). Ok s)
+          (sym
+          (state_is _ c.begin_variant.new.slots c.deref_mut-work.result.now.stack _ _ (mode_of c.deref_mut-work.result.now.mode) c.saturating_add-work.result _
+          c.in-Ok.ensures.begun c.saturating_add-work.ensures)),
+      ap (λ (b : Builder _). b.shapes) lent.view_is,
+      ap (λ (b : Builder _). b.root) lent.view_is,
+      ap (λ (b : Builder _). b.hooks) lent.view_is,
+    )
 
 pub returns-in-Ok-clause-tokens : goal.returns-in-Ok-clause-tokens
 returns-in-Ok-clause-tokens g c =
+    let lent = works_with c.deref_mut-work.ensures.value c.self.view_is c.self.invariant in
     subst
     (λ (b : Builder _). Conserved (holds b) c.args.ledger.now
-    (tree_occurs (tree_in_slots c.begin_variant.new.slots c.self.inside.work.stack)) c.begin_variant.new.ledger)
-    c.self.view_is
-    (held_kept c.begin_variant.new.slots c.self.invariant.ready.shown c.begin_variant.ensures.tokens c.self.inside.work.stack
-    (subst (λ (p : Plan). IsOpen p c.begin_variant.new.slots c.self.inside.work.stack) c.core-plan.ensures
+    (tree_occurs (tree_in_slots c.begin_variant.new.slots c.deref_mut-work.result.now.stack)) c.begin_variant.new.ledger)
+    lent.view_is
+    (held_kept c.begin_variant.new.slots lent.invariant.ready.shown c.begin_variant.ensures.tokens c.deref_mut-work.result.now.stack
+    (subst (λ (p : Plan). IsOpen p c.begin_variant.new.slots c.deref_mut-work.result.now.stack) c.core-plan.ensures
     c.in-Ok.ensures.begun.open_still))

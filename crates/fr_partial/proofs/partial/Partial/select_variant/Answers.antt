@@ -13,22 +13,24 @@ use Rattle.fr_partial.specs.Choosing.{choice}
 use Rattle.fr_partial.proofs.ChoiceLaws.{chosen_admitted, select_chosen, selects_chosen}
 use Rattle.fr_partial.proofs.RemovedLaws.{rises_by_removed, all_released}
 use Rattle.fr_partial.proofs.StateLaws.{in_order}
+use Rattle.fr_partial.proofs.WorkLaws.{works_with}
 use Rattle.fr_partial.proofs.partial.Partial.select_variant.Goals as goal
 use Rattle.fr_partial.proofs.partial.Partial.select_variant.Given.{Over}
 use Rattle.fr_partial.proofs.partial.Partial.select_variant.Goals.{In-Ok}
 
 -- what is chosen, as the builder has its table and its shape
 there : (g : Over) (c : In-Ok g) → choice c.args.self.shapes (here c.args.self) (variant_told_by c.args.discriminant) Operation.DiscriminantUnknown
-    ≡ choice c.self.inside.table.now c.shape-shape.result.0 (variant_told_by c.args.discriminant) Operation.DiscriminantUnknown
+    ≡ choice c.deref.result.now.table.now c.shape-shape.result.0 (variant_told_by c.args.discriminant) Operation.DiscriminantUnknown
 there g c =
-    ap (λ (b : Builder _). choice b.shapes (here c.args.self) (variant_told_by c.args.discriminant) Operation.DiscriminantUnknown) (sym c.self.view_is)
-    ∙ ap (λ (s : ℕ). choice c.self.inside.table.now s (variant_told_by c.args.discriminant) Operation.DiscriminantUnknown) (sym c.shape-shape.ensures.shape)
+    let lent = works_with c.deref.ensures c.self.view_is c.self.invariant in
+    ap (λ (b : Builder _). choice b.shapes (here c.args.self) (variant_told_by c.args.discriminant) Operation.DiscriminantUnknown) (sym lent.view_is)
+    ∙ ap (λ (s : ℕ). choice c.deref.result.now.table.now s (variant_told_by c.args.discriminant) Operation.DiscriminantUnknown) (sym c.shape-shape.ensures.shape)
 
 chosen : (g : Over) (c : In-Ok g)
     → choice c.args.self.shapes (here c.args.self) (variant_told_by c.args.discriminant) Operation.DiscriminantUnknown ≡ Ok c.in-Ok.chosen.variant
 chosen g c =
     there g c
-    ∙ ap (λ (d : ℤ). choice c.self.inside.table.now c.shape-shape.result.0 (variant_told_by d) Operation.DiscriminantUnknown)
+    ∙ ap (λ (d : ℤ). choice c.deref.result.now.table.now c.shape-shape.result.0 (variant_told_by d) Operation.DiscriminantUnknown)
     (sym (to_z-of_z w64 c.args.discriminant c.ranges.discriminant))
     ∙ c.in-Ok.ensures.chosen
 
@@ -40,9 +42,10 @@ means g c =
 
 pub select-requires-clause-count : goal.select-requires-clause-count
 select-requires-clause-count g c =
+    let lent = works_with c.deref.ensures c.self.view_is c.self.invariant in
     subst (λ (b : Builder _). IsFullAs (def_of b.shapes (here c.args.self)) (as_variant c.in-Ok.chosen.variant)
-    c.in-Ok.chosen.count) c.self.view_is
-    (subst (λ (s : ℕ). IsFullAs (def_of c.self.inside.table.now s) (as_variant c.in-Ok.chosen.variant)
+    c.in-Ok.chosen.count) lent.view_is
+    (subst (λ (s : ℕ). IsFullAs (def_of c.deref.result.now.table.now s) (as_variant c.in-Ok.chosen.variant)
     c.in-Ok.chosen.count) c.shape-shape.ensures.shape c.in-Ok.ensures.count)
 
 pub select-requires-clause-admitted : goal.select-requires-clause-admitted
@@ -63,12 +66,13 @@ returns-in-Ok-clause-removed g c =
 
 pub returns-in-Err-clause-step : goal.returns-in-Err-clause-step
 returns-in-Err-clause-step g c =
+    let lent = works_with c.deref.ensures c.self.view_is c.self.invariant in
     inr
     (select_chosen c.args.self.shapes (here c.args.self) (variant_told_by c.args.discriminant) Operation.DiscriminantUnknown c.args.self.state
     ∙ ap (selects_chosen c.args.self.shapes (here c.args.self) c.args.self.state)
-    (ap (λ (b : Builder _). choice b.shapes (here c.args.self) (variant_told_by c.args.discriminant) Operation.DiscriminantUnknown) (sym c.self.view_is)
-    ∙ ap (λ (s : ℕ). choice c.self.inside.table.now s (variant_told_by c.args.discriminant) Operation.DiscriminantUnknown) (sym c.shape-shape.ensures.shape)
-    ∙ ap (λ (d : ℤ). choice c.self.inside.table.now c.shape-shape.result.0 (variant_told_by d) Operation.DiscriminantUnknown)
+    (ap (λ (b : Builder _). choice b.shapes (here c.args.self) (variant_told_by c.args.discriminant) Operation.DiscriminantUnknown) (sym lent.view_is)
+    ∙ ap (λ (s : ℕ). choice c.deref.result.now.table.now s (variant_told_by c.args.discriminant) Operation.DiscriminantUnknown) (sym c.shape-shape.ensures.shape)
+    ∙ ap (λ (d : ℤ). choice c.deref.result.now.table.now c.shape-shape.result.0 (variant_told_by d) Operation.DiscriminantUnknown)
     (sym (to_z-of_z w64 c.args.discriminant c.ranges.discriminant))
     ∙ c.in-Err.ensures.refused)
     ∙ ap Err (sym c.refuse.ensures.kind))

@@ -13,28 +13,32 @@ use Rattle.fr_partial.proofs.TemplateLaws.{IsTemplate, preset_template, light_oc
 use Rattle.fr_model.specs.Commands.{Call}
 use Rattle.fr_partial.proofs.RemovedLaws.{rises_by_removed, all_released}
 use Rattle.fr_partial.proofs.StateLaws.{in_order}
+use Rattle.fr_partial.proofs.WorkLaws.{works_with}
 use Rattle.fr_partial.proofs.partial.Partial.set_default.Goals as goal
 use Rattle.fr_partial.proofs.partial.Partial.set_default.Given.{Over}
 use Rattle.fr_partial.proofs.partial.Partial.set_default.Goals.{In-Some, In-Ok}
 
 template : (g : Over) (c : In-Some g)
-    → IsTemplate c.self.inside.table.now c.shape-shape.result.0 c.in-Some.template.now
+    → IsTemplate c.deref.result.now.table.now c.shape-shape.result.0 c.in-Some.template.now
 template g c =
-    preset_template c.self.inside.table.now c.shape-shape.result.0 c.in-Some.template.now
-    c.self.invariant.ready.checked (sym c.in-Some.ensures.template)
+    let lent = works_with c.deref.ensures c.self.view_is c.self.invariant in
+    preset_template c.deref.result.now.table.now c.shape-shape.result.0 c.in-Some.template.now
+    lent.invariant.ready.checked (sym c.in-Some.ensures.template)
 
 nothing_more : (g : Over) (c : In-Ok g) (t : ℕ) → occurs (view c.in-Ok.value) t ≡ 0
 nothing_more g c t =
+    let lent = works_with c.deref.ensures c.self.view_is c.self.invariant in
     ap (λ (v : Val). occurs v t) c.in-Ok.ensures.copy
     ∙ light_occurs c.in-Some.template.now t
-    (preset_template c.self.inside.table.now c.shape-shape.result.0 c.in-Some.template.now
-    c.self.invariant.ready.checked (sym c.in-Some.ensures.template)).light
+    (preset_template c.deref.result.now.table.now c.shape-shape.result.0 c.in-Some.template.now
+    lent.invariant.ready.checked (sym c.in-Some.ensures.template)).light
 
 pub returns-in_default-clause-step : goal.returns-in_default-clause-step
 returns-in_default-clause-step g c =
+    let lent = works_with c.deref.ensures c.self.view_is c.self.invariant in
     inr
-    (default_missing c.self.inside.table.now c.self.inside.root.0 c.self.inside.work.slots c.self.inside.work.stack
-    (mode_of c.self.inside.mode) c.self.inside.calls c.args.self c.self.view_is c.shape-shape.result c.shape-shape.ensures.shape
+    (default_missing c.deref.result.now.table.now c.deref.result.now.root.0 c.deref.result.now.slots c.deref.result.now.stack
+    (mode_of c.deref.result.now.mode) c.deref.result.now.calls c.args.self lent.view_is c.shape-shape.result c.shape-shape.ensures.shape
     (sym c.in_default.ensures.template)
     ∙ ap Err (sym c.refuse.ensures.kind))
 
@@ -43,9 +47,10 @@ copy_template-requires g c = record { no_token = (template g (goal.at.copy_templ
 
 pub put-requires-clause-fits : goal.put-requires-clause-fits
 put-requires-clause-fits g c =
-    ap (λ (b : Builder _). fits b.shapes (here c.args.self) (view c.in-Ok.value)) (sym c.self.view_is)
-    ∙ ap (λ (s : ℕ). fits c.self.inside.table.now s (view c.in-Ok.value)) (sym c.shape-shape.ensures.shape)
-    ∙ ap (λ (v : Val). fits c.self.inside.table.now c.shape-shape.result.0 v) c.in-Ok.ensures.copy
+    let lent = works_with c.deref.ensures c.self.view_is c.self.invariant in
+    ap (λ (b : Builder _). fits b.shapes (here c.args.self) (view c.in-Ok.value)) (sym lent.view_is)
+    ∙ ap (λ (s : ℕ). fits c.deref.result.now.table.now s (view c.in-Ok.value)) (sym c.shape-shape.ensures.shape)
+    ∙ ap (λ (v : Val). fits c.deref.result.now.table.now c.shape-shape.result.0 v) c.in-Ok.ensures.copy
     ∙ (template g (goal.at.put-requires-clause-fits g c).In-Some).fitting
 
 pub put-requires-clause-room : goal.put-requires-clause-room
@@ -54,17 +59,18 @@ put-requires-clause-room g c =
     (λ t. omega (arith, nothing_more g (goal.at.put-requires-clause-room g c).In-Ok t)) c.requires.room
 
 pub returns-in-Ok-clause-step : goal.returns-in-Ok-clause-step
-returns-in-Ok-clause-step g c = (
-  default_there c.self.inside.table.now c.self.inside.root.0 c.self.inside.work.slots c.self.inside.work.stack
-      (mode_of c.self.inside.mode) c.self.inside.calls c.args.self c.self.view_is c.shape-shape.result
-      c.shape-shape.ensures.shape c.in-Some.template.now
-      (sym c.in-Some.ensures.template)
-      ∙ ap (λ (v : Val). Ok (puts c.args.self.state v)) (sym c.in-Ok.ensures.copy)
-      ∙ ap (λ (s : State). Ok s) (sym c.put.ensures.state),
-  c.put.ensures.shapes,
-  c.put.ensures.root,
-  c.put.ensures.hooks,
-)
+returns-in-Ok-clause-step g c =
+    let lent = works_with c.deref.ensures c.self.view_is c.self.invariant in (
+      default_there c.deref.result.now.table.now c.deref.result.now.root.0 c.deref.result.now.slots c.deref.result.now.stack
+          (mode_of c.deref.result.now.mode) c.deref.result.now.calls c.args.self lent.view_is c.shape-shape.result
+          c.shape-shape.ensures.shape c.in-Some.template.now
+          (sym c.in-Some.ensures.template)
+          ∙ ap (λ (v : Val). Ok (puts c.args.self.state v)) (sym c.in-Ok.ensures.copy)
+          ∙ ap (λ (s : State). Ok s) (sym c.put.ensures.state),
+      c.put.ensures.shapes,
+      c.put.ensures.root,
+      c.put.ensures.hooks,
+    )
 
 pub returns-in-Ok-clause-tokens : goal.returns-in-Ok-clause-tokens
 returns-in-Ok-clause-tokens g c =
@@ -74,10 +80,11 @@ returns-in-Ok-clause-tokens g c =
 
 pub returns-in-Err-clause-refused : goal.returns-in-Err-clause-refused
 returns-in-Err-clause-refused g c refused =
+    let lent = works_with c.deref.ensures c.self.view_is c.self.invariant in
     let there : set_default c.args.self.shapes (here c.args.self) c.args.self.state
     ≡ Ok (puts c.args.self.state c.in-Some.template.now)
-    = default_there c.self.inside.table.now c.self.inside.root.0 c.self.inside.work.slots c.self.inside.work.stack
-    (mode_of c.self.inside.mode) c.self.inside.calls c.args.self c.self.view_is c.shape-shape.result c.shape-shape.ensures.shape
+    = default_there c.deref.result.now.table.now c.deref.result.now.root.0 c.deref.result.now.slots c.deref.result.now.stack
+    (mode_of c.deref.result.now.mode) c.deref.result.now.calls c.args.self lent.view_is c.shape-shape.result c.shape-shape.ensures.shape
     c.in-Some.template.now
     (sym c.in-Some.ensures.template) in
     let no : false ≡ true = rw there at refused in

@@ -15,20 +15,23 @@ use Rattle.fr_partial.proofs.DefaultLaws.{default_admitted, default_empty, defau
 use Rattle.fr_partial.proofs.RemovedLaws.{rises_by_removed, all_released}
 use Rattle.fr_partial.proofs.SeenLaws.{refusal_seen, Sees, sees}
 use Rattle.fr_partial.proofs.StateLaws.{in_order}
+use Rattle.fr_partial.proofs.WorkLaws.{works_with}
 use Rattle.fr_partial.proofs.partial.Partial.set_nth_field_to_default.Goals as goal
 use Rattle.fr_partial.proofs.partial.Partial.set_nth_field_to_default.Given.{Over}
 use Rattle.fr_partial.proofs.partial.Partial.set_nth_field_to_default.Goals.{In-Ok, In-Err}
 
 seen : (g : Over) (c : In-Ok g)
-    → Sees c.args.self c.self.inside.table.now c.place_here.result.0 (own_tree (body_of c.place_here.result.1.now))
+    → Sees c.args.self c.deref-work.result.now.table.now c.place_here.result.0 (own_tree (body_of c.place_here.result.1.now))
 seen g c =
-    sees c.self.inside.work.slots c.self.inside.work.stack c.self.view_is c.place_here.result.0
+    let lent = works_with c.deref-work.ensures c.self.view_is c.self.invariant in
+    sees c.deref-work.result.now.slots c.deref-work.result.now.stack lent.view_is c.place_here.result.0
     (own_tree (body_of c.place_here.result.1.now)) c.place_here.ensures.shape c.place_here.ensures.piece
 
 seen_refused : (g : Over) (c : In-Err g)
-    → Sees c.args.self c.self.inside.table.now c.place_here.result.0 (own_tree (body_of c.place_here.result.1.now))
+    → Sees c.args.self c.deref-work.result.now.table.now c.place_here.result.0 (own_tree (body_of c.place_here.result.1.now))
 seen_refused g c =
-    sees c.self.inside.work.slots c.self.inside.work.stack c.self.view_is c.place_here.result.0
+    let lent = works_with c.deref-work.ensures c.self.view_is c.self.invariant in
+    sees c.deref-work.result.now.slots c.deref-work.result.now.stack lent.view_is c.place_here.result.0
     (own_tree (body_of c.place_here.result.1.now)) c.place_here.ensures.shape c.place_here.ensures.piece
 
 -- the default as the builder has its table and its place
@@ -46,13 +49,14 @@ means g c v is =
 
 light : (g : Over) (c : In-Ok g) → tokens c.in-Ok.template.now ≡ []
 light g c =
-    default_empty c.self.inside.table.now c.place_here.result.0.0 (own_tree (body_of c.place_here.result.1.now)) c.args.idx
-    c.in-Ok.template.now c.self.invariant.ready.checked c.in-Ok.ensures.told
+    let lent = works_with c.deref-work.ensures c.self.view_is c.self.invariant in
+    default_empty c.deref-work.result.now.table.now c.place_here.result.0.0 (own_tree (body_of c.place_here.result.1.now)) c.args.idx
+    c.in-Ok.template.now lent.invariant.ready.checked c.in-Ok.ensures.told
 
 pub opening_at-opening-requires : goal.opening_at-opening-requires
 opening_at-opening-requires g c = record {
   admitted =
-      default_admitted c.self.inside.table.now c.place_here.result.0.0 (own_tree (body_of c.place_here.result.1.now))
+      default_admitted c.deref-work.result.now.table.now c.place_here.result.0.0 (own_tree (body_of c.place_here.result.1.now))
       c.args.idx c.in-Ok.template.now c.in-Ok.ensures.told;
 }
 

@@ -9,6 +9,7 @@ use Rattle.fr_shape.specs.Tokens.{occurs}
 use Rattle.fr_partial.specs.Builder.{Builder, here, holds}
 use Rattle.fr_partial.proofs.PutLaws.{set_admitted, set_refused, taken_fits}
 use Rattle.fr_partial.proofs.RemovedLaws.{rises_by_removed, both_released}
+use Rattle.fr_partial.proofs.WorkLaws.{works_with}
 use Rattle.fr_partial.proofs.partial.Partial.set_shape.Goals as goal
 use Rattle.fr_partial.proofs.partial.Partial.set_shape.Given.{Over}
 use Rattle.fr_partial.proofs.partial.Partial.set_shape.Goals.{Then-takes_shape}
@@ -16,9 +17,10 @@ use Rattle.fr_partial.proofs.partial.Partial.set_shape.Goals.{Then-takes_shape}
 -- the place takes a value of that shape
 taken : (g : Over) (c : Then-takes_shape g) → takes_shape c.args.self.shapes (here c.args.self) c.args.value.shape ≡ true
 taken g c =
-    ap (λ (b : Builder _). takes_shape b.shapes (here c.args.self) c.args.value.shape) (sym c.self.view_is)
-    ∙ ap (λ (s : ℕ). takes_shape c.self.inside.table.now s c.args.value.shape) (sym c.shape-expected.ensures.shape)
-    ∙ ap (takes_shape c.self.inside.table.now c.shape-expected.result.0) (sym c.shape-actual.ensures.shape)
+    let lent = works_with c.deref.ensures c.self.view_is c.self.invariant in
+    ap (λ (b : Builder _). takes_shape b.shapes (here c.args.self) c.args.value.shape) (sym lent.view_is)
+    ∙ ap (λ (s : ℕ). takes_shape c.deref.result.now.table.now s c.args.value.shape) (sym c.shape-expected.ensures.shape)
+    ∙ ap (takes_shape c.deref.result.now.table.now c.shape-expected.result.0) (sym c.shape-actual.ensures.shape)
     ∙ sym c.takes_shape.ensures ∙ c.if-takes_shape.true
 
 pub put-requires-clause-fits : goal.put-requires-clause-fits
@@ -40,13 +42,14 @@ returns-then-takes_shape-clause-step g c = (
 
 pub returns-else-takes_shape-clause-step : goal.returns-else-takes_shape-clause-step
 returns-else-takes_shape-clause-step g c =
+    let lent = works_with c.deref.ensures c.self.view_is c.self.invariant in
     inr
     (ap (λ (given : ℕ). set c.args.self.shapes (here c.args.self) c.args.self.state given c.args.value.value)
     (sym c.shape-actual.ensures.shape)
     ∙ set_refused c.args.self c.shape-expected.result c.shape-actual.result c.args.value.value
     c.shape-expected.ensures.shape
-    (ap (λ (b : Builder _). takes_shape b.shapes (here c.args.self) c.shape-actual.result.0) (sym c.self.view_is)
-    ∙ ap (λ (s : ℕ). takes_shape c.self.inside.table.now s c.shape-actual.result.0) (sym c.shape-expected.ensures.shape)
+    (ap (λ (b : Builder _). takes_shape b.shapes (here c.args.self) c.shape-actual.result.0) (sym lent.view_is)
+    ∙ ap (λ (s : ℕ). takes_shape c.deref.result.now.table.now s c.shape-actual.result.0) (sym c.shape-expected.ensures.shape)
     ∙ sym c.takes_shape.ensures ∙ c.if-takes_shape.false)
     ∙ ap Err (sym c.refuse.ensures.kind))
 

@@ -1,0 +1,176 @@
+-- Pointers to slices: how they come to be open for items, and what that means.
+use Rattle.std.proofs.Common.{◌≡◌, ℕ, Bool, true, false, List, [], ◌∷◌, Option, Some, None, is_some, Ok, Err, unwrap_or, refl, sym, ◌∙◌, ap, subst}
+use Rattle.fr_shape.specs.declared.error.Operation.{Operation}
+use Rattle.fr_shape.specs.declared.error.ReflectErrorKind.{ReflectErrorKind}
+use Rattle.fr_shape.specs.declared.shape.Def.{Def}
+use Rattle.fr_shape.specs.declared.shape.KnownPointer.{KnownPointer}
+use Rattle.fr_shape.specs.declared.shape.PointerDef.{PointerDef}
+use Rattle.fr_shape.specs.declared.shape.ShapeId.{ShapeId}
+use Rattle.fr_shape.specs.Fits.{fits}
+use Rattle.fr_shape.specs.Look.{Table, def_of, settled}
+use Rattle.fr_shape.specs.Val.{list_of, no_vals, ptr}
+use Rattle.fr_model.specs.Contents.{is_slice, kept_slice, pointer_refusal, points_to_slice, slice_anew}
+use Rattle.fr_model.specs.Items.{closed_slice, is_open_slice, shared_slice_behind, shared_slice_by, shared_slice_refusal}
+use Rattle.fr_model.specs.Step.{begin_smart_ptr, begins_pointer, puts, set_empty_shared_slice}
+use Rattle.fr_model.specs.Tree.{Form, as_struct, as_array, as_variant, as_some, as_ok, as_err, as_pointer, as_list, as_slice, as_closed_slice, Tree, hole, entered, whole, begun, change_at, tree_at, Mode, strict, deferred, cursor_tree}
+use Rattle.fr_model.specs.Places.{Place}
+use Rattle.fr_plan.specs.TypePlan.{Plan}
+use Rattle.fr_frame.specs.declared.places.Slot.{Slot}
+use Rattle.fr_store.specs.Moves.{begun_as, IsBegunSlice, IsOpenAt}
+use Rattle.fr_partial.specs.Builder.{Builder, here}
+use Rattle.fr_partial.proofs.SeenLaws.{shape_of_number}
+use Rattle.fr_partial.proofs.TreeLaws.{alike_here}
+
+-- What of it is kept.
+
+-- what is kept is the place, open
+pub slice_kept : (mode : Mode) (tree : Tree) → is_some (kept_slice mode tree) ≡ true
+    → begun_as as_slice tree ≡ unwrap_or (kept_slice mode tree) slice_anew
+slice_kept strict tree is = cc
+slice_kept (deferred start) hole is = cc
+slice_kept (deferred start) entered is = cc
+slice_kept (deferred start) (whole v) is = cc
+slice_kept (deferred start) (begun as_slice ts) is = refl
+slice_kept (deferred start) (begun as_closed_slice ts) is = refl
+slice_kept (deferred start) (begun as_struct ts) is = cc
+slice_kept (deferred start) (begun as_array ts) is = cc
+slice_kept (deferred start) (begun (as_variant k) ts) is = cc
+slice_kept (deferred start) (begun as_some ts) is = cc
+slice_kept (deferred start) (begun as_ok ts) is = cc
+slice_kept (deferred start) (begun as_err ts) is = cc
+slice_kept (deferred start) (begun as_pointer ts) is = cc
+slice_kept (deferred start) (begun as_list ts) is = cc
+
+pub slice_there : (mode : Mode) (tree : Tree) → is_some (kept_slice mode tree) ≡ true → IsBegunSlice tree
+slice_there strict tree is = cc
+slice_there (deferred start) hole is = cc
+slice_there (deferred start) entered is = cc
+slice_there (deferred start) (whole v) is = cc
+slice_there (deferred start) (begun as_slice ts) is = tt
+slice_there (deferred start) (begun as_closed_slice ts) is = tt
+slice_there (deferred start) (begun as_struct ts) is = cc
+slice_there (deferred start) (begun as_array ts) is = cc
+slice_there (deferred start) (begun (as_variant k) ts) is = cc
+slice_there (deferred start) (begun as_some ts) is = cc
+slice_there (deferred start) (begun as_ok ts) is = cc
+slice_there (deferred start) (begun as_err ts) is = cc
+slice_there (deferred start) (begun as_pointer ts) is = cc
+slice_there (deferred start) (begun as_list ts) is = cc
+
+-- or it starts anew
+pub starts_anew : (mode : Mode) (tree : Tree) → is_some (kept_slice mode tree) ≡ false
+    → slice_anew ≡ unwrap_or (kept_slice mode tree) slice_anew
+starts_anew mode tree is = go (kept_slice mode tree) refl is
+  where
+    go : (kept : Option Tree) → kept_slice mode tree ≡ kept → is_some kept ≡ false
+        → slice_anew ≡ unwrap_or (kept_slice mode tree) slice_anew
+    go (Some kept) e none = cc
+    go None e none = rw e refl
+
+-- Closing one.
+
+pub open_there : (tree : Tree) → is_open_slice tree ≡ true → IsBegunSlice tree
+open_there hole is = cc
+open_there entered is = cc
+open_there (whole v) is = cc
+open_there (begun as_slice ts) is = tt
+open_there (begun as_closed_slice ts) is = cc
+open_there (begun as_struct ts) is = cc
+open_there (begun as_array ts) is = cc
+open_there (begun (as_variant k) ts) is = cc
+open_there (begun as_some ts) is = cc
+open_there (begun as_ok ts) is = cc
+open_there (begun as_err ts) is = cc
+open_there (begun as_pointer ts) is = cc
+open_there (begun as_list ts) is = cc
+
+closed_alike : (tree : Tree) → begun_as as_closed_slice tree ≡ closed_slice tree
+closed_alike hole = refl
+closed_alike entered = refl
+closed_alike (whole v) = refl
+closed_alike (begun form ts) = refl
+
+pub closed_open : {plan : Plan} {slots : List Slot} {stack : List ℕ} (place : Place) (tree : Tree)
+    → IsOpenAt plan slots stack place (change_at place (begun_as as_closed_slice) tree)
+    → IsOpenAt plan slots stack place (change_at place closed_slice tree)
+closed_open {plan} {slots} {stack} place tree open_now =
+    subst (λ (t : Tree). IsOpenAt plan slots stack place t)
+    (alike_here place (begun_as as_closed_slice) closed_slice tree (closed_alike (tree_at place tree))) open_now
+
+-- What it means.
+
+pub slice_means : {H : Type 0} (builder : Builder H)
+    → pointer_refusal builder.shapes (def_of builder.shapes (here builder)) ≡ None
+    → points_to_slice builder.shapes (def_of builder.shapes (here builder)) ≡ true
+    → begin_smart_ptr builder.shapes (here builder) builder.state
+    ≡ Ok (begins_pointer builder.shapes (here builder) builder.state true)
+slice_means builder admitted behind = rw (admitted, behind) refl
+
+-- A pointer to no items.
+
+pub no_slice_put : {H : Type 0} (builder : Builder H)
+    → shared_slice_refusal builder.shapes (def_of builder.shapes (here builder)) ≡ None
+    → set_empty_shared_slice builder.shapes (here builder) builder.state ≡ Ok (puts builder.state (ptr (list_of no_vals)))
+no_slice_put builder e = rw e refl
+
+settled_pointer : (table : Table) (s : ℕ) (pointer : PointerDef) → def_of table s ≡ Def.Pointer pointer
+    → settled table s ≡ Def.Pointer pointer
+settled_pointer [] s pointer e = cc
+settled_pointer (shape ∷ shapes) s pointer e = rw e refl
+
+settled_slice : (table : Table) (s : ℕ) (t : ShapeId) → def_of table s ≡ Def.Slice t → settled table s ≡ Def.Slice t
+settled_slice [] s t e = cc
+settled_slice (shape ∷ shapes) s t e = rw e refl
+
+no_items_fit : (table : Table) (s : ℕ) → is_slice (def_of table s) ≡ true → fits table s (list_of no_vals) ≡ true
+no_items_fit table s is = go (def_of table s) refl is
+  where
+    go : (def : Def) → def_of table s ≡ def → is_slice def ≡ true → fits table s (list_of no_vals) ≡ true
+    go (Def.Slice t) e h = rw (settled_slice table s t e) refl
+    go _ e h = cc
+
+points_fit : (table : Table) (s : ℕ) (pointer : PointerDef) → def_of table s ≡ Def.Pointer pointer
+    → shared_slice_by table pointer.known pointer.pointee ≡ None → fits table s (ptr (list_of no_vals)) ≡ true
+points_fit table s pointer e may = by_known pointer.known pointer.pointee refl may
+  where
+    behind : (pointee : Option ShapeId) → pointer.pointee ≡ pointee → shared_slice_behind table pointee ≡ None
+        → fits table s (ptr (list_of no_vals)) ≡ true
+    behind (Some t) is none = go (is_slice (def_of table t.0)) refl
+      where
+        go : (b : Bool) → is_slice (def_of table t.0) ≡ b → fits table s (ptr (list_of no_vals)) ≡ true
+        go true h = rw (settled_pointer table s pointer e, is) (no_items_fit table t.0 h)
+        go false h = let no : Some Operation.PointeeNotSlice ≡ None = rw h at none in cc
+    behind None is none = cc
+
+    by_known : (known : Option KnownPointer) (pointee : Option ShapeId) → pointer.pointee ≡ pointee
+        → shared_slice_by table known pointee ≡ None → fits table s (ptr (list_of no_vals)) ≡ true
+    by_known (Some KnownPointer.SharedReference) pointee is none = behind pointee is none
+    by_known (Some KnownPointer.Box) pointee is none = cc
+    by_known (Some KnownPointer.Arc) pointee is none = cc
+    by_known (Some KnownPointer.Rc) pointee is none = cc
+    by_known None pointee is none = cc
+
+pub no_slice_fits : (table : Table) (s : ℕ) → shared_slice_refusal table (def_of table s) ≡ None
+    → fits table s (ptr (list_of no_vals)) ≡ true
+no_slice_fits table s may = go (def_of table s) refl may
+  where
+    go : (def : Def) → def_of table s ≡ def → shared_slice_refusal table def ≡ None
+        → fits table s (ptr (list_of no_vals)) ≡ true
+    go (Def.Pointer pointer) e none = points_fit table s pointer e none
+    go _ e none = cc
+
+-- What it is refused for, by what the builder sees.
+module _ {H : Type 0} (builder : Builder H) (table : Table) (shape : ShapeId) (table_is : table ≡ builder.shapes)
+    (shape_is : shape.0 ≡ here builder) where
+  pub shared_seen : shared_slice_refusal table (def_of table shape.0)
+      ≡ shared_slice_refusal builder.shapes (def_of builder.shapes (here builder))
+  shared_seen =
+      ap (λ (t : Table). shared_slice_refusal t (def_of t shape.0)) table_is
+      ∙ ap (λ (s : ℕ). shared_slice_refusal builder.shapes (def_of builder.shapes s)) shape_is
+
+  pub shared_refused : (operation : Operation) → shared_slice_refusal table (def_of table shape.0) ≡ Some operation
+      → set_empty_shared_slice builder.shapes (here builder) builder.state
+      ≡ Err (ReflectErrorKind.OperationFailed shape operation)
+  shared_refused operation e =
+      rw (sym shared_seen ∙ e)
+      (ap (λ (s : ShapeId). Err (ReflectErrorKind.OperationFailed s operation)) (shape_of_number builder shape shape_is))

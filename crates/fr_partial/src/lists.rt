@@ -1,0 +1,186 @@
+//! `init_list`, `init_list_with_capacity` and `begin_list_item`: a list, or a slice behind a pointer, item by item.
+ghost use Rattle.std.specs.Prelude.{◌≡◌, ℕ, true, None, Some, IfErr, IfOk, OnOk};
+ghost use Rattle.fr_shape.specs.Look.{def_of};
+ghost use Rattle.fr_shape.specs.Released.{Room, Conserved};
+ghost use Rattle.fr_model.specs.Commands.{Call};
+ghost use Rattle.fr_model.specs.Items.{begun_item_refusal, item_refusal, is_list_like, unbegun_refusal, unless_list};
+ghost use Rattle.fr_model.specs.Step.{at_shape, init_list_refusal};
+ghost use Rattle.fr_model.specs.Tree.{cursor_tree, tracker_of};
+ghost use Rattle.fr_frame.specs.Bodies.{own_tree};
+ghost use Rattle.fr_frame.specs.Heap.{as_form, body_of};
+ghost use Rattle.fr_partial.specs.Builder.{holds, left, IsNotOutOfMemory, IsStep, RefusesBeforeMemory, RisesByRemoved, TellsPlaceBefore};
+ghost use Rattle.fr_partial.specs.Openings.{is_begun, HasItems};
+
+use crate::admitting::Opening;
+use crate::placing::place_here;
+use crate::{Partial, ReflectError};
+use fr_frame::{Form, Piece};
+use fr_model::{law_paths, law_removed};
+use fr_shape::{
+    Def, Hooks, InitCall, Ledger, Operation, ReflectErrorKind, ShapeId, ShapeTable, TrackerKind,
+};
+
+/// Nothing, where the shape is a list; else this refusal.
+fn unless_list(table: &ShapeTable, shape: ShapeId, refusal: Operation) -> Option<Operation>
+    ensures { result ≡ unless_list refusal (def_of table.now shape.0) }
+{
+    match table.get(shape) {
+        Some(entry) if matches!(&entry.def, Def::List(_)) => None,
+        Some(_) | None => Some(refusal),
+    }
+}
+
+/// The form of a begun place, as refusals name it.
+fn tracker(form: Form) -> TrackerKind
+    ensures { result ≡ tracker_of (as_form form) }
+{
+    match form {
+        Form::Struct => TrackerKind::Struct,
+        Form::Array => TrackerKind::Array,
+        Form::Variant(_) => TrackerKind::Enum,
+        Form::Some => TrackerKind::Option,
+        Form::Ok | Form::Err => TrackerKind::Result,
+        Form::Pointer => TrackerKind::SmartPointer,
+        Form::List => TrackerKind::List,
+        Form::Slice | Form::ClosedSlice => TrackerKind::SmartPointerSlice,
+    }
+}
+
+/// Whether a place that is begun so is left as it is where a list is to be begun.
+fn is_list_like(form: Form) -> bool
+    ensures { result ≡ is_list_like (as_form form) }
+{
+    match form {
+        Form::List | Form::Slice | Form::ClosedSlice => true,
+        Form::Struct | Form::Array | Form::Variant(_) => false,
+        Form::Some | Form::Ok | Form::Err | Form::Pointer => false,
+    }
+}
+
+/// Why no list can be begun at a place of this shape at which this stands, if none can.
+fn init_list_refusal(table: &ShapeTable, shape: ShapeId, piece: &Piece) -> Option<ReflectErrorKind>
+    ensures { result
+        ≡ init_list_refusal shape.0 (def_of table.now shape.0) (own_tree (body_of piece.now)) }
+{
+    let refused = match piece {
+        Piece::Begun(form, _) => {
+            if is_list_like(*form) {
+                return None;
+            }
+            let (call, current) = (InitCall::List, tracker(*form));
+            return Some(ReflectErrorKind::UnexpectedTracker { call, current });
+        }
+        Piece::Entered => unless_list(table, shape, Operation::InitListOfOther),
+        Piece::Whole(_) => unless_list(table, shape, Operation::InitListOfWholeOther),
+    };
+    let operation = refused?;
+    Some(ReflectErrorKind::OperationFailed { shape, operation })
+}
+
+/// The refusal of an item at a place of this shape that isn't begun with items.
+fn unbegun_refusal(table: &ShapeTable, shape: ShapeId) -> Operation
+    ensures { result ≡ unbegun_refusal (def_of table.now shape.0) }
+{
+    match table.get(shape) {
+        Some(entry) if matches!(&entry.def, Def::List(_)) => Operation::ItemBeforeInitList,
+        Some(_) | None => Operation::ItemOfOther,
+    }
+}
+
+/// As what a place is begun that takes one more item, and how many it has, or why it takes none.
+#[inline]
+fn item_opening(table: &ShapeTable, shape: ShapeId, piece: &Piece) -> Result<Opening, Operation>
+    ensures items { IfOk result (λ opening.
+        HasItems (as_form opening.form) opening.count (own_tree (body_of piece.now))) }
+    ensures admitted { OnOk result
+        (item_refusal (def_of table.now shape.0) (own_tree (body_of piece.now)) ≡ None) }
+    ensures refused { IfErr result (λ operation.
+        item_refusal (def_of table.now shape.0) (own_tree (body_of piece.now)) ≡ Some operation) }
+{
+    let Piece::Begun(made, children) = piece else {
+        return Err(unbegun_refusal(table, shape));
+    };
+    let (form, count) = (*made, children.len());
+    match form {
+        Form::List | Form::Slice => Ok(Opening { form, count }),
+        Form::ClosedSlice => Err(Operation::ItemStillOpen),
+        Form::Struct | Form::Array | Form::Variant(_) => Err(unbegun_refusal(table, shape)),
+        Form::Some | Form::Ok | Form::Err | Form::Pointer => Err(unbegun_refusal(table, shape)),
+    }
+}
+
+impl<'t, H: Hooks> Partial<'t, H> {
+    /// Begins a list: a whole one keeps its items, in front of those that come. A list that is begun, and a pointer to a slice that
+    /// is, stays as it is. Anything else is refused, and never out of memory.
+    #[inline(never)]
+    pub fn init_list(self, ledger: &mut Ledger) -> Result<Partial<'t, H>, ReflectError>
+        requires room { Room (holds self) ledger.old }
+        ensures step { IsStep (H.means self.entry.hooks) self.entry Call.InitList result }
+        ensures path { TellsPlaceBefore self.entry result }
+        ensures tokens { Conserved (holds self.entry) ledger.old (left result) ledger.new }
+        ensures removed { RisesByRemoved (H.means self.entry.hooks) self.entry
+            Call.InitList result ledger.old ledger.new }
+        ensures memory { is_begun (cursor_tree self.entry.state) ≡ true → IsNotOutOfMemory result }
+        ensures refused { RefusesBeforeMemory (H.means self.entry.hooks) self.entry
+            Call.InitList result }
+    {
+        law_paths();
+        law_removed();
+        let work = &*self.work;
+        let plan = work.plan.core();
+        let (slots, stack) = (&work.slots, &work.stack);
+        let (shape, piece) = place_here(work.table, work.root, plan, slots, stack);
+        match init_list_refusal(work.table, shape, piece) {
+            Some(kind) => Err(self.refuse(kind, ledger)),
+            None => self.open(Form::List, 0, ledger),
+        }
+    }
+
+    /// The same as `init_list`: the capacity is a hint that changes nothing.
+    #[inline(never)]
+    pub fn init_list_with_capacity(
+        self,
+        capacity: usize,
+        ledger: &mut Ledger,
+    ) -> Result<Partial<'t, H>, ReflectError>
+        requires room { Room (holds self) ledger.old }
+        ensures step { IsStep (H.means self.entry.hooks) self.entry
+            (Call.InitListWithCapacity capacity) result }
+        ensures path { TellsPlaceBefore self.entry result }
+        ensures tokens { Conserved (holds self.entry) ledger.old (left result) ledger.new }
+        ensures removed { RisesByRemoved (H.means self.entry.hooks) self.entry
+            (Call.InitListWithCapacity capacity) result ledger.old ledger.new }
+        ensures memory { is_begun (cursor_tree self.entry.state) ≡ true → IsNotOutOfMemory result }
+        ensures refused { RefusesBeforeMemory (H.means self.entry.hooks) self.entry
+            (Call.InitListWithCapacity capacity) result }
+    {
+        let _hint = capacity;
+        self.init_list(ledger)
+    }
+
+    /// Enters a new item behind the others, of a list that is begun or of an open pointer to a slice. Where the place takes no items,
+    /// that is the refusal, and never out of memory.
+    pub fn begin_list_item(self, ledger: &mut Ledger) -> Result<Partial<'t, H>, ReflectError>
+        requires room { Room (holds self) ledger.old }
+        ensures step { IsStep (H.means self.entry.hooks) self.entry Call.BeginListItem result }
+        ensures path { TellsPlaceBefore self.entry result }
+        ensures tokens { Conserved (holds self.entry) ledger.old (left result) ledger.new }
+        ensures removed { RisesByRemoved (H.means self.entry.hooks) self.entry
+            Call.BeginListItem result ledger.old ledger.new }
+        ensures refused { RefusesBeforeMemory (H.means self.entry.hooks) self.entry
+            Call.BeginListItem result }
+    {
+        law_removed();
+        let work = &*self.work;
+        let plan = work.plan.core();
+        let (slots, stack) = (&work.slots, &work.stack);
+        let (shape, piece) = place_here(work.table, work.root, plan, slots, stack);
+        match item_opening(work.table, shape, piece) {
+            Ok(opening) => self.enter_item(opening, ledger),
+            Err(operation) => {
+                let kind = ReflectErrorKind::OperationFailed { shape, operation };
+                Err(self.refuse(kind, ledger))
+            }
+        }
+    }
+}
