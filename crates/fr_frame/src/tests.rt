@@ -16,8 +16,6 @@ use fr_shape::{
 use std::alloc::Global;
 use std::process::Abort;
 
-mod lists;
-
 /// The table of u32 and an array of so many of them.
 fn array_table(rt: &impl Abort, alloc: Global, count: u32) -> ShapeTable {
     let mut shapes = Items::new(alloc);
