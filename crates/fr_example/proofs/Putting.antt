@@ -15,8 +15,9 @@ use Rattle.fr_shape.specs.Named.{field_named}
 use Rattle.fr_shape.specs.Val.{Val, text, product, no_vals}
 use Rattle.fr_model.specs.Commands.{Call}
 use Rattle.fr_model.specs.Complete.{complete}
+use Rattle.fr_model.specs.Items.{is_open_slice}
 use Rattle.fr_model.specs.Places.{strict_column, child_count, child_shape}
-use Rattle.fr_model.specs.Step.{unless_refused, at_shape, named_refusal, opened_as, opened, enter, enters_named, begins_named, takes_shape, puts, ended, step}
+use Rattle.fr_model.specs.Step.{unless_refused, at_shape, named_refusal, opened_as, opened, enter, enters_named, begins_named, takes_shape, puts, puts_made, ended, step}
 use Rattle.fr_model.specs.Tree.{Form, as_struct, form_at, selected, Tree, entered, whole, begun, Trees, child_as, change_nth, change_child, fresh, strict, State, one_more_call}
 use Rattle.fr_model.specs.Variants.{field_found}
 use Rattle.fr_example.specs.declared.record.Pair.{Pair}
@@ -164,7 +165,10 @@ ends : (table : Table) (root : ℕ) (i : ℕ) (pairs : List Pair) (pair : Pair) 
 ends table root i pairs pair calls e below =
     ap
     (λ (t : Tree).
-    ended no_hooks table (child_shape table root i)
+    if is_open_slice t then puts_made no_hooks table (child_shape table root i)
+    (puts (at_field i (with_entered table root pairs i) calls) (text pair.text))
+    (complete strict_column no_hooks table (child_shape table root i) t)
+    else ended no_hooks table (child_shape table root i)
     (puts (at_field i (with_entered table root pairs i) calls) (text pair.text))
     (complete strict_column no_hooks table (child_shape table root i) t))
     (put_there i (text pair.text) (last_given (def_of table root) pairs) (child_count table root) 0
