@@ -15,7 +15,7 @@ fn main(rt: HostRuntime) -> ExitCode {
     let Ok(words) = words_of(&rt) else {
         return ExitCode::from(OUT_OF_MEMORY);
     };
-    let mut source = ReaderSource::new(rt.reader());
+    let mut source = ReaderSource::new(rt.stdin());
     let mut sink = WriterSink::new(io::writer(&rt));
     ExitCode::from(run(rt.alloc(), words.as_slice(), &mut source, &mut sink))
 }
