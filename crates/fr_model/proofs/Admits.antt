@@ -1,5 +1,5 @@
--- The ways in which a command is admitted.
-use Rattle.std.proofs.Common.{◌≡◌, ℕ, ◌+◌, ◌<◌, ltb-true, nat_lt, Bool, true, false, if◌then◌else◌, List, [], ◌∷◌, length, Option, Some, None, unwrap_or, Result, Ok, Err, refl, ◌∙◌, ap, subst, arith}
+-- Each command that goes on does so in one of these ways.
+use Rattle.std.proofs.Common.{◌≡◌, ℕ, ◌+◌, ◌<◌, ltb-true, nat_lt, Bool, true, false, if◌then◌else◌, List, [], length, Option, Some, None, unwrap_or, Result, Ok, Err, refl, ◌∙◌, ap, subst, arith}
 use Rattle.fr_shape.specs.declared.error.ReflectErrorKind.{ReflectErrorKind}
 use Rattle.fr_shape.specs.declared.error.Invariant.{Invariant}
 use Rattle.fr_shape.specs.declared.error.Expected.{Expected}
@@ -10,91 +10,32 @@ use Rattle.fr_shape.specs.Checked.{IsChecked}
 use Rattle.fr_shape.specs.Fills.{preset_of, is_option}
 use Rattle.fr_shape.specs.Hooks.{Meanings}
 use Rattle.fr_shape.specs.Look.{Table, def_of, field_in, variants_of}
-use Rattle.fr_shape.specs.Tokens.{occurs}
 use Rattle.fr_shape.specs.Val.{Val, list_of, ptr, no_vals}
 use Rattle.fr_model.specs.Commands.{Call}
-use Rattle.fr_model.specs.Contents.{is_result, pointer_refusal, points_to_slice, variant_anew, content_anew, slice_anew}
-use Rattle.fr_model.specs.Places.{strict_column, is_root, child_count}
+use Rattle.fr_model.specs.Contents.{is_result, pointer_refusal, points_to_slice, slice_anew}
+use Rattle.fr_model.specs.Collections.{key_refusal, value_refusal, last_of, set_item_refusal}
+use Rattle.fr_model.specs.Dropping.{dropped_by_completing}
+use Rattle.fr_model.specs.Places.{Column, strict_column, deferred_column, is_root}
 use Rattle.fr_model.specs.Variants.{is_enum, variant_numbered, variant_named, variant_told_by, selection_refusal}
-use Rattle.fr_model.specs.Tree.{Form, as_some, as_ok, as_err, as_pointer, form_of, selected, Tree, whole, change_at, Mode, strict, deferred, State, cursor_shape, cursor_tree, one_more_call, tree_occurs}
+use Rattle.fr_model.specs.Tree.{Form, as_some, as_ok, as_err, as_pointer, selected, Tree, whole, count_below, Mode, strict, deferred, State, cursor_shape, cursor_tree, tree_occurs}
 use Rattle.fr_model.specs.Complete.{complete}
 use Rattle.fr_model.specs.Finish.{finished}
-use Rattle.fr_model.specs.Step.{unless_refused, at_shape, was_not_a, named_refusal, takes_shape, field_default, puts_child, puts_child_default, defaults_field, enters_content, option_kept, content_kept, begin_side, pointer_kept, begins_pointer, opened, opens, init_list_refusal, enters_item, puts_made, closes, closes_slice, leaves_place, variant_kept, selects, select_found, select, violates, enters, puts, puts_default, puts_and_leaves, ended, leaves, end_in, begins_deferred, finishes, finish_in, step}
+use Rattle.fr_model.specs.Step.{unless_refused, at_shape, was_not_a, named_refusal, takes_shape, field_default, puts_child, puts_child_default, defaults_field, enters_content, option_kept, content_kept, begin_side, pointer_kept, begins_pointer, opens, init_list_refusal, init_map_refusal, init_set_refusal, init_list, enters_item, enters_key, puts_made, closes, closes_slice, leaves_place, selects, select_found, select, violates, enters, puts, puts_default, puts_and_leaves, ended, leaves, is_set_item, takes_item, item_ended, is_dynamic_part, part_ended, leaves_deferred, end_in, begins_deferred, finishes, finish_in, step}
+use Rattle.fr_model.specs.Step.{ends_item as end_of_item}
 use Rattle.fr_model.specs.Scripts.{brings}
-use Rattle.fr_model.specs.Removed.{replaced, dropped_unless, dropped_by_selecting}
+use Rattle.fr_model.specs.Removed.{replaced, dropped_unless, dropped_by_selecting, column_at_end, dropped_by_column, dropped_at_end}
 use Rattle.fr_model.specs.Items.{init_array_refusal, item_refusal, is_open_slice, closed_slice, shared_slice_refusal}
-use Rattle.fr_model.proofs.Items.{list_opens, array_opens, TakesAnItem, takes_an_item, slice_closes, closed_holds, shared_fits}
-use Rattle.fr_model.proofs.Resting.{opened_rests, closed_rests}
-use Rattle.fr_model.specs.Well.{Suits, RestsAround, AtCursor, IsInOrder}
+use Rattle.fr_model.proofs.Items.{takes_an_item, slice_closes, closed_holds, shared_fits}
+use Rattle.fr_model.proofs.Resting.{closed_rests}
+use Rattle.fr_model.specs.Well.{Suits, AtCursor, IsInOrder}
 use Rattle.fr_model.proofs.Children.{enterable, ChildCase, a_child, a_variant_child, no_child, child_case, only_of_enum, NamedCase, a_named, a_variant_named, no_such_name, no_names, named_case}
-use Rattle.fr_model.proofs.Becoming.{Placed, lost, Becoming, content_becomes, option_becomes, IsSide, side_holds, pointer_holds, slice_becomes, variant_becomes}
-use Rattle.fr_model.proofs.Defaulting.{Putting, putting, FieldThere, field_there}
+use Rattle.fr_model.proofs.Becoming.{Placed, Becoming, content_becomes, option_becomes, IsSide, side_holds, pointer_holds, slice_becomes, variant_becomes}
+use Rattle.fr_model.proofs.Defaulting.{putting, FieldThere, field_there}
 use Rattle.fr_model.proofs.Completing.{Made, completing_makes}
 use Rattle.fr_model.proofs.Cursor.{at_cursor, suits_at, defers}
-use Rattle.fr_model.proofs.Opening.{Enterable}
 use Rattle.fr_model.proofs.Steps.{finishes_as}
 use Rattle.fr_model.proofs.Templates.{IsTemplate, field_default_template, template_holds}
-use Rattle.fr_model.proofs.Tokens.{opened_holds}
-
--- the state in which the place at the cursor has become another
-abbrev pub changed : State → (Tree → Tree) → State
-changed state change = record state {
-  tree = change_at state.cursor change state.tree;
-  calls = one_more_call state.calls;
-}
-
--- the ways in which a command is admitted
-pub data Admits (hooks : Meanings) (table : Table) (root : ℕ) (state : State) : Call → State → Type 0 where
-  begins : (i : ℕ) → Enterable table (cursor_shape table root state) i (cursor_tree state)
-      → Admits hooks table root state (Call.BeginNthField i) (enters table (cursor_shape table root state) state i)
-  names : (name : List ℕ) (i : ℕ)
-      → Enterable table (cursor_shape table root state) i (cursor_tree state)
-      → Admits hooks table root state (Call.BeginField name) (enters table (cursor_shape table root state) state i)
-  sets : (given : ℕ) (v : Val) → takes_shape table (cursor_shape table root state) given ≡ true
-      → Admits hooks table root state (Call.Set given v) (puts state v)
-  defaults : (v : Val) → preset_of table (cursor_shape table root state) ≡ Some v
-      → Admits hooks table root state Call.SetDefault (puts state v)
-  sets_child : (i : ℕ) (v : Val) → Putting state.mode table (cursor_shape table root state) i v (cursor_tree state)
-      → ((t : ℕ) → occurs v t ≡ 0)
-      → Admits hooks table root state (Call.SetNthFieldToDefault i) (puts_child table (cursor_shape table root state) state i v)
-  holds_it : (command : Call) (form : Form) (kept : Option Tree)
-      → Becoming state.mode table (cursor_shape table root state) (0 ∷ []) (cursor_tree state) kept
-      (content_anew table (cursor_shape table root state) form)
-      → ((t : ℕ) → replaced hooks table (cursor_shape table root state) state command t ≡ dropped_unless kept state t)
-      → ((t : ℕ) → brings command t ≡ 0)
-      → Admits hooks table root state command (enters_content table (cursor_shape table root state) state form kept)
-  selects_it : (command : Call) (k : ℕ)
-      → Becoming state.mode table (cursor_shape table root state) [] (cursor_tree state) (variant_kept state k)
-      (variant_anew (def_of table (cursor_shape table root state)) k)
-      → ((t : ℕ)
-      → replaced hooks table (cursor_shape table root state) state command t ≡ dropped_unless (variant_kept state k) state t)
-      → ((t : ℕ) → brings command t ≡ 0)
-      → Admits hooks table root state command (selects table (cursor_shape table root state) state k)
-  ends : (v : Val) → state.mode ≡ strict
-      → complete strict_column hooks table (cursor_shape table root state) (cursor_tree state) ≡ Some v
-      → Admits hooks table root state Call.End (puts_and_leaves state v)
-  is_left : (start : ℕ) → state.mode ≡ deferred start → start < length state.cursor
-      → is_open_slice (cursor_tree state) ≡ false
-      → Admits hooks table root state Call.End (leaves state)
-  changes_it : (command : Call) (change : Tree → Tree)
-      → Placed state.mode table (cursor_shape table root state) [] (change (cursor_tree state))
-      → ((t : ℕ) → tree_occurs (change (cursor_tree state)) t
-      + replaced hooks table (cursor_shape table root state) state command t ≡ tree_occurs (cursor_tree state) t)
-      → ((t : ℕ) → brings command t ≡ 0)
-      → (RestsAround [] (cursor_tree state) → RestsAround [] (change (cursor_tree state)))
-      → Admits hooks table root state command (changed state change)
-  adds_it : TakesAnItem (cursor_tree state)
-      → Admits hooks table root state Call.BeginListItem (enters_item table (cursor_shape table root state) state)
-  defers_there : state.mode ≡ strict → Admits hooks table root state Call.BeginDeferred (defers state)
-  is_finished : (tree : Tree) → finished hooks table root state.cursor state.tree ≡ Some tree
-      → Admits hooks table root state Call.FinishDeferred (finishes_as state tree)
-
-pub lost_is : (kept : Option Tree) (state : State) (t : ℕ) → dropped_unless kept state t ≡ lost kept (cursor_tree state) t
-lost_is (Some tree) state t = refl
-lost_is None state t = refl
-
-ok_is : (a b : State) → ◌≡◌ {A = Result State ReflectErrorKind} (Ok a) (Ok b) → a ≡ b
-ok_is a b e = cc
+use Rattle.fr_model.proofs.Ways.{EndsBelow, Admits, begins, names, sets, defaults, sets_child, holds_it, selects_it, opens_list, opens_array, opens_map, opens_set, adds_key, begins_value, adds_set_item, ends, ends_item, ends_part, is_left, changes_it, adds_it, defers_there, is_finished, lost_is, ok_is}
 
 module _ (hooks : Meanings) (table : Table) (checked : IsChecked table) (root : ℕ) (state next : State)
     (order : IsInOrder table root state) where
@@ -213,7 +154,7 @@ module _ (hooks : Meanings) (table : Table) (checked : IsChecked table) (root : 
       go false is h = cc
 
   side_so : (command : Call) (side : Form) → IsSide side → begin_side table here state side ≡ Ok next
-      → ((t : ℕ) → replaced hooks table here state command t ≡ dropped_unless (content_kept state side) state t)
+      → ((t : ℕ) → replaced hooks table root here state command t ≡ dropped_unless (content_kept state side) state t)
       → ((t : ℕ) → brings command t ≡ 0) → Admits hooks table root state command next
   side_so command side of_result e drops none = go (is_result (def_of table here)) refl e
     where
@@ -256,22 +197,89 @@ module _ (hooks : Meanings) (table : Table) (checked : IsChecked table) (root : 
           (λ t. refl) becomes.rest)
       go (Some operation) to_slice is to h = cc
 
-  -- a list or an array is begun, and an item
-
   placed_here : Placed state.mode table here [] (cursor_tree state)
   placed_here = record { suits = suits_here; leads = at_here }
 
-  opens_so : (command : Call) (refusal : Option ReflectErrorKind) → unless_refused refusal (opens table here state) ≡ Ok next
-      → (refusal ≡ None → Placed state.mode table here [] (opened (def_of table here) (cursor_tree state)))
-      → ((t : ℕ) → replaced hooks table here state command t ≡ 0) → ((t : ℕ) → brings command t ≡ 0)
+  -- a list, an array, a map or a set is begun
+
+  list_so : (command : Call) → ((t : ℕ) → replaced hooks table root here state command t ≡ 0)
+      → ((t : ℕ) → brings command t ≡ 0) → init_list table here state ≡ Ok next
       → Admits hooks table root state command next
-  opens_so command None e placed drops none =
-      subst (λ (after : State). Admits hooks table root state command after) (ok_is (opens table here state) next e)
-      (changes_it command (opened (def_of table here)) (placed refl)
-      (λ t. let same = opened_holds (form_of (def_of table here)) (child_count table here) (cursor_tree state) t in
-      omega (arith, drops t)) none
-      (opened_rests (form_of (def_of table here)) (child_count table here) (cursor_tree state)))
-  opens_so command (Some kind) e placed drops none = cc
+  list_so command drops none e = go (init_list_refusal here (def_of table here) (cursor_tree state)) refl e
+    where
+      go : (refusal : Option ReflectErrorKind) → init_list_refusal here (def_of table here) (cursor_tree state) ≡ refusal
+          → unless_refused refusal (opens table here state) ≡ Ok next → Admits hooks table root state command next
+      go None is h =
+          subst (λ (after : State). Admits hooks table root state command after) (ok_is (opens table here state) next h)
+          (opens_list command is drops none)
+      go (Some kind) is h = cc
+
+  array_so : step hooks table root state Call.InitArray ≡ Ok next → Admits hooks table root state Call.InitArray next
+  array_so e = go (at_shape here (init_array_refusal (def_of table here) (cursor_tree state))) refl e
+    where
+      go : (refusal : Option ReflectErrorKind)
+          → at_shape here (init_array_refusal (def_of table here) (cursor_tree state)) ≡ refusal
+          → unless_refused refusal (opens table here state) ≡ Ok next → Admits hooks table root state Call.InitArray next
+      go None is h =
+          subst (λ (after : State). Admits hooks table root state Call.InitArray after)
+          (ok_is (opens table here state) next h) (opens_array is)
+      go (Some kind) is h = cc
+
+  map_so : step hooks table root state Call.InitMap ≡ Ok next → Admits hooks table root state Call.InitMap next
+  map_so e = go (init_map_refusal here (def_of table here) (cursor_tree state)) refl e
+    where
+      go : (refusal : Option ReflectErrorKind) → init_map_refusal here (def_of table here) (cursor_tree state) ≡ refusal
+          → unless_refused refusal (opens table here state) ≡ Ok next → Admits hooks table root state Call.InitMap next
+      go None is h =
+          subst (λ (after : State). Admits hooks table root state Call.InitMap after)
+          (ok_is (opens table here state) next h) (opens_map is)
+      go (Some kind) is h = cc
+
+  set_so : step hooks table root state Call.InitSet ≡ Ok next → Admits hooks table root state Call.InitSet next
+  set_so e = go (init_set_refusal here (def_of table here) (cursor_tree state)) refl e
+    where
+      go : (refusal : Option ReflectErrorKind) → init_set_refusal here (def_of table here) (cursor_tree state) ≡ refusal
+          → unless_refused refusal (opens table here state) ≡ Ok next → Admits hooks table root state Call.InitSet next
+      go None is h =
+          subst (λ (after : State). Admits hooks table root state Call.InitSet after)
+          (ok_is (opens table here state) next h) (opens_set is)
+      go (Some kind) is h = cc
+
+  -- an item, a key or a value is begun
+
+  key_so : step hooks table root state Call.BeginKey ≡ Ok next → Admits hooks table root state Call.BeginKey next
+  key_so e = go (key_refusal (cursor_tree state)) refl e
+    where
+      go : (refusal : Option Operation) → key_refusal (cursor_tree state) ≡ refusal
+          → unless_refused (at_shape here refusal) (enters_key table here state) ≡ Ok next
+          → Admits hooks table root state Call.BeginKey next
+      go None is h =
+          subst (λ (after : State). Admits hooks table root state Call.BeginKey after)
+          (ok_is (enters_key table here state) next h) (adds_key is)
+      go (Some operation) is h = cc
+
+  value_so : step hooks table root state Call.BeginValue ≡ Ok next → Admits hooks table root state Call.BeginValue next
+  value_so e = go (value_refusal (cursor_tree state)) refl e
+    where
+      go : (refusal : Option Operation) → value_refusal (cursor_tree state) ≡ refusal
+          → unless_refused (at_shape here refusal) (enters table here state (last_of (count_below (cursor_tree state))))
+          ≡ Ok next → Admits hooks table root state Call.BeginValue next
+      go None is h =
+          subst (λ (after : State). Admits hooks table root state Call.BeginValue after)
+          (ok_is (enters table here state (last_of (count_below (cursor_tree state)))) next h) (begins_value is)
+      go (Some operation) is h = cc
+
+  set_item_so : step hooks table root state Call.BeginSetItem ≡ Ok next
+      → Admits hooks table root state Call.BeginSetItem next
+  set_item_so e = go (set_item_refusal (def_of table here) (cursor_tree state)) refl e
+    where
+      go : (refusal : Option Operation) → set_item_refusal (def_of table here) (cursor_tree state) ≡ refusal
+          → unless_refused (at_shape here refusal) (enters_item table here state) ≡ Ok next
+          → Admits hooks table root state Call.BeginSetItem next
+      go None is h =
+          subst (λ (after : State). Admits hooks table root state Call.BeginSetItem after)
+          (ok_is (enters_item table here state) next h) (adds_set_item is)
+      go (Some operation) is h = cc
 
   item_so : step hooks table root state Call.BeginListItem ≡ Ok next → Admits hooks table root state Call.BeginListItem next
   item_so e = go (item_refusal (def_of table here) (cursor_tree state)) refl e
@@ -303,7 +311,7 @@ module _ (hooks : Meanings) (table : Table) (checked : IsChecked table) (root : 
   select_so : (command : Call) (find : List VariantDef → Option ℕ) (unknown : Operation)
       → select table here state find unknown ≡ Ok next
       → ((t : ℕ)
-      → replaced hooks table here state command t
+      → replaced hooks table root here state command t
       ≡ dropped_by_selecting (find (variants_of (def_of table here))) state t)
       → ((t : ℕ) → brings command t ≡ 0) → Admits hooks table root state command next
   select_so command find unknown e drops none = go (is_enum (def_of table here)) refl e
@@ -337,54 +345,108 @@ module _ (hooks : Meanings) (table : Table) (checked : IsChecked table) (root : 
       → Admits hooks table root state Call.End next
   closes_so is_slice e = go state.mode refl e
     where
-      made_so : (value : Option Val) → complete strict_column hooks table here (cursor_tree state) ≡ value
+      -- an open pointer to a slice isn't left yet
+      drops : (mode : Mode) → state.mode ≡ mode → (t : ℕ)
+          → dropped_at_end hooks table here state t ≡ dropped_by_column (column_at_end mode false) hooks table here state false t
+      drops mode is t = rw (is_slice, is) refl
+
+      made_so : (value : Option Val) → state.mode ≡ strict → complete strict_column hooks table here (cursor_tree state) ≡ value
           → puts_made hooks table here state value ≡ Ok next → Admits hooks table root state Call.End next
-      made_so (Some v) is h =
-          let made : Made table here (λ k. tree_occurs (cursor_tree state) k) v
+      made_so (Some v) is_strict is h =
+          let made : Made table here (λ k. dropped_by_completing strict_column hooks table here (cursor_tree state) k)
+          (λ k. tree_occurs (cursor_tree state) k) v
           = completing_makes strict_column hooks table (cursor_tree state) here v checked suits_here is in
           subst (λ (after : State). Admits hooks table root state Call.End after) (ok_is (puts state v) next h)
           (changes_it Call.End (λ old. whole v) (record { suits = made.fit; leads = tt })
-          (λ t. omega (arith, made.hold t)) (λ t. refl) (λ rested. tt))
-      made_so None is h = cc
+          (λ t. omega (arith, made.hold t, drops strict is_strict t)) (λ t. refl) (λ rested. tt))
+      made_so None is_strict is h = cc
 
       go : (mode : Mode) → state.mode ≡ mode → closes_slice hooks table here state mode ≡ Ok next
           → Admits hooks table root state Call.End next
-      go strict is h = made_so (complete strict_column hooks table here (cursor_tree state)) refl h
+      go strict is h = made_so (complete strict_column hooks table here (cursor_tree state)) is refl h
       go (deferred start) is h =
           subst (λ (after : State). Admits hooks table root state Call.End after) (ok_is (closes state) next h)
           (changes_it Call.End closed_slice (slice_closes state.mode table here (cursor_tree state) is_slice placed_here)
-          (λ t. let same = closed_holds (cursor_tree state) t in omega arith) (λ t. refl)
+          (λ t. let same = closed_holds (cursor_tree state) t in omega (arith, drops (deferred start) is t)) (λ t. refl)
           (closed_rests (cursor_tree state)))
 
   leaves_so : is_open_slice (cursor_tree state) ≡ false → leaves_place hooks table here state ≡ Ok next
       → Admits hooks table root state Call.End next
-  leaves_so shut e = go (is_root state.cursor) state.mode refl e
+  leaves_so shut e = go (is_root state.cursor) state.mode refl refl e
     where
-      ended_so : (value : Option Val) → state.mode ≡ strict
+      ended_so : (value : Option Val) → state.mode ≡ strict → is_set_item state ≡ false
           → complete strict_column hooks table (cursor_shape table root state) (cursor_tree state) ≡ value
           → ended hooks table (cursor_shape table root state) state value ≡ Ok next
           → Admits hooks table root state Call.End next
-      ended_so (Some v) is_strict is h =
+      ended_so (Some v) is_strict no_item is h =
           subst (λ (after : State). Admits hooks table root state Call.End after)
-          (ok_is (puts_and_leaves state v) next h) (ends v is_strict is)
-      ended_so None is_strict is h = cc
+          (ok_is (puts_and_leaves state v) next h) (ends v is_strict shut no_item is)
+      ended_so None is_strict no_item is h = cc
 
-      left_so : (start : ℕ) (b : Bool) → state.mode ≡ deferred start → nat_lt start (length state.cursor) ≡ b
-          → (if b then Ok (leaves state) else Err (violates Invariant.EndAtStart)) ≡ Ok next
+      item_so : (column : Column) (value : Option Val) → is_root state.cursor ≡ false → EndsBelow state.mode state.cursor
+          → column_at_end state.mode true ≡ Some column → is_set_item state ≡ true
+          → complete column hooks table here (cursor_tree state) ≡ value
+          → item_ended column hooks table here state value ≡ Ok next → Admits hooks table root state Call.End next
+      item_so column (Some v) below deeper by_column of_set is h =
+          subst (λ (after : State). Admits hooks table root state Call.End after) (ok_is (takes_item state v) next h)
+          (ends_item column v below deeper by_column shut of_set is)
+      item_so column None below deeper by_column of_set is h = cc
+
+      part_so : (start : ℕ) (value : Option Val) → state.mode ≡ deferred start → start < length state.cursor
+          → is_set_item state ≡ false → is_dynamic_part state ≡ true
+          → complete deferred_column hooks table here (cursor_tree state) ≡ value
+          → part_ended hooks table here state value ≡ Ok next → Admits hooks table root state Call.End next
+      part_so start (Some v) by_mode deeper no_item of_part is h =
+          subst (λ (after : State). Admits hooks table root state Call.End after) (ok_is (puts_and_leaves state v) next h)
+          (ends_part start v by_mode deeper shut no_item of_part is)
+      part_so start None by_mode deeper no_item of_part is h = cc
+
+      below_so : (mode : Mode) → state.mode ≡ mode → EndsBelow mode state.cursor → EndsBelow state.mode state.cursor
+      below_so mode is deeper = rw is deeper
+
+      left_so : (start : ℕ) (of_set of_part : Bool) → state.mode ≡ deferred start → is_root state.cursor ≡ false
+          → start < length state.cursor → is_set_item state ≡ of_set → is_dynamic_part state ≡ of_part
+          → (if of_set then end_of_item deferred_column hooks table here state
+          else leaves_deferred hooks table here state of_part) ≡ Ok next
           → Admits hooks table root state Call.End next
-      left_so start true is deeper h =
+      left_so start true of_part is below deeper item part h =
+          item_so deferred_column (complete deferred_column hooks table here (cursor_tree state)) below
+          (below_so (deferred start) is deeper) (ap (λ (mode : Mode). column_at_end mode true) is) item refl h
+      left_so start false true is below deeper item part h =
+          part_so start (complete deferred_column hooks table here (cursor_tree state)) is deeper item part refl h
+      left_so start false false is below deeper item part h =
           subst (λ (after : State). Admits hooks table root state Call.End after) (ok_is (leaves state) next h)
-          (is_left start is (ltb-true start (length state.cursor) deeper) shut)
-      left_so start false is deeper h = cc
+          (is_left start is deeper shut item part)
 
-      go : (b : Bool) (mode : Mode) → state.mode ≡ mode
+      deeper_so : (start : ℕ) (b : Bool) → state.mode ≡ deferred start → is_root state.cursor ≡ false
+          → nat_lt start (length state.cursor) ≡ b
+          → (if b then
+          (if is_set_item state then end_of_item deferred_column hooks table here state
+          else leaves_deferred hooks table here state (is_dynamic_part state))
+          else Err (violates Invariant.EndAtStart)) ≡ Ok next
+          → Admits hooks table root state Call.End next
+      deeper_so start true is below deeper h =
+          left_so start (is_set_item state) (is_dynamic_part state) is below
+          (ltb-true start (length state.cursor) deeper) refl refl h
+      deeper_so start false is below deeper h = cc
+
+      strict_so : (of_set : Bool) → state.mode ≡ strict → is_root state.cursor ≡ false → is_set_item state ≡ of_set
+          → (if of_set then end_of_item strict_column hooks table here state
+          else ended hooks table here state (complete strict_column hooks table here (cursor_tree state))) ≡ Ok next
+          → Admits hooks table root state Call.End next
+      strict_so true is below item h =
+          item_so strict_column (complete strict_column hooks table here (cursor_tree state)) below
+          (below_so strict is tt) (ap (λ (mode : Mode). column_at_end mode true) is) item refl h
+      strict_so false is below item h =
+          ended_so (complete strict_column hooks table (cursor_shape table root state) (cursor_tree state)) is item refl h
+
+      go : (b : Bool) (mode : Mode) → is_root state.cursor ≡ b → state.mode ≡ mode
           → (if b then Err (violates Invariant.EndAtRoot)
           else end_in hooks table (cursor_shape table root state) state mode) ≡ Ok next
           → Admits hooks table root state Call.End next
-      go true mode is h = cc
-      go false strict is h =
-          ended_so (complete strict_column hooks table (cursor_shape table root state) (cursor_tree state)) is refl h
-      go false (deferred start) is h = left_so start (nat_lt start (length state.cursor)) is refl h
+      go true mode below is h = cc
+      go false strict below is h = strict_so (is_set_item state) is below refl h
+      go false (deferred start) below is h = deeper_so start (nat_lt start (length state.cursor)) is below refl h
 
   ends_so : step hooks table root state Call.End ≡ Ok next → Admits hooks table root state Call.End next
   ends_so e = go (is_open_slice (cursor_tree state)) refl e
@@ -430,15 +492,14 @@ module _ (hooks : Meanings) (table : Table) (checked : IsChecked table) (root : 
   admits (Call.Set given v) e = sets_so given v e
   admits Call.SetDefault e = defaults_so e
   admits Call.SetEmptySharedSlice e = shared_so e
-  admits Call.InitList e =
-      opens_so Call.InitList (init_list_refusal here (def_of table here) (cursor_tree state)) e
-      (λ is. list_opens state.mode table here (cursor_tree state) is placed_here) (λ t. refl) (λ t. refl)
-  admits (Call.InitListWithCapacity n) e =
-      opens_so (Call.InitListWithCapacity n) (init_list_refusal here (def_of table here) (cursor_tree state)) e
-      (λ is. list_opens state.mode table here (cursor_tree state) is placed_here) (λ t. refl) (λ t. refl)
-  admits Call.InitArray e =
-      opens_so Call.InitArray (at_shape here (init_array_refusal (def_of table here) (cursor_tree state))) e
-      (λ is. array_opens state.mode table here (cursor_tree state) is placed_here) (λ t. refl) (λ t. refl)
+  admits Call.InitList e = list_so Call.InitList (λ t. refl) (λ t. refl) e
+  admits (Call.InitListWithCapacity n) e = list_so (Call.InitListWithCapacity n) (λ t. refl) (λ t. refl) e
+  admits Call.InitArray e = array_so e
+  admits Call.InitMap e = map_so e
+  admits Call.BeginKey e = key_so e
+  admits Call.BeginValue e = value_so e
+  admits Call.InitSet e = set_so e
+  admits Call.BeginSetItem e = set_item_so e
   admits Call.BeginListItem e = item_so e
   admits Call.BeginSome e = some_so e
   admits Call.BeginOk e = side_so Call.BeginOk as_ok tt e (λ t. refl) (λ t. refl)

@@ -1,6 +1,7 @@
 -- Places at which a content is entered or a variant is selected: what is kept of them, and how they start anew.
-use Rattle.std.proofs.Common.{◌≡◌, ℕ, zero, suc, ◌+◌, eqb-true, Bool, true, false, if◌then◌else◌, List, [], ◌∷◌, length, slice_get, Option, Some, None, unwrap_or, refl, sym, ◌∙◌, ap, subst, arith}
+use Rattle.std.proofs.Common.{◌≡◌, ◌&&◌, ℕ, zero, suc, ◌+◌, ◌==◌, eqb-true, Bool, true, false, if◌then◌else◌, List, [], ◌∷◌, length, slice_get, Option, Some, None, unwrap_or, refl, sym, ◌∙◌, ap, ap₂, subst, arith}
 use Rattle.std.specs.Option.{option_map, option_or}
+use Rattle.std.specs.Str.{bytes_eq}
 use Rattle.fr_shape.specs.declared.shape.Def.{Def}
 use Rattle.fr_shape.specs.declared.shape.ShapeId.{ShapeId}
 use Rattle.fr_shape.specs.declared.shape.VariantDef.{VariantDef}
@@ -12,19 +13,40 @@ use Rattle.fr_shape.specs.Val.{Val, some}
 use Rattle.fr_model.specs.Contents.{is_result, pointer_refusal, variant_anew, around, content_anew, slice_anew, kept_so, kept_in, reopened, kept_slice, is_entered_in_place, content_of, kept_option}
 use Rattle.fr_model.specs.Places.{Place, content_shape}
 use Rattle.fr_model.specs.StateCode.{form_numbered, form_comes_back}
-use Rattle.fr_model.specs.Tree.{Form, as_struct, as_array, as_variant, as_some, as_ok, as_err, as_pointer, as_list, as_slice, as_closed_slice, form_number, same_form, Tree, hole, entered, whole, begun, Trees, no_trees, branch, child_as, shapes_from, count_trees, fresh, tree_occurs, Mode, strict, deferred}
+use Rattle.fr_model.specs.Tree.{Form, as_struct, as_array, as_variant, as_some, as_ok, as_err, as_pointer, as_list, as_slice, as_closed_slice, as_set, as_map, as_dyn_array, as_dyn_object, form_number, base_of_form, keys_of_form, same_keys, same_form, Tree, hole, entered, whole, begun, Trees, no_trees, branch, child_as, shapes_from, count_trees, fresh, tree_occurs, Mode, strict, deferred}
 use Rattle.fr_model.specs.Variants.{is_enum, fields_or_none, variant_fields, layout_refusal, told_apart, selection_refusal}
 use Rattle.fr_model.specs.Well.{HasSide, HasFieldsOf, HasVariantFields, IsPointer, IsFullAs, MayBegin, IsBegunAs, MayPoint, IsTouched, IsContent, IsBegunRightly, Suits, SuitAll, RestsAround, AtCursor, OffBut, Leads}
+use Rattle.std.proofs.lemmas.Slice.Eq.{bytes_eq-Decides}
 use Rattle.fr_model.proofs.Opening.{enter_touched, fresh_suits, fresh_at_cursor, holes_off, all_deferred}
 use Rattle.fr_model.proofs.Resting.{rests_here, holes_rest, fresh_rests, rest_but}
 use Rattle.fr_model.proofs.Structs.{has_pointee, count_holes, holes_suit, settled_option}
+use Rattle.fr_model.proofs.Templates.{both_true}
 use Rattle.fr_model.proofs.Tokens.{fresh_holds, holes_hold}
+use Rattle.fr_model.proofs.Wholes.{done_none, done_but}
 
 -- what is begun just so
 
+same_keys_are : (keys others : List (List ℕ)) → same_keys keys others ≡ true → keys ≡ others
+same_keys_are [] [] e = refl
+same_keys_are [] (other ∷ others) e = cc
+same_keys_are (key ∷ keys) [] e = cc
+same_keys_are (key ∷ keys) (other ∷ others) e =
+    let both : (bytes_eq key other ≡ true) × (same_keys keys others ≡ true)
+    = both_true (bytes_eq key other) (same_keys keys others) e in
+    ap₂ (λ (first : List ℕ) (rest : List (List ℕ)). first ∷ rest) ((bytes_eq-Decides key other).0 both.0)
+    (same_keys_are keys others both.1)
+
 same_form_is : (one other : Form) → same_form one other ≡ true → one ≡ other
 same_form_is one other e =
-    sym (form_comes_back one) ∙ ap form_numbered (eqb-true (form_number one) (form_number other) e) ∙ form_comes_back other
+    let kept : Bool = same_keys (keys_of_form one) (keys_of_form other) && (base_of_form one == base_of_form other) in
+    let both : (kept ≡ true) × ((form_number one == form_number other) ≡ true)
+    = both_true kept (form_number one == form_number other) e in
+    let alike : (same_keys (keys_of_form one) (keys_of_form other) ≡ true) × ((base_of_form one == base_of_form other) ≡ true)
+    = both_true (same_keys (keys_of_form one) (keys_of_form other)) (base_of_form one == base_of_form other) both.0 in
+    let number = eqb-true (form_number one) (form_number other) both.1 in
+    let base = eqb-true (base_of_form one) (base_of_form other) alike.1 in
+    let keys = same_keys_are (keys_of_form one) (keys_of_form other) alike.0 in
+    sym (form_comes_back one) ∙ (λ j. form_numbered (number j) (base j) (keys j)) ∙ form_comes_back other
 
 pub record KeptSo (form : Form) (t kept : Tree) : Type 0 where
   pub children : Trees
@@ -94,6 +116,10 @@ HoldsOne (as_variant k) = ⊥
 HoldsOne as_list = ⊥
 HoldsOne as_slice = ⊥
 HoldsOne as_closed_slice = ⊥
+HoldsOne as_set = ⊥
+HoldsOne (as_map base) = ⊥
+HoldsOne as_dyn_array = ⊥
+HoldsOne (as_dyn_object keys) = ⊥
 
 -- a place of this shape may be begun so around a child that is no hole
 pub record MayHold (table : Table) (s : ℕ) (form : Form) : Type 0 where
@@ -119,7 +145,7 @@ anew_placed mode table s form holds =
 
 anew_rests : (table : Table) (s : ℕ) (form : Form) → RestsAround (0 ∷ []) (content_anew table s form)
 anew_rests table s form =
-    let def : Def = def_of table (child_as table s form 0) in (rests_here (fresh def) (fresh_rests def), tt)
+    let def : Def = def_of table (child_as table s form 0) in (done_none form, (rests_here (fresh def) (fresh_rests def), tt))
 
 anew_holds : (table : Table) (s : ℕ) (form : Form) (t : ℕ) → tree_occurs (content_anew table s form) t ≡ 0
 anew_holds table s form t = let none = fresh_holds (def_of table (child_as table s form 0)) t in omega arith
@@ -154,7 +180,9 @@ kept_in_keeps (deferred start) table s form t kept holds suits e =
         suits = there;
         leads = content_leads start to.children (has_content table s form to.children holds there.2);
       };
-      rest = λ rested. rest_but 0 to.children (subst (λ (tree : Tree). RestsAround [] tree) to.is rested);
+      rest = λ rested.
+          let there : RestsAround [] (begun form to.children) = subst (λ (tree : Tree). RestsAround [] tree) to.is rested in
+          (done_but form 0 to.children there.0, rest_but 0 to.children there.1);
       hold = λ t. ap (λ (tree : Tree). tree_occurs tree t) (sym to.is);
     })
 
@@ -193,7 +221,7 @@ some_keeps mode table s (some held) kept holds here fit e =
     let shape : child_as table s as_some 0 ≡ here.content.0 = rw here.is refl in
     rw (← same) (record {
       placed = around_placed mode table s as_some (whole held) holds (rw shape content_fits) tt tt;
-      rest = λ rested. (tt, tt);
+      rest = λ rested. (tt, (tt, tt));
       hold = λ t. omega arith;
     })
 some_keeps mode table s _ kept holds here fit e = cc
@@ -285,7 +313,7 @@ reopened_keeps start table s as_closed_slice ts kept suits e =
     let same : begun as_slice ts ≡ kept = cc in
     rw (← same) (record {
       placed = record { suits = open_suits table s ts suits; leads = all_deferred start ts };
-      rest = λ rested. rested;
+      rest = λ rested. (tt, rested.1);
       hold = λ t. refl;
     })
 reopened_keeps start table s _ ts kept suits e = cc
@@ -303,7 +331,7 @@ pub slice_becomes : (mode : Mode) (table : Table) (s : ℕ) (t : Tree) → MayPo
 slice_becomes mode table s t points suits =
     becoming mode table s [] t (kept_slice mode t) slice_anew
     (λ tree e. kept_slice_keeps mode table s t tree suits e)
-    (record { suits = ((is_pointer table (def_of table s) points.0, tt), tt, (tt, points)); leads = tt }) tt (λ token. refl)
+    (record { suits = ((is_pointer table (def_of table s) points.0, tt), tt, (tt, points)); leads = tt }) (tt, tt) (λ token. refl)
 
 -- Variants
 
@@ -325,7 +353,7 @@ pub variant_becomes : (mode : Mode) (table : Table) (s k : ℕ) (t : Tree) → i
     → Becoming mode table s [] t (kept_so (as_variant k) t) (variant_anew (def_of table s) k)
 variant_becomes mode table s k t is admitted at suits =
     becoming mode table s [] t (kept_so (as_variant k) t) (variant_anew (def_of table s) k) keeps anew
-    (holes_rest (length (variant_fields (def_of table s) k))) (holes_hold (length (variant_fields (def_of table s) k)))
+    (tt, holes_rest (length (variant_fields (def_of table s) k))) (holes_hold (length (variant_fields (def_of table s) k)))
   where
     keeps : (tree : Tree) → kept_so (as_variant k) t ≡ Some tree → IsKept mode table s [] t tree
     keeps tree e =

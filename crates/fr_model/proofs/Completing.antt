@@ -12,9 +12,11 @@ use Rattle.fr_shape.specs.Val.{Val, Vals, none, no_vals, first}
 use Rattle.fr_shape.specs.Tokens.{occurs, vals_occur}
 use Rattle.fr_model.specs.Places.{Column, strict_column, child_count, one_more, each_child, fill_at}
 use Rattle.fr_model.specs.Tree.{Form, as_struct, as_variant, Tree, hole, entered, whole, begun, Trees, no_trees, branch, child_as, count_trees, tree_occurs, trees_occur}
+use Rattle.fr_model.specs.Dropping.{left_out_of, dropped_by_completing, dropped_among}
+use Rattle.fr_model.specs.Gathering.{left_out}
 use Rattle.fr_model.specs.Complete.{complete, complete_all, unless_there, failing_child, unless_failing, valid_child, hole_takes, missing_child, made, made_of_fills, made_by, lack_of_hole, lack_of_holes, lack_by, lack, lack_among, missing_value}
 use Rattle.fr_model.specs.Well.{IsFullAs, Suits}
-use Rattle.fr_model.proofs.Structs.{OneMore, one_more_is, ChildrenFit, MadeOf, made_is, SuitFrom, begun_full, HasSliceBehind, slice_behind, value_fits, value_holds, settled_option}
+use Rattle.fr_model.proofs.Structs.{OneMore, one_more_is, ChildrenFit, MadeOf, made_is, SuitFrom, begun_full, IsSoundAs, sound_as, value_fits, value_holds, settled_option}
 use Rattle.fr_model.proofs.Templates.{IsTemplate, template_holds, preset_template, fill_in_template, fill_template}
 
 -- either a value or a lack
@@ -152,25 +154,25 @@ taken_template column table s as_struct i v checked e = fill_template column tab
 taken_template column table s (as_variant k) i v checked e = fill_in_template column table s (Some k) i v checked e
 taken_template column table s _ i v checked e = cc
 
--- the values of children fit, one for each, and hold these tokens
-pub record Children (table : Table) (s : ℕ) (form : Form) (i count : ℕ) (held : ℕ → ℕ) (vs : Vals) : Type 0 where
+-- the values of children fit, one for each, and hold these tokens, but for those that are dropped
+pub record Children (table : Table) (s : ℕ) (form : Form) (i count : ℕ) (dropped held : ℕ → ℕ) (vs : Vals) : Type 0 where
   pub fit : ChildrenFit table s form i vs
   pub counted : count_vals vs ≡ count
-  pub hold : (t : ℕ) → vals_occur vs t ≡ held t
+  pub hold : (t : ℕ) → vals_occur vs t + dropped t ≡ held t
 
 no_children : (table : Table) (s : ℕ) (form : Form) (i : ℕ) (vs : Vals)
-    → ◌≡◌ {A = Option Vals} (Some no_vals) (Some vs) → Children table s form i 0 (λ t. 0) vs
+    → ◌≡◌ {A = Option Vals} (Some no_vals) (Some vs) → Children table s form i 0 (λ t. 0) (λ t. 0) vs
 no_children table s form i no_vals e = record { fit = tt; counted = refl; hold = λ t. refl }
 no_children table s form i (first v vs) e = cc
 
-child_and_more : (hooks : Meanings) (table : Table) (s : ℕ) (form : Form) (i count : ℕ) (of_child of_rest : ℕ → ℕ)
-    (made : Option Val) (rest : Option Vals) (vs : Vals)
+child_and_more : (hooks : Meanings) (table : Table) (s : ℕ) (form : Form) (i count : ℕ)
+    (by_child by_rest of_child of_rest : ℕ → ℕ) (made : Option Val) (rest : Option Vals) (vs : Vals)
     → ((v : Val) → made ≡ Some v
-    → (fits table (child_as table s form i) v ≡ true) × ((t : ℕ) → occurs v t ≡ of_child t))
-    → ((ws : Vals) → rest ≡ Some ws → Children table s form (suc i) count of_rest ws)
+    → (fits table (child_as table s form i) v ≡ true) × ((t : ℕ) → occurs v t + by_child t ≡ of_child t))
+    → ((ws : Vals) → rest ≡ Some ws → Children table s form (suc i) count by_rest of_rest ws)
     → one_more (valid_child hooks table s form i made) rest ≡ Some vs
-    → Children table s form i (suc count) (λ t. of_child t + of_rest t) vs
-child_and_more hooks table s form i count of_child of_rest made rest vs child others e =
+    → Children table s form i (suc count) (λ t. by_child t + by_rest t) (λ t. of_child t + of_rest t) vs
+child_and_more hooks table s form i count by_child by_rest of_child of_rest made rest vs child others e =
     rw parts.same (record {
       fit = (here.0, more.fit);
       counted = ap suc more.counted;
@@ -180,65 +182,73 @@ child_and_more hooks table s form i count of_child of_rest made rest vs child ot
     parts : OneMore (valid_child hooks table s form i made) rest vs
     parts = one_more_is (valid_child hooks table s form i made) rest vs e
 
-    here : (fits table (child_as table s form i) parts.head ≡ true) × ((t : ℕ) → occurs parts.head t ≡ of_child t)
+    here : (fits table (child_as table s form i) parts.head ≡ true)
+        × ((t : ℕ) → occurs parts.head t + by_child t ≡ of_child t)
     here = child parts.head (valid_is hooks table s form i made parts.head parts.head_is)
 
-    more : Children table s form (suc i) count of_rest parts.tail
+    more : Children table s form (suc i) count by_rest of_rest parts.tail
     more = others parts.tail parts.tail_is
 
 hole_child : (column : Column) (table : Table) (s : ℕ) (form : Form) (i : ℕ) → IsChecked table → (v : Val)
     → hole_takes column table s form i ≡ Some v
-    → (fits table (child_as table s form i) v ≡ true) × ((t : ℕ) → occurs v t ≡ 0)
+    → (fits table (child_as table s form i) v ≡ true) × ((t : ℕ) → occurs v t + 0 ≡ 0)
 hole_child column table s form i checked v e =
     let template : IsTemplate table (child_as table s form i) v = taken_template column table s form i v checked e in
-    (template.fit, λ t. template_holds table (child_as table s form i) v t template)
+    (template.fit, λ t. omega (arith, template_holds table (child_as table s form i) v t template))
 
 fills_fit : (column : Column) (hooks : Meanings) (table : Table) (s count i : ℕ) (vs : Vals) → IsChecked table
     → each_child (λ k. valid_child hooks table s as_struct k (fill_at column table s k)) count i ≡ Some vs
-    → Children table s as_struct i count (λ t. 0) vs
+    → Children table s as_struct i count (λ t. 0) (λ t. 0) vs
 fills_fit column hooks table s zero i vs checked e = no_children table s as_struct i vs e
 fills_fit column hooks table s (suc count) i vs checked e =
-    child_and_more hooks table s as_struct i count (λ t. 0) (λ t. 0) (fill_at column table s i)
+    child_and_more hooks table s as_struct i count (λ t. 0) (λ t. 0) (λ t. 0) (λ t. 0) (fill_at column table s i)
     (each_child (λ k. valid_child hooks table s as_struct k (fill_at column table s k)) count (suc i)) vs
     (hole_child column table s as_struct i checked) (λ ws. fills_fit column hooks table s count (suc i) ws checked) e
 
--- a value that fits the place, and holds these tokens
-pub record Made (table : Table) (s : ℕ) (held : ℕ → ℕ) (v : Val) : Type 0 where
+-- a value that fits the place, and holds these tokens, but for those that are dropped
+pub record Made (table : Table) (s : ℕ) (dropped held : ℕ → ℕ) (v : Val) : Type 0 where
   pub fit : fits table s v ≡ true
-  pub hold : (t : ℕ) → occurs v t ≡ held t
+  pub hold : (t : ℕ) → occurs v t + dropped t ≡ held t
 
-made_pair : (table : Table) (s : ℕ) (held : ℕ → ℕ) (v : Val) → Made table s held v
-    → (fits table s v ≡ true) × ((t : ℕ) → occurs v t ≡ held t)
-made_pair table s held v made = (made.fit, made.hold)
+made_pair : (table : Table) (s : ℕ) (dropped held : ℕ → ℕ) (v : Val) → Made table s dropped held v
+    → (fits table s v ≡ true) × ((t : ℕ) → occurs v t + dropped t ≡ held t)
+made_pair table s dropped held v made = (made.fit, made.hold)
 
-made_of_template : (table : Table) (s : ℕ) (v : Val) → IsTemplate table s v → Made table s (λ t. 0) v
-made_of_template table s v template = record { fit = template.fit; hold = λ t. template_holds table s v t template }
+made_of_template : (table : Table) (s : ℕ) (v : Val) → IsTemplate table s v → Made table s (λ t. 0) (λ t. 0) v
+made_of_template table s v template =
+    record { fit = template.fit; hold = λ t. omega (arith, template_holds table s v t template) }
 
-made_of_children : (table : Table) (s : ℕ) (form : Form) (count : ℕ) (held : ℕ → ℕ) (children : Option Vals) (v : Val)
-    → IsFullAs (def_of table s) form count → HasSliceBehind table s form
-    → ((vs : Vals) → children ≡ Some vs → Children table s form 0 count held vs) → made form children ≡ Some v
-    → Made table s held v
-made_of_children table s form count held children v full_as behind each e =
+made_of_children : (table : Table) (s : ℕ) (form : Form) (count : ℕ) (by_children dropped held : ℕ → ℕ)
+    (children : Option Vals) (v : Val) → IsFullAs (def_of table s) form count → IsSoundAs table s form
+    → ((vs : Vals) → children ≡ Some vs → (t : ℕ) → dropped t ≡ by_children t + left_out form vs t)
+    → ((vs : Vals) → children ≡ Some vs → Children table s form 0 count by_children held vs)
+    → made form children ≡ Some v → Made table s dropped held v
+made_of_children table s form count by_children dropped held children v full_as sound drops each e =
     let parts : MadeOf form children v = made_is form children v e in
-    let those : Children table s form 0 count held parts.parts = each parts.parts parts.parts_are in
+    let those : Children table s form 0 count by_children held parts.parts = each parts.parts parts.parts_are in
     let all_there : IsFullAs (def_of table s) form (count_vals parts.parts) = rw those.counted full_as in
     rw parts.same (record {
-      fit = value_fits table s form parts.parts all_there behind those.fit;
-      hold = λ t. value_holds (def_of table s) form parts.parts all_there t ∙ those.hold t;
+      fit = value_fits table s form parts.parts all_there sound those.fit;
+      hold = λ t. omega (
+        arith,
+        value_holds table s form parts.parts all_there those.fit t,
+        those.hold t,
+        drops parts.parts parts.parts_are t,
+      );
     })
 
 entered_makes : (column : Column) (hooks : Meanings) (table : Table) (s : ℕ) (v : Val) → IsChecked table
-    → complete column hooks table s entered ≡ Some v → Made table s (λ t. 0) v
+    → complete column hooks table s entered ≡ Some v → Made table s (λ t. 0) (λ t. 0) v
 entered_makes column hooks table s v checked e = go (def_of table s) (preset_of table s) refl refl e
   where
     go : (def : Def) (preset : Option Val) → def_of table s ≡ def → preset_of table s ≡ preset
-        → made_by def preset (made_of_fills column hooks table s) ≡ Some v → Made table s (λ t. 0) v
+        → made_by def preset (made_of_fills column hooks table s) ≡ Some v → Made table s (λ t. 0) (λ t. 0) v
     go (Def.Struct struct) (Some u) is there e =
         let same : u ≡ v = cc in rw (← same) (made_of_template table s u (preset_template table s u checked there))
     go (Def.Struct struct) None is there e =
-        made_of_children table s as_struct (child_count table s) (λ t. 0)
+        made_of_children table s as_struct (child_count table s) (λ t. 0) (λ t. 0) (λ t. 0)
         (each_child (λ k. valid_child hooks table s as_struct k (fill_at column table s k)) (child_count table s) 0) v
-        (rw is refl) tt (λ vs. fills_fit column hooks table s (child_count table s) 0 vs checked) e
+        (rw is refl) tt (λ vs is t. refl) (λ vs. fills_fit column hooks table s (child_count table s) 0 vs checked) e
     go (Def.Option content) (Some u) is there e =
         let same : none ≡ v = cc in
         rw (← same) (record { fit = rw (settled_option table s content is) refl; hold = λ t. refl })
@@ -248,28 +258,36 @@ entered_makes column hooks table s v checked e = go (def_of table s) (preset_of 
 mutual
   pub completing_makes : (column : Column) (hooks : Meanings) (table : Table) (tree : Tree) (s : ℕ) (v : Val)
       → IsChecked table → Suits table s tree → complete column hooks table s tree ≡ Some v
-      → Made table s (λ t. tree_occurs tree t) v
+      → Made table s (λ t. dropped_by_completing column hooks table s tree t) (λ t. tree_occurs tree t) v
   completing_makes column hooks table hole s v checked suits e = cc
   completing_makes column hooks table entered s v checked suits e = entered_makes column hooks table s v checked e
   completing_makes column hooks table (whole u) s v checked suits e =
-      let same : u ≡ v = cc in rw (← same) (record { fit = suits; hold = λ t. refl })
+      let same : u ≡ v = cc in rw (← same) (record { fit = suits; hold = λ t. omega arith })
   completing_makes column hooks table (begun form trees) s v checked suits e =
-      made_of_children table s form (count_trees trees) (λ t. trees_occur trees t)
+      made_of_children table s form (count_trees trees) (λ t. dropped_among column hooks table s form 0 trees t)
+      (λ t. dropped_by_completing column hooks table s (begun form trees) t) (λ t. trees_occur trees t)
       (complete_all column hooks table s form 0 trees) v (begun_full (def_of table s) form (count_trees trees) suits.0)
-      (slice_behind table s form trees suits.2) (λ vs. all_completing_make column hooks table trees s form 0 vs checked suits.1) e
+      (sound_as table s form trees suits.2)
+      (λ vs is t. ap (λ (values : Option Vals). dropped_among column hooks table s form 0 trees t + left_out_of form values t) is)
+      (λ vs. all_completing_make column hooks table trees s form 0 vs checked suits.1) e
 
   pub all_completing_make : (column : Column) (hooks : Meanings) (table : Table) (trees : Trees) (s : ℕ) (form : Form) (i : ℕ)
       (vs : Vals) → IsChecked table → SuitFrom table s form i trees → complete_all column hooks table s form i trees ≡ Some vs
-      → Children table s form i (count_trees trees) (λ t. trees_occur trees t) vs
+      → Children table s form i (count_trees trees) (λ t. dropped_among column hooks table s form i trees t)
+      (λ t. trees_occur trees t) vs
   all_completing_make column hooks table no_trees s form i vs checked suits e = no_children table s form i vs e
   all_completing_make column hooks table (branch hole trees) s form i vs checked suits e =
-      child_and_more hooks table s form i (count_trees trees) (λ t. 0) (λ t. trees_occur trees t)
+      child_and_more hooks table s form i (count_trees trees) (λ t. 0)
+      (λ t. dropped_among column hooks table s form (suc i) trees t) (λ t. 0) (λ t. trees_occur trees t)
       (hole_takes column table s form i) (complete_all column hooks table s form (suc i) trees) vs
       (hole_child column table s form i checked)
       (λ ws. all_completing_make column hooks table trees s form (suc i) ws checked suits.1) e
   all_completing_make column hooks table (branch tree trees) s form i vs checked suits e =
-      child_and_more hooks table s form i (count_trees trees) (λ t. tree_occurs tree t) (λ t. trees_occur trees t)
+      child_and_more hooks table s form i (count_trees trees)
+      (λ t. dropped_by_completing column hooks table (child_as table s form i) tree t)
+      (λ t. dropped_among column hooks table s form (suc i) trees t) (λ t. tree_occurs tree t) (λ t. trees_occur trees t)
       (complete column hooks table (child_as table s form i) tree) (complete_all column hooks table s form (suc i) trees) vs
-      (λ v is. made_pair table (child_as table s form i) (λ t. tree_occurs tree t) v
+      (λ v is. made_pair table (child_as table s form i)
+      (λ t. dropped_by_completing column hooks table (child_as table s form i) tree t) (λ t. tree_occurs tree t) v
       (completing_makes column hooks table tree (child_as table s form i) v checked suits.0 is))
       (λ ws. all_completing_make column hooks table trees s form (suc i) ws checked suits.1) e

@@ -7,6 +7,7 @@ use Rattle.fr_shape.specs.Val.{Val}
 use Rattle.fr_shape.specs.Fits.{fits}
 use Rattle.fr_model.specs.Places.{Place, Column, up, child_count, child_shape, shape_at}
 use Rattle.fr_model.specs.Tree.{as_struct, as_array, Tree, hole, entered, whole, begun, Trees, no_trees, branch, tree_nth, change_nth, tree_at, change_at, shape_in, child_as, count_trees, tree_occurs, Mode, strict, deferred, State, cursor_shape, cursor_tree, one_more_call, initial}
+use Rattle.fr_model.specs.Dropping.{dropped_by_completing}
 use Rattle.fr_model.specs.Complete.{complete}
 use Rattle.fr_model.specs.Step.{enter_child, enters, puts, puts_and_leaves, leaves}
 use Rattle.fr_model.specs.Journal.{Journal}
@@ -110,7 +111,7 @@ suits_changed mode table s (i ∷ here) (begun form ts) change leads suits touch
 )
 suits_changed mode table s (i ∷ here) _ change leads suits touched changed = absurd leads
 
-off_change : (mode : Mode) (i : ℕ) (Below After : Tree → Type 0) (change : Tree → Tree) (ts : Trees)
+pub off_change : (mode : Mode) (i : ℕ) (Below After : Tree → Type 0) (change : Tree → Tree) (ts : Trees)
     → (Below (tree_nth i ts) → After (change (tree_nth i ts))) → OffBut mode i Below ts
     → OffBut mode i After (change_nth i change ts)
 off_change mode i Below After change no_trees step off = absurd off
@@ -190,12 +191,12 @@ began_below : (mode : Mode) (here : Place) (i : ℕ) → BeganAbove mode here �
 began_below strict here i began = tt
 began_below (deferred start) here i began = rw (length-append here (i ∷ [])) (omega (arith, began))
 
-up_long : (here : Place) → length here ≤ suc (length (up here))
+pub up_long : (here : Place) → length here ≤ suc (length (up here))
 up_long [] = omega arith
 up_long (i ∷ []) = omega arith
 up_long (i ∷ j ∷ here) = let below = up_long (j ∷ here) in omega arith
 
-began_strict : (mode : Mode) (here : Place) → mode ≡ strict → BeganAbove mode here
+pub began_strict : (mode : Mode) (here : Place) → mode ≡ strict → BeganAbove mode here
 began_strict strict here is = tt
 began_strict (deferred start) here is = cc
 
@@ -264,7 +265,9 @@ put_in_order table root state v fit order = changed_in_order table root state (�
 -- what the place at the cursor makes
 pub made_at : (column : Column) (hooks : Meanings) (table : Table) (root : ℕ) (state : State) (v : Val) → IsChecked table
     → complete column hooks table (cursor_shape table root state) (cursor_tree state) ≡ Some v → IsInOrder table root state
-    → Made table (cursor_shape table root state) (λ k. tree_occurs (cursor_tree state) k) v
+    → Made table (cursor_shape table root state)
+    (λ k. dropped_by_completing column hooks table (cursor_shape table root state) (cursor_tree state) k)
+    (λ k. tree_occurs (cursor_tree state) k) v
 made_at column hooks table root state v checked e order =
     completing_makes column hooks table (cursor_tree state) (cursor_shape table root state) v checked
     (suits_at state.mode table root state.cursor state.tree order.leads order.suits) e

@@ -10,11 +10,12 @@ use Rattle.fr_shape.specs.Look.{Table, def_of, field_of_variant, field_in}
 use Rattle.fr_shape.specs.Tokens.{occurs}
 use Rattle.fr_shape.specs.Val.{Val}
 use Rattle.fr_model.specs.Step.{opened, put_child}
-use Rattle.fr_model.specs.Tree.{Form, as_struct, as_variant, form_of, form_at, selected, Tree, hole, entered, whole, begun, Trees, no_trees, branch, child_tree, change_nth, change_child, child_as, count_trees, tree_occurs, Mode}
+use Rattle.fr_model.specs.Tree.{Form, as_struct, as_variant, form_of, form_at, over_base, selected, Tree, hole, entered, whole, begun, Trees, no_trees, branch, child_tree, change_nth, change_child, child_as, count_trees, tree_occurs, Mode}
 use Rattle.fr_model.specs.Places.{child_count}
 use Rattle.fr_model.specs.Variants.{fields_or_none}
-use Rattle.fr_model.specs.Well.{IsFullAs, IsBegunAs, Suits, AllOff, AtCursor}
-use Rattle.fr_model.proofs.Opening.{Enterable, a_field, a_variant_field, Opening, opening, rightly_changed, whole_off}
+use Rattle.fr_model.specs.Well.{IsFullAs, IsBegunAs, Suits, RestsAround, AllOff, AtCursor}
+use Rattle.fr_model.proofs.Opening.{Enterable, a_field, a_variant_field, enterable_done, Opening, opening, rightly_changed, whole_off}
+use Rattle.fr_model.proofs.Resting.{opened_rests, put_among}
 use Rattle.fr_model.proofs.Structs.{count_change, suit_change}
 use Rattle.fr_model.proofs.Tokens.{nth_holds, opened_holds}
 
@@ -22,6 +23,7 @@ use Rattle.fr_model.proofs.Tokens.{nth_holds, opened_holds}
 pub record Putting (mode : Mode) (table : Table) (s i : ℕ) (v : Val) (t : Tree) : Type 0 where
   pub suits : Suits table s (put_child (def_of table s) i v t)
   pub at : AtCursor mode (put_child (def_of table s) i v t)
+  pub rest : RestsAround [] t → RestsAround [] (put_child (def_of table s) i v t)
   pub hold : (k : ℕ) → tree_occurs (put_child (def_of table s) i v t) k + tree_occurs (child_tree i (opened (def_of table s) t)) k
       ≡ tree_occurs t k + occurs v k
 
@@ -40,6 +42,14 @@ putting mode table s i v t enterable at suits fit = record {
   );
   at = subst (λ (u : Tree). AtCursor mode (change_child i (λ old. whole v) u)) (sym place.is)
       (put_off mode i v place.children place.off);
+  rest = λ rested.
+      let there : RestsAround [] (begun form place.children)
+      = subst (λ (u : Tree). RestsAround [] u) place.is (opened_rests table s t suits rested) in
+      subst (λ (u : Tree). RestsAround [] (change_child i (λ old. whole v) u)) (sym place.is) (
+        enterable_done table s i t form (count_trees place.children) (change_nth i (λ old. whole v) place.children) enterable
+            place.begun_as.0,
+        put_among i v place.children there.1,
+      );
   hold = λ k.
       let same : tree_occurs (opened (def_of table s) t) k ≡ tree_occurs t k
       = opened_holds (form_of (def_of table s)) (child_count table s) t k in
@@ -89,7 +99,9 @@ struct_form table s i struct field (begun form ts) is e suits =
     struct_child table s i struct field form is e (count_trees ts) (rw is at suits.0.0)
 struct_form table s i struct field hole is e suits = struct_fresh table s i struct field is e
 struct_form table s i struct field entered is e suits = struct_fresh table s i struct field is e
-struct_form table s i struct field (whole v) is e suits = struct_fresh table s i struct field is e
+struct_form table s i struct field (whole v) is e suits =
+    subst (λ (def : Def). child_as table s (over_base (form_of def) v) i ≡ field.shape.0) (sym is)
+    (struct_child table s i struct field as_struct is e (length struct.fields) refl)
 
 variant_child : (table : Table) (s i k : ℕ) (enumeration : EnumDef) (field : Field) (t : Tree) → def_of table s ≡ Def.Enum enumeration
     → selected t ≡ Some k → field_in (Def.Enum enumeration) (Some k) i ≡ Some field

@@ -11,14 +11,16 @@ use Rattle.fr_shape.specs.Val.{Vals, no_vals, first}
 use Rattle.fr_path.specs.declared.path_steps.PathStep.{PathStep}
 use Rattle.fr_model.specs.Places.{Place, deferred_column}
 use Rattle.fr_model.specs.Paths.{step_as, steps_in}
-use Rattle.fr_model.specs.Tree.{Form, as_struct, as_array, as_variant, as_some, as_ok, as_err, as_pointer, as_list, as_slice, as_closed_slice, Tree, hole, entered, whole, begun, Trees, no_trees, branch, tree_nth, tree_at, child_as, shape_in, wholes, count_trees, tree_occurs, trees_occur, Mode, strict}
+use Rattle.fr_model.specs.Tree.{Form, as_struct, as_array, as_variant, as_some, as_ok, as_err, as_pointer, as_list, as_slice, as_closed_slice, as_set, as_map, as_dyn_array, as_dyn_object, Tree, hole, entered, whole, begun, Trees, no_trees, branch, tree_nth, tree_at, child_as, shape_in, wholes, count_trees, tree_occurs, trees_occur, Mode, strict}
 use Rattle.fr_model.specs.Complete.{complete, complete_all, value_as}
+use Rattle.fr_model.specs.Dropping.{dropped_by_completing, dropped_among, dropped_but, dropped_by_finishing}
 use Rattle.fr_model.specs.Failing.{own_lack, Failure, failures, failures_among, first_by_walk}
 use Rattle.fr_model.specs.Finish.{closed, one_more_tree, closed_all, closed_but, is_closed_slice, begun_with, finished_here, finished, failures_but, failures_off, kind_of}
-use Rattle.fr_model.specs.Well.{IsFullAs, IsBegunAs, IsTouched, IsContent, AreTouched, IsBegunRightly, Suits, IsOff, AllOff, AtCursor, OffBut, Leads}
+use Rattle.fr_model.specs.Gathering.{left_out}
+use Rattle.fr_model.specs.Well.{IsFullAs, IsBegunAs, IsTouched, IsContent, AreTouched, AreEntries, IsBegunRightly, Suits, IsOff, AllOff, AtCursor, OffBut, Leads}
 use Rattle.fr_model.proofs.Completing.{Made, completing_makes, Children, all_completing_make}
 use Rattle.fr_model.proofs.Failing.{none_mapped, joined_there, some_or, completes_or_fails, all_complete_or_fail, entered_lacks}
-use Rattle.fr_model.proofs.Structs.{ChildrenFit, SuitFrom, slice_behind, value_fits, value_holds}
+use Rattle.fr_model.proofs.Structs.{ChildrenFit, SuitFrom, sound_as, value_fits, value_holds}
 use Rattle.fr_model.proofs.Tokens.{wholes_hold}
 
 -- what is made is made of something
@@ -48,34 +50,64 @@ one_more_tree_is None os us e = cc
 
 -- Shapes and tokens
 
--- what becomes of a place suits its shape and holds each token as often
-pub record Kept (table : Table) (s : ℕ) (tree next : Tree) : Type 0 where
+-- what becomes of a place suits its shape and holds each token as often, but for what is dropped
+pub record Kept (table : Table) (s : ℕ) (dropped : ℕ → ℕ) (tree next : Tree) : Type 0 where
   pub suits : Suits table s next
   pub touched : IsTouched tree → IsTouched next
-  pub hold : (t : ℕ) → tree_occurs next t ≡ tree_occurs tree t
+  pub hold : (t : ℕ) → tree_occurs next t + dropped t ≡ tree_occurs tree t
 
-pub record AllKept (table : Table) (s : ℕ) (form : Form) (i : ℕ) (ts us : Trees) : Type 0 where
+-- each of the trees is there where the one of the other trees is
+abbrev EachThere : (ts us : Trees) → Type 0
+EachThere no_trees no_trees = Unit {0}
+EachThere (branch t ts) (branch u us) = (IsTouched t → IsTouched u) × EachThere ts us
+EachThere no_trees (branch u us) = ⊥
+EachThere (branch t ts) no_trees = ⊥
+
+entries_there : (ts us : Trees) → EachThere ts us → AreEntries ts → AreEntries us
+entries_there no_trees no_trees each has = tt
+entries_there (branch k no_trees) (branch l us) each has = absurd has
+entries_there (branch k (branch v no_trees)) (branch l (branch w no_trees)) each has = each.0 has
+entries_there (branch k (branch v (branch n ts))) (branch l (branch w (branch m us))) each has =
+    (each.0 has.0, each.1.0 has.1, entries_there (branch n ts) (branch m us) each.1.1 has.2)
+entries_there (branch k (branch v no_trees)) (branch l no_trees) each has = absurd each.1
+entries_there (branch k (branch v no_trees)) (branch l (branch w (branch m us))) each has = absurd each.1.1
+entries_there (branch k (branch v (branch n ts))) (branch l no_trees) each has = absurd each.1
+entries_there (branch k (branch v (branch n ts))) (branch l (branch w no_trees)) each has = absurd each.1.1
+entries_there no_trees (branch l us) each has = absurd each
+entries_there (branch k ts) no_trees each has = absurd each
+
+pub record AllKept (table : Table) (s : ℕ) (form : Form) (i : ℕ) (dropped : ℕ → ℕ) (ts us : Trees) : Type 0 where
   pub suit : SuitFrom table s form i us
   pub content : IsContent ts → IsContent us
   pub touched : AreTouched ts → AreTouched us
+  pub there : EachThere ts us
   pub counted : count_trees us ≡ count_trees ts
-  pub hold : (t : ℕ) → trees_occur us t ≡ trees_occur ts t
+  pub hold : (t : ℕ) → trees_occur us t + dropped t ≡ trees_occur ts t
 
 none_kept : (table : Table) (s : ℕ) (form : Form) (i : ℕ) (us : Trees)
-    → ◌≡◌ {A = Option Trees} (Some no_trees) (Some us) → AllKept table s form i no_trees us
-none_kept table s form i no_trees e = record { suit = tt; content = λ has. has; touched = λ has. has; counted = refl; hold = λ t. refl }
+    → ◌≡◌ {A = Option Trees} (Some no_trees) (Some us) → AllKept table s form i (λ t. 0) no_trees us
+none_kept table s form i no_trees e = record {
+  suit = tt;
+  content = λ has. has;
+  touched = λ has. has;
+  there = tt;
+  counted = refl;
+  hold = λ t. refl;
+}
 none_kept table s form i (branch u us) e = cc
 
 -- a child and the ones after it
-more_kept : (table : Table) (s : ℕ) (form : Form) (i : ℕ) (tree : Tree) (ts : Trees) (o : Option Tree) (os : Option Trees)
-    (us : Trees) → ((u : Tree) → o ≡ Some u → Kept table (child_as table s form i) tree u)
-    → ((rest : Trees) → os ≡ Some rest → AllKept table s form (suc i) ts rest) → one_more_tree o os ≡ Some us
-    → AllKept table s form i (branch tree ts) us
-more_kept table s form i tree ts o os us child others e =
+more_kept : (table : Table) (s : ℕ) (form : Form) (i : ℕ) (by_child by_rest : ℕ → ℕ) (tree : Tree) (ts : Trees)
+    (o : Option Tree) (os : Option Trees) (us : Trees)
+    → ((u : Tree) → o ≡ Some u → Kept table (child_as table s form i) by_child tree u)
+    → ((rest : Trees) → os ≡ Some rest → AllKept table s form (suc i) by_rest ts rest) → one_more_tree o os ≡ Some us
+    → AllKept table s form i (λ t. by_child t + by_rest t) (branch tree ts) us
+more_kept table s form i by_child by_rest tree ts o os us child others e =
     rw parts.same (record {
       suit = (here.suits, more.suit);
       content = here.touched;
       touched = λ has. (here.touched has.0, more.touched has.1);
+      there = (here.touched, more.there);
       counted = ap suc more.counted;
       hold = λ t. omega (arith, here.hold t, more.hold t);
     })
@@ -83,47 +115,54 @@ more_kept table s form i tree ts o os us child others e =
     parts : OneMoreTree o os us
     parts = one_more_tree_is o os us e
 
-    here : Kept table (child_as table s form i) tree parts.head
+    here : Kept table (child_as table s form i) by_child tree parts.head
     here = child parts.head parts.head_is
 
-    more : AllKept table s form (suc i) ts parts.tail
+    more : AllKept table s form (suc i) by_rest ts parts.tail
     more = others parts.tail parts.tail_is
 
 closed_keeps : (hooks : Meanings) (table : Table) (s : ℕ) (tree u : Tree) → IsChecked table → Suits table s tree
-    → closed hooks table s tree ≡ Some u → Kept table s tree u
+    → closed hooks table s tree ≡ Some u
+    → Kept table s (λ t. dropped_by_completing deferred_column hooks table s tree t) tree u
 closed_keeps hooks table s hole u checked suits e =
     let same : hole ≡ u = cc in rw (← same) (record { suits = tt; touched = λ there. there; hold = λ t. refl })
 closed_keeps hooks table s tree u checked suits e =
     let to : Mapped whole (complete deferred_column hooks table s tree) u
     = mapped_is whole (complete deferred_column hooks table s tree) u e in
-    let made : Made table s (λ t. tree_occurs tree t) to.from
+    let made : Made table s (λ t. dropped_by_completing deferred_column hooks table s tree t) (λ t. tree_occurs tree t) to.from
     = completing_makes deferred_column hooks table tree s to.from checked suits to.is in
     rw to.same (record { suits = made.fit; touched = λ there. tt; hold = made.hold })
 
 closed_all_keep : (hooks : Meanings) (table : Table) (s : ℕ) (form : Form) (i : ℕ) (ts us : Trees) → IsChecked table
-    → SuitFrom table s form i ts → closed_all hooks table s form i ts ≡ Some us → AllKept table s form i ts us
+    → SuitFrom table s form i ts → closed_all hooks table s form i ts ≡ Some us
+    → AllKept table s form i (λ t. dropped_among deferred_column hooks table s form i ts t) ts us
 closed_all_keep hooks table s form i no_trees us checked suit e = none_kept table s form i us e
 closed_all_keep hooks table s form i (branch t ts) us checked suit e =
-    more_kept table s form i t ts (closed hooks table (child_as table s form i) t)
-    (closed_all hooks table s form (suc i) ts) us
+    more_kept table s form i (λ k. dropped_by_completing deferred_column hooks table (child_as table s form i) t k)
+    (λ k. dropped_among deferred_column hooks table s form (suc i) ts k) t ts
+    (closed hooks table (child_as table s form i) t) (closed_all hooks table s form (suc i) ts) us
     (λ u. closed_keeps hooks table (child_as table s form i) t u checked suit.0)
     (λ rest. closed_all_keep hooks table s form (suc i) ts rest checked suit.1) e
 
 closed_but_keep : (hooks : Meanings) (table : Table) (s : ℕ) (form : Form) (on_way : ℕ)
-    (becomes : ℕ → Tree → Option Tree) (i : ℕ) (ts us : Trees) → IsChecked table
-    → ((shape : ℕ) (t u : Tree) → Suits table shape t → becomes shape t ≡ Some u → Kept table shape t u)
+    (becomes : ℕ → Tree → Option Tree) (drops : ℕ → Tree → ℕ → ℕ) (i : ℕ) (ts us : Trees) → IsChecked table
+    → ((shape : ℕ) (t u : Tree) → Suits table shape t → becomes shape t ≡ Some u
+    → Kept table shape (λ k. drops shape t k) t u)
     → SuitFrom table s form i ts → closed_but hooks table s form on_way becomes i ts ≡ Some us
-    → AllKept table s form i ts us
-closed_but_keep hooks table s form on_way becomes i no_trees us checked keeps suit e = none_kept table s form i us e
-closed_but_keep hooks table s form zero becomes i (branch t ts) us checked keeps suit e =
-    more_kept table s form i t ts (becomes (child_as table s form i) t) (closed_all hooks table s form (suc i) ts) us
+    → AllKept table s form i (λ t. dropped_but hooks table s form on_way drops i ts t) ts us
+closed_but_keep hooks table s form on_way becomes drops i no_trees us checked keeps suit e = none_kept table s form i us e
+closed_but_keep hooks table s form zero becomes drops i (branch t ts) us checked keeps suit e =
+    more_kept table s form i (λ k. drops (child_as table s form i) t k)
+    (λ k. dropped_among deferred_column hooks table s form (suc i) ts k) t ts (becomes (child_as table s form i) t)
+    (closed_all hooks table s form (suc i) ts) us
     (λ u. keeps (child_as table s form i) t u suit.0)
     (λ rest. closed_all_keep hooks table s form (suc i) ts rest checked suit.1) e
-closed_but_keep hooks table s form (suc on_way) becomes i (branch t ts) us checked keeps suit e =
-    more_kept table s form i t ts (closed hooks table (child_as table s form i) t)
+closed_but_keep hooks table s form (suc on_way) becomes drops i (branch t ts) us checked keeps suit e =
+    more_kept table s form i (λ k. dropped_by_completing deferred_column hooks table (child_as table s form i) t k)
+    (λ k. dropped_but hooks table s form on_way drops (suc i) ts k) t ts (closed hooks table (child_as table s form i) t)
     (closed_but hooks table s form on_way becomes (suc i) ts) us
     (λ u. closed_keeps hooks table (child_as table s form i) t u checked suit.0)
-    (λ rest. closed_but_keep hooks table s form on_way becomes (suc i) ts rest checked keeps suit.1) e
+    (λ rest. closed_but_keep hooks table s form on_way becomes drops (suc i) ts rest checked keeps suit.1) e
 
 -- the begun place at the cursor, whose children are now whole
 
@@ -145,6 +184,16 @@ wholes_touched : (vs : Vals) → AreTouched (wholes vs)
 wholes_touched no_vals = tt
 wholes_touched (first v vs) = (tt, wholes_touched vs)
 
+entries_wholes : (ts : Trees) (vs : Vals) → count_vals vs ≡ count_trees ts → AreEntries ts → AreEntries (wholes vs)
+entries_wholes ts no_vals e has = tt
+entries_wholes no_trees (first k vs) e has = absurd (omega arith)
+entries_wholes (branch key no_trees) (first k vs) e has = absurd has
+entries_wholes (branch key (branch value ts)) (first k no_vals) e has = absurd (omega arith)
+entries_wholes (branch key (branch value ts)) (first k (first v no_vals)) e has = tt
+entries_wholes (branch key (branch value no_trees)) (first k (first v (first l vs))) e has = absurd (omega arith)
+entries_wholes (branch key (branch value (branch next ts))) (first k (first v (first l vs))) e has =
+    (tt, tt, entries_wholes (branch next ts) (first l vs) (omega arith) has.2)
+
 right_wholes : (table : Table) (s : ℕ) (form : Form) (ts : Trees) (vs : Vals) → count_vals vs ≡ count_trees ts
     → IsBegunRightly table s form ts → IsBegunRightly table s form (wholes vs)
 right_wholes table s as_struct ts vs e rightly = tt
@@ -155,75 +204,98 @@ right_wholes table s as_ok ts vs e rightly = content_wholes ts vs e rightly
 right_wholes table s as_err ts vs e rightly = content_wholes ts vs e rightly
 right_wholes table s as_pointer ts vs e rightly = (content_wholes ts vs e rightly.0, rightly.1)
 right_wholes table s as_list ts vs e rightly = wholes_touched vs
+right_wholes table s as_set ts vs e rightly = wholes_touched vs
+right_wholes table s (as_map base) ts vs e rightly = entries_wholes ts vs e rightly
+right_wholes table s as_dyn_array ts vs e rightly = wholes_touched vs
+right_wholes table s (as_dyn_object keys) ts vs e rightly = (wholes_touched vs, rightly.1)
 right_wholes table s as_slice ts vs e rightly = (wholes_touched vs, rightly.1)
 right_wholes table s as_closed_slice ts vs e rightly = (wholes_touched vs, rightly.1)
 
+-- nothing is left out of a pointer to a slice
+slice_leaves_none : (form : Form) (vs : Vals) (t : ℕ) → is_closed_slice form ≡ true → left_out form vs t ≡ 0
+slice_leaves_none as_closed_slice vs t is = refl
+slice_leaves_none _ vs t is = cc
+
 begun_keeps : (hooks : Meanings) (table : Table) (s : ℕ) (form : Form) (ts : Trees) (u : Tree) → IsChecked table
     → Suits table s (begun form ts) → finished_here hooks table s (begun form ts) ≡ Some u
-    → Kept table s (begun form ts) u
-begun_keeps hooks table s form ts u checked suits e = rw to.same (go (is_closed_slice form))
+    → Kept table s (λ t. dropped_among deferred_column hooks table s form 0 ts t) (begun form ts) u
+begun_keeps hooks table s form ts u checked suits e = rw to.same (go (is_closed_slice form) refl)
   where
     to : Mapped (begun_with form) (complete_all deferred_column hooks table s form 0 ts) u
     to = mapped_is (begun_with form) (complete_all deferred_column hooks table s form 0 ts) u e
 
-    those : Children table s form 0 (count_trees ts) (λ t. trees_occur ts t) to.from
+    those : Children table s form 0 (count_trees ts) (λ t. dropped_among deferred_column hooks table s form 0 ts t)
+        (λ t. trees_occur ts t) to.from
     those = all_completing_make deferred_column hooks table ts s form 0 to.from checked suits.1 to.is
 
     full_as : IsFullAs (def_of table s) form (count_vals to.from)
     full_as = subst (IsFullAs (def_of table s) form) (sym those.counted) suits.0.0
 
-    go : (b : Bool)
-        → Kept table s (begun form ts) (if b then whole (value_as form to.from) else begun form (wholes to.from))
-    go true = record {
-      suits = value_fits table s form to.from full_as (slice_behind table s form ts suits.2) those.fit;
+    go : (b : Bool) → is_closed_slice form ≡ b
+        → Kept table s (λ t. dropped_among deferred_column hooks table s form 0 ts t) (begun form ts)
+        (if b then whole (value_as form to.from) else begun form (wholes to.from))
+    go true is = record {
+      suits = value_fits table s form to.from full_as (sound_as table s form ts suits.2) those.fit;
       touched = λ there. tt;
-      hold = λ t. value_holds (def_of table s) form to.from full_as t ∙ those.hold t;
+      hold = λ t. omega (
+        arith,
+        value_holds table s form to.from full_as those.fit t,
+        slice_leaves_none form to.from t is,
+        those.hold t,
+      );
     }
-    go false = record {
+    go false is = record {
       suits = (
         subst (IsBegunAs (def_of table s) form) (sym (count_wholes to.from ∙ those.counted)) suits.0,
         fitting_suit table s form 0 to.from those.fit,
         right_wholes table s form ts to.from those.counted suits.2,
       );
       touched = λ there. tt;
-      hold = λ t. wholes_hold to.from t ∙ those.hold t;
+      hold = λ t. omega (arith, wholes_hold to.from t, those.hold t);
     }
 
 here_keeps : (hooks : Meanings) (table : Table) (s : ℕ) (tree u : Tree) → IsChecked table → Suits table s tree
-    → finished_here hooks table s tree ≡ Some u → Kept table s tree u
+    → finished_here hooks table s tree ≡ Some u
+    → Kept table s (λ t. dropped_by_finishing hooks table s [] tree t) tree u
 here_keeps hooks table s hole u checked suits e =
     let same : hole ≡ u = cc in rw (← same) (record { suits = tt; touched = λ there. there; hold = λ t. refl })
 here_keeps hooks table s entered u checked suits e = closed_keeps hooks table s entered u checked suits e
 here_keeps hooks table s (whole v) u checked suits e =
-    let same : whole v ≡ u = cc in rw (← same) (record { suits = suits; touched = λ there. there; hold = λ t. refl })
+    let same : whole v ≡ u = cc in rw (← same) (record { suits = suits; touched = λ there. there; hold = λ t. omega arith })
 here_keeps hooks table s (begun form ts) u checked suits e = begun_keeps hooks table s form ts u checked suits e
 
 right_kept : (table : Table) (s : ℕ) (form : Form) (ts us : Trees) → (IsContent ts → IsContent us)
-    → (AreTouched ts → AreTouched us) → IsBegunRightly table s form ts → IsBegunRightly table s form us
-right_kept table s as_struct ts us keeps all rightly = tt
-right_kept table s as_array ts us keeps all rightly = tt
-right_kept table s (as_variant k) ts us keeps all rightly = rightly
-right_kept table s as_some ts us keeps all rightly = keeps rightly
-right_kept table s as_ok ts us keeps all rightly = keeps rightly
-right_kept table s as_err ts us keeps all rightly = keeps rightly
-right_kept table s as_pointer ts us keeps all rightly = (keeps rightly.0, rightly.1)
-right_kept table s as_list ts us keeps all rightly = all rightly
-right_kept table s as_slice ts us keeps all rightly = (all rightly.0, rightly.1)
-right_kept table s as_closed_slice ts us keeps all rightly = (all rightly.0, rightly.1)
+    → (AreTouched ts → AreTouched us) → (AreEntries ts → AreEntries us) → IsBegunRightly table s form ts → IsBegunRightly table s form us
+right_kept table s as_struct ts us keeps all pairs rightly = tt
+right_kept table s as_array ts us keeps all pairs rightly = tt
+right_kept table s (as_variant k) ts us keeps all pairs rightly = rightly
+right_kept table s as_some ts us keeps all pairs rightly = keeps rightly
+right_kept table s as_ok ts us keeps all pairs rightly = keeps rightly
+right_kept table s as_err ts us keeps all pairs rightly = keeps rightly
+right_kept table s as_pointer ts us keeps all pairs rightly = (keeps rightly.0, rightly.1)
+right_kept table s as_list ts us keeps all pairs rightly = all rightly
+right_kept table s as_set ts us keeps all pairs rightly = all rightly
+right_kept table s (as_map base) ts us keeps all pairs rightly = pairs rightly
+right_kept table s as_dyn_array ts us keeps all pairs rightly = all rightly
+right_kept table s (as_dyn_object keys) ts us keeps all pairs rightly = (all rightly.0, rightly.1)
+right_kept table s as_slice ts us keeps all pairs rightly = (all rightly.0, rightly.1)
+right_kept table s as_closed_slice ts us keeps all pairs rightly = (all rightly.0, rightly.1)
 
 -- a begun place above the cursor
 above_keeps : (hooks : Meanings) (table : Table) (s : ℕ) (form : Form) (on_way : ℕ) (becomes : ℕ → Tree → Option Tree)
-    (ts : Trees) (next : Tree) → IsChecked table
-    → ((shape : ℕ) (t u : Tree) → Suits table shape t → becomes shape t ≡ Some u → Kept table shape t u)
+    (drops : ℕ → Tree → ℕ → ℕ) (ts : Trees) (next : Tree) → IsChecked table
+    → ((shape : ℕ) (t u : Tree) → Suits table shape t → becomes shape t ≡ Some u
+    → Kept table shape (λ k. drops shape t k) t u)
     → Suits table s (begun form ts)
     → option_map (begun form) (closed_but hooks table s form on_way becomes 0 ts) ≡ Some next
-    → Kept table s (begun form ts) next
-above_keeps hooks table s form on_way becomes ts next checked keeps suits e =
+    → Kept table s (λ t. dropped_but hooks table s form on_way drops 0 ts t) (begun form ts) next
+above_keeps hooks table s form on_way becomes drops ts next checked keeps suits e =
     rw to.same (record {
       suits = (
         subst (IsBegunAs (def_of table s) form) (sym those.counted) suits.0,
         those.suit,
-        right_kept table s form ts to.from those.content those.touched suits.2,
+        right_kept table s form ts to.from those.content those.touched
+            (entries_there ts to.from those.there) suits.2,
       );
       touched = λ there. tt;
       hold = those.hold;
@@ -232,21 +304,23 @@ above_keeps hooks table s form on_way becomes ts next checked keeps suits e =
     to : Mapped (begun form) (closed_but hooks table s form on_way becomes 0 ts) next
     to = mapped_is (begun form) (closed_but hooks table s form on_way becomes 0 ts) next e
 
-    those : AllKept table s form 0 ts to.from
-    those = closed_but_keep hooks table s form on_way becomes 0 ts to.from checked keeps suits.1 to.is
+    those : AllKept table s form 0 (λ t. dropped_but hooks table s form on_way drops 0 ts t) ts to.from
+    those = closed_but_keep hooks table s form on_way becomes drops 0 ts to.from checked keeps suits.1 to.is
 
--- over a checked table the tree at the end suits the shape, and holds each token as often as before
+-- over a checked table the tree at the end suits the shape, and holds each token as often as before, but for what is dropped
 pub finish_keeps : (hooks : Meanings) (table : Table) (s : ℕ) (cursor : Place) (tree next : Tree) → IsChecked table
-    → Suits table s tree → finished hooks table s cursor tree ≡ Some next → Kept table s tree next
+    → Suits table s tree → finished hooks table s cursor tree ≡ Some next
+    → Kept table s (λ t. dropped_by_finishing hooks table s cursor tree t) tree next
 finish_keeps hooks table s [] tree next checked suits e = here_keeps hooks table s tree next checked suits e
 finish_keeps hooks table s (i ∷ place) hole next checked suits e =
     let same : hole ≡ next = cc in rw (← same) (record { suits = tt; touched = λ there. there; hold = λ t. refl })
 finish_keeps hooks table s (i ∷ place) entered next checked suits e =
     let same : entered ≡ next = cc in rw (← same) (record { suits = suits; touched = λ there. there; hold = λ t. refl })
 finish_keeps hooks table s (i ∷ place) (whole v) next checked suits e =
-    let same : whole v ≡ next = cc in rw (← same) (record { suits = suits; touched = λ there. there; hold = λ t. refl })
+    let same : whole v ≡ next = cc in rw (← same) (record { suits = suits; touched = λ there. there; hold = λ t. omega arith })
 finish_keeps hooks table s (i ∷ place) (begun form ts) next checked suits e =
-    above_keeps hooks table s form i (λ (shape : ℕ) (t : Tree). finished hooks table shape place t) ts next checked
+    above_keeps hooks table s form i (λ (shape : ℕ) (t : Tree). finished hooks table shape place t)
+    (λ (shape : ℕ) (t : Tree) (k : ℕ). dropped_by_finishing hooks table shape place t k) ts next checked
     (λ shape t u fits is. finish_keeps hooks table shape place t u checked fits is) suits e
 
 -- The tree at the end is one of strict mode

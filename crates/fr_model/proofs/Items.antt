@@ -8,11 +8,12 @@ use Rattle.fr_shape.specs.declared.error.Operation.{Operation}
 use Rattle.fr_shape.specs.Fits.{fits, all_fit, points_at}
 use Rattle.fr_shape.specs.Look.{Table, def_of}
 use Rattle.fr_shape.specs.Val.{Val, Vals, unit, list_of, ptr, no_vals, first}
+use Rattle.fr_model.specs.Collections.{set_item_refusal}
 use Rattle.fr_model.specs.Contents.{is_slice}
 use Rattle.fr_model.specs.Items.{unless_list, init_array_refusal, whole_array_refusal, begun_item_refusal, item_refusal, with_item, is_open_slice, closed_slice, shared_slice_by, shared_slice_refusal}
 use Rattle.fr_model.specs.Places.{array_limit}
 use Rattle.fr_model.specs.Step.{at_shape, opened, init_list_refusal}
-use Rattle.fr_model.specs.Tree.{Form, as_array, as_list, as_slice, Tree, hole, entered, whole, begun, Trees, no_trees, branch, and_last, child_as, count_trees, count_below, holes, wholes, fresh, tree_occurs, trees_occur, Mode}
+use Rattle.fr_model.specs.Tree.{Form, as_array, as_list, as_slice, as_set, as_dyn_array, Tree, hole, entered, whole, begun, Trees, no_trees, branch, and_last, child_as, count_trees, count_below, holes, wholes, fresh, tree_occurs, trees_occur, Mode}
 use Rattle.fr_model.specs.Well.{IsTouched, AreTouched, Suits, AllOff, AtCursor, OffBut}
 use Rattle.fr_model.proofs.Becoming.{Placed, closed_suits}
 use Rattle.fr_model.proofs.Opening.{enter_touched, fresh_suits, fresh_at_cursor, holes_off, wholes_off}
@@ -31,7 +32,7 @@ items_suit table s item is i (first v vs) fit =
     let shape : child_as table s as_list i ≡ item.0 = rw is refl in
     (rw shape both.0, items_suit table s item is (suc i) vs both.1)
 
-wholes_touched : (vs : Vals) → AreTouched (wholes vs)
+pub wholes_touched : (vs : Vals) → AreTouched (wholes vs)
 wholes_touched no_vals = tt
 wholes_touched (first v vs) = (tt, wholes_touched vs)
 
@@ -46,8 +47,8 @@ whole_list mode table s item (list_of vs) is fit =
 whole_list mode table s item unit is fit = cc
 whole_list mode table s item _ is fit = let none = rw (settled_list table s item is) at fit in cc
 
-pub list_opens : (mode : Mode) (table : Table) (s : ℕ) (t : Tree) → init_list_refusal s (def_of table s) t ≡ None
-    → Placed mode table s [] t → Placed mode table s [] (opened (def_of table s) t)
+pub list_opens : (mode : Mode) (table : Table) (s : ℕ) (t : Tree)
+    → init_list_refusal s (def_of table s) t ≡ None → Placed mode table s [] t → Placed mode table s [] (opened (def_of table s) t)
 list_opens mode table s hole e there = absurd there.leads
 list_opens mode table s entered e there = go (def_of table s) refl e
   where
@@ -109,6 +110,8 @@ array_opens mode table s (begun form ts) e there = there
 abbrev pub TakesItems : Form → Type 0
 TakesItems as_list = Unit {0}
 TakesItems as_slice = Unit {0}
+TakesItems as_set = Unit {0}
+TakesItems as_dyn_array = Unit {0}
 TakesItems _ = ⊥
 
 pub record TakesAnItem (t : Tree) : Type 0 where
@@ -123,21 +126,28 @@ takes_an_item def (begun form ts) e = go form e
     go : (form : Form) → begun_item_refusal def form ≡ None → TakesAnItem (begun form ts)
     go as_list e = record { form = as_list; children = ts; is = refl; takes = tt }
     go as_slice e = record { form = as_slice; children = ts; is = refl; takes = tt }
+    go as_dyn_array e = record { form = as_dyn_array; children = ts; is = refl; takes = tt }
     go _ e = cc
 takes_an_item def _ e = cc
 
-last_suits : (table : Table) (s : ℕ) (form : Form) (k i : ℕ) (ts : Trees) (last : Tree) → k ≡ i + count_trees ts
+pub takes_a_set_item : (def : Def) (t : Tree) → set_item_refusal def t ≡ None → TakesAnItem t
+takes_a_set_item (Def.Set item) (begun as_set ts) e = record { form = as_set; children = ts; is = refl; takes = tt }
+takes_a_set_item (Def.Set item) (begun _ ts) e = cc
+takes_a_set_item (Def.Set item) _ e = cc
+takes_a_set_item _ t e = cc
+
+pub last_suits : (table : Table) (s : ℕ) (form : Form) (k i : ℕ) (ts : Trees) (last : Tree) → k ≡ i + count_trees ts
     → SuitFrom table s form i ts → Suits table (child_as table s form k) last → SuitFrom table s form i (and_last ts last)
 last_suits table s form k i no_trees last is suit here =
     (subst (λ (n : ℕ). Suits table (child_as table s form n) last) (omega arith) here, tt)
 last_suits table s form k i (branch t ts) last is suit here =
     (suit.0, last_suits table s form k (suc i) ts last (omega arith) suit.1 here)
 
-last_touched : (ts : Trees) (last : Tree) → AreTouched ts → IsTouched last → AreTouched (and_last ts last)
+pub last_touched : (ts : Trees) (last : Tree) → AreTouched ts → IsTouched last → AreTouched (and_last ts last)
 last_touched no_trees last touched here = (here, tt)
 last_touched (branch t ts) last touched here = (touched.0, last_touched ts last touched.1 here)
 
-last_leads : (mode : Mode) (ts : Trees) (last : Tree) → AllOff mode ts → AtCursor mode last
+pub last_leads : (mode : Mode) (ts : Trees) (last : Tree) → AllOff mode ts → AtCursor mode last
     → OffBut mode (count_trees ts) (λ child. AtCursor mode child) (and_last ts last)
 last_leads mode no_trees last off here = (here, tt)
 last_leads mode (branch t ts) last off here = (off.0, last_leads mode ts last off.1 here)
@@ -176,6 +186,28 @@ item_placed mode table s t takes there =
             last_suits table s as_slice (count_trees ts) 0 ts (fresh (def_of table shape)) (omega arith) there.suits.1
                 (fresh_suits table shape),
             (last_touched ts (fresh (def_of table shape)) there.suits.2.0 (enter_touched (def_of table shape) hole), there.suits.2.1),
+          );
+          leads = last_leads mode ts (fresh (def_of table shape)) there.leads (fresh_at_cursor mode (def_of table shape));
+        }
+    go as_set ts takes there =
+        let shape : ℕ = child_as table s as_set (count_trees ts) in
+        record {
+          suits = (
+            there.suits.0,
+            last_suits table s as_set (count_trees ts) 0 ts (fresh (def_of table shape)) (omega arith) there.suits.1
+                (fresh_suits table shape),
+            last_touched ts (fresh (def_of table shape)) there.suits.2 (enter_touched (def_of table shape) hole),
+          );
+          leads = last_leads mode ts (fresh (def_of table shape)) there.leads (fresh_at_cursor mode (def_of table shape));
+        }
+    go as_dyn_array ts takes there =
+        let shape : ℕ = child_as table s as_dyn_array (count_trees ts) in
+        record {
+          suits = (
+            there.suits.0,
+            last_suits table s as_dyn_array (count_trees ts) 0 ts (fresh (def_of table shape)) (omega arith) there.suits.1
+                (fresh_suits table shape),
+            last_touched ts (fresh (def_of table shape)) there.suits.2 (enter_touched (def_of table shape) hole),
           );
           leads = last_leads mode ts (fresh (def_of table shape)) there.leads (fresh_at_cursor mode (def_of table shape));
         }

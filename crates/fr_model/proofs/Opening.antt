@@ -13,11 +13,11 @@ use Rattle.fr_shape.specs.Val.{Val, Vals, unit, product, no_vals, first}
 use Rattle.fr_shape.specs.Fits.{fits, fields_fit}
 use Rattle.fr_model.specs.Places.{array_limit, vals_nth}
 use Rattle.fr_model.specs.Journal.{entered_at, Journal, Held, written, just_entered, untouched, at_least_entered, held}
-use Rattle.fr_model.specs.Tree.{Form, as_struct, as_array, as_variant, as_some, as_ok, as_err, as_pointer, as_list, as_slice, as_closed_slice, form_of, form_at, selected, Tree, hole, entered, whole, begun, Trees, no_trees, branch, tree_nth, change_nth, change_child, child_as, count_trees, holes, wholes, fresh, Mode, strict, deferred}
+use Rattle.fr_model.specs.Tree.{Form, as_struct, as_array, as_variant, as_some, as_ok, as_err, as_pointer, as_list, as_slice, as_closed_slice, as_set, as_map, as_dyn_array, as_dyn_object, form_of, form_at, over_base, selected, Tree, hole, entered, whole, begun, Trees, no_trees, branch, tree_nth, change_nth, change_child, child_as, count_trees, holes, wholes, fresh, Mode, strict, deferred}
 use Rattle.fr_model.specs.Relation.{HasParts}
 use Rattle.fr_model.specs.Step.{opened, enter, enter_child}
 use Rattle.fr_model.specs.Variants.{fields_or_none, variant_fields}
-use Rattle.fr_model.specs.Well.{HasFieldsOf, IsFullAs, IsBegunAs, IsTouched, IsContent, AreTouched, IsBegunRightly, Suits, IsOff, AllOff, AtCursor, OffBut, Leads}
+use Rattle.fr_model.specs.Well.{HasFieldsOf, IsFullAs, IsBegunAs, IsTouched, IsContent, AreTouched, AreEntries, AreDone, IsBegunRightly, Suits, IsOff, AllOff, AtCursor, OffBut, Leads}
 use Rattle.fr_model.proofs.Beneath.{down, held_down, IsLow, untouched_below, written_below}
 use Rattle.fr_model.proofs.Agreement.{IsWhole, by_value, by_entry, Agrees, AgreeAll, agree_change, down_same, down_other}
 use Rattle.fr_model.proofs.Structs.{SuitFrom, settled_struct, all_from, WholesSuit, wholes_suit, count_change, count_holes, holes_suit, suit_change}
@@ -27,14 +27,16 @@ abbrev pub IsOpen : Tree → Type 0
 IsOpen (whole v) = ⊥
 IsOpen _ = Unit {0}
 
--- child i of the place of shape s may be entered: a field of a struct, an element of an array that isn't whole and not too large, or a
--- field of the variant that is selected
+-- child i of the place of shape s may be entered: a field of a struct, an element of an array that isn't whole and not too large, a
+-- field of the variant that is selected, or the value of a map's last entry
 pub data Enterable (table : Table) (s i : ℕ) (t : Tree) : Type 0 where
   a_field : (struct : StructDef) → def_of table s ≡ Def.Struct struct → i < length struct.fields → Enterable table s i t
   an_element : (item : ShapeId) (n : ℕ) → def_of table s ≡ Def.Array item n → i < n → n ≤ array_limit → IsOpen t
       → Enterable table s i t
   a_variant_field : (k : ℕ) (enumeration : EnumDef) → def_of table s ≡ Def.Enum enumeration → selected t ≡ Some k
       → i < length (variant_fields (def_of table s) k) → Enterable table s i t
+  a_value : (key item : ShapeId) → def_of table s ≡ Def.Map key item → (base : ℕ) (children : Trees) → t ≡ begun (as_map base) children
+      → suc i ≡ count_trees children → Enterable table s i t
 
 begun_fields : (struct : StructDef) (form : Form) (n : ℕ) → IsFullAs (Def.Struct struct) form n → n ≡ length struct.fields
 begun_fields struct as_struct n full_as = full_as
@@ -66,6 +68,38 @@ begun_within table s i (as_variant j) ts (a_variant_field k enumeration is chose
     (begun_variant (def_of table s) j (count_trees ts) full_as) in
     omega (arith, below, count)
 begun_within table s i _ ts (a_variant_field k enumeration is chosen below) full_as = cc
+begun_within table s i form ts (a_value key item is base children there last) full_as =
+    let same : ts ≡ children = cc in
+    let count : count_trees ts ≡ count_trees children = ap count_trees same in
+    omega arith
+
+begun_entries : (key item : ShapeId) (form : Form) (n : ℕ) (ts : Trees) → IsFullAs (Def.Map key item) form n → AreDone form ts
+begun_entries key item (as_map base) n ts full_as = tt
+begun_entries key item _ n ts full_as = absurd full_as
+
+fields_done : (struct : StructDef) (form : Form) (n : ℕ) (ts : Trees) → IsFullAs (Def.Struct struct) form n → AreDone form ts
+fields_done struct as_struct n ts full_as = tt
+fields_done struct _ n ts full_as = absurd full_as
+
+elements_done : (item : ShapeId) (m : ℕ) (form : Form) (n : ℕ) (ts : Trees) → IsFullAs (Def.Array item m) form n → AreDone form ts
+elements_done item m as_array n ts full_as = tt
+elements_done item m _ n ts full_as = absurd full_as
+
+variant_done : (enumeration : EnumDef) (form : Form) (n : ℕ) (ts : Trees) → IsFullAs (Def.Enum enumeration) form n
+    → AreDone form ts
+variant_done enumeration (as_variant k) n ts full_as = tt
+variant_done enumeration _ n ts full_as = absurd full_as
+
+-- a place of which a child is entered so is neither a set nor a dynamic value
+pub enterable_done : (table : Table) (s i : ℕ) (t : Tree) (form : Form) (n : ℕ) (ts : Trees) → Enterable table s i t
+    → IsFullAs (def_of table s) form n → AreDone form ts
+enterable_done table s i t form n ts (a_field struct is below) full_as = fields_done struct form n ts (rw is at full_as)
+enterable_done table s i t form n ts (an_element item m is below few not_whole) full_as =
+    elements_done item m form n ts (rw is at full_as)
+enterable_done table s i t form n ts (a_variant_field k enumeration is chosen below) full_as =
+    variant_done enumeration form n ts (rw is at full_as)
+enterable_done table s i t form n ts (a_value key item is base children there last) full_as =
+    begun_entries key item form n ts (rw is at full_as)
 
 -- a content that is there stays there
 pub content_changed : (ts : Trees) (i : ℕ) (change : Tree → Tree) → IsTouched (change (tree_nth i ts)) → IsContent ts
@@ -79,6 +113,24 @@ all_changed : (ts : Trees) (i : ℕ) (change : Tree → Tree) → IsTouched (cha
 all_changed no_trees i change touched has = tt
 all_changed (branch t ts) zero change touched has = (touched, has.1)
 all_changed (branch t ts) (suc i) change touched has = (has.0, all_changed ts i change touched has.1)
+
+entries_changed : (ts : Trees) (i : ℕ) (change : Tree → Tree) → IsTouched (change (tree_nth i ts)) → AreEntries ts
+    → AreEntries (change_nth i change ts)
+entries_changed no_trees i change touched are = tt
+entries_changed (branch key no_trees) i change touched are = absurd are
+entries_changed (branch key (branch value no_trees)) zero change touched are = touched
+entries_changed (branch key (branch value no_trees)) (suc zero) change touched are = are
+entries_changed (branch key (branch value no_trees)) (suc (suc i)) change touched are = are
+entries_changed (branch key (branch value (branch next rest))) zero change touched are = (touched, are.1, are.2)
+entries_changed (branch key (branch value (branch next rest))) (suc zero) change touched are = (are.0, touched, are.2)
+entries_changed (branch key (branch value (branch next rest))) (suc (suc i)) change touched are =
+    entries_after key value i change next rest are (entries_changed (branch next rest) i change touched are.2)
+  where
+    entries_after : (key value : Tree) (i : ℕ) (change : Tree → Tree) (next : Tree) (rest : Trees)
+        → AreEntries (branch key (branch value (branch next rest))) → AreEntries (change_nth i change (branch next rest))
+        → AreEntries (branch key (branch value (change_nth i change (branch next rest))))
+    entries_after key value zero change next rest are after = (are.0, are.1, after)
+    entries_after key value (suc i) change next rest are after = (are.0, are.1, after)
 
 pub rightly_changed : (table : Table) (s : ℕ) (form : Form) (ts : Trees) (i : ℕ) (change : Tree → Tree)
     → IsTouched (change (tree_nth i ts)) → IsBegunRightly table s form ts
@@ -95,6 +147,11 @@ rightly_changed table s as_list ts i change touched rightly = all_changed ts i c
 rightly_changed table s as_slice ts i change touched rightly = (all_changed ts i change touched rightly.0, rightly.1)
 rightly_changed table s as_closed_slice ts i change touched rightly =
     (all_changed ts i change touched rightly.0, rightly.1)
+rightly_changed table s as_set ts i change touched rightly = all_changed ts i change touched rightly
+rightly_changed table s (as_map base) ts i change touched rightly = entries_changed ts i change touched rightly
+rightly_changed table s as_dyn_array ts i change touched rightly = all_changed ts i change touched rightly
+rightly_changed table s (as_dyn_object keys) ts i change touched rightly =
+    (all_changed ts i change touched rightly.0, rightly.1)
 
 -- the children that a place of this form has, or gets when child i is entered
 pub record Opening (mode : Mode) (table : Table) (s i : ℕ) (form : Form) (t : Tree) : Type 0 where
@@ -109,7 +166,7 @@ pub record Opening (mode : Mode) (table : Table) (s i : ℕ) (form : Form) (t : 
 
 -- holes
 
-hole_off : (mode : Mode) → IsOff mode hole
+pub hole_off : (mode : Mode) → IsOff mode hole
 hole_off strict = tt
 hole_off (deferred start) = tt
 
@@ -170,6 +227,7 @@ opening_entered mode table s i (an_element item n is below few not_whole) =
     subst (λ (form : Form). Opening mode table s i form entered) (sym (ap form_of is))
     (opening_holes mode table s i n as_array tt (rw is refl) (rw is (refl, few)) tt below)
 opening_entered mode table s i (a_variant_field k enumeration is chosen below) = cc
+opening_entered mode table s i (a_value key item is base children there last) = cc
 
 product_agrees : (table : Table) (s : ℕ) (vs : Vals) (notes : Journal) → IsWhole table s (product vs) (held notes [])
     → AgreeAll table s as_struct notes 0 (wholes vs)
@@ -222,10 +280,11 @@ pub opening : (mode : Mode) (table : Table) (s i : ℕ) (t : Tree) → Enterable
 opening mode table s i hole enterable at suits = absurd at
 opening mode table s i entered enterable at suits = opening_entered mode table s i enterable
 opening mode table s i (whole v) (a_field struct is below) at suits =
-    subst (λ (form : Form). Opening mode table s i form (whole v)) (sym (ap form_of is))
+    subst (λ (form : Form). Opening mode table s i form (whole v)) (sym (ap (λ (def : Def). over_base (form_of def) v) is))
     (opening_whole mode table s i struct v is below suits)
 opening mode table s i (whole v) (an_element item n is below few not_whole) at suits = absurd not_whole
 opening mode table s i (whole v) (a_variant_field k enumeration is chosen below) at suits = cc
+opening mode table s i (whole v) (a_value key item is base children there last) at suits = cc
 opening mode table s i (begun form ts) enterable at suits = opening_begun mode table s i form ts enterable at suits
 
 -- a fresh place

@@ -4,20 +4,21 @@ use Rattle.std.specs.Option.{option_map}
 use Rattle.fr_shape.specs.declared.shape.Def.{Def}
 use Rattle.fr_shape.specs.declared.shape.ShapeId.{ShapeId}
 use Rattle.fr_shape.specs.Look.{Table, def_of}
-use Rattle.fr_shape.specs.Val.{Val, Vals, unit, product, list_of}
+use Rattle.fr_shape.specs.Val.{Val, Vals, unit, product, list_of, set_of, map_of}
 use Rattle.fr_shape.specs.Fits.{fits}
 use Rattle.fr_path.specs.declared.path_steps.PathStep.{PathStep}
 use Rattle.fr_model.specs.Paths.{step_as, step_below, steps_in, path_of}
+use Rattle.fr_model.specs.Collections.{with_key, with_ended_item, number_in}
 use Rattle.fr_model.specs.Items.{with_item, closed_slice}
 use Rattle.fr_model.specs.Contents.{variant_anew, around, content_anew, slice_anew, kept_in, is_entered_in_place, content_of, kept_option}
-use Rattle.fr_model.specs.Places.{Place, up, content_shape, parts_of, items_of}
-use Rattle.fr_model.specs.Step.{parts_as, opened_value, opened, enter, enter_child, enters, puts, put_child, puts_child, enters_content, option_kept, content_kept, pointer_kept, begins_pointer, opens, enters_item, closes, variant_kept, selects, puts_and_leaves, leaves}
-use Rattle.fr_model.specs.Tree.{Form, as_some, form_of, form_at, Tree, hole, entered, whole, begun, Trees, no_trees, branch, tree_nth, child_tree, change_nth, change_child, tree_at, change_at, child_as, count_trees, count_below, Mode, strict, deferred, State, cursor_shape, cursor_tree}
+use Rattle.fr_model.specs.Places.{Place, up, content_shape, parts_of, items_of, set_items_of, entries_of}
+use Rattle.fr_model.specs.Step.{parts_as, opened_value, opened, enter, enter_child, enters, puts, put_child, puts_child, enters_content, option_kept, content_kept, pointer_kept, begins_pointer, opens, enters_item, enters_key, takes_item, closes, variant_kept, selects, puts_and_leaves, leaves}
+use Rattle.fr_model.specs.Tree.{Form, as_some, form_of, form_at, over_base, Tree, hole, entered, whole, begun, Trees, no_trees, branch, tree_nth, child_tree, change_nth, change_child, tree_at, change_at, child_as, count_trees, count_below, Mode, strict, deferred, State, cursor_shape, cursor_tree}
 use Rattle.fr_model.specs.Well.{Suits, AtCursor, Leads, IsInOrder}
 use Rattle.fr_model.proofs.Agreement.{leads_within, leads_child}
 use Rattle.fr_model.proofs.Cursor.{at_cursor, suits_at}
 use Rattle.fr_model.proofs.Becoming.{kept_so_is}
-use Rattle.fr_model.proofs.Structs.{settled_array, settled_list}
+use Rattle.fr_model.proofs.Structs.{settled_array, settled_list, settled_set, settled_map}
 
 pub as_deep : (here : Place) (t : Tree) → length (steps_in here t) ≡ length here
 as_deep [] t = refl
@@ -86,6 +87,20 @@ list_items table s item (list_of vs) is fit none = cc
 list_items table s item unit is fit none = cc
 list_items table s item _ is fit none = let absent = rw (settled_list table s item is) at fit in cc
 
+-- and so has a whole set, and a whole map has entries
+
+set_parts : (table : Table) (s : ℕ) (item : ShapeId) (v : Val) → def_of table s ≡ Def.Set item → fits table s v ≡ true
+    → set_items_of v ≡ None → ⊥
+set_parts table s item (set_of vs) is fit none = cc
+set_parts table s item unit is fit none = cc
+set_parts table s item _ is fit none = let absent = rw (settled_set table s item is) at fit in cc
+
+map_parts : (table : Table) (s : ℕ) (key item : ShapeId) (v : Val) → def_of table s ≡ Def.Map key item
+    → fits table s v ≡ true → entries_of v ≡ None → ⊥
+map_parts table s key item (map_of es) is fit none = cc
+map_parts table s key item unit is fit none = cc
+map_parts table s key item _ is fit none = let absent = rw (settled_map table s key item is) at fit in cc
+
 opened_below : (mode : Mode) (table : Table) (s i : ℕ) (t : Tree) → AtCursor mode t → Suits table s t
     → step_below i (opened (def_of table s) t) ≡ step_as (form_at (def_of table s) t) i
 opened_below mode table s i hole at suits = absurd at
@@ -94,13 +109,15 @@ opened_below mode table s i (begun form ts) at suits = refl
 opened_below mode table s i (whole v) at suits = of_parts (parts_as (form_of (def_of table s)) v) refl
   where
     without : (def : Def) → def_of table s ≡ def → parts_as (form_of def) v ≡ None
-        → PathStep.Field i ≡ step_as (form_of def) i
+        → PathStep.Field i ≡ step_as (over_base (form_of def) v) i
     without (Def.Array item n) is none = absurd (array_parts table s item n v is suits none)
     without (Def.List item) is none = absurd (list_items table s item v is suits none)
+    without (Def.Set item) is none = absurd (set_parts table s item v is suits none)
+    without (Def.Map key item) is none = absurd (map_parts table s key item v is suits none)
     without _ is none = refl
 
     of_parts : (parts : Option Vals) → parts_as (form_of (def_of table s)) v ≡ parts
-        → step_below i (opened_value (form_of (def_of table s)) v parts) ≡ step_as (form_of (def_of table s)) i
+        → step_below i (opened_value (form_of (def_of table s)) v parts) ≡ step_as (over_base (form_of (def_of table s)) v) i
     of_parts (Some vs) is = refl
     of_parts None none = without (def_of table s) refl none
 
@@ -169,6 +186,15 @@ item_adds table s state form children leads is =
     steps_on state.mode state.cursor (count_below (cursor_tree state) ∷ []) state.tree (with_item table s) leads
     ∙ ap (λ (here : Tree). path_of state ++ step_below (count_below here) (with_item table s here) ∷ []) is
 
+-- maps
+
+pub key_adds : (table : Table) (s : ℕ) (state : State) (form : Form) (children : Trees)
+    → Leads state.mode state.cursor state.tree → cursor_tree state ≡ begun form children
+    → path_of (enters_key table s state) ≡ path_of state ++ step_as form (count_trees children) ∷ []
+key_adds table s state form children leads is =
+    steps_on state.mode state.cursor (count_below (cursor_tree state) ∷ []) state.tree (with_key table s) leads
+    ∙ ap (λ (here : Tree). path_of state ++ step_below (count_below here) (with_key table s here) ∷ []) is
+
 pub open_keeps : (table : Table) (s : ℕ) (state : State) → Leads state.mode state.cursor state.tree
     → path_of (opens table s state) ≡ path_of state
 open_keeps table s state leads = change_keeps state (opened (def_of table s)) leads
@@ -221,3 +247,23 @@ pub leave_as_it_is : (state : State) (before : List PathStep) (last : PathStep)
     → path_of state ≡ before ++ last ∷ [] → path_of (leaves state) ≡ before
 leave_as_it_is state before last is =
     steps_left state.cursor state.tree ∙ ap front is ∙ front_of before last
+
+-- the place above is changed, and the cursor goes there
+steps_above : (mode : Mode) (here : Place) (t : Tree) (change : Tree → Tree) → Leads mode here t
+    → steps_in (up here) (change_at (up here) change t) ≡ front (steps_in here t)
+steps_above mode [] t change leads = refl
+steps_above mode (i ∷ []) t change leads = refl
+steps_above mode (i ∷ j ∷ here) (begun form ts) change leads =
+    ap (λ (steps : List PathStep). step_as form i ∷ steps)
+    (ap (steps_in (up (j ∷ here)))
+    (changed_nth i (λ child. change_at (up (j ∷ here)) change child) ts
+    (leads_within mode i (λ child. Leads mode (j ∷ here) child) ts leads))
+    ∙ steps_above mode (j ∷ here) (tree_nth i ts) change
+    (leads_child mode i (λ child. Leads mode (j ∷ here) child) ts leads))
+steps_above mode (i ∷ j ∷ here) _ change leads = absurd leads
+
+pub leave_item : (state : State) (v : Val) (before : List PathStep) (last : PathStep)
+    → Leads state.mode state.cursor state.tree → path_of state ≡ before ++ last ∷ [] → path_of (takes_item state v) ≡ before
+leave_item state v before last leads is =
+    steps_above state.mode state.cursor state.tree (with_ended_item (number_in state.cursor) v) leads ∙ ap front is
+    ∙ front_of before last

@@ -1,14 +1,22 @@
--- What lies around the cursor rests: no pointer to a slice is open there.
-use Rattle.std.proofs.Common.{◌≡◌, ℕ, zero, suc, Bool, true, false, if◌then◌else◌, [], ◌∷◌, ◌++◌, Option, Some, None}
+-- What lies around the cursor rests: no pointer to a slice is open there, and what a set or a dynamic value has there is whole.
+use Rattle.std.proofs.Common.{◌≡◌, ℕ, zero, suc, ◌<◌, Bool, true, false, if◌then◌else◌, [], ◌∷◌, ◌++◌, Option, Some, None, refl, sym, ap, subst, arith}
 use Rattle.fr_shape.specs.declared.shape.Def.{Def}
+use Rattle.fr_shape.specs.declared.shape.ShapeId.{ShapeId}
 use Rattle.fr_shape.specs.Fills.{is_empty_struct}
+use Rattle.fr_shape.specs.Fits.{fits, all_fit}
 use Rattle.fr_shape.specs.Look.{Table, def_of}
-use Rattle.fr_shape.specs.Val.{Val, Vals, product, no_vals, first}
+use Rattle.fr_shape.specs.Same.{none_twice}
+use Rattle.fr_shape.specs.Val.{Val, Vals, product, set_of, no_vals, first}
+use Rattle.fr_model.specs.Collections.{is_set, has_same, without_nth, and_item, with_ended_item, number_in, with_key}
+use Rattle.fr_model.specs.DynamicPlaces.{is_begun_dynamic}
 use Rattle.fr_model.specs.Items.{with_item, is_open_slice, closed_slice}
-use Rattle.fr_model.specs.Places.{Place, up, child_count}
-use Rattle.fr_model.specs.Step.{parts_as, opened_value, opened_as, opened, enter, enter_child, put_child}
-use Rattle.fr_model.specs.Tree.{Form, as_struct, as_array, as_variant, as_some, as_ok, as_err, as_pointer, as_list, as_slice, as_closed_slice, form_of, form_at, Tree, hole, entered, whole, begun, Trees, no_trees, branch, tree_nth, change_nth, change_child, tree_at, change_at, child_as, and_last, count_trees, count_below, holes, wholes, fresh, strict}
-use Rattle.fr_model.specs.Well.{Rests, AllRest, RestBut, RestsAround, IsOff, AllOff, OffBut, Leads}
+use Rattle.fr_model.specs.Places.{Place, up, count_children}
+use Rattle.fr_model.specs.Step.{parts_as, opened_value, opened, enter, enter_child}
+use Rattle.fr_model.specs.Tree.{Form, as_struct, as_array, as_list, as_slice, as_set, as_map, form_of, form_at, over_base, Tree, hole, entered, whole, begun, Trees, no_trees, branch, tree_nth, change_nth, change_child, tree_at, change_at, child_as, and_last, count_trees, count_below, holes, wholes, fresh}
+use Rattle.fr_model.specs.Well.{Suits, AreDone, Rests, AllRest, RestBut, RestsAround}
+use Rattle.fr_model.proofs.Structs.{settled_set}
+use Rattle.fr_model.proofs.Templates.{both_true}
+use Rattle.fr_model.proofs.Wholes.{done_none, without_changed, without_last, done_but, done_left, done_put, done_with}
 
 -- what rests, rests around any place in it
 
@@ -16,7 +24,7 @@ pub rests_here : (t : Tree) → Rests t → RestsAround [] t
 rests_here hole rests = tt
 rests_here entered rests = tt
 rests_here (whole v) rests = tt
-rests_here (begun form ts) rests = rests.1
+rests_here (begun form ts) rests = (rests.1, rests.2)
 
 pub holes_rest : (n : ℕ) → AllRest (holes n)
 holes_rest zero = tt
@@ -55,6 +63,11 @@ rest_changed zero Below After change (branch t ts) step rest = (step rest.0, res
 rest_changed (suc i) Below After change (branch t ts) step rest =
     (rest.0, rest_changed i Below After change ts step rest.1)
 
+-- what is done with beside that child
+pub done_beside : (form : Form) (i : ℕ) (change : Tree → Tree) (ts : Trees) → AreDone form (without_nth i ts)
+    → AreDone form (without_nth i (change_nth i change ts))
+done_beside form i change ts done = subst (AreDone form) (sym (without_changed i change ts)) done
+
 pub rest_on : (here way : Place) (t : Tree) (change : Tree → Tree)
     → (RestsAround [] (tree_at here t) → RestsAround way (change (tree_at here t))) → RestsAround here t
     → RestsAround (here ++ way) (change_at here change t)
@@ -62,9 +75,11 @@ rest_on [] way t change step rests = step rests
 rest_on (i ∷ here) way hole change step rests = tt
 rest_on (i ∷ here) way entered change step rests = tt
 rest_on (i ∷ here) way (whole v) change step rests = tt
-rest_on (i ∷ here) way (begun form ts) change step rests =
-    rest_changed i (λ child. RestsAround here child) (λ child. RestsAround (here ++ way) child)
-    (λ child. change_at here change child) ts (λ below. rest_on here way (tree_nth i ts) change step below) rests
+rest_on (i ∷ here) way (begun form ts) change step rests = (
+  done_beside form i (λ child. change_at here change child) ts rests.0,
+  rest_changed i (λ child. RestsAround here child) (λ child. RestsAround (here ++ way) child)
+      (λ child. change_at here change child) ts (λ below. rest_on here way (tree_nth i ts) change step below) rests.1,
+)
 
 -- The cursor goes up from a place that isn't open
 
@@ -73,15 +88,7 @@ shut_rests hole shut rests = tt
 shut_rests entered shut rests = tt
 shut_rests (whole v) shut rests = tt
 shut_rests (begun as_slice ts) shut rests = cc
-shut_rests (begun as_closed_slice ts) shut rests = (tt, rests)
-shut_rests (begun as_struct ts) shut rests = (tt, rests)
-shut_rests (begun as_array ts) shut rests = (tt, rests)
-shut_rests (begun (as_variant k) ts) shut rests = (tt, rests)
-shut_rests (begun as_some ts) shut rests = (tt, rests)
-shut_rests (begun as_ok ts) shut rests = (tt, rests)
-shut_rests (begun as_err ts) shut rests = (tt, rests)
-shut_rests (begun as_pointer ts) shut rests = (tt, rests)
-shut_rests (begun as_list ts) shut rests = (tt, rests)
+shut_rests (begun _ ts) shut rests = (tt, rests.0, rests.1)
 
 all_rest : (i : ℕ) (ts : Trees) → is_open_slice (tree_nth i ts) ≡ false → RestBut i (λ child. RestsAround [] child) ts
     → AllRest ts
@@ -95,58 +102,127 @@ rest_same i Below After no_trees step rest = tt
 rest_same zero Below After (branch t ts) step rest = (step rest.0, rest.1)
 rest_same (suc i) Below After (branch t ts) step rest = (rest.0, rest_same i Below After ts step rest.1)
 
-pub rest_up : (here : Place) (t : Tree) → is_open_slice (tree_at here t) ≡ false → RestsAround here t → RestsAround (up here) t
-rest_up [] t shut rests = rests
-rest_up (i ∷ []) hole shut rests = tt
-rest_up (i ∷ []) entered shut rests = tt
-rest_up (i ∷ []) (whole v) shut rests = tt
-rest_up (i ∷ []) (begun form ts) shut rests = all_rest i ts shut rests
-rest_up (i ∷ j ∷ here) hole shut rests = tt
-rest_up (i ∷ j ∷ here) entered shut rests = tt
-rest_up (i ∷ j ∷ here) (whole v) shut rests = tt
-rest_up (i ∷ j ∷ here) (begun form ts) shut rests =
-    rest_same i (λ child. RestsAround (j ∷ here) child) (λ child. RestsAround (up (j ∷ here)) child) ts
-    (λ below. rest_up (j ∷ here) (tree_nth i ts) shut below) rests
+-- and that is left as it is: it is no item of a set and no part of a dynamic value
+pub rest_up : (here : Place) (t : Tree) → is_open_slice (tree_at here t) ≡ false → is_set (tree_at (up here) t) ≡ false
+    → is_begun_dynamic (tree_at (up here) t) ≡ false → RestsAround here t → RestsAround (up here) t
+rest_up [] t shut no_set no_part rests = rests
+rest_up (i ∷ []) hole shut no_set no_part rests = tt
+rest_up (i ∷ []) entered shut no_set no_part rests = tt
+rest_up (i ∷ []) (whole v) shut no_set no_part rests = tt
+rest_up (i ∷ []) (begun form ts) shut no_set no_part rests =
+    (done_left form ts no_set no_part, all_rest i ts shut rests.1)
+rest_up (i ∷ j ∷ here) hole shut no_set no_part rests = tt
+rest_up (i ∷ j ∷ here) entered shut no_set no_part rests = tt
+rest_up (i ∷ j ∷ here) (whole v) shut no_set no_part rests = tt
+rest_up (i ∷ j ∷ here) (begun form ts) shut no_set no_part rests = (
+  rests.0,
+  rest_same i (λ child. RestsAround (j ∷ here) child) (λ child. RestsAround (up (j ∷ here)) child) ts
+      (λ below. rest_up (j ∷ here) (tree_nth i ts) shut no_set no_part below) rests.1,
+)
 
--- In strict mode all that lies off the way is whole or a hole
+-- and that is now whole: it is no item of a set
 
-off_rests : (t : Tree) → IsOff strict t → Rests t
-off_rests hole off = tt
-off_rests (whole v) off = tt
-off_rests entered off = absurd off
-off_rests (begun form ts) off = absurd off
+put_one : (i : ℕ) (v : Val) (Below : Tree → Type 0) (ts : Trees) → RestBut i Below ts
+    → AllRest (change_nth i (λ old. whole v) ts)
+put_one i v Below no_trees rest = tt
+put_one zero v Below (branch t ts) rest = (tt, rest.1)
+put_one (suc i) v Below (branch t ts) rest = (rest.0, put_one i v Below ts rest.1)
 
-all_off_rest : (ts : Trees) → AllOff strict ts → AllRest ts
-all_off_rest no_trees off = tt
-all_off_rest (branch t ts) off = (off_rests t off.0, all_off_rest ts off.1)
+pub rest_put_up : (here : Place) (t : Tree) (v : Val) → is_set (tree_at (up here) t) ≡ false → RestsAround here t
+    → RestsAround (up here) (change_at here (λ old. whole v) t)
+rest_put_up [] t v no_set rests = tt
+rest_put_up (i ∷ []) hole v no_set rests = tt
+rest_put_up (i ∷ []) entered v no_set rests = tt
+rest_put_up (i ∷ []) (whole u) v no_set rests = tt
+rest_put_up (i ∷ []) (begun form ts) v no_set rests =
+    (done_put form i v ts no_set rests.0, put_one i v (λ child. RestsAround [] child) ts rests.1)
+rest_put_up (i ∷ j ∷ here) hole v no_set rests = tt
+rest_put_up (i ∷ j ∷ here) entered v no_set rests = tt
+rest_put_up (i ∷ j ∷ here) (whole u) v no_set rests = tt
+rest_put_up (i ∷ j ∷ here) (begun form ts) v no_set rests = (
+  done_beside form i (λ child. change_at (j ∷ here) (λ old. whole v) child) ts rests.0,
+  rest_changed i (λ child. RestsAround (j ∷ here) child) (λ child. RestsAround (up (j ∷ here)) child)
+      (λ child. change_at (j ∷ here) (λ old. whole v) child) ts
+      (λ below. rest_put_up (j ∷ here) (tree_nth i ts) v no_set below) rests.1,
+)
 
-strict_but : (i : ℕ) (Below After : Tree → Type 0) (ts : Trees) → (Below (tree_nth i ts) → After (tree_nth i ts))
-    → OffBut strict i Below ts → RestBut i After ts
-strict_but i Below After no_trees step off = absurd off
-strict_but zero Below After (branch t ts) step off = (step off.0, all_off_rest ts off.1)
-strict_but (suc i) Below After (branch t ts) step off = (off_rests t off.0, strict_but i Below After ts step off.1)
+-- and that was an item of a set, which takes its value
 
-pub strict_rests : (here : Place) (t : Tree) → Leads strict here t → RestsAround here t
-strict_rests [] hole leads = tt
-strict_rests [] entered leads = tt
-strict_rests [] (whole v) leads = tt
-strict_rests [] (begun form ts) leads = all_off_rest ts leads
-strict_rests (i ∷ here) (begun form ts) leads =
-    strict_but i (λ child. Leads strict here child) (λ child. RestsAround here child) ts
-    (λ below. strict_rests here (tree_nth i ts) below) leads
-strict_rests (i ∷ here) _ leads = absurd leads
+last_rest : (ts : Trees) (last : Tree) → AllRest ts → Rests last → AllRest (and_last ts last)
+last_rest no_trees last rest here = (here, tt)
+last_rest (branch t ts) last rest here = (rest.0, last_rest ts last rest.1 here)
+
+with_rest : (ts : Trees) (v : Val) → AllRest ts → AllRest (and_item ts v)
+with_rest ts v rest = go (has_same v ts)
+  where
+    go : (b : Bool) → AllRest (if b then ts else and_last ts (whole v))
+    go true = rest
+    go false = last_rest ts (whole v) rest tt
+
+without_rest : (i : ℕ) (Below : Tree → Type 0) (ts : Trees) → RestBut i Below ts → AllRest (without_nth i ts)
+without_rest i Below no_trees rest = tt
+without_rest zero Below (branch t ts) rest = rest.1
+without_rest (suc i) Below (branch t ts) rest = (rest.0, without_rest i Below ts rest.1)
+
+pub rest_took : (here : Place) (t : Tree) (v : Val) → RestsAround here t
+    → RestsAround (up here) (change_at (up here) (with_ended_item (number_in here) v) t)
+rest_took [] hole v rests = tt
+rest_took [] entered v rests = tt
+rest_took [] (whole u) v rests = tt
+rest_took [] (begun form ts) v rests = (
+  done_with form (without_nth 0 ts) v (done_but form 0 ts rests.0),
+  with_rest (without_nth 0 ts) v (without_rest 0 (λ child. RestsAround [] child) ts (rest_but 0 ts rests.1)),
+)
+rest_took (i ∷ []) hole v rests = tt
+rest_took (i ∷ []) entered v rests = tt
+rest_took (i ∷ []) (whole u) v rests = tt
+rest_took (i ∷ []) (begun form ts) v rests = (
+  done_with form (without_nth i ts) v rests.0,
+  with_rest (without_nth i ts) v (without_rest i (λ child. RestsAround [] child) ts rests.1),
+)
+rest_took (i ∷ j ∷ here) hole v rests = tt
+rest_took (i ∷ j ∷ here) entered v rests = tt
+rest_took (i ∷ j ∷ here) (whole u) v rests = tt
+rest_took (i ∷ j ∷ here) (begun form ts) v rests = (
+  done_beside form i (λ child. change_at (up (j ∷ here)) (with_ended_item (number_in (j ∷ here)) v) child) ts rests.0,
+  rest_changed i (λ child. RestsAround (j ∷ here) child) (λ child. RestsAround (up (j ∷ here)) child)
+      (λ child. change_at (up (j ∷ here)) (with_ended_item (number_in (j ∷ here)) v) child) ts
+      (λ below. rest_took (j ∷ here) (tree_nth i ts) v below) rests.1,
+)
 
 -- What the commands make of the place at the cursor
 
-value_rests : (form : Form) (v : Val) (parts : Option Vals) → RestsAround [] (opened_value form v parts)
-value_rests form v (Some vs) = wholes_rest vs
-value_rests form v None = tt
+value_rests : (form : Form) (v : Val) (parts : Option Vals) → ((ts : Trees) → AreDone (over_base form v) ts)
+    → RestsAround [] (opened_value form v parts)
+value_rests form v (Some vs) done = (done (wholes vs), wholes_rest vs)
+value_rests form v None done = tt
 
-pub opened_rests : (form : Form) (count : ℕ) (t : Tree) → RestsAround [] t → RestsAround [] (opened_as form count t)
-opened_rests form count hole rests = tt
-opened_rests form count entered rests = holes_rest count
-opened_rests form count (whole v) rests = value_rests form v (parts_as form v)
-opened_rests form count (begun made ts) rests = rests
+set_rests : (table : Table) (s : ℕ) (item : ShapeId) (v : Val) → def_of table s ≡ Def.Set item → fits table s v ≡ true
+    → RestsAround [] (opened_value as_set v (parts_as as_set v))
+set_rests table s item (set_of vs) is fit =
+    let both : (all_fit table item.0 vs ≡ true) × (none_twice vs ≡ true)
+    = both_true (all_fit table item.0 vs) (none_twice vs) (rw (settled_set table s item is) at fit) in
+    (record { values = vs; are = refl; once = both.1 }, wholes_rest vs)
+set_rests table s item _ is fit = tt
+
+pub opened_rests : (table : Table) (s : ℕ) (t : Tree) → Suits table s t → RestsAround [] t
+    → RestsAround [] (opened (def_of table s) t)
+opened_rests table s hole suits rests = tt
+opened_rests table s entered suits rests =
+    (holes_done (def_of table s), holes_rest (count_children (def_of table s)))
+  where
+    holes_done : (def : Def) → AreDone (form_of def) (holes (count_children def))
+    holes_done (Def.Set item) = done_none as_set
+    holes_done _ = tt
+opened_rests table s (whole v) suits rests = go (def_of table s) refl
+  where
+    go : (def : Def) → def_of table s ≡ def → RestsAround [] (opened_value (form_of def) v (parts_as (form_of def) v))
+    go (Def.Set item) is = set_rests table s item v is suits
+    go (Def.Array item n) is = value_rests as_array v (parts_as as_array v) (λ ts. tt)
+    go (Def.List item) is = value_rests as_list v (parts_as as_list v) (λ ts. tt)
+    go (Def.Map key item) is = value_rests (as_map 0) v (parts_as (as_map 0) v) (λ ts. tt)
+    go _ is = value_rests as_struct v (parts_as as_struct v) (λ ts. tt)
+opened_rests table s (begun made ts) suits rests = rests
 
 enter_rests : (def : Def) (t : Tree) → RestsAround [] t → RestsAround [] (enter def t)
 enter_rests def hole rests = rests_here (fresh def) (fresh_rests def)
@@ -158,32 +234,24 @@ entered_rests : (i : ℕ) (def : Def) (t : Tree) → RestsAround [] t → RestsA
 entered_rests i def hole rests = tt
 entered_rests i def entered rests = tt
 entered_rests i def (whole v) rests = tt
-entered_rests i def (begun form ts) rests =
-    rest_change i (λ child. RestsAround [] child) (λ child. RestsAround [] child) (enter def) ts (enter_rests def)
-    (rest_but i ts rests)
+entered_rests i def (begun form ts) rests = (
+  done_beside form i (enter def) ts (done_but form i ts rests.0),
+  rest_change i (λ child. RestsAround [] child) (λ child. RestsAround [] child) (enter def) ts (enter_rests def)
+      (rest_but i ts rests.1),
+)
 
-pub enter_child_rests : (table : Table) (s i : ℕ) (t : Tree) → RestsAround [] t → RestsAround (i ∷ []) (enter_child table s i t)
-enter_child_rests table s i t rests =
+pub enter_child_rests : (table : Table) (s i : ℕ) (t : Tree) → Suits table s t → RestsAround [] t
+    → RestsAround (i ∷ []) (enter_child table s i t)
+enter_child_rests table s i t suits rests =
     entered_rests i (def_of table (child_as table s (form_at (def_of table s) t) i)) (opened (def_of table s) t)
-    (opened_rests (form_of (def_of table s)) (child_count table s) t rests)
+    (opened_rests table s t suits rests)
 
-put_among : (i : ℕ) (v : Val) (ts : Trees) → AllRest ts → AllRest (change_nth i (λ old. whole v) ts)
+pub put_among : (i : ℕ) (v : Val) (ts : Trees) → AllRest ts → AllRest (change_nth i (λ old. whole v) ts)
 put_among i v no_trees rest = tt
 put_among zero v (branch t ts) rest = (tt, rest.1)
 put_among (suc i) v (branch t ts) rest = (rest.0, put_among i v ts rest.1)
 
-put_rests : (i : ℕ) (v : Val) (t : Tree) → RestsAround [] t → RestsAround [] (change_child i (λ old. whole v) t)
-put_rests i v hole rests = tt
-put_rests i v entered rests = tt
-put_rests i v (whole u) rests = tt
-put_rests i v (begun form ts) rests = put_among i v ts rests
-
-pub put_child_rests : (table : Table) (s i : ℕ) (v : Val) (t : Tree) → RestsAround [] t
-    → RestsAround [] (put_child (def_of table s) i v t)
-put_child_rests table s i v t rests =
-    put_rests i v (opened (def_of table s) t) (opened_rests (form_of (def_of table s)) (child_count table s) t rests)
-
-last_rests : (ts : Trees) (last : Tree) → AllRest ts → RestsAround [] last
+pub last_rests : (ts : Trees) (last : Tree) → AllRest ts → RestsAround [] last
     → RestBut (count_trees ts) (λ child. RestsAround [] child) (and_last ts last)
 last_rests no_trees last rest here = (here, tt)
 last_rests (branch t ts) last rest here = (rest.0, last_rests ts last rest.1 here)
@@ -193,11 +261,35 @@ item_rests table s hole rests = tt
 item_rests table s entered rests = tt
 item_rests table s (whole v) rests = tt
 item_rests table s (begun form ts) rests =
-    let shape : ℕ = child_as table s form (count_trees ts) in
-    last_rests ts (fresh (def_of table shape)) rests (rests_here (fresh (def_of table shape)) (fresh_rests (def_of table shape)))
+    let shape : ℕ = child_as table s form (count_trees ts) in (
+      subst (AreDone form) (sym (without_last ts (fresh (def_of table shape)))) rests.0,
+      last_rests ts (fresh (def_of table shape)) rests.1 (rests_here (fresh (def_of table shape)) (fresh_rests (def_of table shape))),
+    )
+
+last_but : (i : ℕ) (Below : Tree → Type 0) (ts : Trees) (last : Tree) → i < count_trees ts → Rests last → RestBut i Below ts
+    → RestBut i Below (and_last ts last)
+last_but i Below no_trees last within here rest = absurd (omega arith)
+last_but zero Below (branch t ts) last within here rest = (rest.0, last_rest ts last rest.1 here)
+last_but (suc i) Below (branch t ts) last within here rest = (rest.0, last_but i Below ts last (omega arith) here rest.1)
+
+pub count_last : (ts : Trees) (last : Tree) → count_trees (and_last ts last) ≡ suc (count_trees ts)
+count_last no_trees last = refl
+count_last (branch t ts) last = ap suc (count_last ts last)
+
+-- a map with one more key
+pub key_rests : (table : Table) (s base : ℕ) (ts : Trees) → RestsAround [] (begun (as_map base) ts)
+    → RestsAround (count_trees ts ∷ []) (with_key table s (begun (as_map base) ts))
+key_rests table s base ts rests =
+    let last : Tree = fresh (def_of table (child_as table s (as_map base) (count_trees ts))) in
+    let count : count_trees (and_last ts last) ≡ suc (count_trees ts) = count_last ts last in (
+      tt,
+      last_but (count_trees ts) (λ child. RestsAround [] child) (and_last ts last) hole (omega arith) tt
+          (last_rests ts last rests.1
+          (rests_here last (fresh_rests (def_of table (child_as table s (as_map base) (count_trees ts)))))),
+    )
 
 pub closed_rests : (t : Tree) → RestsAround [] t → RestsAround [] (closed_slice t)
 closed_rests hole rests = tt
 closed_rests entered rests = tt
 closed_rests (whole v) rests = tt
-closed_rests (begun form ts) rests = rests
+closed_rests (begun form ts) rests = (tt, rests.1)

@@ -12,15 +12,18 @@ use Rattle.fr_shape.specs.Look.{Table, def_of}
 use Rattle.fr_shape.specs.Val.{Val}
 use Rattle.fr_model.specs.Commands.{Call, IsFieldCall}
 use Rattle.fr_shape.specs.Named.{field_named}
-use Rattle.fr_model.specs.Places.{Place, Column, strict_column, is_root, shape_at}
+use Rattle.fr_model.specs.Places.{Place, Column, strict_column, deferred_column, is_root, up, shape_at}
 use Rattle.fr_model.specs.Journal.{entered_at, wrote_at, Journal, Held, held, completes, Progress, may_enter, goes_to_child, goes_to_found, writes, ends, goes_up, end_rule, begin_deferred_rule, finishes_with, finish_rule, finish_notes, rule}
+use Rattle.fr_model.specs.Collections.{is_set, is_set_form}
+use Rattle.fr_model.specs.Dropping.{dropped_by_finishing}
+use Rattle.fr_model.specs.DynamicPlaces.{is_begun_dynamic, is_dynamic_form}
 use Rattle.fr_model.specs.Items.{is_open_slice}
 use Rattle.fr_model.specs.Relation.{HasParts}
 use Rattle.fr_model.specs.Variants.{field_found}
-use Rattle.fr_model.specs.Tree.{Form, as_struct, as_array, as_slice, variant_of, selected, Tree, hole, entered, begun, whole, Mode, strict, deferred, State, cursor_shape, cursor_tree, one_more_call}
+use Rattle.fr_model.specs.Tree.{Form, as_struct, as_array, as_slice, variant_of, selected, Tree, hole, entered, begun, whole, tree_nth, tree_at, Mode, strict, deferred, State, cursor_shape, cursor_tree, one_more_call}
 use Rattle.fr_model.specs.Complete.{complete}
 use Rattle.fr_model.specs.Finish.{finished}
-use Rattle.fr_model.specs.Step.{unless_refused, field_refusal, named_refusal, at_shape, enter_child, enters, begins_named, puts, is_str, is_owned_string, takes_shape, set_refusal, puts_default, violates, ended, leaves, end_in, begins_deferred, finishes, finish_in, step}
+use Rattle.fr_model.specs.Step.{unless_refused, field_refusal, named_refusal, at_shape, enter_child, enters, begins_named, puts, is_str, is_owned_string, takes_shape, set_refusal, puts_default, violates, ended, leaves, is_set_item, is_dynamic_part, ends_item, leaves_deferred, end_in, begins_deferred, finishes, finish_in, step}
 use Rattle.fr_model.specs.Scripts.{IsFitting}
 use Rattle.fr_model.specs.Well.{Suits, IsInOrder}
 use Rattle.fr_model.proofs.Plain.{AllPlain}
@@ -94,6 +97,19 @@ not_str : (def : Def) → is_sized def ≡ true → is_str def ≡ false
 not_str Def.Str sized = cc
 not_str _ sized = refl
 
+-- what has parts is neither a set nor a dynamic value, and so is what lies above the cursor
+
+parts_alone : (form : Form) → HasParts form → (is_set_form form ≡ false) × (is_dynamic_form form ≡ false)
+parts_alone as_struct parts = (refl, refl)
+parts_alone as_array parts = (refl, refl)
+parts_alone _ parts = absurd parts
+
+no_item : (i : ℕ) (here : Place) (t : Tree) → PartsAlong (i ∷ here) t
+    → (is_set (tree_at (up (i ∷ here)) t) ≡ false) × (is_begun_dynamic (tree_at (up (i ∷ here)) t) ≡ false)
+no_item i [] (begun form ts) along = parts_alone form along.0
+no_item i (j ∷ here) (begun form ts) along = no_item j here (tree_nth i ts) along.1
+no_item i here _ along = absurd along
+
 -- the end of deferred mode
 
 -- the state in which deferred mode has ended
@@ -104,7 +120,7 @@ pub finished_in_order : (hooks : Meanings) (table : Table) (root : ℕ) (state :
     → IsInOrder table root state → finished hooks table root state.cursor state.tree ≡ Some tree
     → IsInOrder table root (finishes_as state tree)
 finished_in_order hooks table root state tree checked order is =
-    let kept : Kept table root state.tree tree
+    let kept : Kept table root (λ t. dropped_by_finishing hooks table root state.cursor state.tree t) state.tree tree
     = finish_keeps hooks table root state.cursor state.tree tree checked order.suits is in
     record {
       suits = kept.suits;
@@ -234,9 +250,13 @@ module _ (hooks : Meanings) (table : Table) (checked : IsChecked table) (root : 
       or_false true = refl
       or_false false = refl
 
+  plain_here : AllPlain table at_here
+  plain_here = plain_at state.mode table root state.cursor state.tree parts order.leads order.suits plain
+
   sets_alike : (given : ℕ) (v : Val) → fits table given v ≡ true
       → BothStep table root (step hooks table root state (Call.Set given v)) (rule table root run (Call.Set given v))
-  sets_alike given v fit = rw same (go (at_here == given) refl)
+  sets_alike given v fit =
+      rw same (go (at_here == given) refl)
     where
       go : (b : Bool) → (at_here == given) ≡ b
           → BothStep table root (unless_refused (set_refusal table at_here given) (puts state v))
@@ -261,7 +281,7 @@ module _ (hooks : Meanings) (table : Table) (checked : IsChecked table) (root : 
   completes_here column =
       ap (λ (s : ℕ). completes column table notes s state.cursor) same
       ∙ completes_at state.mode column hooks table root state.cursor state.tree notes checked
-      (plain_at state.mode table root state.cursor state.tree parts order.leads order.suits plain) order.leads suits_here agrees
+      plain_here order.leads suits_here agrees
 
   -- end in strict mode
   ends_alike : state.mode ≡ strict → (value : Option Val) (by_notes : Option Val)
@@ -287,20 +307,37 @@ module _ (hooks : Meanings) (table : Table) (checked : IsChecked table) (root : 
     same_mode = refl;
   }
 
+  -- the place at the cursor, below the root, is no item of a set and no part of a dynamic value
+  alone : is_root state.cursor ≡ false → (is_set_item state ≡ false) × (is_dynamic_part state ≡ false)
+  alone below = go state.cursor parts below
+    where
+      go : (here : Place) → PartsAlong here state.tree → is_root here ≡ false
+          → (is_set (tree_at (up here) state.tree) ≡ false) × (is_begun_dynamic (tree_at (up here) state.tree) ≡ false)
+      go [] along below = cc
+      go (i ∷ here) along below = no_item i here state.tree along
+
+  -- what comes of it there
+  abbrev leaves_it : Result State ReflectErrorKind
+  leaves_it =
+      if is_set_item state then ends_item deferred_column hooks table at_here state
+      else leaves_deferred hooks table at_here state (is_dynamic_part state)
+
   leaves_alike : (start : ℕ) → state.mode ≡ deferred start → (here : Place) → state.cursor ≡ here
       → BothStep table root
       (if is_root here then Err (violates Invariant.EndAtRoot)
-      else (if nat_lt start (length here) then Ok (leaves state) else Err (violates Invariant.EndAtStart)))
+      else (if nat_lt start (length here) then leaves_it else Err (violates Invariant.EndAtStart)))
       (if nat_lt start (length here) then Some (goes_up run) else None)
   leaves_alike start is [] at = rw (nothing_below start) tt
   leaves_alike start is (i ∷ here) at = go (nat_lt start (length (i ∷ here))) refl
     where
       go : (b : Bool) → nat_lt start (length (i ∷ here)) ≡ b
-          → BothStep table root (if b then Ok (leaves state) else Err (violates Invariant.EndAtStart))
+          → BothStep table root (if b then leaves_it else Err (violates Invariant.EndAtStart))
           (if b then Some (goes_up run) else None)
       go true e =
-          left_alike start is
-          (subst (λ (place : Place). start < length place) (sym at) (ltb-true start (length (i ∷ here)) e))
+          let by_itself : (is_set_item state ≡ false) × (is_dynamic_part state ≡ false) = alone (ap is_root at) in
+          rw (by_itself.0, by_itself.1)
+          (left_alike start is
+          (subst (λ (place : Place). start < length place) (sym at) (ltb-true start (length (i ∷ here)) e)))
       go false e = tt
 
   -- the journal has no parts of a slice
@@ -315,19 +352,21 @@ module _ (hooks : Meanings) (table : Table) (checked : IsChecked table) (root : 
       → BothStep table root
       (if is_root state.cursor then Err (violates Invariant.EndAtRoot) else end_in hooks table at_here state mode)
       (end_rule table (shape_at table root state.cursor) run mode)
-  end_alike strict is = go (is_root state.cursor)
+  end_alike strict is = go (is_root state.cursor) refl
     where
-      go : (b : Bool)
+      go : (b : Bool) → is_root state.cursor ≡ b
           → BothStep table root
           (if b then Err (violates Invariant.EndAtRoot)
-          else ended hooks table at_here state (complete strict_column hooks table at_here (cursor_tree state)))
+          else (if is_set_item state then ends_item strict_column hooks table at_here state
+          else ended hooks table at_here state (complete strict_column hooks table at_here (cursor_tree state))))
           (if b then None
           else ends run (completes strict_column table notes (shape_at table root state.cursor) state.cursor))
-      go true = tt
-      go false =
-          ends_alike is (complete strict_column hooks table at_here (cursor_tree state))
+      go true at = tt
+      go false below =
+          rw (alone below).0
+          (ends_alike is (complete strict_column hooks table at_here (cursor_tree state))
           (completes strict_column table notes (shape_at table root state.cursor) state.cursor) refl
-          (completes_here strict_column)
+          (completes_here strict_column))
   end_alike (deferred start) is = leaves_alike start is state.cursor refl
 
   -- deferred mode

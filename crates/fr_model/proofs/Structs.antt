@@ -10,15 +10,18 @@ use Rattle.fr_shape.specs.declared.shape.Field.{Field}
 use Rattle.fr_shape.specs.declared.shape.ScalarKind.{ScalarKind}
 use Rattle.fr_shape.specs.Look.{Table, def_of, settled}
 use Rattle.fr_shape.specs.declared.error.Operation.{Operation}
-use Rattle.fr_shape.specs.Val.{Val, Vals, list_of, no_vals, first}
-use Rattle.fr_shape.specs.Fits.{fits, all_fit, fields_fit, fields_of_variant, points_at, count_vals}
+use Rattle.fr_shape.specs.Val.{Val, Vals, Entries, list_of, no_vals, first, no_entries}
+use Rattle.fr_shape.specs.Fits.{fits, all_fit, entries_fit, fields_fit, fields_of_variant, points_at, count_vals}
 use Rattle.fr_shape.specs.Tokens.{occurs, vals_occur}
 use Rattle.fr_model.specs.Contents.{pointee_refusal, pointer_refusal, is_slice}
-use Rattle.fr_model.specs.Places.{child_shape, shape_or_zero, pointee_shape, item_shape, vals_nth, one_more, product_of}
-use Rattle.fr_model.specs.Tree.{Form, as_struct, as_array, as_variant, as_some, as_ok, as_err, as_pointer, as_list, as_slice, as_closed_slice, Tree, Trees, no_trees, branch, tree_nth, change_nth, child_as, shapes_from, count_trees, holes, wholes}
+use Rattle.fr_model.specs.Dynamics.{keys_apart}
+use Rattle.fr_model.specs.Gathering.{with_entry_in, entries_in, left_out}
+use Rattle.fr_model.specs.Places.{child_shape, shape_or_zero, pointee_shape, item_shape, is_key, vals_nth, one_more, product_of}
+use Rattle.fr_model.specs.Tree.{Form, as_struct, as_array, as_variant, as_some, as_ok, as_err, as_pointer, as_list, as_slice, as_closed_slice, as_set, as_map, as_dyn_array, as_dyn_object, Tree, Trees, no_trees, branch, tree_nth, change_nth, child_as, shapes_from, count_trees, holes, wholes}
 use Rattle.fr_model.specs.Complete.{value_as, made}
 use Rattle.fr_model.specs.Relation.{HasParts}
 use Rattle.fr_model.specs.Well.{HasFieldsOf, HasContent, HasSide, PointsTo, HasPointee, IsFullAs, IsBegunAs, MayPoint, IsBegunRightly, Suits, SuitAll}
+use Rattle.fr_model.proofs.GatheredParts.{items_apart, items_fit, items_hold, entries_apart, entry_fits, entries_hold, elements_once, members_once, dynamics_hold}
 use Rattle.fr_model.proofs.Templates.{both_true}
 
 -- definitions that stand for themselves
@@ -69,6 +72,19 @@ settled_list (shape ∷ shapes) s t e = rw e refl
 pub settled_slice : (table : Table) (s : ℕ) (t : ShapeId) → def_of table s ≡ Def.Slice t → settled table s ≡ Def.Slice t
 settled_slice [] s t e = cc
 settled_slice (shape ∷ shapes) s t e = rw e refl
+
+pub settled_set : (table : Table) (s : ℕ) (t : ShapeId) → def_of table s ≡ Def.Set t → settled table s ≡ Def.Set t
+settled_set [] s t e = cc
+settled_set (shape ∷ shapes) s t e = rw e refl
+
+pub settled_map : (table : Table) (s : ℕ) (key item : ShapeId) → def_of table s ≡ Def.Map key item
+    → settled table s ≡ Def.Map key item
+settled_map [] s key item e = cc
+settled_map (shape ∷ shapes) s key item e = rw e refl
+
+pub settled_dynamic : (table : Table) (s : ℕ) → def_of table s ≡ Def.Dynamic → settled table s ≡ Def.Dynamic
+settled_dynamic [] s e = cc
+settled_dynamic (shape ∷ shapes) s e = rw e refl
 
 -- the fields from number i on, as a list of their own
 abbrev pub AreFrom : List Field → ℕ → List Field → Type 0
@@ -189,17 +205,18 @@ has_pointee table (Def.Pointer pointer) e = go pointer.constructible pointer.poi
     go false pointee e = cc
 has_pointee table _ e = cc
 
--- where a place is begun as a pointer to a slice, it is one
-abbrev pub HasSliceBehind : Table → ℕ → Form → Type 0
-HasSliceBehind table s as_slice = MayPoint table s true
-HasSliceBehind table s as_closed_slice = MayPoint table s true
-HasSliceBehind table s _ = Unit {0}
+-- what its form asks of a begun place, whatever its children are: a pointer to a slice is one, and an object has no key twice
+abbrev pub IsSoundAs : Table → ℕ → Form → Type 0
+IsSoundAs table s as_slice = MayPoint table s true
+IsSoundAs table s as_closed_slice = MayPoint table s true
+IsSoundAs table s (as_dyn_object keys) = keys_apart keys ≡ true
+IsSoundAs table s _ = Unit {0}
 
-pub slice_behind : (table : Table) (s : ℕ) (form : Form) (ts : Trees) → IsBegunRightly table s form ts
-    → HasSliceBehind table s form
-slice_behind table s as_slice ts rightly = rightly.1
-slice_behind table s as_closed_slice ts rightly = rightly.1
-slice_behind table s _ ts rightly = tt
+pub sound_as : (table : Table) (s : ℕ) (form : Form) (ts : Trees) → IsBegunRightly table s form ts → IsSoundAs table s form
+sound_as table s as_slice ts rightly = rightly.1
+sound_as table s as_closed_slice ts rightly = rightly.1
+sound_as table s (as_dyn_object keys) ts rightly = rightly.1
+sound_as table s _ ts rightly = tt
 
 -- the items that fit make a slice that fits, and so the pointer to it
 pointed_slice : (table : Table) (s : ℕ) (pointer : PointerDef) (vs : Vals) → def_of table s ≡ Def.Pointer pointer
@@ -230,9 +247,25 @@ one_holds no_vals t one = absurd (omega arith)
 one_holds (first v no_vals) t one = omega arith
 one_holds (first v (first w ws)) t one = absurd (omega arith)
 
+-- keys and values in turn make entries that fit
+
+odd_next : (i : ℕ) → is_key i ≡ true → is_key (suc i) ≡ false
+odd_next zero e = refl
+odd_next (suc zero) e = cc
+odd_next (suc (suc i)) e = odd_next i e
+
+turns_fit : (table : Table) (s : ℕ) (key item : ShapeId) → def_of table s ≡ Def.Map key item → (base i : ℕ) → is_key i ≡ true
+    → (there : Entries) (vs : Vals) → entries_fit table key.0 item.0 there ≡ true → ChildrenFit table s (as_map base) i vs
+    → entries_fit table key.0 item.0 (entries_in there vs) ≡ true
+turns_fit table s key item is base i even there no_vals h fit = h
+turns_fit table s key item is base i even there (first k no_vals) h fit = h
+turns_fit table s key item is base i even there (first k (first v vs)) h fit =
+    turns_fit table s key item is base (suc (suc i)) even (with_entry_in there k v) vs
+    (entry_fits table key.0 item.0 there k v h (rw (is, even) at fit.0) (rw (is, odd_next i even) at fit.1.0)) fit.1.1
+
 -- fitting children, as many as there have to be, make a value that fits
 pub value_fits : (table : Table) (s : ℕ) (form : Form) (vs : Vals) → IsFullAs (def_of table s) form (count_vals vs)
-    → HasSliceBehind table s form → ChildrenFit table s form 0 vs → fits table s (value_as form vs) ≡ true
+    → IsSoundAs table s form → ChildrenFit table s form 0 vs → fits table s (value_as form vs) ≡ true
 value_fits table s form vs count behind fit = go form (def_of table s) refl vs count behind fit
   where
     of_variant : (k : ℕ) (enumeration : EnumDef) (found : Option VariantDef) → def_of table s ≡ Def.Enum enumeration
@@ -250,7 +283,7 @@ value_fits table s form vs count behind fit = go form (def_of table s) refl vs c
     pointed pointer None is to v fit n one = absurd one
 
     go : (form : Form) (def : Def) → def_of table s ≡ def → (vs : Vals) → IsFullAs def form (count_vals vs)
-        → HasSliceBehind table s form → ChildrenFit table s form 0 vs → fits table s (value_as form vs) ≡ true
+        → IsSoundAs table s form → ChildrenFit table s form 0 vs → fits table s (value_as form vs) ≡ true
     go as_struct (Def.Struct struct) is vs count behind fit =
         rw (settled_struct table s struct is)
         (fields_all_fit table s as_struct struct.fields (struct_shapes table s struct is) 0 struct.fields vs
@@ -270,6 +303,25 @@ value_fits table s form vs count behind fit = go form (def_of table s) refl vs c
         rw (settled_pointer table s pointer is)
         (pointed_slice table s pointer vs is behind
         (λ shape to. each_fits table s as_closed_slice shape (λ i. to _ refl) 0 vs fit))
+    go as_set (Def.Set t) is vs count behind fit =
+        rw (
+          settled_set table s t is,
+          items_fit table t.0 no_vals vs refl (each_fits table s as_set t.0 (λ i. rw is refl) 0 vs fit),
+          items_apart no_vals vs refl,
+        ) refl
+    go (as_map base) (Def.Map key item) is vs count behind fit =
+        rw (
+          settled_map table s key item is,
+          turns_fit table s key item is base 0 refl no_entries vs refl fit,
+          entries_apart no_entries vs refl,
+        ) refl
+    go as_dyn_array Def.Dynamic is vs count behind fit =
+        rw (settled_dynamic table s is)
+        (elements_once table s vs (settled_dynamic table s is) (each_fits table s as_dyn_array s (λ i. refl) 0 vs fit))
+    go (as_dyn_object keys) Def.Dynamic is vs count behind fit =
+        rw (settled_dynamic table s is)
+        (members_once table s keys vs (settled_dynamic table s is) behind
+        (each_fits table s (as_dyn_object keys) s (λ i. refl) 0 vs fit))
     go (as_variant k) (Def.Enum enumeration) is vs count behind fit =
         rw (settled_enum table s enumeration is)
         (of_variant k enumeration (slice_get enumeration.variants k) is refl vs count fit)
@@ -288,19 +340,35 @@ value_fits table s form vs count behind fit = go form (def_of table s) refl vs c
     go as_pointer (Def.Pointer pointer) is no_vals count behind fit = absurd (omega (arith, points_once pointer.pointee 0 count))
     go _ _ is vs count behind fit = absurd count
 
--- and it holds what they hold
-pub value_holds : (def : Def) (form : Form) (vs : Vals) → IsFullAs def form (count_vals vs) → (t : ℕ)
-    → occurs (value_as form vs) t ≡ vals_occur vs t
-value_holds def as_struct vs count t = refl
-value_holds def as_array vs count t = refl
-value_holds def (as_variant k) vs count t = refl
-value_holds def as_some vs count t = one_holds vs t (content_once def (count_vals vs) count)
-value_holds def as_ok vs count t = one_holds vs t (side_once def (count_vals vs) count)
-value_holds def as_err vs count t = one_holds vs t (side_once def (count_vals vs) count)
-value_holds def as_pointer vs count t = one_holds vs t (pointee_once def (count_vals vs) count)
-value_holds def as_list vs count t = refl
-value_holds def as_slice vs count t = refl
-value_holds def as_closed_slice vs count t = refl
+-- and it holds what they hold, but for what is left out
+pub value_holds : (table : Table) (s : ℕ) (form : Form) (vs : Vals) → IsFullAs (def_of table s) form (count_vals vs)
+    → ChildrenFit table s form 0 vs → (t : ℕ) → occurs (value_as form vs) t + left_out form vs t ≡ vals_occur vs t
+value_holds table s form vs count fit t = go form (def_of table s) refl count fit
+  where
+    go : (form : Form) (def : Def) → def_of table s ≡ def → IsFullAs def form (count_vals vs) → ChildrenFit table s form 0 vs
+        → occurs (value_as form vs) t + left_out form vs t ≡ vals_occur vs t
+    go as_struct def is count fit = omega arith
+    go as_array def is count fit = omega arith
+    go (as_variant k) def is count fit = omega arith
+    go as_some def is count fit = omega (arith, one_holds vs t (content_once def (count_vals vs) count))
+    go as_ok def is count fit = omega (arith, one_holds vs t (side_once def (count_vals vs) count))
+    go as_err def is count fit = omega (arith, one_holds vs t (side_once def (count_vals vs) count))
+    go as_pointer def is count fit = omega (arith, one_holds vs t (pointee_once def (count_vals vs) count))
+    go as_list def is count fit = omega arith
+    go as_slice def is count fit = omega arith
+    go as_closed_slice def is count fit = omega arith
+    go as_set def is count fit = let all = items_hold no_vals vs t in omega arith
+    go (as_map base) def is count fit = let all = entries_hold no_entries vs t in omega arith
+    go as_dyn_array Def.Dynamic is count fit =
+        let none = dynamics_hold table s vs t (settled_dynamic table s is)
+        (each_fits table s as_dyn_array s (λ i. refl) 0 vs fit) in
+        omega arith
+    go (as_dyn_object keys) Def.Dynamic is count fit =
+        let none = dynamics_hold table s vs t (settled_dynamic table s is)
+        (each_fits table s (as_dyn_object keys) s (λ i. refl) 0 vs fit) in
+        omega arith
+    go as_dyn_array _ is count fit = absurd count
+    go (as_dyn_object keys) _ is count fit = absurd count
 
 pub begun_full : (def : Def) (form : Form) (count : ℕ) → IsBegunAs def form count → IsFullAs def form count
 begun_full def form count begun_as = begun_as.0

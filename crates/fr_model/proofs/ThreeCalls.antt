@@ -8,14 +8,16 @@ use Rattle.fr_shape.specs.declared.error.ReflectErrorKind.{ReflectErrorKind}
 use Rattle.fr_shape.specs.Hooks.{Meanings}
 use Rattle.fr_shape.specs.Look.{Table, def_of, field_in}
 use Rattle.fr_shape.specs.Val.{Val}
+use Rattle.fr_model.specs.Collections.{is_set, is_set_form}
 use Rattle.fr_model.specs.Commands.{Call}
 use Rattle.fr_model.specs.Complete.{complete}
+use Rattle.fr_model.specs.DynamicPlaces.{is_begun_dynamic, is_dynamic_form}
 use Rattle.fr_model.specs.Items.{is_open_slice}
 use Rattle.fr_model.specs.DefaultLaws.{and_step, three_calls, AreSameButCalls}
-use Rattle.fr_model.specs.Places.{Place, strict_column, is_root, up}
-use Rattle.fr_model.specs.Step.{unless_refused, at_shape, violates, field_refusal, named_refusal, opened, enter, enter_child, enters, set_refusal, field_default, puts, put_child, puts_child, puts_child_default, defaults_field, ended, leaves, end_in, leaves_place, closes_slice, step}
-use Rattle.fr_model.specs.Tree.{form_at, selected, Tree, hole, entered, whole, begun, Trees, no_trees, branch, tree_nth, change_nth, change_child, child_as, tree_at, change_at, shape_in, shape_below, Mode, strict, deferred, State, cursor_shape, cursor_tree}
-use Rattle.fr_model.specs.Well.{Suits, AtCursor, Leads, BeganAbove, IsInOrder}
+use Rattle.fr_model.specs.Places.{Place, strict_column, deferred_column, is_root, up}
+use Rattle.fr_model.specs.Step.{unless_refused, at_shape, violates, field_refusal, named_refusal, opened, enter, enter_child, enters, set, field_default, puts, put_child, puts_child, puts_child_default, defaults_field, ended, is_set_item, is_dynamic_part, ends_item, leaves_deferred, end_in, leaves_place, closes_slice, step}
+use Rattle.fr_model.specs.Tree.{Form, as_struct, as_variant, form_at, selected, Tree, hole, entered, whole, begun, Trees, no_trees, branch, tree_nth, change_nth, change_child, child_as, tree_at, change_at, shape_in, shape_below, Mode, strict, deferred, State, cursor_shape, cursor_tree}
+use Rattle.fr_model.specs.Well.{IsFullAs, Suits, AtCursor, Leads, BeganAbove, IsInOrder}
 use Rattle.fr_model.proofs.Agreement.{leads_within, leads_child}
 use Rattle.fr_model.proofs.Cursor.{at_cursor, suits_at, begun_in_order}
 use Rattle.fr_model.proofs.Defaulting.{FieldThere, field_there, get_below, of_variant_below}
@@ -112,8 +114,19 @@ may_enter def t i field e = go def (selected t) refl e
     go (Def.Enum enumeration) None is e = cc
     go _ chosen is e = cc
 
-own_shape : (table : Table) (s given : ℕ) → s ≡ given → set_refusal table s given ≡ None
-own_shape table s given same = rw (eq-eqb s given same) refl
+own_shape : (table : Table) (s given : ℕ) (state : State) (v : Val) → s ≡ given
+    → set table s state given v ≡ Ok (puts state v)
+own_shape table s given state v same = rw (eq-eqb s given same) refl
+
+-- what has fields is neither a set nor a dynamic value
+fields_alone : (def : Def) (form : Form) (n : ℕ) (chosen : Option ℕ) (i : ℕ) (field : Field)
+    → field_in def chosen i ≡ Some field → IsFullAs def form n
+    → (is_set_form form ≡ false) × (is_dynamic_form form ≡ false)
+fields_alone (Def.Struct struct) as_struct n chosen i field e full_as = (refl, refl)
+fields_alone (Def.Struct struct) _ n chosen i field e full_as = absurd full_as
+fields_alone (Def.Enum enumeration) (as_variant k) n chosen i field e full_as = (refl, refl)
+fields_alone (Def.Enum enumeration) _ n chosen i field e full_as = absurd full_as
+fields_alone _ form n chosen i field e full_as = cc
 
 module _ (hooks : Meanings) (table : Table) (root : ℕ) (state : State) (i : ℕ) (field : Field) (v : Val)
     (order : IsInOrder table root state)
@@ -163,8 +176,7 @@ module _ (hooks : Meanings) (table : Table) (root : ℕ) (state : State) (i : �
 
   sets_it : step hooks table root inside (Call.Set field.shape.0 v) ≡ Ok put
   sets_it =
-      ap (λ (refusal : Option ReflectErrorKind). unless_refused refusal put)
-      (own_shape table (cursor_shape table root inside) field.shape.0 inside_shape)
+      own_shape table (cursor_shape table root inside) field.shape.0 inside v inside_shape
 
   put_tree : cursor_tree put ≡ whole v
   put_tree = stands_there state.mode below inside.tree (λ old. whole v) inside_in_order.leads
@@ -177,20 +189,54 @@ module _ (hooks : Meanings) (table : Table) (root : ℕ) (state : State) (i : �
       (λ u. child_after i (enter (def_of table (child_as table here (form_at (def_of table here) u) i))) (λ old. whole v)
       (λ old. whole v) (opened (def_of table here) u) (λ child. refl)))
 
+  -- what stands above it
+  above : tree_at (up below) put.tree
+      ≡ begun (form_at (def_of table here) (cursor_tree state)) (change_nth i (λ old. whole v) place.children)
+  above =
+      ap (λ (way : Place). tree_at way put.tree) (up_again state.cursor i) ∙ ap (tree_at state.cursor) (sym same_tree)
+      ∙ stands_there state.mode state.cursor state.tree (put_child (def_of table here) i v) order.leads
+      ∙ ap (change_child i (λ old. whole v)) place.is
+
+  alone : (is_set_item put ≡ false) × (is_dynamic_part put ≡ false)
+  alone =
+      let form = fields_alone (def_of table here) (form_at (def_of table here) (cursor_tree state)) _
+      (selected (cursor_tree state)) i field is place.begun_as.0 in
+      (ap is_set above ∙ form.0, ap is_begun_dynamic above ∙ form.1)
+
   ends_it : (mode : Mode) → BeganAbove mode state.cursor
       → AreSameButCalls (Ok (record (puts_child table here state i v) { mode = mode }))
       (end_in hooks table (cursor_shape table root put) (record put { mode = mode }) mode)
   ends_it strict began =
-      subst (λ (made : Option Val).
+      subst (λ (of_set : Bool).
+      AreSameButCalls (Ok (record (puts_child table here state i v) { mode = strict }))
+      (if of_set then ends_item strict_column hooks table (cursor_shape table root put) (record put { mode = strict })
+      else ended hooks table (cursor_shape table root put) (record put { mode = strict })
+      (complete strict_column hooks table (cursor_shape table root put) (cursor_tree put))))
+      (sym alone.0)
+      (subst (λ (made : Option Val).
       AreSameButCalls (Ok (record (puts_child table here state i v) { mode = strict }))
       (ended hooks table (cursor_shape table root put) (record put { mode = strict }) made))
       (sym (ap (complete strict_column hooks table (cursor_shape table root put)) put_tree))
-      (same_tree ∙ sym (twice below v inside.tree), sym (up_again state.cursor i), refl)
+      (same_tree ∙ sym (twice below v inside.tree), sym (up_again state.cursor i), refl))
   ends_it (deferred start) began =
       subst (λ (b : Bool).
       AreSameButCalls (Ok (record (puts_child table here state i v) { mode = deferred start }))
-      (if b then Ok (leaves (record put { mode = deferred start })) else Err (violates Invariant.EndAtStart)))
-      (sym (deeper start state.cursor i began)) (same_tree, sym (up_again state.cursor i), refl)
+      (if b then
+      (if is_set_item put then
+      ends_item deferred_column hooks table (cursor_shape table root put) (record put { mode = deferred start })
+      else leaves_deferred hooks table (cursor_shape table root put) (record put { mode = deferred start }) (is_dynamic_part put))
+      else Err (violates Invariant.EndAtStart)))
+      (sym (deeper start state.cursor i began))
+      (subst (λ (of_set : Bool).
+      AreSameButCalls (Ok (record (puts_child table here state i v) { mode = deferred start }))
+      (if of_set then
+      ends_item deferred_column hooks table (cursor_shape table root put) (record put { mode = deferred start })
+      else leaves_deferred hooks table (cursor_shape table root put) (record put { mode = deferred start }) (is_dynamic_part put)))
+      (sym alone.0)
+      (subst (λ (of_part : Bool).
+      AreSameButCalls (Ok (record (puts_child table here state i v) { mode = deferred start }))
+      (leaves_deferred hooks table (cursor_shape table root put) (record put { mode = deferred start }) of_part))
+      (sym alone.1) (same_tree, sym (up_again state.cursor i), refl)))
 
   leaves_it : AreSameButCalls (Ok (puts_child table here state i v)) (step hooks table root put Call.End)
   leaves_it =

@@ -3,10 +3,10 @@ use Rattle.std.proofs.Common.{◌≡◌, ℕ, zero, suc, ◌+◌, ◌<◌, Bool,
 use Rattle.fr_shape.specs.declared.shape.Def.{Def}
 use Rattle.fr_shape.specs.Fills.{is_empty_struct}
 use Rattle.fr_shape.specs.Look.{Table, def_of}
-use Rattle.fr_shape.specs.Val.{Vals, product, list_of, no_vals, first}
-use Rattle.fr_shape.specs.Tokens.{vals_occur}
-use Rattle.fr_model.specs.Places.{Place, child_count}
-use Rattle.fr_model.specs.Tree.{Form, as_struct, as_array, as_list, form_of, form_at, fresh, Tree, hole, entered, whole, begun, Trees, no_trees, branch, tree_nth, change_nth, child_as, tree_at, change_child, change_at, count_trees, holes, wholes, tree_occurs, trees_occur, Mode}
+use Rattle.fr_shape.specs.Val.{Vals, Entries, product, list_of, set_of, map_of, no_vals, first, no_entries, entry}
+use Rattle.fr_shape.specs.Tokens.{vals_occur, entries_occur}
+use Rattle.fr_model.specs.Places.{Place, child_count, in_turn}
+use Rattle.fr_model.specs.Tree.{Form, as_struct, as_array, as_list, as_set, as_map, form_of, form_at, fresh, Tree, hole, entered, whole, begun, Trees, no_trees, branch, tree_nth, change_nth, child_as, tree_at, change_child, change_at, count_trees, holes, wholes, tree_occurs, trees_occur, Mode}
 use Rattle.fr_model.specs.Step.{opened_as, enter, enter_child}
 use Rattle.fr_model.specs.Well.{Leads}
 use Rattle.fr_model.proofs.Agreement.{leads_within, leads_child}
@@ -21,12 +21,18 @@ pub wholes_hold : (vs : Vals) (t : ℕ) → trees_occur (wholes vs) t ≡ vals_o
 wholes_hold no_vals t = refl
 wholes_hold (first v vs) t = let rest = wholes_hold vs t in omega arith
 
+pub turns_hold : (es : Entries) (t : ℕ) → vals_occur (in_turn es) t ≡ entries_occur es t
+turns_hold no_entries t = refl
+turns_hold (entry k v es) t = let rest = turns_hold es t in omega arith
+
 pub opened_holds : (form : Form) (count : ℕ) (tree : Tree) (t : ℕ)
     → tree_occurs (opened_as form count tree) t ≡ tree_occurs tree t
 opened_holds form count entered t = holes_hold count t
 opened_holds as_struct count (whole (product vs)) t = wholes_hold vs t
 opened_holds as_array count (whole (product vs)) t = wholes_hold vs t
 opened_holds as_list count (whole (list_of vs)) t = wholes_hold vs t
+opened_holds as_set count (whole (set_of vs)) t = wholes_hold vs t
+opened_holds (as_map base) count (whole (map_of es)) t = wholes_hold (in_turn es) t ∙ turns_hold es t
 opened_holds _ count _ t = refl
 
 -- a fresh place holds no token

@@ -16,6 +16,11 @@ pub data Call : Type 0 where
   InitListWithCapacity : ℕ → Call
   InitArray : Call
   BeginListItem : Call
+  InitMap : Call
+  BeginKey : Call
+  BeginValue : Call
+  InitSet : Call
+  BeginSetItem : Call
   BeginSome : Call
   BeginOk : Call
   BeginErr : Call
@@ -39,6 +44,11 @@ call_of Command.InitList = Call.InitList
 call_of (Command.InitListWithCapacity n) = Call.InitListWithCapacity n
 call_of Command.InitArray = Call.InitArray
 call_of Command.BeginListItem = Call.BeginListItem
+call_of Command.InitMap = Call.InitMap
+call_of Command.BeginKey = Call.BeginKey
+call_of Command.BeginValue = Call.BeginValue
+call_of Command.InitSet = Call.InitSet
+call_of Command.BeginSetItem = Call.BeginSetItem
 call_of Command.BeginSome = Call.BeginSome
 call_of Command.BeginOk = Call.BeginOk
 call_of Command.BeginErr = Call.BeginErr
@@ -66,6 +76,11 @@ IsFieldCall Call.InitList = ⊥
 IsFieldCall (Call.InitListWithCapacity n) = ⊥
 IsFieldCall Call.InitArray = ⊥
 IsFieldCall Call.BeginListItem = ⊥
+IsFieldCall Call.InitMap = ⊥
+IsFieldCall Call.BeginKey = ⊥
+IsFieldCall Call.BeginValue = ⊥
+IsFieldCall Call.InitSet = ⊥
+IsFieldCall Call.BeginSetItem = ⊥
 IsFieldCall Call.BeginSome = ⊥
 IsFieldCall Call.BeginOk = ⊥
 IsFieldCall Call.BeginErr = ⊥

@@ -9,10 +9,12 @@ use Rattle.fr_shape.specs.declared.error.ReflectErrorKind.{ReflectErrorKind}
 use Rattle.fr_shape.specs.Fills.{preset_of}
 use Rattle.fr_shape.specs.Hooks.{Meanings}
 use Rattle.fr_shape.specs.Look.{Table, def_of, field_in}
-use Rattle.fr_shape.specs.Val.{Val, Vals, product, variant, none, some, ok, err, list_of, ptr, no_vals}
+use Rattle.fr_shape.specs.Val.{Val, Vals, product, variant, none, some, ok, err, list_of, map_of, set_of, ptr, dyn, no_vals, no_entries, dyn_array, dyn_object}
 use Rattle.fr_shape.specs.Validators.{passes_at, message}
+use Rattle.fr_model.specs.Dynamics.{dynamics_in, members_in}
+use Rattle.fr_model.specs.Gathering.{items_in, entries_in}
 use Rattle.fr_model.specs.Places.{Column, strict_column, child_count, vals_nth, one_more, each_child, fill_in, fill_at}
-use Rattle.fr_model.specs.Tree.{Form, as_struct, as_array, as_variant, as_some, as_ok, as_err, as_pointer, as_list, as_slice, as_closed_slice, Tree, hole, entered, whole, begun, Trees, no_trees, branch, for_hole, child_as}
+use Rattle.fr_model.specs.Tree.{Form, as_struct, as_array, as_variant, as_some, as_ok, as_err, as_pointer, as_list, as_slice, as_closed_slice, as_set, as_map, as_dyn_array, as_dyn_object, Tree, hole, entered, whole, begun, Trees, no_trees, branch, for_hole, child_as}
 
 -- the refusals, of field i of a struct of shape s, or of the variant that is selected at an enum of shape s
 
@@ -64,6 +66,10 @@ failing_child hooks table s as_pointer i value = None
 failing_child hooks table s as_list i value = None
 failing_child hooks table s as_slice i value = None
 failing_child hooks table s as_closed_slice i value = None
+failing_child hooks table s as_set i value = None
+failing_child hooks table s (as_map base) i value = None
+failing_child hooks table s as_dyn_array i value = None
+failing_child hooks table s (as_dyn_object keys) i value = None
 
 -- the value, unless there is something to refuse
 abbrev pub unless_failing : Option ReflectErrorKind → Option Val → Option Val
@@ -86,6 +92,10 @@ hole_takes column table s as_pointer i = None
 hole_takes column table s as_list i = None
 hole_takes column table s as_slice i = None
 hole_takes column table s as_closed_slice i = None
+hole_takes column table s as_set i = None
+hole_takes column table s (as_map base) i = None
+hole_takes column table s as_dyn_array i = None
+hole_takes column table s (as_dyn_object keys) i = None
 
 -- what a begun place lacks where child i is a hole that takes nothing: a struct or a variant that field, any other its value
 abbrev pub missing_child : ℕ → Form → ℕ → ReflectErrorKind
@@ -99,9 +109,13 @@ missing_child s as_pointer i = missing_value s
 missing_child s as_list i = missing_value s
 missing_child s as_slice i = missing_value s
 missing_child s as_closed_slice i = missing_value s
+missing_child s as_set i = missing_value s
+missing_child s (as_map base) i = missing_value s
+missing_child s as_dyn_array i = missing_value s
+missing_child s (as_dyn_object keys) i = missing_value s
 
--- the value that a place begun so makes of those of its children: their product, their variant, the one value held so, their list, or
--- the pointer to it
+-- the value that a place begun so makes of those of its children: their product, their variant, the one value held so, their list,
+-- the pointer to it, the set or map that they make one after the other, or the dynamic array or object
 abbrev pub value_as : Form → Vals → Val
 value_as as_struct vs = product vs
 value_as as_array vs = product vs
@@ -113,6 +127,10 @@ value_as as_pointer vs = ptr (vals_nth vs 0)
 value_as as_list vs = list_of vs
 value_as as_slice vs = ptr (list_of vs)
 value_as as_closed_slice vs = ptr (list_of vs)
+value_as as_set vs = set_of (items_in no_vals vs)
+value_as (as_map base) vs = map_of (entries_in no_entries vs)
+value_as as_dyn_array vs = dyn (dyn_array (dynamics_in vs))
+value_as (as_dyn_object keys) vs = dyn (dyn_object (members_in keys vs))
 
 -- the same, where each child has a value
 abbrev pub made : Form → (values : Option Vals) → Option Val

@@ -9,7 +9,7 @@ use Rattle.fr_shape.specs.Look.{Table, def_of}
 use Rattle.fr_shape.specs.Val.{Val, some}
 use Rattle.fr_path.specs.Places.{owns}
 use Rattle.fr_model.specs.Places.{pointee_shape}
-use Rattle.fr_model.specs.Tree.{Form, as_struct, as_array, as_variant, as_some, as_ok, as_err, as_pointer, as_list, as_slice, as_closed_slice, same_form, Tree, hole, entered, whole, begun, Trees, no_trees, branch, child_as, holes, fresh, Mode, strict, deferred}
+use Rattle.fr_model.specs.Tree.{Form, as_struct, as_array, as_variant, as_some, as_ok, as_err, as_pointer, as_list, as_slice, as_closed_slice, as_set, as_map, as_dyn_array, as_dyn_object, same_form, Tree, hole, entered, whole, begun, Trees, no_trees, branch, child_as, holes, fresh, Mode, strict, deferred}
 use Rattle.fr_model.specs.Variants.{variant_fields}
 
 abbrev pub is_result : Def → Bool
@@ -101,6 +101,10 @@ reopened as_ok children = None
 reopened as_err children = None
 reopened as_pointer children = None
 reopened as_list children = None
+reopened as_set children = None
+reopened (as_map base) children = None
+reopened as_dyn_array children = None
+reopened (as_dyn_object keys) children = None
 
 -- a pointer to a slice is kept so in deferred mode; in strict mode it isn't
 abbrev pub kept_slice : Mode → Tree → Option Tree

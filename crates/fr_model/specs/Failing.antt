@@ -12,7 +12,7 @@ use Rattle.fr_path.specs.Order.{walk_order}
 use Rattle.fr_model.specs.Complete.{complete, failing_child, hole_takes, lack_by, missing_child, missing_value, unless_there}
 use Rattle.fr_model.specs.Paths.{step_as}
 use Rattle.fr_model.specs.Places.{deferred_column, child_count}
-use Rattle.fr_model.specs.Tree.{Form, as_struct, as_array, as_variant, as_some, as_ok, as_err, as_pointer, as_list, as_slice, as_closed_slice, Tree, hole, entered, whole, begun, Trees, no_trees, branch, for_hole, child_as, holes}
+use Rattle.fr_model.specs.Tree.{Form, as_struct, as_array, as_variant, as_some, as_ok, as_err, as_pointer, as_list, as_slice, as_closed_slice, as_set, as_map, as_dyn_array, as_dyn_object, Tree, hole, entered, whole, begun, Trees, no_trees, branch, for_hole, child_as, holes}
 
 -- What one place lacks, its children being complete.
 
@@ -38,6 +38,10 @@ unmet_mark table s as_pointer i = None
 unmet_mark table s as_list i = None
 unmet_mark table s as_slice i = None
 unmet_mark table s as_closed_slice i = None
+unmet_mark table s as_set i = None
+unmet_mark table s (as_map base) i = None
+unmet_mark table s as_dyn_array i = None
+unmet_mark table s (as_dyn_object keys) i = None
 
 -- the first hole among the children from number i on that is marked so
 abbrev pub first_unmet : Table → ℕ → Form → ℕ → Trees → Option ReflectErrorKind

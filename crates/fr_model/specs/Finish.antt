@@ -10,7 +10,7 @@ use Rattle.fr_model.specs.Complete.{complete, complete_all, missing_value, value
 use Rattle.fr_model.specs.Failing.{Failure, failures, failures_among, first_by_walk, own_lack}
 use Rattle.fr_model.specs.Paths.{step_as}
 use Rattle.fr_model.specs.Places.{Place, deferred_column}
-use Rattle.fr_model.specs.Tree.{Form, as_struct, as_array, as_variant, as_some, as_ok, as_err, as_pointer, as_list, as_slice, as_closed_slice, Tree, hole, entered, whole, begun, Trees, no_trees, branch, for_hole, child_as, shape_in, tree_at, wholes}
+use Rattle.fr_model.specs.Tree.{Form, as_struct, as_array, as_variant, as_some, as_ok, as_err, as_pointer, as_list, as_slice, as_closed_slice, as_set, as_map, as_dyn_array, as_dyn_object, Tree, hole, entered, whole, begun, Trees, no_trees, branch, for_hole, child_as, shape_in, tree_at, wholes}
 
 -- What becomes of the tree.
 
@@ -49,6 +49,10 @@ is_closed_slice as_err = false
 is_closed_slice as_pointer = false
 is_closed_slice as_list = false
 is_closed_slice as_slice = false
+is_closed_slice as_set = false
+is_closed_slice (as_map base) = false
+is_closed_slice as_dyn_array = false
+is_closed_slice (as_dyn_object keys) = false
 
 -- the place at which the builder works, begun, keeps its children apart: each of them, and each hole its fill, is now whole. Only a
 -- pointer to a slice that is closed becomes whole itself.

@@ -8,11 +8,11 @@ use Rattle.fr_shape.specs.declared.error.Operation.{Operation}
 use Rattle.fr_shape.specs.Look.{Table, def_of}
 use Rattle.fr_model.specs.Contents.{is_slice}
 use Rattle.fr_model.specs.Places.{array_limit}
-use Rattle.fr_model.specs.Tree.{Form, as_struct, as_array, as_variant, as_some, as_ok, as_err, as_pointer, as_list, as_slice, as_closed_slice, Tree, hole, entered, whole, begun, count_trees, and_last, child_as, fresh}
+use Rattle.fr_model.specs.Tree.{Form, as_struct, as_array, as_variant, as_some, as_ok, as_err, as_pointer, as_list, as_slice, as_closed_slice, as_set, as_map, as_dyn_array, as_dyn_object, Tree, hole, entered, whole, begun, count_trees, and_last, child_as, fresh}
 
 -- Beginning a list or an array
 
--- a list alone is begun as one; any other definition is refused so
+-- a list is begun as one; any other definition is refused so
 abbrev pub unless_list : Operation → Def → Option Operation
 unless_list refusal (Def.List t) = None
 unless_list refusal (Def.Scalar kind) = Some refusal
@@ -31,7 +31,7 @@ unless_list refusal Def.Dynamic = Some refusal
 unless_list refusal Def.Undefined = Some refusal
 unless_list refusal Def.Other = Some refusal
 
--- a place begun so takes items, or is a closed pointer to a slice: it is left as it is where a list is to be begun
+-- a place begun so is a list, a pointer to a slice or a dynamic value: a list may be begun there
 abbrev pub is_list_like : Form → Bool
 is_list_like as_list = true
 is_list_like as_slice = true
@@ -43,6 +43,10 @@ is_list_like as_some = false
 is_list_like as_ok = false
 is_list_like as_err = false
 is_list_like as_pointer = false
+is_list_like as_set = false
+is_list_like (as_map base) = false
+is_list_like as_dyn_array = true
+is_list_like (as_dyn_object keys) = true
 
 abbrev pub whole_array_refusal : Tree → Option Operation
 whole_array_refusal (whole v) = Some Operation.InitArrayOfBegun
@@ -92,7 +96,7 @@ unbegun_refusal Def.Dynamic = Operation.ItemOfOther
 unbegun_refusal Def.Undefined = Operation.ItemOfOther
 unbegun_refusal Def.Other = Operation.ItemOfOther
 
--- of a place that is begun so: a list and an open pointer to a slice take items, a closed one takes no more
+-- of a place that is begun so: a list, a dynamic array and an open pointer to a slice take items, a closed one takes no more
 abbrev pub begun_item_refusal : Def → Form → Option Operation
 begun_item_refusal def as_list = None
 begun_item_refusal def as_slice = None
@@ -104,6 +108,10 @@ begun_item_refusal def as_some = Some (unbegun_refusal def)
 begun_item_refusal def as_ok = Some (unbegun_refusal def)
 begun_item_refusal def as_err = Some (unbegun_refusal def)
 begun_item_refusal def as_pointer = Some (unbegun_refusal def)
+begun_item_refusal def as_set = Some (unbegun_refusal def)
+begun_item_refusal def (as_map base) = Some (unbegun_refusal def)
+begun_item_refusal def as_dyn_array = None
+begun_item_refusal def (as_dyn_object keys) = Some (unbegun_refusal def)
 
 -- why no item can be begun here, if none can
 abbrev pub item_refusal : Def → Tree → Option Operation
@@ -133,6 +141,10 @@ is_open_slice (begun as_some children) = false
 is_open_slice (begun as_ok children) = false
 is_open_slice (begun as_err children) = false
 is_open_slice (begun as_pointer children) = false
+is_open_slice (begun as_set children) = false
+is_open_slice (begun (as_map base) children) = false
+is_open_slice (begun as_dyn_array children) = false
+is_open_slice (begun (as_dyn_object keys) children) = false
 is_open_slice hole = false
 is_open_slice entered = false
 is_open_slice (whole v) = false

@@ -12,6 +12,7 @@ use Rattle.fr_model.specs.Commands.{Call}
 use Rattle.fr_model.specs.Tree.{Tree, tree_occurs, State, initial}
 use Rattle.fr_path.specs.declared.path_steps.PathStep.{PathStep}
 use Rattle.fr_model.specs.Complete.{complete, lack}
+use Rattle.fr_model.specs.Dropping.{dropped_by_completing}
 use Rattle.fr_model.specs.Failing.{failures}
 use Rattle.fr_model.specs.Finish.{closed}
 use Rattle.fr_model.specs.Places.{Column, strict_column}
@@ -33,11 +34,12 @@ CompletesOrFails =
     → is_none (closed hooks table s tree) ≡ not (is_nil (failures hooks table s path tree))
 
 -- The value that a place makes by either column, over a checked table and where each node suits its shape, holds each token as
--- often as the place does: what a hole or an entered place takes brings none.
+-- often as the place does, but for what is dropped: what a hole or an entered place takes brings none.
 abbrev pub CompletingKeepsTokens : Type 0
 CompletingKeepsTokens =
     (column : Column) (hooks : Meanings) (table : Table) (s : ℕ) (tree : Tree) (v : Val) (t : ℕ) → IsChecked table
-    → Suits table s tree → complete column hooks table s tree ≡ Some v → occurs v t ≡ tree_occurs tree t
+    → Suits table s tree → complete column hooks table s tree ≡ Some v
+    → occurs v t + dropped_by_completing column hooks table s tree t ≡ tree_occurs tree t
 
 -- what a place makes, over a checked table and where each node suits its shape, fits its shape
 abbrev pub CompletingFits : Type 0

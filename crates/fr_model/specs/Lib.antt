@@ -1,4 +1,6 @@
 pub mod Agree
+pub mod CollectionExamples
+pub mod Collections
 pub mod Commands
 pub mod Complete
 pub mod ContentExamples
@@ -6,6 +8,9 @@ pub mod Contents
 pub mod Covering
 pub mod DefaultExamples
 pub mod DefaultLaws
+pub mod Dropping
+pub mod DynamicPlaces
+pub mod Dynamics
 pub mod Examples
 pub mod Failing
 pub mod FailingLaws
@@ -13,6 +18,8 @@ pub mod Finish
 pub mod FinishExamples
 pub mod FinishLaws
 pub mod Finishing
+pub mod Gathering
+pub mod GatheringLaws
 pub mod Items
 pub mod Journal
 pub mod Laws
@@ -20,6 +27,7 @@ pub mod ListExamples
 pub mod PathLaws
 pub mod Paths
 pub mod Places
+pub mod Refusals
 pub mod Relation
 pub mod Removed
 pub mod Run

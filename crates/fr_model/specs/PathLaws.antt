@@ -7,7 +7,7 @@ use Rattle.fr_path.specs.declared.path_steps.PathStep.{PathStep}
 use Rattle.fr_model.specs.Finish.{finished}
 use Rattle.fr_model.specs.Paths.{step_as, steps_in, path_of}
 use Rattle.fr_model.specs.Places.{Place}
-use Rattle.fr_model.specs.Step.{enters, puts, puts_child, puts_and_leaves, leaves, enters_content, option_kept, content_kept, begins_pointer, opens, enters_item, closes, selects}
+use Rattle.fr_model.specs.Step.{enters, puts, puts_child, puts_and_leaves, leaves, enters_content, option_kept, content_kept, begins_pointer, opens, enters_item, enters_key, closes, takes_item, selects}
 use Rattle.fr_model.specs.Tree.{Form, as_some, Tree, begun, Trees, form_at, count_trees, State, cursor_shape, cursor_tree}
 use Rattle.fr_model.specs.Well.{Leads, IsInOrder}
 
@@ -45,7 +45,14 @@ EnteringAnItemAddsAStep =
     → cursor_tree state ≡ begun form children
     → path_of (enters_item table s state) ≡ path_of state ++ step_as form (count_trees children) ∷ []
 
--- beginning a list or an array keeps the path
+-- entering the key of a new entry of a begun place adds the step to it
+abbrev pub EnteringAKeyAddsAStep : Type 0
+EnteringAKeyAddsAStep =
+    (table : Table) (s : ℕ) (state : State) (form : Form) (children : Trees) → Leads state.mode state.cursor state.tree
+    → cursor_tree state ≡ begun form children
+    → path_of (enters_key table s state) ≡ path_of state ++ step_as form (count_trees children) ∷ []
+
+-- beginning a list, an array, a set or a map keeps the path
 abbrev pub OpeningKeepsThePath : Type 0
 OpeningKeepsThePath =
     (table : Table) (s : ℕ) (state : State) → Leads state.mode state.cursor state.tree
@@ -89,6 +96,12 @@ abbrev pub LeavingAsItIs : Type 0
 LeavingAsItIs =
     (state : State) (before : List PathStep) (last : PathStep) → Leads state.mode state.cursor state.tree
     → path_of state ≡ before ++ last ∷ [] → path_of (leaves state) ≡ before
+
+-- and so does leaving an item of a set, which takes its value
+abbrev pub LeavingAnItemDropsAStep : Type 0
+LeavingAnItemDropsAStep =
+    (state : State) (v : Val) (before : List PathStep) (last : PathStep) → Leads state.mode state.cursor state.tree
+    → path_of state ≡ before ++ last ∷ [] → path_of (takes_item state v) ≡ before
 
 -- the end of deferred mode keeps the path
 abbrev pub FinishingKeepsThePath : Type 0

@@ -1,11 +1,13 @@
 -- The typed path of a place: the steps that lead to it from the root.
-use Rattle.std.specs.Prelude.{ℕ, List, [], ◌∷◌}
+use Rattle.std.specs.Prelude.{ℕ, ◌-◌, List, [], ◌∷◌, if◌then◌else◌}
 use Rattle.fr_path.specs.declared.path_steps.PathStep.{PathStep}
-use Rattle.fr_model.specs.Places.{Place}
-use Rattle.fr_model.specs.Tree.{Form, as_struct, as_array, as_variant, as_some, as_ok, as_err, as_pointer, as_list, as_slice, as_closed_slice, Tree, hole, entered, whole, begun, child_tree, State}
+use Rattle.fr_model.specs.Dynamics.{key_nth}
+use Rattle.fr_model.specs.Places.{Place, is_key, entry_of}
+use Rattle.fr_model.specs.Tree.{Form, as_struct, as_array, as_variant, as_some, as_ok, as_err, as_pointer, as_list, as_slice, as_closed_slice, as_set, as_map, as_dyn_array, as_dyn_object, Tree, hole, entered, whole, begun, child_tree, State}
 
 -- the step to child i of a place that is begun so: to a field of a struct or of a variant, to an element of an array, to the content
--- of an option or of either side of a result, to what a pointer points to, or to an item of a list or a slice
+-- of an option or of either side of a result, to what a pointer points to, to an item of a list, a slice or a set, to the key or the
+-- value of a map's entry, whose number doesn't count its base, or to an element or an entry of a dynamic value
 abbrev pub step_as : Form → ℕ → PathStep
 step_as as_struct i = PathStep.Field i
 step_as as_array i = PathStep.Index i
@@ -17,6 +19,10 @@ step_as as_pointer i = PathStep.Deref
 step_as as_list i = PathStep.Index i
 step_as as_slice i = PathStep.Index i
 step_as as_closed_slice i = PathStep.Index i
+step_as as_set i = PathStep.SetItem
+step_as as_dyn_array i = PathStep.Index i
+step_as (as_dyn_object keys) i = PathStep.Entry (key_nth keys i)
+step_as (as_map base) i = if is_key i then PathStep.MapKey (entry_of i - base) else PathStep.MapValue (entry_of i - base)
 
 -- the step to child i of what stands at a place (only a begun place has one)
 abbrev pub step_below : ℕ → Tree → PathStep

@@ -1,11 +1,11 @@
 -- Places: lists of child numbers from the root, and what a table says of the shapes along them.
-use Rattle.std.specs.Prelude.{ℕ, zero, suc, Bool, true, false, List, [], ◌∷◌, length, slice_get, Option, Some, None, is_some}
+use Rattle.std.specs.Prelude.{ℕ, zero, suc, Bool, true, false, List, [], ◌∷◌, length, slice_get, Option, Some, None, is_some, if◌then◌else◌}
 use Rattle.fr_shape.specs.declared.shape.Def.{Def}
 use Rattle.fr_shape.specs.declared.shape.Field.{Field}
 use Rattle.fr_shape.specs.declared.shape.ShapeId.{ShapeId}
 use Rattle.fr_shape.specs.Fills.{strict_fill, deferred_fill}
 use Rattle.fr_shape.specs.Look.{Table, def_of, field_in}
-use Rattle.fr_shape.specs.Val.{Val, Vals, unit, bool, char, int, nat, text, token, product, variant, none, some, ok, err, list_of, map_of, set_of, ptr, dyn, no_vals, first}
+use Rattle.fr_shape.specs.Val.{Val, Vals, Entries, unit, bool, char, int, nat, text, token, product, variant, none, some, ok, err, list_of, map_of, set_of, ptr, dyn, no_vals, first, no_entries, entry}
 
 abbrev pub Place : Type 0
 Place = List ℕ
@@ -95,11 +95,30 @@ abbrev pub pointee_shape : Def → ℕ
 pointee_shape (Def.Pointer pointer) = shape_or_zero pointer.pointee
 pointee_shape _ = 0
 
--- the shape of the items of a list or a slice (0 where there are none)
+-- the shape of the items of a list, a slice or a set (0 where there are none)
 abbrev pub item_shape : Def → ℕ
 item_shape (Def.List t) = t.0
 item_shape (Def.Slice t) = t.0
+item_shape (Def.Set t) = t.0
 item_shape _ = 0
+
+-- Of a map the children are a key and its value in turn: those of an even number are keys, and each entry has two.
+
+abbrev pub is_key : ℕ → Bool
+is_key zero = true
+is_key (suc zero) = false
+is_key (suc (suc i)) = is_key i
+
+-- the number of the entry to which child i belongs
+abbrev pub entry_of : ℕ → ℕ
+entry_of zero = zero
+entry_of (suc zero) = zero
+entry_of (suc (suc i)) = suc (entry_of i)
+
+-- the shape of a map's keys, or that of its values (0 where there are none)
+abbrev pub entry_shape : Def → (of_key : Bool) → ℕ
+entry_shape (Def.Map key item) of_key = if of_key then key.0 else item.0
+entry_shape _ of_key = 0
 
 -- The two columns of rules by which a place completes: the one of strict mode, and the one of the end of deferred mode.
 pub data Column : Type 0 where
@@ -178,6 +197,62 @@ items_of (map_of es) = None
 items_of (set_of vs) = None
 items_of (ptr v) = None
 items_of (dyn value) = None
+
+-- the same of a set's value
+abbrev pub set_items_of : Val → Option Vals
+set_items_of (set_of vs) = Some vs
+set_items_of unit = None
+set_items_of (bool b) = None
+set_items_of (char c) = None
+set_items_of (int i) = None
+set_items_of (nat n) = None
+set_items_of (text codes) = None
+set_items_of (token t) = None
+set_items_of (product vs) = None
+set_items_of (variant index vs) = None
+set_items_of none = None
+set_items_of (some v) = None
+set_items_of (ok v) = None
+set_items_of (err v) = None
+set_items_of (list_of vs) = None
+set_items_of (map_of es) = None
+set_items_of (ptr v) = None
+set_items_of (dyn value) = None
+
+-- the keys and values of entries in turn
+abbrev pub in_turn : Entries → Vals
+in_turn no_entries = no_vals
+in_turn (entry k v es) = first k (first v (in_turn es))
+
+-- those of the entries that a map's value has
+abbrev pub entries_of : Val → Option Vals
+entries_of (map_of es) = Some (in_turn es)
+entries_of unit = None
+entries_of (bool b) = None
+entries_of (char c) = None
+entries_of (int i) = None
+entries_of (nat n) = None
+entries_of (text codes) = None
+entries_of (token t) = None
+entries_of (product vs) = None
+entries_of (variant index vs) = None
+entries_of none = None
+entries_of (some v) = None
+entries_of (ok v) = None
+entries_of (err v) = None
+entries_of (list_of vs) = None
+entries_of (set_of vs) = None
+entries_of (ptr v) = None
+entries_of (dyn value) = None
+
+abbrev pub count_entries : Entries → ℕ
+count_entries no_entries = zero
+count_entries (entry k v es) = suc (count_entries es)
+
+-- how many entries a map's value has
+abbrev pub base_in : Val → ℕ
+base_in (map_of es) = count_entries es
+base_in _ = 0
 
 abbrev pub part_among : Option Vals → Val → ℕ → Val
 part_among (Some vs) v i = vals_nth vs i

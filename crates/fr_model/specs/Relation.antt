@@ -7,7 +7,7 @@ use Rattle.fr_shape.specs.Look.{Table, def_of}
 use Rattle.fr_shape.specs.Val.{product, no_vals}
 use Rattle.fr_model.specs.Places.{Place, shape_at}
 use Rattle.fr_model.specs.Journal.{Held, in_parts, written, just_entered, untouched, held, Progress}
-use Rattle.fr_model.specs.Tree.{Form, as_struct, as_array, as_variant, as_some, as_ok, as_err, as_pointer, as_list, as_slice, as_closed_slice, Tree, hole, entered, whole, begun, count_trees, tree_nth, tree_at, State}
+use Rattle.fr_model.specs.Tree.{Form, as_struct, as_array, as_variant, as_some, as_ok, as_err, as_pointer, as_list, as_slice, as_closed_slice, as_set, as_map, as_dyn_array, as_dyn_object, Tree, hole, entered, whole, begun, count_trees, tree_nth, tree_at, State}
 use Rattle.fr_model.specs.Well.{IsFullAs}
 
 -- a place of a tree: a way from the top through begun places leads to it
@@ -30,6 +30,10 @@ HasParts as_pointer = ⊥
 HasParts as_list = ⊥
 HasParts as_slice = ⊥
 HasParts as_closed_slice = ⊥
+HasParts as_set = ⊥
+HasParts (as_map base) = ⊥
+HasParts as_dyn_array = ⊥
+HasParts (as_dyn_object keys) = ⊥
 
 -- a place is begun, as a struct or an array with all its children, as its definition says
 abbrev pub IsBegun : Def → Tree → Type 0

@@ -1,14 +1,20 @@
 -- The tokens that a call drops: the ledger rises by exactly these.
-use Rattle.std.specs.Prelude.{ℕ, ◌+◌, Option, Some, None, Result, Ok, Err}
+use Rattle.std.specs.Prelude.{ℕ, ◌+◌, Bool, true, false, not, ◌&&◌, ◌||◌, if◌then◌else◌, Option, Some, None, Result, Ok, Err}
 use Rattle.fr_shape.specs.declared.error.ReflectErrorKind.{ReflectErrorKind}
 use Rattle.fr_shape.specs.Hooks.{Meanings}
 use Rattle.fr_shape.specs.Look.{Table, def_of, variants_of}
 use Rattle.fr_shape.specs.Val.{Val}
+use Rattle.fr_shape.specs.Tokens.{occurs}
+use Rattle.fr_model.specs.Collections.{leaves_item_out, number_in}
 use Rattle.fr_model.specs.Commands.{Call}
+use Rattle.fr_model.specs.Complete.{complete}
+use Rattle.fr_model.specs.Dropping.{dropped_by_completing, dropped_by_finishing}
+use Rattle.fr_model.specs.Items.{is_open_slice}
+use Rattle.fr_model.specs.Places.{up, Column, strict_column, deferred_column}
 use Rattle.fr_model.specs.Contents.{points_to_slice}
-use Rattle.fr_model.specs.Tree.{as_ok, as_err, Tree, child_tree, State, cursor_shape, cursor_tree, tree_occurs}
+use Rattle.fr_model.specs.Tree.{as_ok, as_err, Tree, child_tree, tree_at, Mode, strict, deferred, State, cursor_shape, cursor_tree, tree_occurs}
 use Rattle.fr_model.specs.Scripts.{brings}
-use Rattle.fr_model.specs.Step.{opened, option_kept, content_kept, pointer_kept, variant_kept, step, build}
+use Rattle.fr_model.specs.Step.{opened, option_kept, content_kept, pointer_kept, variant_kept, is_set_item, is_dynamic_part, step, build}
 use Rattle.fr_model.specs.Variants.{variant_numbered, variant_named, variant_told_by}
 
 -- how often a token stands in what is at the cursor
@@ -29,49 +35,91 @@ abbrev pub dropped_by_selecting : (found : Option ℕ) → State → ℕ → ℕ
 dropped_by_selecting (Some k) state t = dropped_unless (variant_kept state k) state t
 dropped_by_selecting None state t = 0
 
--- What an admitted command drops, at a place of shape s: `set`, `set_default` and `set_empty_shared_slice` what stood there, for their
--- value takes its place; `set_nth_field_to_default` what stood at that field; a command that begins a content, a side or a pointee, or
--- selects a variant, what stood there, unless it is kept; no other command drops anything.
-abbrev pub replaced : Meanings → Table → (s : ℕ) → State → Call → ℕ → ℕ
-replaced hooks table s state (Call.BeginField name) t = 0
-replaced hooks table s state (Call.BeginNthField i) t = 0
-replaced hooks table s state (Call.SetNthFieldToDefault i) t = occurs_in_child table s state i t
-replaced hooks table s state (Call.Set given v) t = occurs_here state t
-replaced hooks table s state Call.SetDefault t = occurs_here state t
-replaced hooks table s state Call.SetEmptySharedSlice t = occurs_here state t
-replaced hooks table s state Call.InitList t = 0
-replaced hooks table s state (Call.InitListWithCapacity n) t = 0
-replaced hooks table s state Call.InitArray t = 0
-replaced hooks table s state Call.BeginListItem t = 0
-replaced hooks table s state Call.BeginSome t = dropped_unless (option_kept table s state) state t
-replaced hooks table s state Call.BeginOk t = dropped_unless (content_kept state as_ok) state t
-replaced hooks table s state Call.BeginErr t = dropped_unless (content_kept state as_err) state t
-replaced hooks table s state Call.BeginSmartPtr t =
-    dropped_unless (pointer_kept state (points_to_slice table (def_of table s))) state t
-replaced hooks table s state (Call.SelectNthVariant i) t =
-    dropped_by_selecting (variant_numbered i (variants_of (def_of table s))) state t
-replaced hooks table s state (Call.SelectVariantNamed name) t =
-    dropped_by_selecting (variant_named name (variants_of (def_of table s))) state t
-replaced hooks table s state (Call.SelectVariant discriminant) t =
-    dropped_by_selecting (variant_told_by discriminant (variants_of (def_of table s))) state t
-replaced hooks table s state Call.End t = 0
-replaced hooks table s state Call.BeginDeferred t = 0
-replaced hooks table s state Call.FinishDeferred t = 0
+-- by the rules of which column the place at the cursor completes as it ends, if it does: in deferred mode only an item of a set, or a
+-- part of a dynamic value, does
+abbrev pub column_at_end : Mode → (in_either : Bool) → Option Column
+column_at_end strict in_either = Some strict_column
+column_at_end (deferred start) true = Some deferred_column
+column_at_end (deferred start) false = None
 
-abbrev pub removed_by : Meanings → Table → (s : ℕ) → State → Call → Result State ReflectErrorKind → ℕ → ℕ
-removed_by hooks table s state command (Ok next) t = replaced hooks table s state command t
-removed_by hooks table s state command (Err kind) t = tree_occurs state.tree t + brings command t
+abbrev pub dropped_with_item : (i : ℕ) → (set : Tree) → (value : Option Val) → ℕ → ℕ
+dropped_with_item i set (Some v) t = if leaves_item_out i v set then occurs v t else 0
+dropped_with_item i set None t = 0
+
+-- the item's value, where its set leaves it out
+abbrev pub dropped_as_item : Column → Meanings → Table → (s : ℕ) → State → (of_set : Bool) → ℕ → ℕ
+dropped_as_item column hooks table s state true t =
+    dropped_with_item (number_in state.cursor) (tree_at (up state.cursor) state.tree)
+    (complete column hooks table s (cursor_tree state)) t
+dropped_as_item column hooks table s state false t = 0
+
+abbrev pub dropped_by_column : Option Column → Meanings → Table → (s : ℕ) → State → (of_set : Bool) → ℕ → ℕ
+dropped_by_column (Some column) hooks table s state of_set t =
+    dropped_by_completing column hooks table s (cursor_tree state) t + dropped_as_item column hooks table s state of_set t
+dropped_by_column None hooks table s state of_set t = 0
+
+-- the place at the cursor is left as an item of a set: an open pointer to a slice isn't left yet
+abbrev pub leaves_set_item : State → Bool
+leaves_set_item state = not (is_open_slice (cursor_tree state)) && is_set_item state
+
+abbrev pub leaves_dynamic_part : State → Bool
+leaves_dynamic_part state = not (is_open_slice (cursor_tree state)) && is_dynamic_part state
+
+abbrev pub dropped_at_end : Meanings → Table → (s : ℕ) → State → ℕ → ℕ
+dropped_at_end hooks table s state t =
+    dropped_by_column (column_at_end state.mode (leaves_set_item state || leaves_dynamic_part state)) hooks table s state
+    (leaves_set_item state) t
+
+-- What an admitted command drops, at a place of shape s, the root having shape `root`: `set`, `set_default` and
+-- `set_empty_shared_slice` what stood there, for their value takes its place; `set_nth_field_to_default` what stood at that field; a
+-- command that begins a content, a side or a pointee, or selects a variant, what stood there, unless it is kept; `end` and
+-- `finish_deferred` what is left out of the sets and maps that complete; no other command drops anything.
+abbrev pub replaced : Meanings → Table → (root s : ℕ) → State → Call → ℕ → ℕ
+replaced hooks table root s state (Call.BeginField name) t = 0
+replaced hooks table root s state (Call.BeginNthField i) t = 0
+replaced hooks table root s state (Call.SetNthFieldToDefault i) t = occurs_in_child table s state i t
+replaced hooks table root s state (Call.Set given v) t = occurs_here state t
+replaced hooks table root s state Call.SetDefault t = occurs_here state t
+replaced hooks table root s state Call.SetEmptySharedSlice t = occurs_here state t
+replaced hooks table root s state Call.InitList t = 0
+replaced hooks table root s state (Call.InitListWithCapacity n) t = 0
+replaced hooks table root s state Call.InitArray t = 0
+replaced hooks table root s state Call.BeginListItem t = 0
+replaced hooks table root s state Call.InitMap t = 0
+replaced hooks table root s state Call.BeginKey t = 0
+replaced hooks table root s state Call.BeginValue t = 0
+replaced hooks table root s state Call.InitSet t = 0
+replaced hooks table root s state Call.BeginSetItem t = 0
+replaced hooks table root s state Call.BeginSome t = dropped_unless (option_kept table s state) state t
+replaced hooks table root s state Call.BeginOk t = dropped_unless (content_kept state as_ok) state t
+replaced hooks table root s state Call.BeginErr t = dropped_unless (content_kept state as_err) state t
+replaced hooks table root s state Call.BeginSmartPtr t =
+    dropped_unless (pointer_kept state (points_to_slice table (def_of table s))) state t
+replaced hooks table root s state (Call.SelectNthVariant i) t =
+    dropped_by_selecting (variant_numbered i (variants_of (def_of table s))) state t
+replaced hooks table root s state (Call.SelectVariantNamed name) t =
+    dropped_by_selecting (variant_named name (variants_of (def_of table s))) state t
+replaced hooks table root s state (Call.SelectVariant discriminant) t =
+    dropped_by_selecting (variant_told_by discriminant (variants_of (def_of table s))) state t
+replaced hooks table root s state Call.End t = dropped_at_end hooks table s state t
+replaced hooks table root s state Call.BeginDeferred t = 0
+replaced hooks table root s state Call.FinishDeferred t = dropped_by_finishing hooks table root state.cursor state.tree t
+
+abbrev pub removed_by : Meanings → Table → (root s : ℕ) → State → Call → Result State ReflectErrorKind → ℕ → ℕ
+removed_by hooks table root s state command (Ok next) t = replaced hooks table root s state command t
+removed_by hooks table root s state command (Err kind) t = tree_occurs state.tree t + brings command t
 
 -- How often a command drops a token: as above where it is admitted; where it is refused, all that the builder holds and
 -- the command brings.
 abbrev pub removed : Meanings → Table → (root : ℕ) → State → Call → ℕ → ℕ
 removed hooks table root state command t =
-    removed_by hooks table (cursor_shape table root state) state command (step hooks table root state command) t
+    removed_by hooks table root (cursor_shape table root state) state command (step hooks table root state command) t
 
-abbrev pub removed_by_build : State → Result Val ReflectErrorKind → ℕ → ℕ
-removed_by_build state (Ok v) t = 0
-removed_by_build state (Err kind) t = tree_occurs state.tree t
+abbrev pub removed_by_build : Meanings → Table → (root : ℕ) → State → Result Val ReflectErrorKind → ℕ → ℕ
+removed_by_build hooks table root state (Ok v) t = dropped_by_completing strict_column hooks table root state.tree t
+removed_by_build hooks table root state (Err kind) t = tree_occurs state.tree t
 
--- How often `build` drops a token: never where it returns a value; where it is refused, all that the builder holds.
+-- How often `build` drops a token: where it returns a value, what is left out of sets and maps; where it is refused, all that the
+-- builder holds.
 abbrev pub removed_at_build : Meanings → Table → (root : ℕ) → State → ℕ → ℕ
-removed_at_build hooks table root state t = removed_by_build state (build hooks table root state) t
+removed_at_build hooks table root state t = removed_by_build hooks table root state (build hooks table root state) t

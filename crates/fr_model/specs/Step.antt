@@ -1,15 +1,12 @@
 -- What each command does to a builder's state, or which refusal it meets: one function for each command. The words
 -- here mean what they say at tables that are served.
-use Rattle.std.specs.Prelude.{ℕ, ℤ, ◌==◌, Bool, true, false, ◌&&◌, ◌||◌, [], ◌∷◌, ◌++◌, List, length, nat_lt, nat_le, Option, Some, None, is_some, unwrap_or, Result, Ok, Err, if◌then◌else◌}
-use Rattle.std.specs.Option.{option_or}
+use Rattle.std.specs.Prelude.{ℕ, ℤ, Bool, true, false, [], ◌∷◌, ◌++◌, List, length, nat_lt, Option, Some, None, unwrap_or, Result, Ok, Err, if◌then◌else◌}
 use Rattle.fr_shape.specs.declared.shape.Def.{Def}
 use Rattle.fr_shape.specs.declared.shape.DefaultSource.{DefaultSource}
 use Rattle.fr_shape.specs.declared.shape.Field.{Field}
-use Rattle.fr_shape.specs.declared.shape.ScalarKind.{ScalarKind}
 use Rattle.fr_shape.specs.declared.shape.ShapeId.{ShapeId}
 use Rattle.fr_shape.specs.declared.shape.VariantDef.{VariantDef}
 use Rattle.fr_shape.specs.declared.error.Expected.{Expected}
-use Rattle.fr_shape.specs.declared.error.InitCall.{InitCall}
 use Rattle.fr_shape.specs.declared.error.ReflectErrorKind.{ReflectErrorKind}
 use Rattle.fr_shape.specs.declared.error.Operation.{Operation}
 use Rattle.fr_shape.specs.declared.error.Invariant.{Invariant}
@@ -17,99 +14,35 @@ use Rattle.fr_shape.specs.Fills.{preset_of, is_option}
 use Rattle.fr_shape.specs.Hooks.{Meanings}
 use Rattle.fr_shape.specs.Look.{Table, def_of, field_in, variants_of}
 use Rattle.fr_shape.specs.Val.{Val, Vals, list_of, ptr, no_vals}
+use Rattle.fr_path.specs.declared.path_steps.PathStep.{PathStep}
 use Rattle.fr_model.specs.Commands.{Call}
 use Rattle.fr_model.specs.Contents.{is_result, pointer_refusal, points_to_slice, variant_anew, content_anew, slice_anew, kept_so, kept_in, kept_slice, kept_option}
-use Rattle.fr_model.specs.Items.{unless_list, is_list_like, init_array_refusal, item_refusal, with_item, is_open_slice, closed_slice, shared_slice_refusal}
-use Rattle.fr_model.specs.Places.{strict_column, is_root, up, array_limit, count_children, content_shape, parts_of, items_of}
-use Rattle.fr_model.specs.Tree.{Form, as_struct, as_array, as_variant, as_some, as_ok, as_err, as_pointer, as_list, as_slice, as_closed_slice, tracker_of, form_of, form_at, selected, Tree, hole, entered, whole, begun, for_hole, wholes, holes, fresh, child_as, count_below, change_child, change_at, Mode, strict, deferred, State, cursor_shape, cursor_tree, one_more_call}
-use Rattle.fr_model.specs.Variants.{is_enum, variant_fields, field_found, variant_numbered, variant_named, variant_told_by, selection_refusal}
+use Rattle.fr_model.specs.DynamicPlaces.{is_begun_dynamic}
+use Rattle.fr_model.specs.Items.{init_array_refusal, item_refusal, with_item, is_open_slice, closed_slice, shared_slice_refusal}
+use Rattle.fr_model.specs.Places.{Column, strict_column, deferred_column, is_root, up, count_children, content_shape, parts_of, items_of, set_items_of, entries_of}
+use Rattle.fr_model.specs.Tree.{Form, as_struct, as_array, as_variant, as_some, as_ok, as_err, as_pointer, as_list, as_slice, as_closed_slice, as_set, as_map, as_dyn_array, as_dyn_object, form_of, form_at, over_base, selected, Tree, hole, entered, whole, begun, for_hole, wholes, holes, fresh, child_as, count_below, change_child, change_at, tree_at, Mode, strict, deferred, State, cursor_shape, cursor_tree, one_more_call}
+use Rattle.fr_model.specs.Variants.{is_enum, field_found, variant_numbered, variant_named, variant_told_by, selection_refusal}
+use Rattle.fr_model.specs.Collections.{is_set, key_refusal, value_refusal, with_key, last_of, set_item_refusal, with_ended_item, number_in}
 use Rattle.fr_model.specs.Complete.{complete, lack, missing_value}
-use Rattle.fr_model.specs.Finish.{finished, finish_cause}
+use Rattle.fr_model.specs.Failing.{failures, first_by_walk}
+use Rattle.fr_model.specs.Paths.{path_of}
+use Rattle.fr_model.specs.Finish.{finished, finish_cause, kind_of}
+pub use Rattle.fr_model.specs.Refusals.{operation_failed, violates, at_shape, was_not_a, element_refusal, variant_field_refusal, field_refusal, named_refusal, is_str, is_owned_string_kind, is_owned_string, takes_shape, set_refusal, unexpected_unless, init_list_refusal, init_map_refusal, init_set_refusal}
 
 -- the new state, unless there is something to refuse
 abbrev pub unless_refused : Option ReflectErrorKind → State → Result State ReflectErrorKind
 unless_refused (Some kind) next = Err kind
 unless_refused None next = Ok next
 
-abbrev pub operation_failed : ℕ → Operation → ReflectErrorKind
-operation_failed s operation = ReflectErrorKind.OperationFailed (record { 0 = s }) operation
-
-abbrev pub violates : Invariant → ReflectErrorKind
-violates invariant = ReflectErrorKind.InvariantViolation invariant
-
-abbrev pub at_shape : ℕ → Option Operation → Option ReflectErrorKind
-at_shape s (Some operation) = Some (operation_failed s operation)
-at_shape s None = None
-
-abbrev pub was_not_a : Expected → ℕ → ReflectErrorKind
-was_not_a expected s = ReflectErrorKind.WasNotA expected (record { 0 = s })
-
 -- Entering a child
-
--- the elements of a whole array can't be entered
-abbrev pub element_refusal : Tree → Option Operation
-element_refusal (whole v) = Some Operation.ElementOfWholeArray
-element_refusal hole = None
-element_refusal entered = None
-element_refusal (begun form children) = None
-
--- of an enum, a field of the variant that is selected
-abbrev pub variant_field_refusal : Def → (selected : Option ℕ) → ℕ → Option Operation
-variant_field_refusal def None i = Some Operation.FieldOfUnselectedVariant
-variant_field_refusal def (Some k) i =
-    if nat_lt i (length (variant_fields def k)) then None else Some Operation.VariantFieldIndexOutOfBounds
-
--- begin_nth_field is refused but at a struct, or a begun enum, with a field of that number, and at an array with such an element that
--- has no more elements than the limit and isn't whole. Of several refusals of an array the first in this order is given: there is no
--- such element; the array is too large; it is whole.
-abbrev pub field_refusal : Def → Tree → ℕ → Option Operation
-field_refusal (Def.Struct struct) tree i =
-    if nat_lt i (length struct.fields) then None else Some Operation.FieldIndexOutOfBounds
-field_refusal (Def.Enum enumeration) tree i = variant_field_refusal (Def.Enum enumeration) (selected tree) i
-field_refusal (Def.Array item n) tree i =
-    option_or (if nat_lt i n then None else Some Operation.ArrayIndexOutOfBounds)
-    (option_or (if nat_le n array_limit then None else Some Operation.ArrayTooLarge) (element_refusal tree))
-field_refusal (Def.Slice item) tree i = Some Operation.FieldOfSlice
-field_refusal Def.Opaque tree i = Some Operation.FieldOfOpaque
-field_refusal (Def.Scalar kind) tree i = Some Operation.FieldOfOther
-field_refusal Def.Str tree i = Some Operation.FieldOfOther
-field_refusal (Def.Option t) tree i = Some Operation.FieldOfOther
-field_refusal (Def.Result t e) tree i = Some Operation.FieldOfOther
-field_refusal (Def.List t) tree i = Some Operation.FieldOfOther
-field_refusal (Def.Map key item) tree i = Some Operation.FieldOfOther
-field_refusal (Def.Set t) tree i = Some Operation.FieldOfOther
-field_refusal (Def.Pointer pointer) tree i = Some Operation.FieldOfOther
-field_refusal Def.Dynamic tree i = Some Operation.FieldOfOther
-field_refusal Def.Undefined tree i = Some Operation.FieldOfOther
-field_refusal Def.Other tree i = Some Operation.FieldOfOther
-
--- begin_field is refused but at a struct and at a begun enum
-abbrev pub named_refusal : Def → Tree → Option Operation
-named_refusal (Def.Struct struct) tree = None
-named_refusal (Def.Enum enumeration) tree =
-    if is_some (selected tree) then None else Some Operation.NamedFieldOfUnselectedVariant
-named_refusal Def.Undefined tree = Some Operation.NamedFieldOfUndefined
-named_refusal (Def.Scalar kind) tree = Some Operation.NamedFieldOfPrimitive
-named_refusal Def.Str tree = Some Operation.NamedFieldOfPrimitive
-named_refusal (Def.Array item n) tree = Some Operation.NamedFieldOfSequence
-named_refusal (Def.Slice item) tree = Some Operation.NamedFieldOfSequence
-named_refusal Def.Opaque tree = Some Operation.NamedFieldOfOpaque
-named_refusal (Def.Pointer pointer) tree = Some Operation.NamedFieldOfPointer
-named_refusal (Def.Option t) tree = Some Operation.FieldOfOther
-named_refusal (Def.Result t e) tree = Some Operation.FieldOfOther
-named_refusal (Def.List t) tree = Some Operation.FieldOfOther
-named_refusal (Def.Map key item) tree = Some Operation.FieldOfOther
-named_refusal (Def.Set t) tree = Some Operation.FieldOfOther
-named_refusal Def.Dynamic tree = Some Operation.FieldOfOther
-named_refusal Def.Other tree = Some Operation.FieldOfOther
 
 -- a whole place begun with whole children, if its value has any
 abbrev pub opened_value : Form → Val → (parts : Option Vals) → Tree
-opened_value form v (Some vs) = begun form (wholes vs)
+opened_value form v (Some vs) = begun (over_base form v) (wholes vs)
 opened_value form v None = whole v
 
--- the values of the children that a value has at a place that is to be begun so: a list's of its items, a struct's or an array's of
--- its parts
+-- the values of the children that a value has at a place that is to be begun so: a list's or a set's of its items, a map's of its
+-- entries, a struct's or an array's of its parts
 abbrev pub parts_as : Form → Val → Option Vals
 parts_as as_struct v = parts_of v
 parts_as as_array v = parts_of v
@@ -121,6 +54,10 @@ parts_as as_err v = None
 parts_as as_pointer v = None
 parts_as as_slice v = None
 parts_as as_closed_slice v = None
+parts_as as_set v = set_items_of v
+parts_as (as_map base) v = entries_of v
+parts_as as_dyn_array v = None
+parts_as (as_dyn_object keys) v = None
 
 -- a place that is to be begun so, with so many children, as they see it: an entered one has a hole for each, a whole one
 -- is begun with whole children, a begun one stays as it is
@@ -178,44 +115,7 @@ puts state v = record state {
   calls = one_more_call state.calls;
 }
 
-abbrev pub is_str : Def → Bool
-is_str Def.Str = true
-is_str _ = false
-
--- a text that may be borrowed is none
-abbrev pub is_owned_string_kind : ScalarKind → Bool
-is_owned_string_kind ScalarKind.String = true
-is_owned_string_kind ScalarKind.CowStr = false
-is_owned_string_kind ScalarKind.Bool = false
-is_owned_string_kind ScalarKind.Char = false
-is_owned_string_kind ScalarKind.I8 = false
-is_owned_string_kind ScalarKind.I16 = false
-is_owned_string_kind ScalarKind.I32 = false
-is_owned_string_kind ScalarKind.I64 = false
-is_owned_string_kind ScalarKind.I128 = false
-is_owned_string_kind ScalarKind.ISize = false
-is_owned_string_kind ScalarKind.U8 = false
-is_owned_string_kind ScalarKind.U16 = false
-is_owned_string_kind ScalarKind.U32 = false
-is_owned_string_kind ScalarKind.U64 = false
-is_owned_string_kind ScalarKind.U128 = false
-is_owned_string_kind ScalarKind.USize = false
-
--- an owned text
-abbrev pub is_owned_string : Def → Bool
-is_owned_string (Def.Scalar kind) = is_owned_string_kind kind
-is_owned_string _ = false
-
--- set takes a value of the place's own shape, and at a `str` an owned text
-abbrev pub takes_shape : Table → (s given : ℕ) → Bool
-takes_shape table s given = s == given || (is_str (def_of table s) && is_owned_string (def_of table given))
-
--- set is refused with any other value
-abbrev pub set_refusal : Table → ℕ → ℕ → Option ReflectErrorKind
-set_refusal table s given =
-    if takes_shape table s given then None
-    else Some (ReflectErrorKind.WrongShape (record { 0 = s }) (record { 0 = given }))
-
+-- set takes the place of all that stood there, where the place takes a value of that shape
 abbrev pub set : Table → ℕ → State → ℕ → Val → Result State ReflectErrorKind
 set table s state given v = unless_refused (set_refusal table s given) (puts state v)
 
@@ -331,21 +231,11 @@ opens table s state = record state {
   calls = one_more_call state.calls;
 }
 
-abbrev pub unexpected_unless : Bool → InitCall → Form → Option ReflectErrorKind
-unexpected_unless true call form = None
-unexpected_unless false call form = Some (ReflectErrorKind.UnexpectedTracker call (tracker_of form))
-
--- init_list is refused but at a list, and at what is begun as a list or as a pointer to a slice
-abbrev pub init_list_refusal : ℕ → Def → Tree → Option ReflectErrorKind
-init_list_refusal s def (whole v) = at_shape s (unless_list Operation.InitListOfWholeOther def)
-init_list_refusal s def (begun form children) = unexpected_unless (is_list_like form) InitCall.List form
-init_list_refusal s def entered = at_shape s (unless_list Operation.InitListOfOther def)
-init_list_refusal s def hole = at_shape s (unless_list Operation.InitListOfOther def)
-
 -- init_list, with a capacity or without: a list keeps the items that it has
 abbrev pub init_list : Table → ℕ → State → Result State ReflectErrorKind
 init_list table s state =
-    unless_refused (init_list_refusal s (def_of table s) (cursor_tree state)) (opens table s state)
+    unless_refused (init_list_refusal s (def_of table s) (cursor_tree state))
+    (opens table s state)
 
 -- init_array: the elements of an entered array are holes
 abbrev pub init_array : Table → ℕ → State → Result State ReflectErrorKind
@@ -363,6 +253,42 @@ enters_item table s state = record state {
 abbrev pub begin_list_item : Table → ℕ → State → Result State ReflectErrorKind
 begin_list_item table s state =
     unless_refused (at_shape s (item_refusal (def_of table s) (cursor_tree state))) (enters_item table s state)
+
+-- Sets and maps
+
+-- init_map: a map keeps the entries that it has
+abbrev pub init_map : Table → ℕ → State → Result State ReflectErrorKind
+init_map table s state =
+    unless_refused (init_map_refusal s (def_of table s) (cursor_tree state))
+    (opens table s state)
+
+-- init_set: at a set alone, which keeps the items that it has
+abbrev pub init_set : Table → ℕ → State → Result State ReflectErrorKind
+init_set table s state =
+    unless_refused (init_set_refusal s (def_of table s) (cursor_tree state)) (opens table s state)
+
+-- the key of a new entry is entered, behind the others
+abbrev pub enters_key : Table → ℕ → State → State
+enters_key table s state = record state {
+  tree = change_at state.cursor (with_key table s) state.tree;
+  cursor = state.cursor ++ count_below (cursor_tree state) ∷ [];
+  calls = one_more_call state.calls;
+}
+
+abbrev pub begin_key : Table → ℕ → State → Result State ReflectErrorKind
+begin_key table s state = unless_refused (at_shape s (key_refusal (cursor_tree state))) (enters_key table s state)
+
+-- begin_value enters the value of the last entry
+abbrev pub begin_value : Table → ℕ → State → Result State ReflectErrorKind
+begin_value table s state =
+    unless_refused (at_shape s (value_refusal (cursor_tree state)))
+    (enters table s state (last_of (count_below (cursor_tree state))))
+
+abbrev pub begin_set_item : Table → ℕ → State → Result State ReflectErrorKind
+begin_set_item table s state =
+    unless_refused (at_shape s (set_item_refusal (def_of table s) (cursor_tree state))) (enters_item table s state)
+
+-- Slices
 
 -- set_empty_shared_slice puts a pointer to no items
 abbrev pub set_empty_shared_slice : Table → ℕ → State → Result State ReflectErrorKind
@@ -421,12 +347,57 @@ ended hooks table s state None = Err (cause hooks table s (cursor_tree state))
 abbrev pub leaves : State → State
 leaves state = record state { cursor = up state.cursor; calls = one_more_call state.calls }
 
--- in strict mode the place is completed and becomes whole; in deferred mode it is left as it is, where it lies deeper than
--- the place at which that began
+-- the place at the cursor, below the root, is an item of a set
+abbrev pub is_set_item : State → Bool
+is_set_item state = is_set (tree_at (up state.cursor) state.tree)
+
+-- the set takes the value of the item at the cursor, and the cursor goes up
+abbrev pub takes_item : State → Val → State
+takes_item state v = record state {
+  tree = change_at (up state.cursor) (with_ended_item (number_in state.cursor) v) state.tree;
+  cursor = up state.cursor;
+  calls = one_more_call state.calls;
+}
+
+-- why a place of shape s, at this path, doesn't complete by the rules of a column
+abbrev pub cause_by : Column → Meanings → Table → ℕ → List PathStep → Tree → ReflectErrorKind
+cause_by strict_column hooks table s path t = cause hooks table s t
+cause_by deferred_column hooks table s path t = or_missing s (kind_of (first_by_walk (failures hooks table s path t)))
+
+abbrev pub item_ended : Column → Meanings → Table → ℕ → State → Option Val → Result State ReflectErrorKind
+item_ended column hooks table s state (Some v) = Ok (takes_item state v)
+item_ended column hooks table s state None = Err (cause_by column hooks table s (path_of state) (cursor_tree state))
+
+-- an item of a set is completed as it is left, in either mode, with all that lies beneath it
+abbrev pub ends_item : Column → Meanings → Table → ℕ → State → Result State ReflectErrorKind
+ends_item column hooks table s state =
+    item_ended column hooks table s state (complete column hooks table s (cursor_tree state))
+
+-- the place at the cursor, below the root, is an element or an entry of a dynamic value
+abbrev pub is_dynamic_part : State → Bool
+is_dynamic_part state = is_begun_dynamic (tree_at (up state.cursor) state.tree)
+
+abbrev pub part_ended : Meanings → Table → ℕ → State → Option Val → Result State ReflectErrorKind
+part_ended hooks table s state (Some v) = Ok (puts_and_leaves state v)
+part_ended hooks table s state None = Err (cause_by deferred_column hooks table s (path_of state) (cursor_tree state))
+
+-- in deferred mode such a part is completed as it is left, with all that lies beneath it; any other place is left as it is
+abbrev pub leaves_deferred : Meanings → Table → ℕ → State → (of_dynamic : Bool) → Result State ReflectErrorKind
+leaves_deferred hooks table s state true =
+    part_ended hooks table s state (complete deferred_column hooks table s (cursor_tree state))
+leaves_deferred hooks table s state false = Ok (leaves state)
+
+-- In strict mode the place is completed and becomes whole; in deferred mode it is left as it is, where it lies deeper than
+-- the place at which that began. An item of a set, and a part of a dynamic value, is completed in either.
 abbrev pub end_in : Meanings → Table → ℕ → State → Mode → Result State ReflectErrorKind
-end_in hooks table s state strict = ended hooks table s state (complete strict_column hooks table s (cursor_tree state))
+end_in hooks table s state strict =
+    if is_set_item state then ends_item strict_column hooks table s state
+    else ended hooks table s state (complete strict_column hooks table s (cursor_tree state))
 end_in hooks table s state (deferred start) =
-    if nat_lt start (length state.cursor) then Ok (leaves state) else Err (violates Invariant.EndAtStart)
+    if nat_lt start (length state.cursor) then
+    (if is_set_item state then ends_item deferred_column hooks table s state
+    else leaves_deferred hooks table s state (is_dynamic_part state))
+    else Err (violates Invariant.EndAtStart)
 
 abbrev pub leaves_place : Meanings → Table → ℕ → State → Result State ReflectErrorKind
 leaves_place hooks table s state =
@@ -498,6 +469,11 @@ step_at hooks table root s state Call.InitList = init_list table s state
 step_at hooks table root s state (Call.InitListWithCapacity n) = init_list table s state
 step_at hooks table root s state Call.InitArray = init_array table s state
 step_at hooks table root s state Call.BeginListItem = begin_list_item table s state
+step_at hooks table root s state Call.InitMap = init_map table s state
+step_at hooks table root s state Call.BeginKey = begin_key table s state
+step_at hooks table root s state Call.BeginValue = begin_value table s state
+step_at hooks table root s state Call.InitSet = init_set table s state
+step_at hooks table root s state Call.BeginSetItem = begin_set_item table s state
 step_at hooks table root s state Call.BeginSome = begin_some table s state
 step_at hooks table root s state Call.BeginOk = begin_side table s state as_ok
 step_at hooks table root s state Call.BeginErr = begin_side table s state as_err

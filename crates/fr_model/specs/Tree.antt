@@ -1,17 +1,20 @@
 -- What is being built, as one tree, and the state of a builder.
-use Rattle.std.specs.Prelude.{ℕ, zero, suc, ◌+◌, ◌==◌, min, Bool, List, [], ◌∷◌, Option, Some, None, if◌then◌else◌}
+use Rattle.std.specs.Prelude.{ℕ, zero, suc, ◌+◌, ◌==◌, min, Bool, true, false, ◌&&◌, List, [], ◌∷◌, Option, Some, None, if◌then◌else◌}
+use Rattle.std.specs.Str.{bytes_eq}
 use Rattle.fr_shape.specs.declared.shape.Def.{Def}
 use Rattle.fr_shape.specs.declared.error.TrackerKind.{TrackerKind}
 use Rattle.fr_shape.specs.Val.{Val, Vals, product, no_vals, first}
 use Rattle.fr_shape.specs.Tokens.{occurs}
 use Rattle.fr_shape.specs.Fills.{is_empty_struct}
 use Rattle.fr_shape.specs.Look.{Table, def_of, field_in}
-use Rattle.fr_model.specs.Places.{Place, child_shape, shape_of_field, content_shape, ok_shape, err_shape, pointee_shape, item_shape}
+use Rattle.fr_model.specs.Places.{Place, child_shape, shape_of_field, content_shape, ok_shape, err_shape, pointee_shape, item_shape, is_key, entry_shape, base_in}
 
 -- As what a place is begun: as a struct or an array, as the variant of this number of an enum, as an option with a content, as
--- either side of a result, as a pointer with what it points to, as a list, or as a pointer to a slice, which is open for more items
--- or closed. The children are the fields, elements or items, those that the list had when it was begun in front; a content, a side
--- or a pointee is the one child.
+-- either side of a result, as a pointer with what it points to, as a list, as a pointer to a slice, which is open for more items or
+-- closed, as a set, as a map over a base of so many entries, or as a dynamic value that is an array or an object with these keys. The
+-- children are the fields, elements or items, those that were there when the place was begun in front; of a map the key and the value
+-- of each entry in turn, a hole where an entry has no value yet; of an object the value under each key; a content, a side or a pointee
+-- is the one child.
 pub data Form : Type 0 where
   as_struct : Form
   as_array : Form
@@ -23,8 +26,12 @@ pub data Form : Type 0 where
   as_list : Form
   as_slice : Form
   as_closed_slice : Form
+  as_set : Form
+  as_map : (base : ℕ) → Form
+  as_dyn_array : Form
+  as_dyn_object : (keys : List (List ℕ)) → Form
 
--- a number for each form
+-- a number for each form (whatever the base of a map and the keys of an object)
 abbrev pub form_number : Form → ℕ
 form_number as_struct = 0
 form_number as_array = 1
@@ -35,10 +42,56 @@ form_number as_pointer = 5
 form_number as_list = 6
 form_number as_slice = 7
 form_number as_closed_slice = 8
-form_number (as_variant k) = suc (suc (suc (suc (suc (suc (suc (suc (suc k))))))))
+form_number as_set = 9
+form_number (as_map base) = 10
+form_number as_dyn_array = 11
+form_number (as_dyn_object keys) = 12
+form_number (as_variant k) = suc (suc (suc (suc (suc (suc (suc (suc (suc (suc (suc (suc (suc k))))))))))))
+
+-- the keys of an object
+abbrev pub keys_of_form : Form → List (List ℕ)
+keys_of_form (as_dyn_object keys) = keys
+keys_of_form as_dyn_array = []
+keys_of_form as_struct = []
+keys_of_form as_array = []
+keys_of_form (as_variant k) = []
+keys_of_form as_some = []
+keys_of_form as_ok = []
+keys_of_form as_err = []
+keys_of_form as_pointer = []
+keys_of_form as_list = []
+keys_of_form as_slice = []
+keys_of_form as_closed_slice = []
+keys_of_form as_set = []
+keys_of_form (as_map base) = []
+
+abbrev pub same_keys : (one other : List (List ℕ)) → Bool
+same_keys [] [] = true
+same_keys [] (key ∷ keys) = false
+same_keys (key ∷ keys) [] = false
+same_keys (key ∷ keys) (other ∷ others) = bytes_eq key other && same_keys keys others
+
+-- how many entries a map had when it was begun
+abbrev pub base_of_form : Form → ℕ
+base_of_form (as_map base) = base
+base_of_form as_struct = 0
+base_of_form as_array = 0
+base_of_form (as_variant k) = 0
+base_of_form as_some = 0
+base_of_form as_ok = 0
+base_of_form as_err = 0
+base_of_form as_pointer = 0
+base_of_form as_list = 0
+base_of_form as_slice = 0
+base_of_form as_closed_slice = 0
+base_of_form as_set = 0
+base_of_form as_dyn_array = 0
+base_of_form (as_dyn_object keys) = 0
 
 abbrev pub same_form : Form → Form → Bool
-same_form one other = form_number one == form_number other
+same_form one other =
+    same_keys (keys_of_form one) (keys_of_form other) && (base_of_form one == base_of_form other)
+    && (form_number one == form_number other)
 
 -- the variant as which a place is begun, if it is begun as one
 abbrev pub variant_of : Form → Option ℕ
@@ -52,6 +105,10 @@ variant_of as_pointer = None
 variant_of as_list = None
 variant_of as_slice = None
 variant_of as_closed_slice = None
+variant_of as_set = None
+variant_of (as_map base) = None
+variant_of as_dyn_array = None
+variant_of (as_dyn_object keys) = None
 
 -- the form of a begun place, as refusals name it
 abbrev pub tracker_of : Form → TrackerKind
@@ -65,6 +122,10 @@ tracker_of as_pointer = TrackerKind.SmartPointer
 tracker_of as_list = TrackerKind.List
 tracker_of as_slice = TrackerKind.SmartPointerSlice
 tracker_of as_closed_slice = TrackerKind.SmartPointerSlice
+tracker_of as_set = TrackerKind.Set
+tracker_of (as_map base) = TrackerKind.Map
+tracker_of as_dyn_array = TrackerKind.DynamicValue
+tracker_of (as_dyn_object keys) = TrackerKind.DynamicValue
 
 -- as what a place of this definition is begun by entering a field, an element or an item
 abbrev pub form_of : Def → Form
@@ -77,8 +138,8 @@ form_of (Def.Enum enumeration) = as_struct
 form_of (Def.Option t) = as_struct
 form_of (Def.Result t e) = as_struct
 form_of (Def.List t) = as_list
-form_of (Def.Map key item) = as_struct
-form_of (Def.Set t) = as_struct
+form_of (Def.Map key item) = as_map 0
+form_of (Def.Set t) = as_set
 form_of (Def.Pointer pointer) = as_struct
 form_of (Def.Slice t) = as_struct
 form_of Def.Dynamic = as_struct
@@ -104,11 +165,28 @@ selected entered = None
 selected (whole v) = None
 selected (begun form children) = variant_of form
 
+-- as what a place that holds a value is begun: a map over the entries of the value
+abbrev pub over_base : Form → Val → Form
+over_base (as_map base) v = as_map (base_in v)
+over_base as_struct v = as_struct
+over_base as_array v = as_array
+over_base (as_variant k) v = as_variant k
+over_base as_some v = as_some
+over_base as_ok v = as_ok
+over_base as_err v = as_err
+over_base as_pointer v = as_pointer
+over_base as_list v = as_list
+over_base as_slice v = as_slice
+over_base as_closed_slice v = as_closed_slice
+over_base as_set v = as_set
+over_base as_dyn_array v = as_dyn_array
+over_base (as_dyn_object keys) v = as_dyn_object keys
+
 -- as what a place of this definition is begun once a part of it is entered: a begun one stays what it is
 abbrev pub form_at : Def → Tree → Form
 form_at def hole = form_of def
 form_at def entered = form_of def
-form_at def (whole v) = form_of def
+form_at def (whole v) = over_base (form_of def) v
 form_at def (begun form children) = form
 
 -- the first of two for a hole, the second for anything else
@@ -164,6 +242,10 @@ child_as table s as_pointer i = pointee_shape (def_of table s)
 child_as table s as_list i = item_shape (def_of table s)
 child_as table s as_slice i = item_shape (def_of table (pointee_shape (def_of table s)))
 child_as table s as_closed_slice i = item_shape (def_of table (pointee_shape (def_of table s)))
+child_as table s as_set i = item_shape (def_of table s)
+child_as table s (as_map base) i = entry_shape (def_of table s) (is_key i)
+child_as table s as_dyn_array i = s
+child_as table s (as_dyn_object keys) i = s
 
 -- the shapes of so many of its children, number i first
 abbrev pub shapes_from : Table → ℕ → Form → (count i : ℕ) → List ℕ

@@ -6,9 +6,13 @@ use Rattle.fr_shape.specs.declared.shape.VariantDef.{VariantDef}
 use Rattle.fr_shape.specs.Look.{Table, def_of}
 use Rattle.fr_shape.specs.Fits.{fits}
 use Rattle.fr_shape.specs.Fills.{is_empty_struct}
+use Rattle.fr_shape.specs.Same.{none_twice}
+use Rattle.fr_shape.specs.Val.{Vals}
+use Rattle.fr_model.specs.Collections.{without_nth}
 use Rattle.fr_model.specs.Contents.{pointer_refusal, points_to_slice}
-use Rattle.fr_model.specs.Places.{Place, array_limit}
-use Rattle.fr_model.specs.Tree.{Form, as_struct, as_array, as_variant, as_some, as_ok, as_err, as_pointer, as_list, as_slice, as_closed_slice, Tree, hole, entered, whole, begun, Trees, no_trees, branch, shapes_as, count_trees, tree_occurs, Mode, strict, deferred, State}
+use Rattle.fr_model.specs.Dynamics.{keys_apart}
+use Rattle.fr_model.specs.Places.{Place, array_limit, is_key}
+use Rattle.fr_model.specs.Tree.{Form, as_struct, as_array, as_variant, as_some, as_ok, as_err, as_pointer, as_list, as_slice, as_closed_slice, as_set, as_map, as_dyn_array, as_dyn_object, Tree, hole, entered, whole, begun, Trees, no_trees, branch, shapes_as, count_trees, wholes, tree_occurs, Mode, strict, deferred, State}
 use Rattle.fr_model.specs.Variants.{selection_refusal}
 
 -- Each word says of a definition that a place of it has so many children, begun in one way.
@@ -49,12 +53,31 @@ abbrev pub IsList : Def → Type 0
 IsList (Def.List t) = Unit {0}
 IsList _ = ⊥
 
+abbrev pub IsDynamic : Def → Type 0
+IsDynamic Def.Dynamic = Unit {0}
+IsDynamic _ = ⊥
+
+-- a dynamic object has one child for each key
+abbrev pub HasKeys : Def → (keys : List (List ℕ)) → ℕ → Type 0
+HasKeys Def.Dynamic keys count = count ≡ length keys
+HasKeys _ keys count = ⊥
+
+abbrev pub IsSet : Def → Type 0
+IsSet (Def.Set t) = Unit {0}
+IsSet _ = ⊥
+
+-- a map has a key and a value for each entry
+abbrev pub HasEntries : Def → ℕ → Type 0
+HasEntries (Def.Map key item) count = is_key count ≡ true
+HasEntries _ count = ⊥
+
 abbrev pub IsPointer : Def → Type 0
 IsPointer (Def.Pointer pointer) = Unit {0}
 IsPointer _ = ⊥
 
 -- a place of this definition has all its children, begun so: a struct or a variant one for each field, an array one for each
--- element, an option, a result or a pointer one; a list, and a pointer to a slice, as many as there are
+-- element, an option, a result or a pointer one, a map two for each entry, a dynamic object one for each key; a list, a set, a pointer to a slice and a dynamic array as many as
+-- there are
 abbrev pub IsFullAs : Def → Form → ℕ → Type 0
 IsFullAs def as_struct count = HasFields def count
 IsFullAs def as_array count = HasElements def count
@@ -66,6 +89,10 @@ IsFullAs def as_pointer count = HasPointee def count
 IsFullAs def as_list count = IsList def
 IsFullAs def as_slice count = IsPointer def
 IsFullAs def as_closed_slice count = IsPointer def
+IsFullAs def as_set count = IsSet def
+IsFullAs def (as_map base) count = HasEntries def count
+IsFullAs def as_dyn_array count = IsDynamic def
+IsFullAs def (as_dyn_object keys) count = HasKeys def keys count
 
 -- a struct is begun only with at least one child, an array only with no more than the limit
 abbrev pub MayBegin : Form → ℕ → Type 0
@@ -79,6 +106,10 @@ MayBegin as_pointer count = Unit {0}
 MayBegin as_list count = Unit {0}
 MayBegin as_slice count = Unit {0}
 MayBegin as_closed_slice count = Unit {0}
+MayBegin as_set count = Unit {0}
+MayBegin (as_map base) count = Unit {0}
+MayBegin as_dyn_array count = Unit {0}
+MayBegin (as_dyn_object keys) count = Unit {0}
 
 -- a place of this definition may be begun so, with that many children: all that it has, if it may be begun with them
 abbrev pub IsBegunAs : Def → Form → ℕ → Type 0
@@ -101,13 +132,21 @@ abbrev pub AreTouched : Trees → Type 0
 AreTouched no_trees = Unit {0}
 AreTouched (branch t ts) = IsTouched t × AreTouched ts
 
+-- every key is there, and every value, but perhaps that of the last entry
+abbrev pub AreEntries : Trees → Type 0
+AreEntries no_trees = Unit {0}
+AreEntries (branch key no_trees) = ⊥
+AreEntries (branch key (branch value no_trees)) = IsTouched key
+AreEntries (branch key (branch value (branch next rest))) = IsTouched key × IsTouched value × AreEntries (branch next rest)
+
 -- a pointer of shape s may be begun, and what it points to is a slice, or isn't one
 abbrev pub MayPoint : Table → ℕ → (to_slice : Bool) → Type 0
 MayPoint table s to_slice =
     (pointer_refusal table (def_of table s) ≡ None) × (points_to_slice table (def_of table s) ≡ to_slice)
 
 -- A place of shape s is rightly begun so: a variant only where it may be selected, a pointer only where it may be begun, and an
--- option, a result or a pointer with its content. What a list or a slice has is there.
+-- option, a result or a pointer with its content. What a list, a slice, a set or a dynamic value has is there, and so is what a map has
+-- but perhaps its last value. An object has no key twice.
 abbrev pub IsBegunRightly : Table → ℕ → Form → Trees → Type 0
 IsBegunRightly table s as_struct children = Unit {0}
 IsBegunRightly table s as_array children = Unit {0}
@@ -119,6 +158,10 @@ IsBegunRightly table s as_pointer children = IsContent children × MayPoint tabl
 IsBegunRightly table s as_list children = AreTouched children
 IsBegunRightly table s as_slice children = AreTouched children × MayPoint table s true
 IsBegunRightly table s as_closed_slice children = AreTouched children × MayPoint table s true
+IsBegunRightly table s as_set children = AreTouched children
+IsBegunRightly table s (as_map base) children = AreEntries children
+IsBegunRightly table s as_dyn_array children = AreTouched children
+IsBegunRightly table s (as_dyn_object keys) children = AreTouched children × (keys_apart keys ≡ true)
 
 -- Each node suits its shape: what is whole fits it, and what is begun is so rightly and has one child for each field or element, the
 -- one that it holds, or its items, each of which suits the shape of that. What is entered isn't a struct without fields, which is
@@ -185,7 +228,8 @@ pub record IsInOrder (table : Table) (root : ℕ) (state : State) : Type 0 where
   pub leads : Leads state.mode state.cursor state.tree
   pub began : BeganAbove state.mode state.cursor
 
--- What the builder has left rests: no pointer to a slice is open in it, for the end of such a place closes it first.
+-- What the builder has left rests: no pointer to a slice is open in it, for the end of such a place closes it first; and the items of
+-- a set and the parts of a dynamic value are whole in it, for each is completed as it ends.
 
 abbrev pub IsShut : Form → Type 0
 IsShut as_slice = ⊥
@@ -198,13 +242,45 @@ IsShut as_ok = Unit {0}
 IsShut as_err = Unit {0}
 IsShut as_pointer = Unit {0}
 IsShut as_list = Unit {0}
+IsShut as_set = Unit {0}
+IsShut (as_map base) = Unit {0}
+IsShut as_dyn_array = Unit {0}
+IsShut (as_dyn_object keys) = Unit {0}
+
+-- the trees are whole
+pub record AreValues (ts : Trees) : Type 0 where
+  pub values : Vals
+  pub are : ts ≡ wholes values
+
+-- the trees are whole, and no two of their values are `same`
+pub record AreItems (ts : Trees) : Type 0 where
+  pub values : Vals
+  pub are : ts ≡ wholes values
+  pub once : none_twice values ≡ true
+
+-- of a place that is begun so, these children are done with
+abbrev pub AreDone : Form → Trees → Type 0
+AreDone as_set ts = AreItems ts
+AreDone as_dyn_array ts = AreValues ts
+AreDone (as_dyn_object keys) ts = AreValues ts
+AreDone as_struct ts = Unit {0}
+AreDone as_array ts = Unit {0}
+AreDone (as_variant k) ts = Unit {0}
+AreDone as_some ts = Unit {0}
+AreDone as_ok ts = Unit {0}
+AreDone as_err ts = Unit {0}
+AreDone as_pointer ts = Unit {0}
+AreDone as_list ts = Unit {0}
+AreDone as_slice ts = Unit {0}
+AreDone as_closed_slice ts = Unit {0}
+AreDone (as_map base) ts = Unit {0}
 
 abbrev mutual
   pub Rests : Tree → Type 0
   Rests hole = Unit {0}
   Rests entered = Unit {0}
   Rests (whole v) = Unit {0}
-  Rests (begun form ts) = IsShut form × AllRest ts
+  Rests (begun form ts) = IsShut form × AreDone form ts × AllRest ts
 
   pub AllRest : Trees → Type 0
   AllRest no_trees = Unit {0}
@@ -216,13 +292,15 @@ RestBut i Below no_trees = Unit {0}
 RestBut zero Below (branch t ts) = Below t × AllRest ts
 RestBut (suc i) Below (branch t ts) = Rests t × RestBut i Below ts
 
--- every place rests that is neither the cursor's nor above it, so that only such a pointer to a slice may be open
+-- every place rests that is neither the cursor's nor above it, so that only such a pointer to a slice may be open, and only such an
+-- item of a set, or part of a dynamic value, may be half done
 abbrev pub RestsAround : (cursor : Place) → Tree → Type 0
 RestsAround cursor hole = Unit {0}
 RestsAround cursor entered = Unit {0}
 RestsAround cursor (whole v) = Unit {0}
-RestsAround [] (begun form ts) = AllRest ts
-RestsAround (i ∷ place) (begun form ts) = RestBut i (λ child. RestsAround place child) ts
+RestsAround [] (begun form ts) = AreDone form ts × AllRest ts
+RestsAround (i ∷ place) (begun form ts) =
+    AreDone form (without_nth i ts) × RestBut i (λ child. RestsAround place child) ts
 
 -- no token stands twice in a tree
 abbrev pub AreDistinct : Tree → Type 0

@@ -1,5 +1,6 @@
 //! Laws of the definitions: each is the contract of a function that does nothing.
 ghost use Rattle.fr_model.specs.Agree.{MachineAgrees, StartIsRelated, StepKeepsRelated};
+ghost use Rattle.fr_model.specs.CollectionExamples.{MapExamples, SetExamples};
 ghost use Rattle.fr_model.specs.ContentExamples.{OptionExamples, PointerExamples, ResultExamples, SelectionExamples, VariantExamples};
 ghost use Rattle.fr_model.specs.Covering.{ScanAgrees, WaysAgree};
 ghost use Rattle.fr_model.specs.DefaultExamples.{DefaultExamples, ValidatorExamples};
@@ -9,9 +10,10 @@ ghost use Rattle.fr_model.specs.FailingLaws.{FailuresLieThere, FinishesOrRefuses
 ghost use Rattle.fr_model.specs.FinishExamples.{FinishExamples};
 ghost use Rattle.fr_model.specs.FinishLaws.{ClosingKeepsCompletion, ClosingKeepsFailures, ClosingKeepsFailuresOff, ClosingKeepsFinish};
 ghost use Rattle.fr_model.specs.Finishing.{NotesWhatIsDue, StuckOrNoted};
+ghost use Rattle.fr_model.specs.GatheringLaws.{DistinctEntriesStay, DistinctItemsStay, NoEntryIsLeftOut, NoItemIsLeftOut, SameIsThere};
 ghost use Rattle.fr_model.specs.Laws.{BuildKeepsTokens, CompletesOrFails, CompletesOrLacks, CompletingFits, CompletingKeepsTokens, StartIsWell, StepKeepsDistinct, StepKeepsOrder, StepKeepsRest, StepKeepsTokens};
 ghost use Rattle.fr_model.specs.ListExamples.{ArrayExamples, ListExamples, SliceExamples};
-ghost use Rattle.fr_model.specs.PathLaws.{ClosingASliceKeepsThePath, DefaultingKeepsThePath, EnteringAddsAStep, EnteringAnItemAddsAStep, EnteringContentAddsAStep, EnteringSomeAddsAStep, FinishingKeepsThePath, LeavingAsItIs, LeavingDropsAStep, OpeningASliceKeepsThePath, OpeningKeepsThePath, PathIsAsDeep, PuttingKeepsThePath, SelectingKeepsThePath};
+ghost use Rattle.fr_model.specs.PathLaws.{ClosingASliceKeepsThePath, DefaultingKeepsThePath, EnteringAddsAStep, EnteringAKeyAddsAStep, EnteringAnItemAddsAStep, EnteringContentAddsAStep, EnteringSomeAddsAStep, FinishingKeepsThePath, LeavingAnItemDropsAStep, LeavingAsItIs, LeavingDropsAStep, OpeningASliceKeepsThePath, OpeningKeepsThePath, PathIsAsDeep, PuttingKeepsThePath, SelectingKeepsThePath};
 
 /// For every field script of fitting values over a table that is plain for the root, whatever the hooks mean, the run of the
 /// commands gives a value exactly where the journal completes, and the same one. At the start, and after each fitting call
@@ -65,6 +67,8 @@ pub fn law_examples()
     ensures lists { ListExamples }
     ensures arrays { ArrayExamples }
     ensures slices { SliceExamples }
+    ensures sets { SetExamples }
+    ensures maps { MapExamples }
 {}
 
 /// What fails at the end of deferred mode is half done and lies off the way, and a place that lacks something by itself fails, its
@@ -79,6 +83,16 @@ pub fn law_failing()
     ensures done { FinishOfDone }
 {}
 
+/// Items of which no two are the same make a set of just these, and entries with distinct keys a map of just these; nothing is
+/// left out. Among whole places a value has its like exactly where it has one among their values.
+pub fn law_gathering()
+    ensures items { DistinctItemsStay }
+    ensures items_out { NoItemIsLeftOut }
+    ensures entries { DistinctEntriesStay }
+    ensures entries_out { NoEntryIsLeftOut }
+    ensures same { SameIsThere }
+{}
+
 /// What the end of deferred mode notes, and when it can't end, is what the three rules on places say.
 pub fn law_finishing()
     ensures stuck { StuckOrNoted }
@@ -86,16 +100,17 @@ pub fn law_finishing()
 {}
 
 /// The path of the place at which a builder works, from state to state. Entering a child, from a state that is in order,
-/// adds the step to that child, and so does entering what an option, a side of a result or a pointer holds, or a new item. Beginning
-/// a list or an array, opening and closing a pointer to a slice, selecting a variant and setting a field to its default keep the
-/// path. Putting a value keeps it, or takes its last step away where the cursor goes up. Leaving a place as it is takes it away too,
-/// and the end of deferred mode keeps the path.
-/// There are as many steps as the place lies deep, so that only the root has none.
+/// adds the step to that child, and so does entering what an option, a side of a result or a pointer holds, a new item or a new
+/// key. Beginning a list, an array, a set or a map, opening and closing a pointer to a slice, selecting a variant and setting a
+/// field to its default keep the path. Putting a value keeps it, or takes its last step away where the cursor goes up. Leaving a
+/// place as it is takes it away too, and so does leaving an item of a set. The end of deferred mode keeps it. There are as many
+/// steps as the place lies deep, so that only the root has none.
 pub fn law_paths()
     ensures enter { EnteringAddsAStep }
     ensures enter_content { EnteringContentAddsAStep }
     ensures enter_some { EnteringSomeAddsAStep }
     ensures enter_item { EnteringAnItemAddsAStep }
+    ensures enter_key { EnteringAKeyAddsAStep }
     ensures open { OpeningKeepsThePath }
     ensures open_slice { OpeningASliceKeepsThePath }
     ensures close_slice { ClosingASliceKeepsThePath }
@@ -104,6 +119,7 @@ pub fn law_paths()
     ensures put { PuttingKeepsThePath }
     ensures leave { LeavingDropsAStep }
     ensures leave_as_it_is { LeavingAsItIs }
+    ensures leave_item { LeavingAnItemDropsAStep }
     ensures finish { FinishingKeepsThePath }
     ensures deep { PathIsAsDeep }
 {}

@@ -1,4 +1,4 @@
-use Rattle.fr_model.proofs.Paths.{as_deep, close_slice_keeps, content_adds, default_keeps, enter_adds, item_adds, leave_as_it_is, leave_drops, open_keeps, open_slice_keeps, put_keeps, select_keeps, some_adds}
+use Rattle.fr_model.proofs.Paths.{as_deep, close_slice_keeps, content_adds, default_keeps, enter_adds, item_adds, key_adds, leave_as_it_is, leave_drops, leave_item, open_keeps, open_slice_keeps, put_keeps, select_keeps, some_adds}
 use Rattle.fr_model.specs.Tree.{cursor_shape}
 use Rattle.fr_model.proofs.Finishes.{finish_keeps_path}
 use Rattle.fr_model.proofs.laws.law_paths.Goals as goal
@@ -45,3 +45,9 @@ returns-clause-open_slice c table s state leads = open_slice_keeps table s state
 
 pub returns-clause-close_slice : goal.returns-clause-close_slice
 returns-clause-close_slice c state leads = close_slice_keeps state leads
+
+pub returns-clause-enter_key : goal.returns-clause-enter_key
+returns-clause-enter_key c table s state form children leads is = key_adds table s state form children leads is
+
+pub returns-clause-leave_item : goal.returns-clause-leave_item
+returns-clause-leave_item c state v before last leads is = leave_item state v before last leads is

@@ -1,0 +1,161 @@
+-- Children that are whole, of which one is left out or put in, or comes behind the others; and what a begun place is done with.
+use Rattle.std.proofs.Common.{◌≡◌, ℕ, zero, suc, Bool, true, false, not, ◌&&◌, ◌||◌, if◌then◌else◌, refl, sym, ◌∙◌, ap, ap₂}
+use Rattle.fr_shape.specs.Same.{same, is_among, none_twice}
+use Rattle.fr_shape.specs.Val.{Val, Vals, no_vals, first}
+use Rattle.fr_model.specs.Collections.{is_set_form, has_same, without_nth, and_item}
+use Rattle.fr_model.specs.DynamicPlaces.{is_dynamic_form}
+use Rattle.fr_model.specs.Gathering.{and_last_val}
+use Rattle.fr_model.specs.Tree.{Form, as_set, as_dyn_array, as_dyn_object, Tree, whole, Trees, no_trees, branch, change_nth, and_last, count_trees, wholes}
+use Rattle.fr_model.specs.Well.{AreValues, AreItems, AreDone}
+use Rattle.fr_model.proofs.Templates.{both_true}
+
+-- tests
+
+pub both_false : (a b : Bool) → (a || b) ≡ false → (a ≡ false) × (b ≡ false)
+both_false false false e = (refl, refl)
+both_false false true e = cc
+both_false true b e = cc
+
+pub neither_true : (a b : Bool) → a ≡ false → b ≡ false → (a || b) ≡ false
+neither_true a b e f = rw (e, f) refl
+
+pub both_hold : (a b : Bool) → a ≡ true → b ≡ true → (a && b) ≡ true
+both_hold a b e f = rw (e, f) refl
+
+pub is_not : (b : Bool) → not b ≡ true → b ≡ false
+is_not true e = cc
+is_not false e = refl
+
+-- one value is left out
+
+abbrev pub without_val : ℕ → Vals → Vals
+without_val i no_vals = no_vals
+without_val zero (first v vs) = vs
+without_val (suc i) (first v vs) = first v (without_val i vs)
+
+pub wholes_without : (i : ℕ) (vs : Vals) → without_nth i (wholes vs) ≡ wholes (without_val i vs)
+wholes_without i no_vals = refl
+wholes_without zero (first v vs) = refl
+wholes_without (suc i) (first v vs) = ap (branch (whole v)) (wholes_without i vs)
+
+among_without : (v : Val) (i : ℕ) (vs : Vals) → is_among v vs ≡ false → is_among v (without_val i vs) ≡ false
+among_without v i no_vals e = refl
+among_without v zero (first w ws) e = (both_false (same v w) (is_among v ws) e).1
+among_without v (suc i) (first w ws) e =
+    let both : (same v w ≡ false) × (is_among v ws ≡ false) = both_false (same v w) (is_among v ws) e in
+    neither_true (same v w) (is_among v (without_val i ws)) both.0 (among_without v i ws both.1)
+
+pub once_without : (i : ℕ) (vs : Vals) → none_twice vs ≡ true → none_twice (without_val i vs) ≡ true
+once_without i no_vals e = refl
+once_without zero (first v vs) e = (both_true (not (is_among v vs)) (none_twice vs) e).1
+once_without (suc i) (first v vs) e =
+    let both : (not (is_among v vs) ≡ true) × (none_twice vs ≡ true)
+    = both_true (not (is_among v vs)) (none_twice vs) e in
+    both_hold (not (is_among v (without_val i vs))) (none_twice (without_val i vs))
+    (ap not (among_without v i vs (is_not (is_among v vs) both.0))) (once_without i vs both.1)
+
+-- one comes behind the others
+
+wholes_last : (vs : Vals) (v : Val) → and_last (wholes vs) (whole v) ≡ wholes (and_last_val vs v)
+wholes_last no_vals v = refl
+wholes_last (first u us) v = ap (branch (whole u)) (wholes_last us v)
+
+among_last : (u : Val) (vs : Vals) (v : Val) → is_among u vs ≡ false → same u v ≡ false → is_among u (and_last_val vs v) ≡ false
+among_last u no_vals v e f = neither_true (same u v) false f refl
+among_last u (first w ws) v e f =
+    let both : (same u w ≡ false) × (is_among u ws ≡ false) = both_false (same u w) (is_among u ws) e in
+    neither_true (same u w) (is_among u (and_last_val ws v)) both.0 (among_last u ws v both.1 f)
+
+once_last : (vs : Vals) (v : Val) → has_same v (wholes vs) ≡ false → none_twice vs ≡ true
+    → none_twice (and_last_val vs v) ≡ true
+once_last no_vals v e once = refl
+once_last (first u us) v e once =
+    let apart : (same u v ≡ false) × (has_same v (wholes us) ≡ false) = both_false (same u v) (has_same v (wholes us)) e in
+    let both : (not (is_among u us) ≡ true) × (none_twice us ≡ true)
+    = both_true (not (is_among u us)) (none_twice us) once in
+    both_hold (not (is_among u (and_last_val us v))) (none_twice (and_last_val us v))
+    (ap not (among_last u us v (is_not (is_among u us) both.0) apart.0)) (once_last us v apart.1 both.1)
+
+-- trees without one
+
+pub without_changed : (i : ℕ) (change : Tree → Tree) (ts : Trees) → without_nth i (change_nth i change ts) ≡ without_nth i ts
+without_changed i change no_trees = refl
+without_changed zero change (branch t ts) = refl
+without_changed (suc i) change (branch t ts) = ap (branch t) (without_changed i change ts)
+
+pub without_last : (ts : Trees) (last : Tree) → without_nth (count_trees ts) (and_last ts last) ≡ ts
+without_last no_trees last = refl
+without_last (branch t ts) last = ap (branch t) (without_last ts last)
+
+-- one is put in among whole ones
+put_between : (i : ℕ) (v : Val) (ts : Trees) (vs : Vals) → without_nth i ts ≡ wholes vs
+    → AreValues (change_nth i (λ old. whole v) ts)
+put_between i v no_trees vs e = record { values = no_vals; are = refl }
+put_between zero v (branch t ts) vs e = record { values = first v vs; are = ap (branch (whole v)) e }
+put_between (suc i) v (branch t ts) no_vals e = cc
+put_between (suc i) v (branch t ts) (first w ws) e =
+    let head : t ≡ whole w = cc in
+    let tail : without_nth i ts ≡ wholes ws = cc in
+    let rest : AreValues (change_nth i (λ old. whole v) ts) = put_between i v ts ws tail in
+    record { values = first w rest.values; are = ap₂ branch head rest.are }
+
+-- what a begun place is done with
+
+pub done_none : (form : Form) → AreDone form no_trees
+done_none as_set = record { values = no_vals; are = refl; once = refl }
+done_none as_dyn_array = record { values = no_vals; are = refl }
+done_none (as_dyn_object keys) = record { values = no_vals; are = refl }
+done_none _ = tt
+
+pub done_but : (form : Form) (i : ℕ) (ts : Trees) → AreDone form ts → AreDone form (without_nth i ts)
+done_but as_set i ts done = record {
+  values = without_val i done.values;
+  are = ap (without_nth i) done.are ∙ wholes_without i done.values;
+  once = once_without i done.values done.once;
+}
+done_but as_dyn_array i ts done =
+    record { values = without_val i done.values; are = ap (without_nth i) done.are ∙ wholes_without i done.values }
+done_but (as_dyn_object keys) i ts done =
+    record { values = without_val i done.values; are = ap (without_nth i) done.are ∙ wholes_without i done.values }
+done_but _ i ts done = tt
+
+-- what is neither a set nor a dynamic value is done with all its children
+pub done_left : (form : Form) (ts : Trees) → is_set_form form ≡ false → is_dynamic_form form ≡ false → AreDone form ts
+done_left as_set ts no_set no_part = cc
+done_left as_dyn_array ts no_set no_part = cc
+done_left (as_dyn_object keys) ts no_set no_part = cc
+done_left _ ts no_set no_part = tt
+
+pub done_put : (form : Form) (i : ℕ) (v : Val) (ts : Trees) → is_set_form form ≡ false → AreDone form (without_nth i ts)
+    → AreDone form (change_nth i (λ old. whole v) ts)
+done_put as_set i v ts no_set done = cc
+done_put as_dyn_array i v ts no_set done = put_between i v ts done.values done.are
+done_put (as_dyn_object keys) i v ts no_set done = put_between i v ts done.values done.are
+done_put _ i v ts no_set done = tt
+
+values_with : (ts : Trees) (v : Val) → AreValues ts → AreValues (and_item ts v)
+values_with ts v done = go (has_same v ts)
+  where
+    go : (b : Bool) → AreValues (if b then ts else and_last ts (whole v))
+    go true = done
+    go false = record {
+      values = and_last_val done.values v;
+      are = ap (λ (items : Trees). and_last items (whole v)) done.are ∙ wholes_last done.values v;
+    }
+
+items_with : (ts : Trees) (v : Val) → AreItems ts → AreItems (and_item ts v)
+items_with ts v done = go (has_same v ts) refl
+  where
+    go : (b : Bool) → has_same v ts ≡ b → AreItems (if b then ts else and_last ts (whole v))
+    go true e = done
+    go false e = record {
+      values = and_last_val done.values v;
+      are = ap (λ (items : Trees). and_last items (whole v)) done.are ∙ wholes_last done.values v;
+      once = once_last done.values v (ap (has_same v) (sym done.are) ∙ e) done.once;
+    }
+
+pub done_with : (form : Form) (ts : Trees) (v : Val) → AreDone form ts → AreDone form (and_item ts v)
+done_with as_set ts v done = items_with ts v done
+done_with as_dyn_array ts v done = values_with ts v done
+done_with (as_dyn_object keys) ts v done = values_with ts v done
+done_with _ ts v done = tt
