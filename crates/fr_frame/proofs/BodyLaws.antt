@@ -4,16 +4,17 @@ use Rattle.std.specs.Prelude.{if◌then◌else◌}
 use Rattle.fr_shape.specs.declared.shape.Def.{Def}
 use Rattle.fr_shape.specs.declared.shape.ShapeId.{ShapeId}
 use Rattle.fr_shape.specs.declared.value.Value.{Value}
+use Rattle.fr_shape.specs.Released.{Conserved}
 use Rattle.fr_shape.specs.View.{vals_view}
-use Rattle.fr_shape.specs.Tokens.{occurs, vals_occur}
-use Rattle.fr_shape.specs.Val.{Val, Vals, product, list_of, some, no_vals, first}
+use Rattle.fr_shape.specs.Tokens.{occurs, vals_occur, entries_occur}
+use Rattle.fr_shape.specs.Val.{Val, Vals, Entries, product, list_of, set_of, map_of, some, no_vals, first, no_entries, entry}
 use Rattle.fr_model.specs.Complete.{made, value_as}
 use Rattle.fr_model.specs.Contents.{content_of}
-use Rattle.fr_model.specs.Places.{parts_of, items_of, vals_nth}
+use Rattle.fr_model.specs.Places.{parts_of, items_of, set_items_of, entries_of, in_turn, vals_nth}
 use Rattle.fr_model.specs.Step.{parts_as}
-use Rattle.fr_model.specs.Tree.{Form, as_struct, as_array, as_variant, as_some, as_ok, as_err, as_pointer, as_list, as_slice, as_closed_slice}
+use Rattle.fr_model.specs.Tree.{Form, as_struct, as_array, as_variant, as_some, as_ok, as_err, as_pointer, as_list, as_slice, as_closed_slice, as_set, as_map, as_dyn_array, as_dyn_object}
 use Rattle.fr_model.specs.Well.{IsFullAs, PointsTo}
-use Rattle.fr_frame.specs.Bodies.{Body, entered_body, whole_body, begun_body, body_occurs, can_make, is_around, is_one, opened, opened_around, opened_by, opened_some, value_of, cells_of_vals, HasAllChildren}
+use Rattle.fr_frame.specs.Bodies.{Body, entered_body, whole_body, begun_body, body_occurs, boxes, can_make, gathers, is_around, is_one, opened, opened_around, opened_by, opened_some, value_of, cells_of_vals, HasAllChildren}
 use Rattle.fr_frame.specs.Cells.{Cell, absent, given, placed, cells_occur, values_of}
 use Rattle.fr_frame.proofs.CellLaws.{values_occur}
 
@@ -45,6 +46,10 @@ full_makes def (as_variant k) cells h = refl
 full_makes def as_list cells h = refl
 full_makes def as_slice cells h = refl
 full_makes def as_closed_slice cells h = refl
+full_makes def as_set cells h = refl
+full_makes def (as_map base) cells h = refl
+full_makes def as_dyn_array cells h = refl
+full_makes def (as_dyn_object keys) cells h = refl
 full_makes (Def.Option t) as_some cells h = one_is cells h
 full_makes _ as_some cells h = absurd h
 full_makes (Def.Result t e) as_ok cells h = one_is cells h
@@ -104,32 +109,84 @@ one_occurs (given v ∷ []) vs t can e =
     omega arith
 one_occurs (c ∷ d ∷ cs) vs t can e = absurd (cc)
 
-made_occurs : (form : Form) (cells : List Cell) (vs : Vals) (t : ℕ) → can_make form cells ≡ true → values_of cells ≡ Some vs
-    → cells_occur cells t ≡ occurs (value_as form vs) t
-made_occurs as_struct cells vs t can e = values_occur cells vs t e
-made_occurs as_array cells vs t can e = values_occur cells vs t e
-made_occurs (as_variant k) cells vs t can e = values_occur cells vs t e
-made_occurs as_some cells vs t can e = one_occurs cells vs t can e
-made_occurs as_ok cells vs t can e = one_occurs cells vs t can e
-made_occurs as_err cells vs t can e = one_occurs cells vs t can e
-made_occurs as_pointer cells vs t can e = one_occurs cells vs t can e
-made_occurs as_list cells vs t can e = values_occur cells vs t e
-made_occurs as_slice cells vs t can e = values_occur cells vs t e
-made_occurs as_closed_slice cells vs t can e = values_occur cells vs t e
+made_occurs : (form : Form) (cells : List Cell) (vs : Vals) (t : ℕ) → gathers form ≡ false → can_make form cells ≡ true
+    → values_of cells ≡ Some vs → cells_occur cells t ≡ occurs (value_as form vs) t
+made_occurs as_struct cells vs t as_it_is can e = values_occur cells vs t e
+made_occurs as_array cells vs t as_it_is can e = values_occur cells vs t e
+made_occurs (as_variant k) cells vs t as_it_is can e = values_occur cells vs t e
+made_occurs as_some cells vs t as_it_is can e = one_occurs cells vs t can e
+made_occurs as_ok cells vs t as_it_is can e = one_occurs cells vs t can e
+made_occurs as_err cells vs t as_it_is can e = one_occurs cells vs t can e
+made_occurs as_pointer cells vs t as_it_is can e = one_occurs cells vs t can e
+made_occurs as_list cells vs t as_it_is can e = values_occur cells vs t e
+made_occurs as_slice cells vs t as_it_is can e = values_occur cells vs t e
+made_occurs as_closed_slice cells vs t as_it_is can e = values_occur cells vs t e
+made_occurs as_set cells vs t as_it_is can e = absurd (cc)
+made_occurs (as_map base) cells vs t as_it_is can e = absurd (cc)
+made_occurs as_dyn_array cells vs t as_it_is can e = absurd (cc)
+made_occurs (as_dyn_object keys) cells vs t as_it_is can e = absurd (cc)
 
-pub value_occurs_same : (body : Body) (v : Val) (t : ℕ) → value_of body ≡ Some v → body_occurs body t ≡ occurs v t
-value_occurs_same entered_body v t e = cc
-value_occurs_same (whole_body w) v t e = let same : w ≡ v = cc in ap (λ (x : Val). occurs x t) same
-value_occurs_same (begun_body form cells) v t e = go (can_make form cells) (values_of cells) refl refl e
+-- what isn't put together anew has its children's tokens
+pub begun_occurs : (form : Form) (cells : List Cell) (v : Val) → gathers form ≡ false → value_of (begun_body form cells) ≡ Some v
+    → (t : ℕ) → cells_occur cells t ≡ occurs v t
+begun_occurs form cells v as_it_is e t = go (can_make form cells) (values_of cells) refl refl e
   where
     go : (can : Bool) (values : Option Vals) → can_make form cells ≡ can → values_of cells ≡ values
         → (if can then made form values else None) ≡ Some v → cells_occur cells t ≡ occurs v t
     go true (Some vs) able are is =
         let some : Some (value_as form vs) ≡ Some v = is in
         let same : value_as form vs ≡ v = cc in
-        made_occurs form cells vs t able are ∙ ap (λ (x : Val). occurs x t) same
+        made_occurs form cells vs t as_it_is able are ∙ ap (λ (x : Val). occurs x t) same
     go true None able are is = absurd (cc)
     go false values able are is = absurd (cc)
+
+-- the same tokens are there, and none was released
+pub as_before : (held left : ℕ → ℕ) (ledger : List ℕ) → ((t : ℕ) → held t ≡ left t) → Conserved held ledger left ledger
+as_before held left ledger same = record {
+  same_length = refl;
+  kept_or_released = λ t. omega (arith, same t);
+  none_falls = λ t. omega arith;
+}
+
+-- a box is put around what is as it was
+pub boxes_as_it_is : (form : Form) → boxes form ≡ true → gathers form ≡ false
+boxes_as_it_is as_struct e = refl
+boxes_as_it_is as_array e = refl
+boxes_as_it_is (as_variant k) e = refl
+boxes_as_it_is as_some e = refl
+boxes_as_it_is as_ok e = refl
+boxes_as_it_is as_err e = refl
+boxes_as_it_is as_pointer e = refl
+boxes_as_it_is as_list e = refl
+boxes_as_it_is as_slice e = refl
+boxes_as_it_is as_closed_slice e = refl
+boxes_as_it_is as_set e = absurd (cc)
+boxes_as_it_is (as_map base) e = absurd (cc)
+boxes_as_it_is as_dyn_array e = absurd (cc)
+boxes_as_it_is (as_dyn_object keys) e = absurd (cc)
+
+-- what holds no box isn't around one child
+boxless_makes : (form : Form) (cells : List Cell) → boxes form ≡ false → can_make form cells ≡ true
+boxless_makes as_struct cells e = refl
+boxless_makes as_array cells e = refl
+boxless_makes (as_variant k) cells e = refl
+boxless_makes as_some cells e = absurd (cc)
+boxless_makes as_ok cells e = absurd (cc)
+boxless_makes as_err cells e = absurd (cc)
+boxless_makes as_pointer cells e = absurd (cc)
+boxless_makes as_list cells e = refl
+boxless_makes as_slice cells e = absurd (cc)
+boxless_makes as_closed_slice cells e = absurd (cc)
+boxless_makes as_set cells e = refl
+boxless_makes (as_map base) cells e = refl
+boxless_makes as_dyn_array cells e = refl
+boxless_makes (as_dyn_object keys) cells e = refl
+
+-- so its value is what its children's values make
+pub boxless_value : (form : Form) (cells : List Cell) (vs : Vals) (v : Val) → boxes form ≡ false → values_of cells ≡ Some vs
+    → v ≡ value_as form vs → value_of (begun_body form cells) ≡ Some v
+boxless_value form cells vs v no_box are is =
+    value_made form cells (boxless_makes form cells no_box) ∙ ap (made form) are ∙ ap (λ (x : Val). Some x) (sym is)
 
 vals_cells : (vs : Vals) (t : ℕ) → cells_occur (cells_of_vals vs) t ≡ vals_occur vs t
 vals_cells no_vals t = refl
@@ -154,6 +211,24 @@ list_occurs (list_of vs) cells t e =
     ap (λ (cs : List Cell). cells_occur cs t) (sym same) ∙ vals_cells vs t
 list_occurs _ cells t e = let no : None ≡ Some cells = e in cc
 
+set_occurs : (v : Val) (cells : List Cell) (t : ℕ) → option_map cells_of_vals (set_items_of v) ≡ Some cells
+    → cells_occur cells t ≡ occurs v t
+set_occurs (set_of vs) cells t e =
+    let same : cells_of_vals vs ≡ cells = cc in
+    ap (λ (cs : List Cell). cells_occur cs t) (sym same) ∙ vals_cells vs t
+set_occurs _ cells t e = let no : None ≡ Some cells = e in cc
+
+turn_occurs : (es : Entries) (t : ℕ) → vals_occur (in_turn es) t ≡ entries_occur es t
+turn_occurs no_entries t = refl
+turn_occurs (entry k v es) t = omega (arith, turn_occurs es t)
+
+map_occurs : (v : Val) (cells : List Cell) (t : ℕ) → option_map cells_of_vals (entries_of v) ≡ Some cells
+    → cells_occur cells t ≡ occurs v t
+map_occurs (map_of es) cells t e =
+    let same : cells_of_vals (in_turn es) ≡ cells = cc in
+    ap (λ (cs : List Cell). cells_occur cs t) (sym same) ∙ vals_cells (in_turn es) t ∙ turn_occurs es t
+map_occurs _ cells t e = let no : None ≡ Some cells = e in cc
+
 pub parts_occur : (form : Form) (v : Val) (cells : List Cell) (t : ℕ) → option_map cells_of_vals (parts_as form v) ≡ Some cells
     → cells_occur cells t ≡ occurs v t
 parts_occur as_struct v cells t e = product_occurs v cells t e
@@ -166,6 +241,10 @@ parts_occur as_err v cells t e = let no : None ≡ Some cells = e in cc
 parts_occur as_pointer v cells t e = let no : None ≡ Some cells = e in cc
 parts_occur as_slice v cells t e = let no : None ≡ Some cells = e in cc
 parts_occur as_closed_slice v cells t e = let no : None ≡ Some cells = e in cc
+parts_occur as_set v cells t e = set_occurs v cells t e
+parts_occur (as_map base) v cells t e = map_occurs v cells t e
+parts_occur as_dyn_array v cells t e = let no : None ≡ Some cells = e in cc
+parts_occur (as_dyn_object keys) v cells t e = let no : None ≡ Some cells = e in cc
 
 pub none_occur : (count t : ℕ) → cells_occur (replicate count absent) t ≡ 0
 none_occur zero t = refl

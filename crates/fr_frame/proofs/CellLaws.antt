@@ -246,7 +246,7 @@ values_are bits vs cs e h =
     ap values_of (sym e) ∙ values_from bits 0 vs (ap (λ (ds : List Cell). is_some (values_of ds)) e ∙ h)
 
 -- where a value is missing some bit isn't set, and where one bit isn't set a value is missing
-bits_by : (bits : BitSet) (i : ℕ) (vs : List Value) → IsSome (values_of (cells_of bits i vs)) → (j : ℕ) → i ≤ j → j < i + length vs
+pub bits_by : (bits : BitSet) (i : ℕ) (vs : List Value) → IsSome (values_of (cells_of bits i vs)) → (j : ℕ) → i ≤ j → j < i + length vs
     → finite.contains bits.members j ≡ true
 bits_by bits i vs h j low high = go (finite.contains bits.members j) refl
   where
@@ -273,6 +273,29 @@ all_set_is bits vs cs false e h = go (is_some (values_of cs)) refl
     go false n = sym n
     go true n =
         h.1 (λ j k. bits_by bits 0 vs (ap (λ (ds : List Cell). is_some (values_of ds)) e ∙ n) j (omega arith) (omega (arith, k))) ∙ sym n
+
+-- children that are all there are what their values say
+pub cells_by_values : (cs : List Cell) (vs : List Value) → values_of cs ≡ Some (vals_view vs)
+    → cs ≡ map (λ (v : Value). given (view v)) vs
+cells_by_values [] [] e = refl
+cells_by_values [] (v ∷ vs) e = cc
+cells_by_values (absent ∷ cs) vs e = let no : None ≡ Some (vals_view vs) = e in cc
+cells_by_values (placed n ∷ cs) vs e = let no : None ≡ Some (vals_view vs) = e in cc
+cells_by_values (given u ∷ cs) vs e = go (values_of cs) refl (λ ws. cells_by_values cs ws) vs e
+  where
+    go : (rest : Option Vals) → values_of cs ≡ rest
+        → ((ws : List Value) → values_of cs ≡ Some (vals_view ws) → cs ≡ map (λ (v : Value). given (view v)) ws)
+        → (vs : List Value) → one_more (Some u) rest ≡ Some (vals_view vs)
+        → given u ∷ cs ≡ map (λ (v : Value). given (view v)) vs
+    go None is so vs e = let no : None ≡ Some (vals_view vs) = e in cc
+    go (Some us) is so [] e = let no : Some (first u us) ≡ Some no_vals = e in cc
+    go (Some us) is so (v ∷ vs) e =
+        let both_are : Some (first u us) ≡ Some (first (view v) (vals_view vs)) = e in
+        let here : u ≡ view v = cc in
+        let others : us ≡ vals_view vs = cc in
+        ap (λ (w : Val). given w ∷ cs) here
+        ∙ ap (λ (l : List Cell). given (view v) ∷ l)
+        (so vs (is ∙ ap (λ (ws : Vals). Some ws) others))
 
 -- Tokens of children.
 

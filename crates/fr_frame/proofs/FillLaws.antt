@@ -20,10 +20,11 @@ use Rattle.fr_shape.specs.TokenLaws.{occurs_times}
 use Rattle.fr_shape.specs.Val.{Val, Vals}
 use Rattle.fr_model.specs.Places.{Column, strict_column, deferred_column, fill_by, fill_in, fill_of_field, one_more}
 use Rattle.fr_model.specs.Complete.{hole_takes}
-use Rattle.fr_model.specs.Tree.{Form, as_struct, as_array, as_variant, as_some, as_ok, as_err, as_pointer, as_list, as_slice, as_closed_slice}
+use Rattle.fr_model.specs.Tree.{Form, as_struct, as_array, as_variant, as_some, as_ok, as_err, as_pointer, as_list, as_slice, as_closed_slice, as_set, as_map, as_dyn_array, as_dyn_object}
 use Rattle.fr_frame.specs.declared.places.Parts.{Parts}
 use Rattle.fr_frame.specs.Bodies.{AreUnplaced}
 use Rattle.fr_frame.specs.Cells.{Cell, absent, given, placed, value_of_cell, value_at, values_of, value_occurs, cells_occur}
+use Rattle.fr_frame.specs.Defaults.{KeepGiven}
 use Rattle.fr_frame.specs.Filling.{child_value, filled, IsLightFill}
 use Rattle.fr_frame.specs.Heap.{parts_in}
 use Rattle.fr_frame.proofs.FormLaws.{others_take}
@@ -185,6 +186,10 @@ takes_light column table s as_pointer i v checked e = absurd (cc)
 takes_light column table s as_list i v checked e = absurd (cc)
 takes_light column table s as_slice i v checked e = absurd (cc)
 takes_light column table s as_closed_slice i v checked e = absurd (cc)
+takes_light column table s as_set i v checked e = absurd (cc)
+takes_light column table s (as_map base) i v checked e = absurd (cc)
+takes_light column table s as_dyn_array i v checked e = absurd (cc)
+takes_light column table s (as_dyn_object keys) i v checked e = absurd (cc)
 
 -- What the children are filled to.
 
@@ -252,12 +257,31 @@ pub none_placed : (n : ℕ) → AreUnplaced (replicate n absent)
 none_placed zero = tt
 none_placed (suc n) = (tt, none_placed n)
 
+-- a child whose value is there keeps it where another one takes its fill
+
+pub keep_same : (cs : List Cell) → KeepGiven cs cs
+keep_same [] = tt
+keep_same (absent ∷ cs) = keep_same cs
+keep_same (given v ∷ cs) = (refl, keep_same cs)
+keep_same (placed n ∷ cs) = keep_same cs
+
+keep_set : (old new : List Cell) (k : ℕ) (v : Val) → KeepGiven old new → value_at new k ≡ None → KeepGiven old (set new k (given v))
+keep_set [] new k v h none = tt
+keep_set (c ∷ cs) [] k v h none = tt
+keep_set (absent ∷ cs) (d ∷ ds) zero v h none = h
+keep_set (given w ∷ cs) (d ∷ ds) zero v h none = let there : value_of_cell d ≡ Some w = ap value_of_cell h.0 in absurd (cc)
+keep_set (placed n ∷ cs) (d ∷ ds) zero v h none = h
+keep_set (absent ∷ cs) (d ∷ ds) (suc k) v h none = keep_set cs ds k v h none
+keep_set (given w ∷ cs) (d ∷ ds) (suc k) v h none = (h.0, keep_set cs ds k v h.1 none)
+keep_set (placed n ∷ cs) (d ∷ ds) (suc k) v h none = keep_set cs ds k v h none
+
 -- Filling in order: the children before i are there, and what all come to is the same as in the beginning.
 pub record Filling (table : Table) (s : ℕ) (form : Form) (initial now : List Cell) (i : ℕ) : Type 0 where
   pub same : filled table s form 0 now ≡ filled table s form 0 initial
   pub there : (k : ℕ) → k < i → IsSome (value_at now k)
   pub same_tokens : (t : ℕ) → cells_occur now t ≡ cells_occur initial t
   pub closed : AreUnplaced initial → AreUnplaced now
+  pub kept : KeepGiven initial now
 
 pub filling_begins : (table : Table) (s : ℕ) (form : Form) (initial : List Cell) → Filling table s form initial initial 0
 filling_begins table s form initial = record {
@@ -265,6 +289,7 @@ filling_begins table s form initial = record {
   there = λ k h. absurd (omega arith);
   same_tokens = λ t. refl;
   closed = λ h. h;
+  kept = keep_same initial;
 }
 
 module _ (table : Table) (s : ℕ) (form : Form) (initial now : List Cell) (i : ℕ) (so_far : Filling table s form initial now i) where
@@ -274,6 +299,7 @@ module _ (table : Table) (s : ℕ) (form : Form) (initial now : List Cell) (i : 
     there = below_more (λ (k : ℕ). IsSome (value_at now k)) i so_far.there here;
     same_tokens = so_far.same_tokens;
     closed = so_far.closed;
+    kept = so_far.kept;
   }
 
   pub filling_light : IsChecked table → i < length now → IsSome (filled table s form 0 initial) → value_at now i ≡ None
@@ -299,6 +325,7 @@ module _ (table : Table) (s : ℕ) (form : Form) (initial now : List Cell) (i : 
             let gone : value_occurs (value_at now i) t ≡ 0 = ap (λ (o : Option Val). value_occurs o t) none in
             omega (arith, occur_taken now i (given v) t h, so_far.same_tokens t);
         closed = λ l. unplaced_set now i v (so_far.closed l);
+        kept = keep_set initial now i v so_far.kept none;
       }
 
   pub filling_ends : length now ≤ i → values_of now ≡ filled table s form 0 initial

@@ -14,7 +14,7 @@ use Rattle.fr_rules.specs.FillRules.{own_of_mark, own_template, told_deferred, t
 use Rattle.fr_model.specs.Complete.{failing_child, failing_field_in, hole_takes, missing_child, missing_field, missing_value}
 use Rattle.fr_model.specs.Failing.{unmet_mark}
 use Rattle.fr_model.specs.Places.{Column, deferred_column, fill_in, fill_of_field}
-use Rattle.fr_model.specs.Tree.{Form, as_struct, as_array, as_variant, as_some, as_ok, as_err, as_pointer, as_list, as_slice, as_closed_slice}
+use Rattle.fr_model.specs.Tree.{Form, as_struct, as_array, as_variant, as_some, as_ok, as_err, as_pointer, as_list, as_slice, as_closed_slice, as_set, as_map, as_dyn_array, as_dyn_object}
 use Rattle.fr_frame.specs.declared.places.Parts.{Parts}
 use Rattle.fr_frame.specs.Bodies.{as_fields}
 use Rattle.fr_frame.specs.Heap.{parts_in}
@@ -32,6 +32,10 @@ fields_are as_pointer selected e = absurd (cc)
 fields_are as_list selected e = absurd (cc)
 fields_are as_slice selected e = absurd (cc)
 fields_are as_closed_slice selected e = absurd (cc)
+fields_are as_set selected e = absurd (cc)
+fields_are (as_map base) selected e = absurd (cc)
+fields_are as_dyn_array selected e = absurd (cc)
+fields_are (as_dyn_object keys) selected e = absurd (cc)
 
 pub field_takes : (column : Column) (table : Table) (s : ℕ) (selected : Option ℕ) (i : ℕ)
     → hole_takes column table s (as_fields selected) i ≡ fill_in column table s selected i
@@ -92,6 +96,10 @@ module _ (table : Table) (s : ℕ) where
   others_take column as_list e i = refl
   others_take column as_slice e i = refl
   others_take column as_closed_slice e i = refl
+  others_take column as_set e i = refl
+  others_take column (as_map base) e i = refl
+  others_take column as_dyn_array e i = refl
+  others_take column (as_dyn_object keys) e i = refl
 
   pub others_pass : (means : Meanings) (form : Form) → parts_in form ≡ Parts.Others → (i : ℕ) (value : Option Val)
       → failing_child means table s form i value ≡ None
@@ -105,6 +113,10 @@ module _ (table : Table) (s : ℕ) where
   others_pass means as_list e i value = refl
   others_pass means as_slice e i value = refl
   others_pass means as_closed_slice e i value = refl
+  others_pass means as_set e i value = refl
+  others_pass means (as_map base) e i value = refl
+  others_pass means as_dyn_array e i value = refl
+  others_pass means (as_dyn_object keys) e i value = refl
 
   pub others_unmarked : (form : Form) → parts_in form ≡ Parts.Others → (i : ℕ) → unmet_mark table s form i ≡ None
   others_unmarked as_struct e i = absurd (cc)
@@ -117,6 +129,10 @@ module _ (table : Table) (s : ℕ) where
   others_unmarked as_list e i = refl
   others_unmarked as_slice e i = refl
   others_unmarked as_closed_slice e i = refl
+  others_unmarked as_set e i = refl
+  others_unmarked (as_map base) e i = refl
+  others_unmarked as_dyn_array e i = refl
+  others_unmarked (as_dyn_object keys) e i = refl
 
 pub others_missing : (s : ℕ) (form : Form) → parts_in form ≡ Parts.Others → (i : ℕ) → missing_child s form i ≡ missing_value s
 others_missing s as_struct e i = absurd (cc)
@@ -129,3 +145,7 @@ others_missing s as_pointer e i = refl
 others_missing s as_list e i = refl
 others_missing s as_slice e i = refl
 others_missing s as_closed_slice e i = refl
+others_missing s as_set e i = refl
+others_missing s (as_map base) e i = refl
+others_missing s as_dyn_array e i = refl
+others_missing s (as_dyn_object keys) e i = refl

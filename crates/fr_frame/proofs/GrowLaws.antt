@@ -5,7 +5,7 @@ use Rattle.fr_shape.specs.declared.shape.Def.{Def}
 use Rattle.fr_plan.specs.declared.nodes.NodeId.{NodeId}
 use Rattle.fr_frame.specs.declared.places.FrameOwner.{FrameOwner}
 use Rattle.fr_frame.specs.declared.places.Slot.{Slot}
-use Rattle.fr_frame.specs.Bodies.{added, linked, taken_over}
+use Rattle.fr_frame.specs.Bodies.{Body, linked, taken_over}
 use Rattle.fr_frame.specs.Cells.{Cell, absent, cell_occurs, cells_occur}
 use Rattle.fr_frame.specs.Heap.{Node, Heap, depth_above, depth_below, entered_node, heap_of, held_by, item_owner, links, with_body, with_entered, with_slot}
 use Rattle.fr_frame.specs.Changes.{IfInUse, Shows}
@@ -14,11 +14,11 @@ use Rattle.fr_frame.proofs.HeapLaws.{Alike, with_slot_alike}
 
 depth_alike : (a b : Heap) (owner : FrameOwner) → Alike a b → depth_below a owner ≡ depth_below b owner
 depth_alike a b FrameOwner.Root same = refl
-depth_alike a b (FrameOwner.Child parent step) same = ap depth_above (same parent.0)
+depth_alike a b (FrameOwner.Child parent i) same = ap depth_above (same parent.0)
 
 links_alike : (a b : Heap) (owner : FrameOwner) (n : ℕ) → Alike a b → Alike (links owner n a) (links owner n b)
 links_alike a b FrameOwner.Root n same m = same m
-links_alike a b (FrameOwner.Child parent step) n same m = with_body_alike a b parent.0 (linked n step) same m
+links_alike a b (FrameOwner.Child parent i) n same m = with_body_alike a b parent.0 (linked n i) same m
 
 pub with_entered_alike : (a b : Heap) (def : Def) (node : NodeId) (owner : FrameOwner) (n : ℕ) → Alike a b
     → Alike (with_entered def a node owner n) (with_entered def b node owner n)
@@ -33,25 +33,25 @@ with_entered_alike a b def node owner n same m =
     (held_alike a b owner same))
 
 -- The slots before, those with the child added, and those with the item entered.
-module _ (before mid grown : List Slot) (parent : ℕ) (here : Shows mid (heap_of before))
-    (more : Shows grown (with_body (heap_of mid) parent added)) where
-  grown_alike : Alike (heap_of grown) (with_body (heap_of before) parent added)
-  grown_alike m = more m ∙ with_body_alike (heap_of mid) (heap_of before) parent added here m
+module _ (change : Body → Body) (before mid grown : List Slot) (parent : ℕ) (here : Shows mid (heap_of before))
+    (more : Shows grown (with_body (heap_of mid) parent change)) where
+  grown_alike : Alike (heap_of grown) (with_body (heap_of before) parent change)
+  grown_alike m = more m ∙ with_body_alike (heap_of mid) (heap_of before) parent change here m
 
   pub item_entered : (def : Def) (node : NodeId) (owner : FrameOwner) (id : ℕ) (after : List Slot)
       → Shows after (with_entered def (heap_of grown) node owner id)
       → IfInUse before parent (λ (above : Node). owner ≡ item_owner parent above.body)
       → IfInUse before parent (λ (above : Node).
-      Shows after (with_entered def (with_body (heap_of before) parent added) node (item_owner parent above.body) id))
+      Shows after (with_entered def (with_body (heap_of before) parent change) node (item_owner parent above.body) id))
   item_entered def node owner id after shown owned = go (heap_of before parent) owned
     where
       go : (found : Option Node) → IsSomeAnd found (λ (above : Node). owner ≡ item_owner parent above.body)
           → IsSomeAnd found (λ (above : Node).
-          Shows after (with_entered def (with_body (heap_of before) parent added) node (item_owner parent above.body) id))
+          Shows after (with_entered def (with_body (heap_of before) parent change) node (item_owner parent above.body) id))
       go (Some above) is = λ m.
           shown m
-          ∙ with_entered_alike (heap_of grown) (with_body (heap_of before) parent added) def node owner id grown_alike m
-          ∙ ap (λ (o : FrameOwner). with_entered def (with_body (heap_of before) parent added) node o id m) is
+          ∙ with_entered_alike (heap_of grown) (with_body (heap_of before) parent change) def node owner id grown_alike m
+          ∙ ap (λ (o : FrameOwner). with_entered def (with_body (heap_of before) parent change) node o id m) is
       go None is = absurd is
 
 -- Tokens.
@@ -64,3 +64,12 @@ pub pushed_occur : {X E : Type 0} (r : Result X E) (old new : List Cell) (t : �
     → cells_occur new t ≡ cells_occur old t
 pushed_occur (Ok x) old new t more same = ap (λ (cs : List Cell). cells_occur cs t) more ∙ more_occur old t
 pushed_occur (Err e) old new t more same = ap (λ (cs : List Cell). cells_occur cs t) same
+
+two_more_occur : (cs : List Cell) (t : ℕ) → cells_occur (cs ++ absent ∷ absent ∷ []) t ≡ cells_occur cs t
+two_more_occur [] t = refl
+two_more_occur (c ∷ cs) t = ap (λ (n : ℕ). cell_occurs c t + n) (two_more_occur cs t)
+
+pub pushed_two_occur : {X E : Type 0} (r : Result X E) (old new : List Cell) (t : ℕ) → OnOk r (new ≡ old ++ absent ∷ absent ∷ [])
+    → OnErr r (new ≡ old) → cells_occur new t ≡ cells_occur old t
+pushed_two_occur (Ok x) old new t more same = ap (λ (cs : List Cell). cells_occur cs t) more ∙ two_more_occur old t
+pushed_two_occur (Err e) old new t more same = ap (λ (cs : List Cell). cells_occur cs t) same

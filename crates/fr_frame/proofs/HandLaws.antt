@@ -1,19 +1,17 @@
 -- A place that hands its value to its owner.
-use Rattle.std.proofs.Common.{◌≡◌, ◌≢◌, ◌⊎◌, ℕ, zero, suc, ◌+◌, Bool, true, false, List, [], ◌∷◌, Option, Some, None, IsSome, IsSomeAnd, slice_get, set, option_map, inl, inr, refl, sym, ◌∙◌, ap, subst, arith}
+use Rattle.std.proofs.Common.{◌≡◌, ◌≢◌, ◌⊎◌, ℕ, zero, suc, ◌+◌, Bool, true, false, List, [], ◌∷◌, Option, Some, None, IsSome, IsSomeAnd, slice_get, set, option_map, nat_eq, inl, inr, refl, sym, ◌∙◌, ap, subst, arith}
 use Rattle.std.specs.Option.{option_and_then}
 use Rattle.std.specs.Prelude.{if◌then◌else◌}
-use Rattle.fr_path.specs.declared.path_steps.PathStep.{PathStep}
-use Rattle.fr_shape.specs.Tokens.{occurs}
+use Rattle.fr_shape.specs.Released.{Conserved, RoseBy}
 use Rattle.fr_shape.specs.Val.{Val, Vals}
 use Rattle.fr_model.specs.Complete.{made}
 use Rattle.fr_model.specs.Places.{one_more}
 use Rattle.fr_frame.specs.declared.places.FrameOwner.{FrameOwner}
 use Rattle.fr_frame.specs.declared.places.Slot.{Slot}
-use Rattle.fr_frame.specs.Bodies.{Body, entered_body, whole_body, begun_body, body_occurs, can_make, cell_at, child_number, unlinked, unlinked_by, value_of, with_cell, with_nth}
+use Rattle.fr_frame.specs.Bodies.{Body, entered_body, whole_body, begun_body, and_item_cell, can_make, cell_at, unlinked, unlinked_by, value_of, with_cell, with_ended, without_cell, IsSetBody}
 use Rattle.fr_frame.specs.Cells.{Cell, absent, given, placed, value_of_cell, values_of}
-use Rattle.fr_frame.specs.Heap.{Node, Heap, gives, heap_of, held_by, with_body, with_slot, without}
+use Rattle.fr_frame.specs.Heap.{Node, Heap, ends, gives, heap_of, held_by, unlinks, with_body, with_slot, without, IsItemOf}
 use Rattle.fr_frame.specs.Changes.{IfInUse, Shows}
-use Rattle.fr_frame.proofs.BodyLaws.{value_occurs_same}
 use Rattle.fr_frame.proofs.HeapLaws.{Alike, number_cases, same_number, with_here, with_other, with_slot_alike}
 
 -- Places and their children.
@@ -24,15 +22,10 @@ set_nth (x ∷ cells) zero c d e = refl
 set_nth (x ∷ cells) (suc i) c d e = set_nth cells i c d e
 
 -- a child that a place has is what it was changed to
-pub cell_changed : (body : Body) (step : PathStep) (c d : Cell) → cell_at body step ≡ Some c → cell_at (with_cell body step d) step ≡ Some d
-cell_changed entered_body step c d e = cc
-cell_changed (whole_body v) step c d e = cc
-cell_changed (begun_body form cells) step c d e = go (child_number form step) e
-  where
-    go : (number : Option ℕ) → option_and_then (slice_get cells) number ≡ Some c
-        → option_and_then (slice_get (with_nth cells d number)) number ≡ Some d
-    go (Some i) e = set_nth cells i c d e
-    go None e = cc
+pub cell_changed : (body : Body) (i : ℕ) (c d : Cell) → cell_at body i ≡ Some c → cell_at (with_cell body i d) i ≡ Some d
+cell_changed entered_body i c d e = cc
+cell_changed (whole_body v) i c d e = cc
+cell_changed (begun_body form cells) i c d e = set_nth cells i c d e
 
 -- a place with a child in a slot has no value
 no_value_among : (cells : List Cell) (i n : ℕ) → slice_get cells i ≡ Some (placed n) → values_of cells ≡ None
@@ -47,26 +40,22 @@ no_value_among (c ∷ cells) (suc i) n e =
     none_more (Some v) = refl
     none_more None = refl
 
-pub no_value_placed : (body : Body) (step : PathStep) (n : ℕ) → cell_at body step ≡ Some (placed n) → value_of body ≡ None
-no_value_placed entered_body step n e = cc
-no_value_placed (whole_body v) step n e = cc
-no_value_placed (begun_body form cells) step n e = go (child_number form step) e
+pub no_value_placed : (body : Body) (i n : ℕ) → cell_at body i ≡ Some (placed n) → value_of body ≡ None
+no_value_placed entered_body i n e = cc
+no_value_placed (whole_body v) i n e = cc
+no_value_placed (begun_body form cells) i n e = without_values (can_make form cells) (values_of cells) (no_value_among cells i n e)
   where
     without_values : (can : Bool) (values : Option Vals) → values ≡ None → (if can then made form values else None) ≡ None
     without_values true values none = ap (made form) none
     without_values false values none = refl
 
-    go : (number : Option ℕ) → option_and_then (slice_get cells) number ≡ Some (placed n) → value_of (begun_body form cells) ≡ None
-    go (Some i) e = without_values (can_make form cells) (values_of cells) (no_value_among cells i n e)
-    go None e = cc
-
 -- a child that leaves its slot isn't there
-pub cell_left : (body : Body) (step : PathStep) (n : ℕ) → cell_at body step ≡ Some (placed n)
-    → cell_at (unlinked n step body) step ≡ Some absent
-cell_left body step n e =
-    ap (λ (c : Option Cell). cell_at (unlinked_by n step body c) step) e
-    ∙ ap (λ (b : Bool). cell_at (if b then with_cell body step absent else body) step) (same_number n)
-    ∙ cell_changed body step (placed n) absent e
+pub cell_left : (body : Body) (i n : ℕ) → cell_at body i ≡ Some (placed n)
+    → cell_at (unlinked n i body) i ≡ Some absent
+cell_left body i n e =
+    ap (λ (c : Option Cell). cell_at (unlinked_by n i body c) i) e
+    ∙ ap (λ (b : Bool). cell_at (if b then with_cell body i absent else body) i) (same_number n)
+    ∙ cell_changed body i (placed n) absent e
 
 -- Heaps.
 
@@ -80,27 +69,27 @@ owner_left heap n at here there owned = go at.owner owned
   where
     go : (owner : FrameOwner) → held_by heap owner ≡ Some (placed n) → held_by (without heap n owner) owner ≡ Some absent
     go FrameOwner.Root e = cc
-    go (FrameOwner.Child parent step) e = by_number (number_cases parent.0 n)
+    go (FrameOwner.Child parent i) e = by_number (number_cases parent.0 n)
       where
         cell_of : Option Node → Option Cell
-        cell_of found = option_and_then (λ (x : Node). cell_at x.body step) found
+        cell_of found = option_and_then (λ (x : Node). cell_at x.body i) found
 
         apart : (found : Option Node) → heap parent.0 ≡ found → cell_of found ≡ Some (placed n) → parent.0 ≢ n
-            → held_by (without heap n (FrameOwner.Child parent step)) (FrameOwner.Child parent step) ≡ Some absent
+            → held_by (without heap n (FrameOwner.Child parent i)) (FrameOwner.Child parent i) ≡ Some absent
         apart None found held ne = cc
         apart (Some above) found held ne =
             ap cell_of
             (with_here (with_slot heap n None) parent.0
-            (option_map (λ (x : Node). record x { body = unlinked n step x.body }) (with_slot heap n None parent.0))
-            ∙ ap (option_map (λ (x : Node). record x { body = unlinked n step x.body }))
+            (option_map (λ (x : Node). record x { body = unlinked n i x.body }) (with_slot heap n None parent.0))
+            ∙ ap (option_map (λ (x : Node). record x { body = unlinked n i x.body }))
             (with_other heap n None parent.0 ne ∙ found))
-            ∙ cell_left above.body step n held
+            ∙ cell_left above.body i n held
 
         by_number : (parent.0 ≡ n) ⊎ (parent.0 ≢ n)
-            → held_by (without heap n (FrameOwner.Child parent step)) (FrameOwner.Child parent step) ≡ Some absent
+            → held_by (without heap n (FrameOwner.Child parent i)) (FrameOwner.Child parent i) ≡ Some absent
         by_number (inl same) =
-            let held : cell_at at.body step ≡ Some (placed n) = ap cell_of (sym here ∙ ap heap (sym same)) ∙ e in
-            let none : value_of at.body ≡ None = no_value_placed at.body step n held in
+            let held : cell_at at.body i ≡ Some (placed n) = ap cell_of (sym here ∙ ap heap (sym same)) ∙ e in
+            let none : value_of at.body ≡ None = no_value_placed at.body i n held in
             let no : IsSome {T = Val} None = subst (λ (o : Option Val). IsSome o) none there in
             absurd (cc)
         by_number (inr ne) = apart (heap parent.0) refl e ne
@@ -112,13 +101,13 @@ with_body_alike a b n change same m =
 
 pub gives_alike : (a b : Heap) (owner : FrameOwner) (v : Val) → Alike a b → Alike (gives owner v a) (gives owner v b)
 gives_alike a b FrameOwner.Root v same m = same m
-gives_alike a b (FrameOwner.Child parent step) v same m =
-    with_body_alike a b parent.0 (λ (old : Body). with_cell old step (given v)) same m
+gives_alike a b (FrameOwner.Child parent i) v same m =
+    with_body_alike a b parent.0 (λ (old : Body). with_cell old i (given v)) same m
 
 pub held_alike : (a b : Heap) (owner : FrameOwner) → Alike a b → held_by a owner ≡ held_by b owner
 held_alike a b FrameOwner.Root same = refl
-held_alike a b (FrameOwner.Child parent step) same =
-    ap (λ (found : Option Node). option_and_then (λ (x : Node). cell_at x.body step) found) (same parent.0)
+held_alike a b (FrameOwner.Child parent i) same =
+    ap (λ (found : Option Node). option_and_then (λ (x : Node). cell_at x.body i) found) (same parent.0)
 
 -- The place is in its slot, with this owner and body.
 pub record IsTaken (slots : List Slot) (n : ℕ) (owner : FrameOwner) (body : Body) : Type 0 where
@@ -170,7 +159,192 @@ module _ (slots : List Slot) (n : ℕ) (owner : FrameOwner) (body : Body) (taken
       same_value : (v w : Val) → Some v ≡ Some w → v ≡ w
       same_value v w e = cc
 
--- a value that was handed up
-pub handed_occurs : (body : Body) (v : Val) (held left after : ℕ → ℕ) (t : ℕ) → value_of body ≡ Some v
-    → held t ≡ left t + body_occurs body t → after t ≡ left t + occurs v t → after t ≡ held t
-handed_occurs body v held left after t value tokens given_up = omega (arith, value_occurs_same body v t value, tokens, given_up)
+-- A set's item that ends.
+
+set_unlinked : (n i : ℕ) (body : Body) → IsSetBody body → IsSetBody (unlinked n i body)
+set_unlinked n i entered_body h = h
+set_unlinked n i (whole_body v) h = h
+set_unlinked n i (begun_body form cells) h = go (slice_get cells i)
+  where
+    by : (b : Bool) → IsSetBody (if b then begun_body form (set cells i absent) else begun_body form cells)
+    by true = h
+    by false = h
+
+    go : (found : Option Cell) → IsSetBody (unlinked_by n i (begun_body form cells) found)
+    go None = h
+    go (Some absent) = h
+    go (Some (given v)) = h
+    go (Some (placed m)) = by (nat_eq m n)
+
+-- where its item left its slot, a set is still begun as one
+pub set_left : (heap : Heap) (n : ℕ) (at : Node) → heap n ≡ Some at → IsSome (value_of at.body)
+    → held_by heap at.owner ≡ Some (placed n) → IsItemOf at.owner heap → IsItemOf at.owner (without heap n at.owner)
+set_left heap n at here there owned = go at.owner owned
+  where
+    go : (owner : FrameOwner) → held_by heap owner ≡ Some (placed n) → IsItemOf owner heap → IsItemOf owner (without heap n owner)
+    go FrameOwner.Root e h = h
+    go (FrameOwner.Child parent i) e h = by_number (number_cases parent.0 n)
+      where
+        cell_of : Option Node → Option Cell
+        cell_of found = option_and_then (λ (x : Node). cell_at x.body i) found
+
+        apart : (found : Option Node) → heap parent.0 ≡ found → IsSomeAnd found (λ (x : Node). IsSetBody x.body) → parent.0 ≢ n
+            → IsItemOf (FrameOwner.Child parent i) (without heap n (FrameOwner.Child parent i))
+        apart None found is ne = absurd is
+        apart (Some above) found is ne =
+            subst (λ (o : Option Node). IsSomeAnd o (λ (x : Node). IsSetBody x.body))
+            (sym (with_here (with_slot heap n None) parent.0
+            (option_map (λ (x : Node). record x { body = unlinked n i x.body }) (with_slot heap n None parent.0))
+            ∙ ap (option_map (λ (x : Node). record x { body = unlinked n i x.body }))
+            (with_other heap n None parent.0 ne ∙ found)))
+            (set_unlinked n i above.body is)
+
+        by_number : (parent.0 ≡ n) ⊎ (parent.0 ≢ n)
+            → IsItemOf (FrameOwner.Child parent i) (without heap n (FrameOwner.Child parent i))
+        by_number (inl same) =
+            let held : cell_at at.body i ≡ Some (placed n) = ap cell_of (sym here ∙ ap heap (sym same)) ∙ e in
+            let none : value_of at.body ≡ None = no_value_placed at.body i n held in
+            let no : IsSome {T = Val} None = subst (λ (o : Option Val). IsSome o) none there in
+            absurd (cc)
+        by_number (inr ne) = apart (heap parent.0) refl h ne
+
+pub item_alike : (a b : Heap) (owner : FrameOwner) → Alike a b → IsItemOf owner b → IsItemOf owner a
+item_alike a b FrameOwner.Root same h = h
+item_alike a b (FrameOwner.Child parent i) same h =
+    subst (λ (o : Option Node). IsSomeAnd o (λ (x : Node). IsSetBody x.body)) (sym (same parent.0)) h
+
+-- it doesn't matter what is at a child that goes
+without_set : (cells : List Cell) (i : ℕ) (c : Cell) → without_cell i (set cells i c) ≡ without_cell i cells
+without_set [] i c = refl
+without_set (x ∷ cells) zero c = refl
+without_set (x ∷ cells) (suc i) c = ap (λ (l : List Cell). x ∷ l) (without_set cells i c)
+
+ended_unlinked : (n i : ℕ) (v : Val) (body : Body) → with_ended i v (unlinked n i body) ≡ with_ended i v body
+ended_unlinked n i v entered_body = refl
+ended_unlinked n i v (whole_body u) = refl
+ended_unlinked n i v (begun_body form cells) = go (slice_get cells i)
+  where
+    by : (b : Bool) → with_ended i v (if b then begun_body form (set cells i absent) else begun_body form cells)
+        ≡ with_ended i v (begun_body form cells)
+    by true = ap (λ (l : List Cell). begun_body form (and_item_cell l v)) (without_set cells i absent)
+    by false = refl
+
+    go : (found : Option Cell) → with_ended i v (unlinked_by n i (begun_body form cells) found) ≡ with_ended i v (begun_body form cells)
+    go None = refl
+    go (Some absent) = refl
+    go (Some (given u)) = refl
+    go (Some (placed m)) = by (nat_eq m n)
+
+-- one change after another of the same place
+with_body_twice : (heap : Heap) (p : ℕ) (first then_next both_in_one : Body → Body)
+    → ((body : Body) → then_next (first body) ≡ both_in_one body)
+    → Alike (with_body (with_body heap p first) p then_next) (with_body heap p both_in_one)
+with_body_twice heap p first then_next both_in_one same m = go (number_cases m p)
+  where
+    value : (found : Option Node)
+        → option_map (λ (x : Node). record x { body = then_next x.body }) (option_map (λ (x : Node). record x { body = first x.body }) found)
+        ≡ option_map (λ (x : Node). record x { body = both_in_one x.body }) found
+    value None = refl
+    value (Some at) = ap (λ (b : Body). Some (record at { body = b })) (same at.body)
+
+    go : (m ≡ p) ⊎ (m ≢ p) → with_body (with_body heap p first) p then_next m ≡ with_body heap p both_in_one m
+    go (inl e) =
+        ap (with_body (with_body heap p first) p then_next) e
+        ∙ with_here (with_body heap p first) p
+        (option_map (λ (x : Node). record x { body = then_next x.body }) (with_body heap p first p))
+        ∙ ap (option_map (λ (x : Node). record x { body = then_next x.body }))
+        (with_here heap p (option_map (λ (x : Node). record x { body = first x.body }) (heap p)))
+        ∙ value (heap p)
+        ∙ sym (with_here heap p (option_map (λ (x : Node). record x { body = both_in_one x.body }) (heap p)))
+        ∙ ap (with_body heap p both_in_one) (sym e)
+    go (inr ne) =
+        with_other (with_body heap p first) p
+        (option_map (λ (x : Node). record x { body = then_next x.body }) (with_body heap p first p)) m ne
+        ∙ with_other heap p (option_map (λ (x : Node). record x { body = first x.body }) (heap p)) m ne
+        ∙ sym (with_other heap p (option_map (λ (x : Node). record x { body = both_in_one x.body }) (heap p)) m ne)
+
+ends_unlinked : (heap : Heap) (n : ℕ) (owner : FrameOwner) (v : Val) → Alike (ends owner v (unlinks owner n heap)) (ends owner v heap)
+ends_unlinked heap n FrameOwner.Root v m = refl
+ends_unlinked heap n (FrameOwner.Child parent i) v m =
+    with_body_twice heap parent.0 (unlinked n i) (with_ended i v) (with_ended i v) (ended_unlinked n i v) m
+
+ends_alike : (a b : Heap) (owner : FrameOwner) (v : Val) → Alike a b → Alike (ends owner v a) (ends owner v b)
+ends_alike a b FrameOwner.Root v same m = same m
+ends_alike a b (FrameOwner.Child parent i) v same m = with_body_alike a b parent.0 (with_ended i v) same m
+
+module _ (slots : List Slot) (n : ℕ) (owner : FrameOwner) (body : Body) (taken : IsTaken slots n owner body) where
+  pub set_kept : (left : List Slot) → Shows left (without (heap_of slots) n owner) → IsSome (value_of body)
+      → IfInUse slots n (λ (at : Node). held_by (heap_of slots) at.owner ≡ Some (placed n))
+      → IfInUse slots n (λ (at : Node). IsItemOf at.owner (heap_of slots)) → IsItemOf owner (heap_of left)
+  set_kept left shown there owned of_set =
+      item_alike (heap_of left) (without (heap_of slots) n owner) owner shown
+      (subst (λ (o : FrameOwner). IsItemOf o (without (heap_of slots) n o)) taken.owner_is
+      (set_left (heap_of slots) n taken.at taken.here
+      (subst (λ (b : Body). IsSome (value_of b)) (sym taken.body_is) there)
+      (so_of (heap_of slots n) taken.at (λ (at : Node). held_by (heap_of slots) at.owner ≡ Some (placed n)) taken.here owned)
+      (so_of (heap_of slots n) taken.at (λ (at : Node). IsItemOf at.owner (heap_of slots)) taken.here of_set)))
+
+  -- what the set has after its item ended with the value
+  pub ended_up : (left after : List Slot) (v : Val) → Shows left (without (heap_of slots) n owner) → value_of body ≡ Some v
+      → Shows after (ends owner v (heap_of left))
+      → IfInUse slots n (λ (at : Node).
+      (w : Val) → value_of at.body ≡ Some w → Shows after (ends at.owner w (with_slot (heap_of slots) n None)))
+  ended_up left after v shown value ended =
+      taken_so slots n owner body taken
+      (λ (at : Node).
+      (w : Val) → value_of at.body ≡ Some w → Shows after (ends at.owner w (with_slot (heap_of slots) n None)))
+      (λ at owner_is body_is w is m.
+      let same : v ≡ w = same_value v w (sym value ∙ ap value_of (sym body_is) ∙ is) in
+      ended m ∙ ends_alike (heap_of left) (without (heap_of slots) n owner) owner v shown m
+      ∙ ends_unlinked (with_slot (heap_of slots) n None) n owner v m
+      ∙ ap (λ (x : Val). ends owner x (with_slot (heap_of slots) n None) m) same
+      ∙ ap (λ (o : FrameOwner). ends o w (with_slot (heap_of slots) n None) m) (sym owner_is))
+    where
+      same_value : (v w : Val) → Some v ≡ Some w → v ≡ w
+      same_value v w e = cc
+
+-- Tokens: what was put at a place was taken out, and its value given to another, or released.
+
+pub handed_conserved : (held mid after body value : ℕ → ℕ) (before ledger : List ℕ) → Conserved body before value ledger
+    → ((t : ℕ) → held t ≡ mid t + body t) → ((t : ℕ) → after t ≡ mid t + value t) → Conserved held before after ledger
+handed_conserved held mid after body value before ledger c out put = record {
+  same_length = c.same_length;
+  kept_or_released = λ t. omega (arith, c.kept_or_released t, out t, put t);
+  none_falls = c.none_falls;
+}
+
+pub rose_conserved : (held mid body : ℕ → ℕ) (before ledger : List ℕ) → RoseBy body before ledger
+    → ((t : ℕ) → held t ≡ mid t + body t) → Conserved held before mid ledger
+rose_conserved held mid body before ledger rose out = record {
+  same_length = rose.same_length;
+  kept_or_released = λ t. omega (arith, rose.each t, out t);
+  none_falls = λ t. omega (arith, rose.each t);
+}
+
+-- what was put at a place was changed there
+pub changed_conserved : (held after body now : ℕ → ℕ) (before ledger : List ℕ) → Conserved body before now ledger
+    → ((t : ℕ) → after t + body t ≡ held t + now t) → Conserved held before after ledger
+changed_conserved held after body now before ledger c change = record {
+  same_length = c.same_length;
+  kept_or_released = λ t. omega (arith, c.kept_or_released t, change t);
+  none_falls = c.none_falls;
+}
+
+-- a value came to a place that has others of its own
+pub joined_conserved : (held after body now value : ℕ → ℕ) (before ledger : List ℕ)
+    → Conserved (λ t. body t + value t) before now ledger → ((t : ℕ) → after t + body t ≡ held t + now t)
+    → Conserved (λ t. held t + value t) before after ledger
+joined_conserved held after body now value before ledger c change = record {
+  same_length = c.same_length;
+  kept_or_released = λ t. omega (arith, c.kept_or_released t, change t);
+  none_falls = c.none_falls;
+}
+
+-- one after the other: the value of what was taken out, and what becomes of that
+pub ended_conserved : (held mid after body value : ℕ → ℕ) (before between ledger : List ℕ) → Conserved body before value between
+    → ((t : ℕ) → held t ≡ mid t + body t) → Conserved (λ t. mid t + value t) between after ledger → Conserved held before after ledger
+ended_conserved held mid after body value before between ledger c out d = record {
+  same_length = d.same_length ∙ c.same_length;
+  kept_or_released = λ t. omega (arith, c.kept_or_released t, out t, d.kept_or_released t);
+  none_falls = λ t. omega (arith, c.none_falls t, d.none_falls t);
+}

@@ -11,7 +11,7 @@ use Rattle.fr_shape.specs.Val.{Val, Vals}
 use Rattle.fr_model.specs.Complete.{complete, complete_all, failing_child, hole_takes, lack_by, made, made_by, made_of_fills, missing_child, missing_value, unless_failing, unless_there, valid_child}
 use Rattle.fr_model.specs.Failing.{first_invalid, first_missing, first_unmet, lack_of_begun, own_lack, unmet_by, unmet_mark, unmet_mark_of}
 use Rattle.fr_model.specs.Places.{deferred_column, child_count, fill_of_field, one_more}
-use Rattle.fr_model.specs.Tree.{Form, as_struct, as_array, as_variant, as_some, as_ok, as_err, as_pointer, as_list, as_slice, as_closed_slice, Trees, holes}
+use Rattle.fr_model.specs.Tree.{Form, as_struct, as_array, as_variant, as_some, as_ok, as_err, as_pointer, as_list, as_slice, as_closed_slice, as_set, as_map, as_dyn_array, as_dyn_object, Trees, holes}
 use Rattle.fr_model.specs.Well.{IsFullAs}
 use Rattle.fr_frame.specs.Bodies.{Body, entered_body, whole_body, begun_body, own_tree, trees_of, value_of, AreUnplaced, IsClosed}
 use Rattle.fr_frame.specs.Cells.{Cell, absent, given, placed, value_of_cell, values_of}
@@ -80,6 +80,10 @@ unmet_takes table s form i kind e = go form e
     go as_list e = refl
     go as_slice e = refl
     go as_closed_slice e = refl
+    go as_set e = refl
+    go (as_map base) e = refl
+    go as_dyn_array e = refl
+    go (as_dyn_object keys) e = refl
 
 -- Children.
 

@@ -1,5 +1,5 @@
 -- Why a place isn't completed by the rules of the end of deferred mode, and what it holds where it is.
-use Rattle.std.proofs.Common.{◌≡◌, ◌⊎◌, ℕ, true, false, Option, Some, None, IsSome, IsSomeAnd, inl, inr, refl, sym, ◌∙◌, ap, subst}
+use Rattle.std.proofs.Common.{◌≡◌, ◌⊎◌, ℕ, suc, true, false, List, [], ◌∷◌, Option, Some, None, IsSome, IsSomeAnd, inl, inr, refl, sym, ◌∙◌, ap, subst}
 use Rattle.std.specs.Option.{option_or}
 use Rattle.fr_shape.specs.declared.error.ReflectErrorKind.{ReflectErrorKind}
 use Rattle.fr_shape.specs.declared.shape.Def.{Def}
@@ -7,27 +7,42 @@ use Rattle.fr_shape.specs.Fills.{preset_of}
 use Rattle.fr_shape.specs.Hooks.{Meanings}
 use Rattle.fr_shape.specs.Look.{Table, def_of}
 use Rattle.fr_shape.specs.Val.{Val}
+use Rattle.fr_model.specs.Complete.{hole_takes}
 use Rattle.fr_model.specs.Failing.{own_lack}
 use Rattle.fr_model.specs.Places.{deferred_column}
-use Rattle.fr_frame.specs.Bodies.{Body, entered_body, whole_body, begun_body, own_tree, takes_box, value_of, HasAllChildren, IsClosed}
+use Rattle.fr_model.specs.Tree.{Form}
+use Rattle.fr_frame.specs.Bodies.{Body, entered_body, whole_body, begun_body, own_tree, takes_memory, value_of, HasAllChildren, IsClosed}
+use Rattle.fr_frame.specs.Cells.{Cell, absent, given, placed}
 use Rattle.fr_frame.specs.Completing.{takes_template, IsFilled, IsFull, IsOfValidator}
-use Rattle.fr_frame.specs.Defaults.{defaulted, defaulted_by, defaulted_struct, invalid, left_out, unmet, KeepsForm, WhyNotDefault}
+use Rattle.fr_frame.specs.Defaults.{defaulted, defaulted_by, defaulted_cell, defaulted_cells, defaulted_struct, invalid, left_out, unmet, KeepGiven, KeepsForm, WhyNotDefault}
 use Rattle.fr_frame.specs.Filling.{IsCauseOf}
 use Rattle.fr_frame.proofs.LackLaws.{first_none}
 use Rattle.fr_frame.proofs.DefaultLaws.{all_count, closed_after, none_absent_there}
 use Rattle.fr_frame.proofs.OwnLackLaws.{own_lack_is, own_nothing, own_whole}
 
+-- a child whose value is there takes nothing
+given_stays : (fill : Option Val) (v : Val) → defaulted_cell fill (given v) ≡ given v
+given_stays (Some w) v = refl
+given_stays None v = refl
+
+all_kept : (table : Table) (s : ℕ) (form : Form) (i : ℕ) (cs : List Cell) → KeepGiven cs (defaulted_cells table s form i cs)
+all_kept table s form i [] = tt
+all_kept table s form i (absent ∷ cs) = all_kept table s form (suc i) cs
+all_kept table s form i (given v ∷ cs) =
+    (given_stays (hole_takes deferred_column table s form i) v, all_kept table s form (suc i) cs)
+all_kept table s form i (placed n ∷ cs) = all_kept table s form (suc i) cs
+
 pub keeps_form : (table : Table) (s : ℕ) (body : Body) → KeepsForm body (defaulted table s body)
 keeps_form table s entered_body = go (def_of table s) (preset_of table s)
   where
-    go : (def : Def) (preset : Option Val) → takes_box (defaulted_by def preset (defaulted_struct table s)) ≡ false
+    go : (def : Def) (preset : Option Val) → takes_memory (defaulted_by def preset (defaulted_struct table s)) ≡ false
     go (Def.Struct struct) (Some v) = refl
     go (Def.Struct struct) None = refl
     go (Def.Option t) (Some v) = refl
     go (Def.Option t) None = refl
     go _ preset = refl
 keeps_form table s (whole_body v) = refl
-keeps_form table s (begun_body form cells) = (refl, all_count table s form 0 cells)
+keeps_form table s (begun_body form cells) = (refl, all_count table s form 0 cells, all_kept table s form 0 cells)
 
 -- a place that leaves nothing out has all its children
 pub all_there : (s : ℕ) (body : Body) → IsClosed body → left_out s body ≡ None → HasAllChildren body

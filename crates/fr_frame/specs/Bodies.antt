@@ -1,16 +1,15 @@
 -- What was put at a place, and what becomes of it where a child is entered or leaves.
-use Rattle.std.specs.Prelude.{ℕ, Bool, true, false, List, [], ◌∷◌, ◌++◌, length, replicate, slice_get, slice_set, Option, Some, None, IsSome, nat_eq, if◌then◌else◌}
-use Rattle.std.specs.Option.{option_and_then}
+use Rattle.std.specs.Prelude.{◌≡◌, ℕ, zero, suc, Bool, true, false, ◌||◌, List, [], ◌∷◌, ◌++◌, length, replicate, slice_get, slice_set, Option, Some, None, IsSome, nat_eq, if◌then◌else◌}
 use Rattle.fr_shape.specs.declared.shape.Def.{Def}
 use Rattle.fr_shape.specs.Fills.{is_empty_struct}
+use Rattle.fr_shape.specs.Same.{same}
 use Rattle.fr_shape.specs.Tokens.{occurs}
 use Rattle.fr_shape.specs.Val.{Val, Vals, unit, product, some, ok, err, list_of, ptr, no_vals, first}
-use Rattle.fr_path.specs.declared.path_steps.PathStep.{PathStep}
 use Rattle.fr_model.specs.Complete.{made}
 use Rattle.fr_model.specs.Contents.{content_of}
 use Rattle.fr_model.specs.Places.{vals_nth}
 use Rattle.fr_model.specs.Step.{parts_as}
-use Rattle.fr_model.specs.Tree.{Form, as_struct, as_array, as_variant, as_some, as_ok, as_err, as_pointer, as_list, as_slice, as_closed_slice, Tree, hole, entered, whole, begun, Trees, no_trees, branch}
+use Rattle.fr_model.specs.Tree.{Form, as_struct, as_array, as_variant, as_some, as_ok, as_err, as_pointer, as_list, as_slice, as_closed_slice, as_set, as_map, as_dyn_array, as_dyn_object, over_base, Tree, hole, entered, whole, begun, Trees, no_trees, branch}
 use Rattle.fr_frame.specs.Cells.{Cell, absent, given, placed, cells_occur, values_of}
 
 -- a place: entered, with nothing put in; holding a value; or begun, with its children
@@ -28,67 +27,24 @@ body_occurs (begun_body form cells) t = cells_occur cells t
 abbrev pub fresh_body : Def → Body
 fresh_body def = if is_empty_struct def then whole_body (product no_vals) else entered_body
 
--- The child at a step.
-
--- the number that a step names where it leads to a field, or to an element or an item
-abbrev pub field_number : PathStep → Option ℕ
-field_number (PathStep.Field i) = Some i
-field_number _ = None
-
-abbrev pub element_number : PathStep → Option ℕ
-element_number (PathStep.Index i) = Some i
-element_number _ = None
-
--- the content of an option, of either side of a result, and what a pointer points to are child 0
-abbrev pub content_number : PathStep → Option ℕ
-content_number PathStep.OptionSome = Some 0
-content_number _ = None
-
-abbrev pub ok_number : PathStep → Option ℕ
-ok_number PathStep.ResultOk = Some 0
-ok_number _ = None
-
-abbrev pub err_number : PathStep → Option ℕ
-err_number PathStep.ResultErr = Some 0
-err_number _ = None
-
-abbrev pub pointee_number : PathStep → Option ℕ
-pointee_number PathStep.Deref = Some 0
-pointee_number _ = None
-
--- the number of the child to which a step leads from a place that is begun so, if it leads to one
-abbrev pub child_number : Form → PathStep → Option ℕ
-child_number as_struct step = field_number step
-child_number as_array step = element_number step
-child_number (as_variant k) step = field_number step
-child_number as_some step = content_number step
-child_number as_ok step = ok_number step
-child_number as_err step = err_number step
-child_number as_pointer step = pointee_number step
-child_number as_list step = element_number step
-child_number as_slice step = element_number step
-child_number as_closed_slice step = element_number step
+-- One child.
 
 -- as what a place is begun that has the fields of a struct as its children, or those of the variant that is selected
 abbrev pub as_fields : (selected : Option ℕ) → Form
 as_fields None = as_struct
 as_fields (Some k) = as_variant k
 
--- the child at a step, where the place is begun and has it
-abbrev pub cell_at : Body → PathStep → Option Cell
-cell_at entered_body step = None
-cell_at (whole_body v) step = None
-cell_at (begun_body form cells) step = option_and_then (slice_get cells) (child_number form step)
+-- child number i, where the place is begun and has it
+abbrev pub cell_at : Body → ℕ → Option Cell
+cell_at entered_body i = None
+cell_at (whole_body v) i = None
+cell_at (begun_body form cells) i = slice_get cells i
 
-abbrev pub with_nth : List Cell → Cell → Option ℕ → List Cell
-with_nth cells child (Some i) = slice_set cells i child
-with_nth cells child None = cells
-
--- the place with another child at a step, where it has one
-abbrev pub with_cell : Body → PathStep → Cell → Body
-with_cell entered_body step child = entered_body
-with_cell (whole_body v) step child = whole_body v
-with_cell (begun_body form cells) step child = begun_body form (with_nth cells child (child_number form step))
+-- the place with another child of this number, where it has one
+abbrev pub with_cell : Body → ℕ → Cell → Body
+with_cell entered_body i child = entered_body
+with_cell (whole_body v) i child = whole_body v
+with_cell (begun_body form cells) i child = begun_body form (slice_set cells i child)
 
 -- Entering a child that will be in slot n.
 
@@ -100,24 +56,24 @@ taken_over def (Some (placed m)) = fresh_body def
 taken_over def None = fresh_body def
 
 -- the parent: a child that has no slot yet now stands in slot n
-abbrev pub linked_by : (n : ℕ) → PathStep → Body → Option Cell → Body
-linked_by n step body (Some absent) = with_cell body step (placed n)
-linked_by n step body (Some (given v)) = with_cell body step (placed n)
-linked_by n step body (Some (placed m)) = body
-linked_by n step body None = body
+abbrev pub linked_by : (n : ℕ) → ℕ → Body → Option Cell → Body
+linked_by n i body (Some absent) = with_cell body i (placed n)
+linked_by n i body (Some (given v)) = with_cell body i (placed n)
+linked_by n i body (Some (placed m)) = body
+linked_by n i body None = body
 
-abbrev pub linked : (n : ℕ) → PathStep → Body → Body
-linked n step body = linked_by n step body (cell_at body step)
+abbrev pub linked : (n : ℕ) → ℕ → Body → Body
+linked n i body = linked_by n i body (cell_at body i)
 
 -- A child that leaves slot n: where its parent has it there, it now isn't there.
-abbrev pub unlinked_by : (n : ℕ) → PathStep → Body → Option Cell → Body
-unlinked_by n step body (Some (placed m)) = if nat_eq m n then with_cell body step absent else body
-unlinked_by n step body (Some absent) = body
-unlinked_by n step body (Some (given v)) = body
-unlinked_by n step body None = body
+abbrev pub unlinked_by : (n : ℕ) → ℕ → Body → Option Cell → Body
+unlinked_by n i body (Some (placed m)) = if nat_eq m n then with_cell body i absent else body
+unlinked_by n i body (Some absent) = body
+unlinked_by n i body (Some (given v)) = body
+unlinked_by n i body None = body
 
-abbrev pub unlinked : (n : ℕ) → PathStep → Body → Body
-unlinked n step body = unlinked_by n step body (cell_at body step)
+abbrev pub unlinked : (n : ℕ) → ℕ → Body → Body
+unlinked n i body = unlinked_by n i body (cell_at body i)
 
 -- Beginning a place.
 
@@ -126,11 +82,11 @@ cells_of_vals no_vals = []
 cells_of_vals (first v vs) = given v ∷ cells_of_vals vs
 
 abbrev pub opened_by : Form → Val → (parts : Option Vals) → Body
-opened_by form v (Some vs) = begun_body form (cells_of_vals vs)
+opened_by form v (Some vs) = begun_body (over_base form v) (cells_of_vals vs)
 opened_by form v None = whole_body v
 
 -- a place that is begun so, with so many children: an entered one has none of them yet, of a whole one each has its part
--- of the value (those of a list are its items), a begun one stays as it is
+-- of the value (those of a list are its items, those of a map keys and values in turn, which are its base), a begun one stays as it is
 abbrev pub opened : Form → (count : ℕ) → Body → Body
 opened form count entered_body = begun_body form (replicate count absent)
 opened form count (whole_body v) = opened_by form v (parts_as form v)
@@ -164,7 +120,7 @@ restarted form count before = begun_body form (replicate count absent)
 
 -- Items.
 
--- the place is begun as what takes more items: a list, or an open pointer to a slice
+-- the place is begun as what takes more items: a list, a set, a dynamic array, or an open pointer to a slice
 abbrev pub TakesItems : Form → Type 0
 TakesItems as_list = Unit {0}
 TakesItems as_slice = Unit {0}
@@ -176,6 +132,10 @@ TakesItems as_some = ⊥
 TakesItems as_ok = ⊥
 TakesItems as_err = ⊥
 TakesItems as_pointer = ⊥
+TakesItems as_set = Unit {0}
+TakesItems (as_map base) = ⊥
+TakesItems as_dyn_array = Unit {0}
+TakesItems (as_dyn_object keys) = ⊥
 
 abbrev pub IsGrowing : Body → Type 0
 IsGrowing entered_body = ⊥
@@ -187,6 +147,52 @@ abbrev pub added : Body → Body
 added entered_body = entered_body
 added (whole_body v) = whole_body v
 added (begun_body form cells) = begun_body form (cells ++ absent ∷ [])
+
+-- a begun map with one more entry behind the others, of which neither key nor value is there yet; any other place stays as it is
+abbrev pub added_entry : Body → Body
+added_entry entered_body = entered_body
+added_entry (whole_body v) = whole_body v
+added_entry (begun_body form cells) = begun_body form (cells ++ absent ∷ absent ∷ [])
+
+-- the place is begun as a map
+abbrev pub IsMapBody : Body → Type 0
+IsMapBody entered_body = ⊥
+IsMapBody (whole_body v) = ⊥
+IsMapBody (begun_body form cells) = (base : ℕ) × (form ≡ as_map base)
+
+-- The end of a set's item.
+
+-- the child is there, with a value that is `same` as this one
+abbrev pub is_same_cell : Val → Cell → Bool
+is_same_cell v absent = false
+is_same_cell v (given u) = same u v
+is_same_cell v (placed n) = false
+
+abbrev pub has_same_cell : Val → List Cell → Bool
+has_same_cell v [] = false
+has_same_cell v (c ∷ cs) = is_same_cell v c || has_same_cell v cs
+
+-- the children but the one of this number
+abbrev pub without_cell : ℕ → List Cell → List Cell
+without_cell i [] = []
+without_cell zero (c ∷ cs) = cs
+without_cell (suc i) (c ∷ cs) = c ∷ without_cell i cs
+
+-- a value comes behind the children that are there, unless it is `same` as one of theirs
+abbrev pub and_item_cell : List Cell → Val → List Cell
+and_item_cell cells v = if has_same_cell v cells then cells else cells ++ given v ∷ []
+
+-- a begun place whose child number i ended with this value: it goes, and the value comes unless it is there already
+abbrev pub with_ended : ℕ → Val → Body → Body
+with_ended i v entered_body = entered_body
+with_ended i v (whole_body u) = whole_body u
+with_ended i v (begun_body form cells) = begun_body form (and_item_cell (without_cell i cells) v)
+
+-- the place is begun as a set
+abbrev pub IsSetBody : Body → Type 0
+IsSetBody entered_body = ⊥
+IsSetBody (whole_body v) = ⊥
+IsSetBody (begun_body form cells) = form ≡ as_set
 
 -- how many children a place has, as far as it is begun
 abbrev pub count_cells : Body → ℕ
@@ -214,6 +220,10 @@ is_around as_pointer = true
 is_around as_list = false
 is_around as_slice = false
 is_around as_closed_slice = false
+is_around as_set = false
+is_around (as_map base) = false
+is_around as_dyn_array = false
+is_around (as_dyn_object keys) = false
 
 -- what is made of a place that is begun so holds a box: around the one child, or around the list of a slice's items
 abbrev pub boxes : Form → Bool
@@ -227,6 +237,10 @@ boxes as_pointer = true
 boxes as_list = false
 boxes as_slice = true
 boxes as_closed_slice = true
+boxes as_set = false
+boxes (as_map base) = false
+boxes as_dyn_array = false
+boxes (as_dyn_object keys) = false
 
 -- what that box holds (the unit value where there is no box)
 abbrev pub boxed_as : Form → Vals → Val
@@ -240,6 +254,10 @@ boxed_as as_pointer vs = vals_nth vs 0
 boxed_as as_list vs = unit
 boxed_as as_slice vs = list_of vs
 boxed_as as_closed_slice vs = list_of vs
+boxed_as as_set vs = unit
+boxed_as (as_map base) vs = unit
+boxed_as as_dyn_array vs = unit
+boxed_as (as_dyn_object keys) vs = unit
 
 -- the value of such a place whose box holds this (the value itself where there is no box)
 abbrev pub around_as : Form → Val → Val
@@ -253,12 +271,34 @@ around_as as_pointer held = ptr held
 around_as as_list held = held
 around_as as_slice held = ptr held
 around_as as_closed_slice held = ptr held
+around_as as_set held = held
+around_as (as_map base) held = held
+around_as as_dyn_array held = held
+around_as (as_dyn_object keys) held = held
 
--- the value of what is begun there holds a box
-abbrev pub takes_box : Body → Bool
-takes_box entered_body = false
-takes_box (whole_body v) = false
-takes_box (begun_body form cells) = boxes form
+-- what is made of a place that is begun so is put together anew: a set or a map of what isn't there twice, a dynamic value of those
+-- of its parts
+abbrev pub gathers : Form → Bool
+gathers as_struct = false
+gathers as_array = false
+gathers (as_variant k) = false
+gathers as_some = false
+gathers as_ok = false
+gathers as_err = false
+gathers as_pointer = false
+gathers as_list = false
+gathers as_slice = false
+gathers as_closed_slice = false
+gathers as_set = true
+gathers (as_map base) = true
+gathers as_dyn_array = true
+gathers (as_dyn_object keys) = true
+
+-- making the value of what is there takes memory: it holds a box, or is put together anew
+abbrev pub takes_memory : Body → Bool
+takes_memory entered_body = false
+takes_memory (whole_body v) = false
+takes_memory (begun_body form cells) = boxes form || gathers form
 
 abbrev pub is_one : List Cell → Bool
 is_one [] = false

@@ -1,5 +1,5 @@
 -- The children of a begun place, as contracts see them.
-use Rattle.std.specs.Prelude.{◌≡◌, ℕ, suc, ◌+◌, Bool, true, false, List, [], ◌∷◌, slice_get, Option, Some, None, refl}
+use Rattle.std.specs.Prelude.{◌≡◌, ℕ, zero, suc, ◌+◌, ◌<◌, ◌≤◌, Bool, true, false, List, [], ◌∷◌, slice_get, Option, Some, None, refl}
 use Rattle.std.specs.Coded.{Coded, code_by}
 use Rattle.std.specs.FinSet as set
 use Rattle.std.specs.Option.{option_and_then}
@@ -48,6 +48,11 @@ cells_of set_of_given i [] = []
 cells_of set_of_given i (v ∷ vs) =
     cell (set.contains set_of_given.members i) (view v) ∷ cells_of set_of_given (suc i) vs
 
+-- the numbers of so many children are in the set, which has room for them
+pub record HasNumbers (count : ℕ) (bits : BitSet) : Type 0 where
+  pub all : (i : ℕ) → i < count → set.contains bits.members i ≡ true
+  pub room : count ≤ bits.capacity
+
 -- how often a token stands in a child's value
 abbrev pub cell_occurs : Cell → ℕ → ℕ
 cell_occurs absent t = 0
@@ -57,6 +62,13 @@ cell_occurs (placed n) t = 0
 abbrev pub cells_occur : List Cell → ℕ → ℕ
 cells_occur [] t = 0
 cells_occur (c ∷ cs) t = cell_occurs c t + cells_occur cs t
+
+-- the child of this number and the next one have changed places
+abbrev pub swapped : ℕ → List Cell → List Cell
+swapped i [] = []
+swapped zero (c ∷ []) = c ∷ []
+swapped zero (c ∷ d ∷ cs) = d ∷ c ∷ cs
+swapped (suc i) (c ∷ cs) = c ∷ swapped i cs
 
 -- a child is stored as a value that gives it back
 abbrev pub stored : Cell → Val

@@ -16,7 +16,7 @@ IsInUse slots n = IsSome (heap_of slots n)
 -- the owner, but where there is none above, is in use
 abbrev pub IsOwnerInUse : List Slot → FrameOwner → Type 0
 IsOwnerInUse slots FrameOwner.Root = Unit {0}
-IsOwnerInUse slots (FrameOwner.Child parent step) = IsInUse slots parent.0
+IsOwnerInUse slots (FrameOwner.Child parent i) = IsInUse slots parent.0
 
 -- so it is of the place in this slot, which is in use
 abbrev pub IfInUse : List Slot → ℕ → (Node → Type 0) → Type 0

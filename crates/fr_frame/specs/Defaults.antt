@@ -10,7 +10,7 @@ use Rattle.fr_model.specs.Complete.{complete, hole_takes, missing_child, missing
 use Rattle.fr_model.specs.Failing.{first_unmet, first_invalid, own_lack}
 use Rattle.fr_model.specs.Places.{deferred_column, child_count}
 use Rattle.fr_model.specs.Tree.{Form, as_struct, holes}
-use Rattle.fr_frame.specs.Bodies.{Body, entered_body, whole_body, begun_body, own_tree, takes_box, trees_of}
+use Rattle.fr_frame.specs.Bodies.{Body, entered_body, whole_body, begun_body, own_tree, takes_memory, trees_of}
 use Rattle.fr_frame.specs.Cells.{Cell, absent, given, placed}
 use Rattle.fr_frame.specs.Completing.{IsOfValidator, takes_template}
 
@@ -127,11 +127,20 @@ pub record WantsMemory (means : Meanings) (table : Table) (s : ℕ) (body : Body
 abbrev pub WhyNotDefault : Meanings → Table → ℕ → Body → ReflectErrorKind → Type 0
 WhyNotDefault means table s body kind = IsLackingDefault means table s body kind ⊎ WantsMemory means table s body kind
 
+-- each child whose value was there has it still
+abbrev pub KeepGiven : (old new : List Cell) → Type 0
+KeepGiven [] others = Unit {0}
+KeepGiven (c ∷ cs) [] = Unit {0}
+KeepGiven (absent ∷ cs) (d ∷ ds) = KeepGiven cs ds
+KeepGiven (given v ∷ cs) (d ∷ ds) = (d ≡ given v) × KeepGiven cs ds
+KeepGiven (placed n ∷ cs) (d ∷ ds) = KeepGiven cs ds
+
 -- a begun place stays begun in the same form, with as many children, a whole one stays as it is, and an entered one comes to take no
 -- box
 abbrev pub KeepsForm : (old new : Body) → Type 0
-KeepsForm entered_body new = takes_box new ≡ false
+KeepsForm entered_body new = takes_memory new ≡ false
 KeepsForm (whole_body v) new = new ≡ whole_body v
 KeepsForm (begun_body form cells) entered_body = ⊥
 KeepsForm (begun_body form cells) (whole_body v) = ⊥
-KeepsForm (begun_body form cells) (begun_body as_after others) = (as_after ≡ form) × (length others ≡ length cells)
+KeepsForm (begun_body form cells) (begun_body as_after others) =
+    (as_after ≡ form) × (length others ≡ length cells) × KeepGiven cells others

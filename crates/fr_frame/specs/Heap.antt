@@ -1,11 +1,10 @@
 -- What contracts see of slots: under each number, what is known of the place in that slot.
-use Rattle.std.specs.Prelude.{ℕ, suc, ◌+◌, Bool, false, List, [], ◌∷◌, slice_get, Option, Some, None, nat_eq, if◌then◌else◌}
+use Rattle.std.specs.Prelude.{ℕ, suc, ◌+◌, Bool, false, List, [], ◌∷◌, slice_get, Option, Some, None, IsSomeAnd, nat_eq, if◌then◌else◌}
 use Rattle.std.specs.Option.{option_map, option_and_then}
 use Rattle.fr_shape.specs.declared.shape.Def.{Def}
 use Rattle.fr_shape.specs.Val.{Val}
 use Rattle.fr_shape.specs.View.{view}
-use Rattle.fr_path.specs.declared.path_steps.PathStep.{PathStep}
-use Rattle.fr_model.specs.Tree.{Form as TreeForm, as_struct, as_array, as_variant, as_some, as_ok, as_err, as_pointer, as_list, as_slice, as_closed_slice}
+use Rattle.fr_model.specs.Tree.{Form as TreeForm, as_struct, as_array, as_variant, as_some, as_ok, as_err, as_pointer, as_list, as_slice, as_closed_slice, as_set, as_map, as_dyn_array, as_dyn_object}
 use Rattle.fr_plan.specs.declared.nodes.NodeId.{NodeId}
 use Rattle.fr_frame.specs.declared.places.Form.{Form}
 use Rattle.fr_frame.specs.declared.places.FrameOwner.{FrameOwner}
@@ -14,7 +13,7 @@ use Rattle.fr_frame.specs.declared.places.Piece.{Piece}
 use Rattle.fr_frame.specs.declared.places.Place.{Place}
 use Rattle.fr_frame.specs.declared.places.Slot.{Slot}
 use Rattle.fr_frame.specs.Cells.{Cell, given, slot_of_cell}
-use Rattle.fr_frame.specs.Bodies.{Body, entered_body, whole_body, begun_body, body_occurs, cell_at, count_cells, with_cell, taken_over, linked, unlinked}
+use Rattle.fr_frame.specs.Bodies.{Body, entered_body, whole_body, begun_body, body_occurs, cell_at, count_cells, with_cell, with_ended, taken_over, linked, unlinked, IsSetBody}
 
 -- the place in a slot: the plan's node that it is built by, the place that it belongs to, whether it is stored, how deep it
 -- lies, and what was put at it
@@ -39,6 +38,8 @@ as_form Form.Pointer = as_pointer
 as_form Form.List = as_list
 as_form Form.Slice = as_slice
 as_form Form.ClosedSlice = as_closed_slice
+as_form Form.Set = as_set
+as_form (Form.Map base) = as_map base
 
 -- what the children of a place that is begun so are: fields, of a struct or of the variant that is selected, or something else
 abbrev pub parts_in : TreeForm → Parts
@@ -52,6 +53,10 @@ parts_in as_pointer = Parts.Others
 parts_in as_list = Parts.Others
 parts_in as_slice = Parts.Others
 parts_in as_closed_slice = Parts.Others
+parts_in as_set = Parts.Others
+parts_in (as_map base) = Parts.Others
+parts_in as_dyn_array = Parts.Others
+parts_in (as_dyn_object keys) = Parts.Others
 
 abbrev pub body_of : Piece → Body
 body_of Piece.Entered = entered_body
@@ -98,14 +103,14 @@ with_slot heap n found m = if nat_eq m n then found else heap m
 abbrev pub with_body : Heap → ℕ → (Body → Body) → Heap
 with_body heap n change = with_slot heap n (option_map (λ (at : Node). record at { body = change at.body }) (heap n))
 
--- the slot of the child at a step of the place in this slot, where that has the child in one
-abbrev pub child_slot : Heap → ℕ → PathStep → Option ℕ
-child_slot heap n step = option_and_then slot_of_cell (option_and_then (λ (at : Node). cell_at at.body step) (heap n))
+-- the slot of child i of the place in this slot, where that has the child in one
+abbrev pub child_slot : Heap → ℕ → ℕ → Option ℕ
+child_slot heap n i = option_and_then slot_of_cell (option_and_then (λ (at : Node). cell_at at.body i) (heap n))
 
--- what the owner of a place holds at its step
+-- what the owner of a place holds at its number
 abbrev pub held_by : Heap → FrameOwner → Option Cell
 held_by heap FrameOwner.Root = None
-held_by heap (FrameOwner.Child parent step) = option_and_then (λ (at : Node). cell_at at.body step) (heap parent.0)
+held_by heap (FrameOwner.Child parent i) = option_and_then (λ (at : Node). cell_at at.body i) (heap parent.0)
 
 abbrev pub depth_above : Option Node → ℕ
 depth_above (Some at) = suc at.depth
@@ -114,17 +119,17 @@ depth_above None = 0
 -- how deep a place lies that belongs there
 abbrev pub depth_below : Heap → FrameOwner → ℕ
 depth_below heap FrameOwner.Root = 0
-depth_below heap (FrameOwner.Child parent step) = depth_above (heap parent.0)
+depth_below heap (FrameOwner.Child parent i) = depth_above (heap parent.0)
 
 -- the owner of the place in slot n, where it has that child, now has it there
 abbrev pub links : FrameOwner → ℕ → Heap → Heap
 links FrameOwner.Root n heap = heap
-links (FrameOwner.Child parent step) n heap = with_body heap parent.0 (linked n step)
+links (FrameOwner.Child parent i) n heap = with_body heap parent.0 (linked n i)
 
 -- the owner of the place that was in slot n, where it had it there, has it no more
 abbrev pub unlinks : FrameOwner → ℕ → Heap → Heap
 unlinks FrameOwner.Root n heap = heap
-unlinks (FrameOwner.Child parent step) n heap = with_body heap parent.0 (unlinked n step)
+unlinks (FrameOwner.Child parent i) n heap = with_body heap parent.0 (unlinked n i)
 
 -- a place that is just entered, of a node whose shape has this definition
 abbrev pub entered_node : Def → Heap → NodeId → FrameOwner → Node
@@ -144,14 +149,25 @@ with_entered def heap node owner n = with_slot (links owner n heap) n (Some (ent
 abbrev pub without : Heap → ℕ → FrameOwner → Heap
 without heap n owner = unlinks owner n (with_slot heap n None)
 
--- the owner's child at its step is there with this value
+-- the owner's child of its number is there with this value
 abbrev pub gives : FrameOwner → Val → Heap → Heap
 gives FrameOwner.Root v heap = heap
-gives (FrameOwner.Child parent step) v heap = with_body heap parent.0 (λ (old : Body). with_cell old step (given v))
+gives (FrameOwner.Child parent i) v heap = with_body heap parent.0 (λ (old : Body). with_cell old i (given v))
+
+-- where the place belongs, there is a place that is begun as a set
+abbrev pub IsItemOf : FrameOwner → Heap → Type 0
+IsItemOf FrameOwner.Root heap = ⊥
+IsItemOf (FrameOwner.Child parent i) heap = IsSomeAnd (heap parent.0) (λ (at : Node). IsSetBody at.body)
+
+-- the set to which the place belonged, which ended with this value, has no child for it, and the value behind its items unless it is
+-- there already
+abbrev pub ends : FrameOwner → Val → Heap → Heap
+ends FrameOwner.Root v heap = heap
+ends (FrameOwner.Child parent i) v heap = with_body heap parent.0 (with_ended i v)
 
 -- where an item belongs that comes behind all children of the place in slot n
 abbrev pub item_owner : (n : ℕ) → Body → FrameOwner
-item_owner n body = FrameOwner.Child (record { 0 = n }) (PathStep.Index (count_cells body))
+item_owner n body = FrameOwner.Child (record { 0 = n }) (count_cells body)
 
 -- Marks.
 

@@ -1,12 +1,12 @@
 -- The tree that places in slots make up: each place knows its slot, and whether it is stored.
-use Rattle.std.specs.Prelude.{◌≡◌, ℕ, zero, suc, ◌+◌, ◌<◌, ◌≤◌, Bool, List, [], ◌∷◌, Option, Some, None, unwrap_or}
+use Rattle.std.specs.Prelude.{◌≡◌, ℕ, zero, suc, ◌+◌, ◌<◌, ◌≤◌, Bool, false, List, [], ◌∷◌, Option, Some, None, unwrap_or, if◌then◌else◌}
 use Rattle.std.specs.Option.{option_map, option_and_then}
 use Rattle.fr_shape.specs.Tokens.{occurs}
 use Rattle.fr_shape.specs.Val.{Val}
-use Rattle.fr_model.specs.Paths.{step_as}
-use Rattle.fr_model.specs.Tree.{Form, as_struct, as_array, as_variant, as_some, as_ok, as_err, as_pointer, as_list, as_slice, as_closed_slice, Tree, hole, entered, whole, begun, Trees, no_trees, branch}
+use Rattle.fr_model.specs.Places.{is_key, entry_of}
+use Rattle.fr_model.specs.Tree.{Form, as_struct, as_array, as_variant, as_some, as_ok, as_err, as_pointer, as_list, as_slice, as_closed_slice, as_set, as_map, as_dyn_array, as_dyn_object, base_of_form, Tree, hole, entered, whole, begun, Trees, no_trees, branch}
 use Rattle.fr_plan.specs.declared.nodes.NodeId.{NodeId}
-use Rattle.fr_plan.specs.Lookups.{struct_field, enum_variant_field, list_item, option_inner, result_sides, pointer_pointee, by_id}
+use Rattle.fr_plan.specs.Lookups.{struct_field, enum_variant_field, list_item, set_item, map_key, map_value, option_inner, result_sides, pointer_pointee, by_id}
 use Rattle.fr_plan.specs.TypePlan.{Plan}
 use Rattle.fr_frame.specs.declared.places.FrameOwner.{FrameOwner}
 use Rattle.fr_frame.specs.Cells.{Cell, absent, given, placed}
@@ -28,6 +28,11 @@ mutual
   pub data Kids : Type 0 where
     no_kids : Kids
     kid : Kid → Kids → Kids
+
+abbrev pub is_stored : Kid → Bool
+is_stored gone = false
+is_stored (there v) = false
+is_stored (at slot stored plot) = stored
 
 -- The same without slots.
 abbrev mutual
@@ -96,6 +101,10 @@ kid_of heap slot = kid_from depth_limit heap slot
 abbrev pub slice_item_found : Plan → NodeId → Option NodeId
 slice_item_found plan node = option_and_then (by_id plan (list_item plan)) (by_id plan (pointer_pointee plan) node)
 
+-- the plan's node of the keys, or of the values, of the map at a place of this node, if it is one
+abbrev pub entry_found : Plan → NodeId → (of_key : Bool) → Option NodeId
+entry_found plan node of_key = if of_key then by_id plan (map_key plan) node else by_id plan (map_value plan) node
+
 -- the plan's node of child i of a place that is begun so, if there is one
 abbrev pub child_found : Plan → NodeId → Form → ℕ → Option NodeId
 child_found plan node as_struct i = by_id plan (λ parent. struct_field plan parent i) node
@@ -108,6 +117,10 @@ child_found plan node as_pointer i = by_id plan (pointer_pointee plan) node
 child_found plan node as_list i = by_id plan (list_item plan) node
 child_found plan node as_slice i = slice_item_found plan node
 child_found plan node as_closed_slice i = slice_item_found plan node
+child_found plan node as_set i = by_id plan (set_item plan) node
+child_found plan node (as_map base) i = entry_found plan node (is_key i)
+child_found plan node as_dyn_array i = Some node
+child_found plan node (as_dyn_object keys) i = Some node
 
 -- the same (node 0 where there is none)
 abbrev pub child_node : Plan → NodeId → Form → ℕ → NodeId
@@ -125,9 +138,13 @@ MayHave as_pointer count = count ≤ 1
 MayHave as_list count = Unit {0}
 MayHave as_slice count = Unit {0}
 MayHave as_closed_slice count = Unit {0}
+MayHave as_set count = Unit {0}
+MayHave (as_map base) count = Unit {0}
+MayHave as_dyn_array count = Unit {0}
+MayHave (as_dyn_object keys) count = Unit {0}
 
-abbrev pub child_owner : (slot : ℕ) → Form → ℕ → FrameOwner
-child_owner slot form i = FrameOwner.Child (record { 0 = slot }) (step_as form i)
+abbrev pub child_owner : (slot : ℕ) → ℕ → FrameOwner
+child_owner slot i = FrameOwner.Child (record { 0 = slot }) i
 
 -- The heap holds this at this depth, as a place of this owner that is built by this node of the plan. What is in no slot is
 -- held by its owner.
@@ -148,7 +165,7 @@ abbrev mutual
   pub HoldsAll : Plan → Heap → NodeId → (slot : ℕ) → Form → (i : ℕ) → ℕ → Kids → Type 0
   HoldsAll plan heap node slot form i depth no_kids = MayHave form i
   HoldsAll plan heap node slot form i depth (kid k ks) =
-      Holds plan heap (child_node plan node form i) (child_owner slot form i) depth k
+      Holds plan heap (child_node plan node form i) (child_owner slot i) depth k
       × HoldsAll plan heap node slot form (suc i) depth ks
 
 -- How often a token stands in it, and a slot serves in it.
@@ -166,3 +183,47 @@ abbrev mutual
   pub kids_occur : Kids → ℕ → ℕ
   kids_occur no_kids t = 0
   kids_occur (kid k ks) t = kid_occurs k t + kids_occur ks t
+
+-- Items of a set and parts of a dynamic value are completed as they are left, so that none of them is ever stored. What a map had when
+-- it was begun isn't entered again.
+
+-- the child is there with its value
+abbrev pub IsThere : Kid → Type 0
+IsThere gone = ⊥
+IsThere (there v) = Unit {0}
+IsThere (at slot stored plot) = ⊥
+
+-- child i of a place that is begun so isn't stored, where it is an item of a set or a part of a dynamic value; the key and the value of
+-- an entry that a map had when it was begun are there
+abbrev pub IsLeftRightly : Form → (i : ℕ) → Kid → Type 0
+IsLeftRightly as_set i k = is_stored k ≡ false
+IsLeftRightly (as_map base) i k = entry_of i < base → IsThere k
+IsLeftRightly as_dyn_array i k = is_stored k ≡ false
+IsLeftRightly (as_dyn_object keys) i k = is_stored k ≡ false
+IsLeftRightly as_struct i k = Unit {0}
+IsLeftRightly as_array i k = Unit {0}
+IsLeftRightly (as_variant number) i k = Unit {0}
+IsLeftRightly as_some i k = Unit {0}
+IsLeftRightly as_ok i k = Unit {0}
+IsLeftRightly as_err i k = Unit {0}
+IsLeftRightly as_pointer i k = Unit {0}
+IsLeftRightly as_list i k = Unit {0}
+IsLeftRightly as_slice i k = Unit {0}
+IsLeftRightly as_closed_slice i k = Unit {0}
+
+-- and so it is of all that lies in it
+abbrev mutual
+  pub AreLeftRightly : Kid → Type 0
+  AreLeftRightly gone = Unit {0}
+  AreLeftRightly (there v) = Unit {0}
+  AreLeftRightly (at slot stored plot) = AreLeftIn plot
+
+  pub AreLeftIn : Plot → Type 0
+  AreLeftIn entered_plot = Unit {0}
+  AreLeftIn (whole_plot v) = Unit {0}
+  AreLeftIn (begun_plot form kids) = AreLeftAll form 0 kids
+
+  -- children from number i on, of which a map has at least those of its base
+  pub AreLeftAll : Form → (i : ℕ) → Kids → Type 0
+  AreLeftAll form i no_kids = base_of_form form ≤ entry_of i
+  AreLeftAll form i (kid k ks) = IsLeftRightly form i k × AreLeftRightly k × AreLeftAll form (suc i) ks

@@ -1,10 +1,13 @@
 pub mod Bodies
 pub mod Cells
 pub mod Changes
+pub mod ChildIndex
 pub mod Closed
 pub mod Completing
 pub mod Defaults
 pub mod FieldDefaults
 pub mod Filling
 pub mod Heap
+pub mod Indexing
+pub mod KeyPlaces
 pub mod Kids

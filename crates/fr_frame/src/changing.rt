@@ -12,7 +12,6 @@ use crate::children::Children;
 use crate::pieces::{open, open_some, put_child, release_piece};
 use crate::places::{Form, Piece, SlotId};
 use crate::slots::Slots;
-use fr_path::PathStep;
 use fr_shape::{Ledger, OutOfMemory, Value};
 
 impl SlotId {
@@ -90,17 +89,17 @@ impl SlotId {
         Ok(())
     }
 
-    /// Puts a value at the child to which this step leads, which isn't there yet and is in no slot. Takes no memory.
-    pub fn put_child(self, slots: &mut Slots, step: &PathStep, value: Value)
+    /// Puts a value at child `i`, which isn't there yet and is in no slot. Takes no memory.
+    pub fn put_child(self, slots: &mut Slots, i: u32, value: Value)
         requires in_use { IsInUse slots.old self.0 }
         requires absent { IfInUse slots.old self.0 (λ at.
-            cell_at at.body step.now ≡ Some absent) }
+            cell_at at.body i ≡ Some absent) }
         ensures put { Shows slots.new (with_body (heap_of slots.old) self.0
-            (λ old. with_cell old step.now (given (view value)))) }
+            (λ old. with_cell old i (given (view value)))) }
         ensures tokens { (t : ℕ) → slots_occur slots.new t
             ≡ slots_occur slots.old t + occurs (view value) t }
     {
         let place = slots.place_mut(self);
-        put_child(&mut place.piece, step, value);
+        put_child(&mut place.piece, i, value);
     }
 }

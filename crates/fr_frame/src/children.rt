@@ -1,16 +1,21 @@
 //! The children of a begun place.
-ghost use Rattle.std.specs.Prelude.{◌≡◌, ℕ, ◌<◌, ◌≤◌, ◌↔◌, ◌++◌, ◌∷◌, [], length, map, replicate, slice_set, IfOk, IfErr, IsSome, OnErr, OnOk, is_some, Some};
+ghost use Rattle.std.specs.Prelude.{◌≡◌, ℕ, suc, ◌+◌, ◌<◌, ◌≤◌, ◌↔◌, ◌++◌, ◌∷◌, [], length, map, replicate, slice_get, slice_set, IfOk, IfErr, IfSome, IfNone, IsSome, OnErr, OnOk, drop, is_some, List, Some, true};
 ghost use Rattle.std.specs.FinSet as set;
 ghost use Rattle.std.specs.List.{All};
 ghost use Rattle.std.specs.Option.{option_map, option_copied};
+ghost use Rattle.fr_shape.specs.Released.{Conserved, Room};
+ghost use Rattle.fr_shape.specs.Tokens.{occurs};
 ghost use Rattle.fr_shape.specs.Val.{token, unit};
 ghost use Rattle.fr_shape.specs.View.{view, vals_view};
-ghost use Rattle.fr_frame.specs.Cells.{in_slot, slot_of_cell};
+ghost use Rattle.fr_frame.specs.Bodies.{and_item_cell, has_same_cell, is_same_cell, without_cell};
+ghost use Rattle.fr_frame.specs.Cells.{Cell, cells_occur, in_slot, slot_of_cell, swapped, HasNumbers};
+ghost use Rattle.fr_frame.specs.ChildIndex.{IsIndexed};
 ghost use Rattle.fr_frame.specs.declared.places.SlotId.{SlotId as Number};
 
 use crate::places::SlotId;
+use crate::value_index::ValueIndex;
 use fr_arena::ISet;
-use fr_shape::{OutOfMemory, Value};
+use fr_shape::{Ledger, OutOfMemory, Value, release, same};
 use std::alloc::Global;
 use std::marker::Model;
 
@@ -18,14 +23,17 @@ use std::marker::Model;
 ///
 /// `given` has the numbers of those whose values these are. Of any other child the value is `Unit` where the child isn't
 /// there, and a token with the number of its slot where it is in one. Contracts see one list of children.
+///
+/// `index` finds a value among the first children, all of which are there; it is there for the items of sets.
 #[derive(Drop)]
 pub struct Children {
     values: Vec<Value>,
     given: ISet,
+    index: ValueIndex,
 }
 
 impl Model for Children {
-    ghost use Rattle.std.specs.Prelude.{List, length, ◌≤◌};
+    ghost use Rattle.std.specs.Prelude.{List};
     ghost use Rattle.std.specs.Coded.{coded_list};
     ghost use Rattle.fr_frame.specs.Cells.{Cell, cell_code, cells_of};
 
@@ -35,7 +43,9 @@ impl Model for Children {
 
     ghost view = { λ it. cells_of it.given 0 it.values.items };
 
-    ghost invariant = { λ it. length it.values.items ≤ it.given.capacity };
+    ghost use Rattle.fr_frame.specs.ChildIndex.{IsIndexed};
+
+    ghost invariant = { λ it. IsIndexed it.given it.values.items it.index };
 }
 
 /// So many values that stand for children that aren't there.
@@ -116,6 +126,24 @@ fn nothing() -> Value
     Value::Unit
 }
 
+/// So many children have no index.
+const FEW: usize = 16;
+
+/// Lets an index have more of the values, from the first one on, as far as they are given and there is memory.
+fn index_given(index: &mut ValueIndex, values: &[Value], given: &ISet)
+    requires { IsIndexed given.now values.now index.old }
+    ensures { IsIndexed given.now values.now index.new }
+{
+    for i in index.len()..values.len() {
+        if !given.get(i) {
+            return;
+        }
+        let Ok(()) = index.add(&values[..i + 1]) else {
+            return;
+        };
+    }
+}
+
 impl Children {
     ghost use Rattle.fr_frame.specs.Cells.{absent, given, placed, value_at, slot_at, values_of};
 
@@ -127,7 +155,12 @@ impl Children {
             return Err(OutOfMemory);
         };
         let values = placeholders(alloc, count)?;
-        Ok(Children { values, given })
+        let index = ValueIndex::new(alloc);
+        Ok(Children {
+            values,
+            given,
+            index,
+        })
     }
 
     /// Children that are all there with these values, or the values back where there is no memory.
@@ -140,7 +173,12 @@ impl Children {
             return Err(values);
         };
         given.set_all(count);
-        Ok(Children { values, given })
+        let index = ValueIndex::new(alloc);
+        Ok(Children {
+            values,
+            given,
+            index,
+        })
     }
 
     /// How many children the place has.
@@ -151,9 +189,9 @@ impl Children {
     }
 
     /// A child's value, where it is there.
-    pub(crate) fn value(&self, i: usize) -> Option<&Value>
-        requires { i < length self.now }
-        ensures { option_map view (option_copied result) ≡ value_at self.now i }
+    pub fn value(&self, i: usize) -> Option<&Value>
+        requires inside { i < length self.now }
+        ensures value { option_map view (option_copied result) ≡ value_at self.now i }
     {
         if self.given.get(i) {
             Some(&self.values[i])
@@ -180,6 +218,7 @@ impl Children {
         ensures taken { option_map view result ≡ value_at self.old i }
     {
         let was_given = self.given.get(i);
+        self.index.cut_at(i);
         self.given.unset(i);
         let held = std::mem::replace(&mut self.values[i], in_place(slot));
         if !was_given {
@@ -195,6 +234,7 @@ impl Children {
         ensures taken { option_map view result ≡ value_at self.old i }
     {
         let was_given = self.given.get(i);
+        self.index.cut_at(i);
         self.given.unset(i);
         let held = std::mem::replace(&mut self.values[i], nothing());
         if !was_given {
@@ -208,6 +248,7 @@ impl Children {
         requires { i < length self.old }
         ensures { self.new ≡ slice_set self.old i absent }
     {
+        self.index.cut_at(i);
         self.given.unset(i);
         self.values[i] = nothing();
     }
@@ -217,6 +258,7 @@ impl Children {
         requires { i < length self.old }
         ensures { self.new ≡ slice_set self.old i (given (view value)) }
     {
+        self.index.cut_at(i);
         self.given.set(i);
         self.values[i] = value;
     }
@@ -233,6 +275,150 @@ impl Children {
         };
         self.given.unset(count);
         Ok(())
+    }
+
+    /// Two children more behind the others, which aren't there yet. Doesn't look at the others, but where there is no room
+    /// for them.
+    pub(crate) fn push_two(&mut self, alloc: Global) -> Result<(), OutOfMemory>
+        ensures added { OnOk result (self.new ≡ self.old ++ absent ∷ absent ∷ []) }
+        ensures refused { OnErr result (self.new ≡ self.old) }
+    {
+        self.push(alloc)?;
+        let Ok(()) = self.push(alloc) else {
+            self.pop();
+            return Err(OutOfMemory);
+        };
+        Ok(())
+    }
+
+    /// Lets the last child go.
+    fn pop(&mut self)
+        ensures { (rest : List Cell) (last : Cell) → self.old ≡ rest ++ last ∷ []
+            → self.new ≡ rest }
+    {
+        self.values.pop();
+        self.index.cut_at(self.values.len());
+    }
+
+    /// Lets the index have more children, from the first one on, as far as their values are there and there is memory. A few are
+    /// looked at faster without one.
+    fn index_more(&mut self)
+        ensures { self.new ≡ self.old }
+    {
+        if self.values.len() <= FEW {
+            return;
+        }
+        index_given(&mut self.index, self.values.as_slice(), &self.given);
+    }
+
+    /// The number from which on the value of a child may be `same` as this one, where the index finds none that is.
+    fn past_index(&self, value: &Value) -> Option<usize>
+        ensures found { IfNone result (has_same_cell (view value.now) self.now ≡ true) }
+        ensures past { IfSome result (λ first. has_same_cell (view value.now) self.now
+            ≡ has_same_cell (view value.now) (drop first self.now)) }
+    {
+        let first = self.index.len();
+        if self.index.find(&self.values[..first], value).is_some() {
+            return None;
+        }
+        Some(first)
+    }
+
+    /// Whether a child is there with a value that is `same` as this one.
+    fn is_same(&self, i: usize, value: &Value) -> bool
+        requires { i < length self.now }
+        ensures { (c : Cell) → slice_get self.now i ≡ Some c
+            → result ≡ is_same_cell (view value.now) c }
+    {
+        match self.value(i) {
+            Some(held) => same(held, value),
+            None => false,
+        }
+    }
+
+    /// Whether the value of some child is `same` as this one. Looks only at those that the index doesn't have.
+    fn has_same(&self, value: &Value) -> bool
+        ensures { result ≡ has_same_cell (view value.now) self.now }
+    {
+        let Some(first) = self.past_index(value) else {
+            return true;
+        };
+        for i in first..self.len() {
+            if self.is_same(i, value) {
+                return true;
+            }
+        }
+        false
+    }
+
+    /// Lets a child that isn't there and the next one change places.
+    fn move_back(&mut self, i: usize, next: usize)
+        requires next { next ≡ suc i }
+        requires inside { next < length self.old }
+        requires absent { slice_get self.old i ≡ Some absent }
+        ensures { self.new ≡ swapped i self.old }
+    {
+        if let Some(slot) = self.slot(next) {
+            self.clear(next);
+            let _nothing = self.place(i, slot);
+        } else if let Some(value) = self.take(next) {
+            self.put(i, value);
+        }
+    }
+
+    /// Moves a child that isn't there behind the others, and tells its number then.
+    fn move_last(&mut self, i: usize) -> usize
+        requires { slice_get self.old i ≡ Some absent }
+        ensures moved { self.new ≡ without_cell i self.old ++ absent ∷ [] }
+        ensures last { result ≡ length (without_cell i self.old) }
+    {
+        let last = self.len() - 1;
+        for at in i..last {
+            self.move_back(at, at + 1);
+        }
+        last
+    }
+
+    /// Lets a child go that isn't there, and puts a value behind the others, unless one of them is `same`: then it is
+    /// released. Takes no memory.
+    pub(crate) fn end_item(&mut self, i: usize, value: Value, ledger: &mut Ledger)
+        requires absent { slice_get self.old i ≡ Some absent }
+        requires room { Room (occurs (view value)) ledger.old }
+        ensures ended { self.new ≡ and_item_cell (without_cell i self.old) (view value) }
+        ensures conserved { Conserved (λ t. cells_occur self.old t + occurs (view value) t)
+            ledger.old (cells_occur self.new) ledger.new }
+    {
+        self.index_more();
+        let is_there = self.has_same(&value);
+        let last = self.move_last(i);
+        if is_there {
+            self.pop();
+            release(value, ledger);
+        } else {
+            self.put(last, value);
+        }
+    }
+
+    /// The values of children, each of which is there, and the set of their numbers. Takes no memory.
+    pub(crate) fn into_parts(self) -> (Vec<Value>, ISet)
+        requires { IsSome (values_of self) }
+        ensures values { values_of self ≡ Some (vals_view result.0.items) }
+        ensures numbers { HasNumbers (length result.0.items) result.1 }
+    {
+        (self.values, self.given)
+    }
+
+    /// Children that are all there with these values, whose numbers are in this set. Takes no memory.
+    pub(crate) fn of_parts(values: Vec<Value>, numbers: ISet) -> Children
+        requires { HasNumbers (length values.items) numbers }
+        ensures { result ≡ map (λ v. given (view v)) values.items }
+    {
+        let index = ValueIndex::new(*values.allocator());
+        Children {
+            values,
+            given: numbers,
+            index,
+        }
     }
 
     /// Whether each child is there. Doesn't look at each.

@@ -3,10 +3,10 @@ ghost use Rattle.std.specs.Prelude.{◌≡◌, ℕ, ◌<◌, length, false, None
 ghost use Rattle.fr_shape.specs.Checked.{IsChecked};
 ghost use Rattle.fr_shape.specs.Look.{def_of};
 ghost use Rattle.fr_model.specs.Well.{IsFullAs};
-ghost use Rattle.fr_frame.specs.Bodies.{as_fields, body_occurs, takes_box, value_of, AreUnplaced, IsClosed};
+ghost use Rattle.fr_frame.specs.Bodies.{as_fields, body_occurs, takes_memory, value_of, AreUnplaced, IsClosed};
 ghost use Rattle.fr_frame.specs.Cells.{cells_occur, values_of};
 ghost use Rattle.fr_frame.specs.Completing.{shape_of, IsFull, IsPlanFor};
-ghost use Rattle.fr_frame.specs.Defaults.{KeepsForm};
+ghost use Rattle.fr_frame.specs.Defaults.{KeepGiven, KeepsForm};
 ghost use Rattle.fr_frame.specs.Filling.{filled, filled_body, filled_entered};
 ghost use Rattle.fr_frame.specs.Heap.{body_of};
 
@@ -38,6 +38,7 @@ fn fill_holes(
         ≡ filled table.now (shape_of plan.now node) (as_fields selected) 0 children.old) }
     ensures tokens { (t : ℕ) → cells_occur children.new t ≡ cells_occur children.old t }
     ensures count { length children.new ≡ length children.old }
+    ensures kept { KeepGiven children.old children.new }
     ensures closed { AreUnplaced children.old → AreUnplaced children.new }
 {
     let told = plans_of_fields(table, plan, node, selected);
@@ -63,7 +64,7 @@ fn made_of_entered(
     requires fills { IsSome (filled_entered table.now (shape_of plan.now node)) }
     ensures filled { IfOk result (λ made. value_of (body_of made)
         ≡ filled_entered table.now (shape_of plan.now node)) }
-    ensures boxless { IfOk result (λ made. takes_box (body_of made) ≡ false) }
+    ensures boxless { IfOk result (λ made. takes_memory (body_of made) ≡ false) }
     ensures tokens { IfOk result (λ made. (t : ℕ) → body_occurs (body_of made) t ≡ 0) }
     ensures full { IfOk result (λ made.
         IsFull table.now (shape_of plan.now node) (body_of made)) }

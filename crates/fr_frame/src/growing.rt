@@ -1,15 +1,14 @@
-//! Places that take items: a list, or a pointer to a slice.
+//! Places that take items, as a list, a set or a pointer to a slice, and maps, which take entries.
 ghost use Rattle.std.specs.Prelude.{◌≡◌, ℕ, ◌<◌, ◌^◌, length, IfOk, IfSome, OnErr, OnOk, None};
 ghost use Rattle.fr_shape.specs.Look.{def_of};
-ghost use Rattle.fr_frame.specs.Bodies.{added, count_cells, reformed, IsGrowing};
+ghost use Rattle.fr_frame.specs.Bodies.{added, added_entry, count_cells, reformed, IsGrowing, IsMapBody};
 ghost use Rattle.fr_frame.specs.Changes.{IfInUse, IsInUse, SameTokens, Shows};
 ghost use Rattle.fr_frame.specs.Completing.{shape_of};
 ghost use Rattle.fr_frame.specs.Heap.{as_form, depth_below, depth_limit, heap_of, item_owner, with_body, with_entered};
 
-use crate::pieces::{add_child, count_children, reform};
+use crate::pieces::{add_child, add_entry, count_children, reform};
 use crate::places::{Form, FrameOwner, SlotId};
 use crate::slots::Slots;
-use fr_path::PathStep;
 use fr_plan::{NodeId, TypePlanCore};
 use fr_shape::{OutOfMemory, ShapeTable};
 
@@ -43,7 +42,7 @@ impl Slots {
         if count > u32::MAX as usize {
             return None;
         }
-        Some(FrameOwner::Child(parent, PathStep::Index(count as u32)))
+        Some(FrameOwner::Child(parent, count as u32))
     }
 
     /// One child more at a place that takes items, behind the others, which isn't there yet.
@@ -60,8 +59,22 @@ impl Slots {
         add_child(alloc, &mut place.piece)
     }
 
-    /// A slot for a new item of this node, which the place that takes items, a list or an open pointer to a slice, has behind its
-    /// other children from then on.
+    /// Two children more at a begun map, behind the others, which aren't there yet.
+    fn add_entry(&mut self, parent: SlotId) -> Result<(), OutOfMemory>
+        requires { IfInUse self.old parent.0 (λ above. IsMapBody above.body) }
+        ensures added { OnOk result (Shows self.new
+            (with_body (heap_of self.old) parent.0 added_entry)) }
+        ensures refused { OnErr result (Shows self.new (heap_of self.old)) }
+        ensures tokens { SameTokens self.old self.new }
+        ensures length { length self.new ≡ length self.old }
+    {
+        let alloc = self.alloc();
+        let place = self.place_mut(parent);
+        add_entry(alloc, &mut place.piece)
+    }
+
+    /// A slot for a new item of this node, which the place that takes items, a list, a set or an open pointer to a slice, has
+    /// behind its other children from then on.
     pub fn enter_item(
         &mut self,
         table: &ShapeTable,
@@ -91,6 +104,44 @@ impl Slots {
         };
         let id = self.vacant()?;
         let Ok(()) = self.add_child(parent) else {
+            self.give_back(id);
+            return Err(OutOfMemory);
+        };
+        self.settle(table, plan, node, owner, depth, id);
+        Ok(id)
+    }
+
+    /// A slot for the key of a new entry, which is of this node and which the begun map has behind its other children from
+    /// then on, and behind it the entry's value, which isn't there yet.
+    pub fn enter_key(
+        &mut self,
+        table: &ShapeTable,
+        plan: &TypePlanCore,
+        node: NodeId,
+        parent: SlotId,
+    ) -> Result<SlotId, OutOfMemory>
+        requires parent { IfInUse self.old parent.0 (λ above. IsMapBody above.body) }
+        requires planned { node.0 < length plan.now.nodes }
+        ensures vacant { IfOk result (λ id. heap_of self.old id.0 ≡ None) }
+        ensures entered { IfOk result (λ id. IfInUse self.old parent.0 (λ above.
+            Shows self.new (with_entered (def_of table.now (shape_of plan.now node))
+            (with_body (heap_of self.old) parent.0 added_entry) node
+            (item_owner parent.0 above.body) id.0))) }
+        ensures limit { OnOk result (IfInUse self.old parent.0 (λ above.
+            depth_below (heap_of self.old) (item_owner parent.0 above.body) < depth_limit)) }
+        ensures narrow { OnOk result (IfInUse self.old parent.0 (λ above.
+            count_cells above.body < 2 ^ 32)) }
+        ensures tokens { SameTokens self.old self.new }
+        ensures refused { OnErr result (Shows self.new (heap_of self.old)) }
+    {
+        let Some(owner) = self.item_owner(parent) else {
+            return Err(OutOfMemory);
+        };
+        let Some(depth) = self.depth_below(&owner) else {
+            return Err(OutOfMemory);
+        };
+        let id = self.vacant()?;
+        let Ok(()) = self.add_entry(parent) else {
             self.give_back(id);
             return Err(OutOfMemory);
         };

@@ -1,21 +1,22 @@
 //! Leaving a slot: with the value of its place, or releasing what was put there.
-ghost use Rattle.std.specs.Prelude.{◌≡◌, ℕ, ◌+◌, false, IfOk, IsOk, IsSome, OnErr, OnOk, Some};
+ghost use Rattle.std.specs.Prelude.{◌≡◌, ℕ, ◌+◌, false, IfOk, IsOk, IsSome, OnErr, OnOk, None, Some};
 ghost use Rattle.fr_shape.specs.Released.{Conserved, Room, RoseBy};
 ghost use Rattle.fr_shape.specs.Tokens.{occurs};
 ghost use Rattle.fr_shape.specs.Val.{Val};
 ghost use Rattle.fr_shape.specs.View.{view};
-ghost use Rattle.fr_frame.specs.Bodies.{body_occurs, takes_box, value_of};
+ghost use Rattle.fr_frame.specs.Bodies.{body_occurs, cell_at, takes_memory, value_of, with_ended, IsSetBody};
 ghost use Rattle.fr_frame.specs.Cells.{absent, placed};
-ghost use Rattle.fr_frame.specs.Changes.{IfInUse, IsInUse, SameTokens, Shows};
-ghost use Rattle.fr_frame.specs.Heap.{body_of, gives, heap_of, held_by, slots_occur, without};
+ghost use Rattle.fr_frame.specs.Changes.{IfInUse, IsInUse, Shows};
+ghost use Rattle.fr_frame.specs.Heap.{body_of, ends, gives, heap_of, held_by, slots_occur, with_body, with_slot, without, IsItemOf};
 
-use crate::pieces::{release_piece, value_of};
+use crate::making::value_of;
+use crate::pieces::{end_child, release_piece};
 use crate::places::{FrameOwner, Piece, Place, SlotId};
 use crate::slots::Slots;
 use fr_shape::{Ledger, OutOfMemory, Value};
 
 impl Slots {
-    /// Puts a value at the child of the owner to which its step leads, which isn't there.
+    /// Puts a value at the owner's child of its number, which isn't there.
     fn give(&mut self, owner: &FrameOwner, value: Value)
         requires { held_by (heap_of self.old) owner.now ≡ Some absent }
         ensures given { Shows self.new (gives owner.now (view value) (heap_of self.old)) }
@@ -23,7 +24,38 @@ impl Slots {
             ≡ slots_occur self.old t + occurs (view value) t }
     {
         match owner {
-            FrameOwner::Child(parent, step) => parent.put_child(self, step, value),
+            FrameOwner::Child(parent, i) => parent.put_child(self, *i, value),
+            FrameOwner::Root => unreachable!(),
+        }
+    }
+
+    /// Lets a child of a set go, which isn't there, and puts a value behind the set's other children, unless one of them is
+    /// `same`: then it is released.
+    fn end_child(&mut self, parent: SlotId, i: u32, value: Value, ledger: &mut Ledger)
+        requires in_use { IsInUse self.old parent.0 }
+        requires set { IfInUse self.old parent.0 (λ at. IsSetBody at.body) }
+        requires absent { IfInUse self.old parent.0 (λ at. cell_at at.body i ≡ Some absent) }
+        requires room { Room (occurs (view value)) ledger.old }
+        ensures ended { Shows self.new
+            (with_body (heap_of self.old) parent.0 (with_ended i (view value))) }
+        ensures conserved { Conserved (λ t. slots_occur self.old t + occurs (view value) t)
+            ledger.old (slots_occur self.new) ledger.new }
+    {
+        let place = self.place_mut(parent);
+        end_child(&mut place.piece, i, value, ledger);
+    }
+
+    /// The same by the owner of the child.
+    fn end_item(&mut self, owner: &FrameOwner, value: Value, ledger: &mut Ledger)
+        requires absent { held_by (heap_of self.old) owner.now ≡ Some absent }
+        requires set { IsItemOf owner.now (heap_of self.old) }
+        requires room { Room (occurs (view value)) ledger.old }
+        ensures ended { Shows self.new (ends owner.now (view value) (heap_of self.old)) }
+        ensures conserved { Conserved (λ t. slots_occur self.old t + occurs (view value) t)
+            ledger.old (slots_occur self.new) ledger.new }
+    {
+        match owner {
+            FrameOwner::Child(parent, i) => self.end_child(*parent, *i, value, ledger),
             FrameOwner::Root => unreachable!(),
         }
     }
@@ -58,21 +90,21 @@ impl SlotId {
     }
 
     /// The value of a place that is whole, or begun with each child there. Its slot is then free, and its owner has it in no
-    /// slot. A content, a side, a pointee or a slice goes into a box; where there is no memory for that, what was put at the
-    /// place is released.
+    /// slot. A content, a side, a pointee or a slice goes into a box, and a set or a map is put together anew, of which what is
+    /// there twice is released; where there is no memory for that, what was put at the place is released.
     pub fn into_value(self, slots: &mut Slots, ledger: &mut Ledger) -> Result<Value, OutOfMemory>
         requires complete { IfInUse slots.old self.0 (λ at. IsSome (value_of at.body)) }
         requires room { IfInUse slots.old self.0 (λ at. Room (body_occurs at.body) ledger.old) }
         ensures value { IfOk result (λ v.
             IfInUse slots.old self.0 (λ at. value_of at.body ≡ Some (view v))) }
-        ensures memory { IfInUse slots.old self.0 (λ at. takes_box at.body ≡ false → IsOk result) }
+        ensures memory { IfInUse slots.old self.0 (λ at.
+            takes_memory at.body ≡ false → IsOk result) }
         ensures left { IfInUse slots.old self.0 (λ at.
             Shows slots.new (without (heap_of slots.old) self.0 at.owner)) }
         ensures tokens { IfInUse slots.old self.0 (λ at. (t : ℕ) → slots_occur slots.old t
             ≡ slots_occur slots.new t + body_occurs at.body t) }
-        ensures same_tokens { IfOk result (λ v. IfInUse slots.old self.0 (λ at. (t : ℕ) →
-            occurs (view v) t ≡ body_occurs at.body t)) }
-        ensures ledger { OnOk result (ledger.new ≡ ledger.old) }
+        ensures conserved { IfOk result (λ v. Conserved (slots_occur slots.old) ledger.old
+            (λ t. slots_occur slots.new t + occurs (view v) t) ledger.new) }
         ensures released { OnErr result (IfInUse slots.old self.0 (λ at.
             RoseBy (body_occurs at.body) ledger.old ledger.new)) }
     {
@@ -82,7 +114,8 @@ impl SlotId {
     }
 
     /// Hands the value of a place that is whole, or begun with each child there, to its owner, which has the place in this slot.
-    /// The slot is then free. Where there is no memory for the box that the value takes, what was put at the place is released.
+    /// The slot is then free. What a set or a map leaves out of its value, as it is there twice, is released. Where there is
+    /// no memory for making the value, what was put at the place is released.
     pub fn hand_up(self, slots: &mut Slots, ledger: &mut Ledger) -> Result<(), OutOfMemory>
         requires complete { IfInUse slots.old self.0 (λ at. IsSome (value_of at.body)) }
         requires owned { IfInUse slots.old self.0 (λ at.
@@ -91,18 +124,43 @@ impl SlotId {
         ensures handed { OnOk result (IfInUse slots.old self.0 (λ at. (v : Val)
             → value_of at.body ≡ Some v → Shows slots.new
             (gives at.owner v (without (heap_of slots.old) self.0 at.owner)))) }
-        ensures memory { IfInUse slots.old self.0 (λ at. takes_box at.body ≡ false → IsOk result) }
+        ensures memory { IfInUse slots.old self.0 (λ at.
+            takes_memory at.body ≡ false → IsOk result) }
         ensures left { OnErr result (IfInUse slots.old self.0 (λ at.
             Shows slots.new (without (heap_of slots.old) self.0 at.owner))) }
-        ensures tokens { OnOk result (SameTokens slots.old slots.new) }
-        ensures ledger { OnOk result (ledger.new ≡ ledger.old) }
-        ensures conserved { OnErr result (Conserved (slots_occur slots.old) ledger.old
-            (slots_occur slots.new) ledger.new) }
+        ensures conserved { Conserved (slots_occur slots.old) ledger.old (slots_occur slots.new)
+            ledger.new }
     {
         let alloc = slots.alloc();
         let (owner, piece) = self.take_out(slots);
         let value = value_of(alloc, piece, ledger)?;
         slots.give(&owner, value);
+        Ok(())
+    }
+
+    /// Puts the value of a set's item that is whole, or begun with each child there, behind the set's other items, unless
+    /// one of them is `same`: then the value is released. The item's slot is then free, and the set has no child for it.
+    /// Where there is no memory for making the value, what was put at the item is released, and the set's child isn't there.
+    pub fn end_item(self, slots: &mut Slots, ledger: &mut Ledger) -> Result<(), OutOfMemory>
+        requires complete { IfInUse slots.old self.0 (λ at. IsSome (value_of at.body)) }
+        requires owned { IfInUse slots.old self.0 (λ at.
+            held_by (heap_of slots.old) at.owner ≡ Some (placed self.0)) }
+        requires of_set { IfInUse slots.old self.0 (λ at. IsItemOf at.owner (heap_of slots.old)) }
+        requires room { IfInUse slots.old self.0 (λ at. Room (body_occurs at.body) ledger.old) }
+        ensures ended { OnOk result (IfInUse slots.old self.0 (λ at. (v : Val)
+            → value_of at.body ≡ Some v → Shows slots.new
+            (ends at.owner v (with_slot (heap_of slots.old) self.0 None)))) }
+        ensures memory { IfInUse slots.old self.0 (λ at.
+            takes_memory at.body ≡ false → IsOk result) }
+        ensures left { OnErr result (IfInUse slots.old self.0 (λ at.
+            Shows slots.new (without (heap_of slots.old) self.0 at.owner))) }
+        ensures conserved { Conserved (slots_occur slots.old) ledger.old (slots_occur slots.new)
+            ledger.new }
+    {
+        let alloc = slots.alloc();
+        let (owner, piece) = self.take_out(slots);
+        let value = value_of(alloc, piece, ledger)?;
+        slots.end_item(&owner, value, ledger);
         Ok(())
     }
 

@@ -7,17 +7,22 @@
 mod changing;
 mod children;
 mod completing;
+mod contents;
 mod default_filling;
 mod defaulting;
 mod entering;
 mod field_defaults;
 mod field_plans;
 mod filling;
+mod gathering;
 mod growing;
+mod key_places;
 mod lacking;
 mod leaving;
 mod leftovers;
 mod linking;
+mod making;
+mod opening;
 mod pieces;
 mod places;
 mod slots;
@@ -25,6 +30,7 @@ mod storing;
 #[cfg(test)]
 mod tests;
 mod validating;
+mod value_index;
 
 pub use children::Children;
 pub use places::{Form, FrameOwner, Piece, Place, Slot, SlotId};

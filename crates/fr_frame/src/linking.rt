@@ -10,7 +10,6 @@ ghost use Rattle.fr_frame.specs.Heap.{Node, depth_below, depth_limit, heap_of, h
 use crate::pieces::{link, unlink};
 use crate::places::{FrameOwner, Slot, SlotId};
 use crate::slots::Slots;
-use fr_path::PathStep;
 use fr_shape::Value;
 
 /// One level deeper, where there is one.
@@ -43,18 +42,18 @@ impl Slots {
         }
     }
 
-    fn link_child(&mut self, parent: SlotId, step: &PathStep, id: SlotId) -> Option<Value>
+    fn link_child(&mut self, parent: SlotId, i: u32, id: SlotId) -> Option<Value>
         requires { IsInUse self.old parent.0 }
         ensures rest { Shows self.new
-            (with_body (heap_of self.old) parent.0 (linked id.0 step.now)) }
+            (with_body (heap_of self.old) parent.0 (linked id.0 i)) }
         ensures taken { option_map view result ≡ held_value (option_and_then
-            (λ (at : Node). cell_at at.body step.now) (heap_of self.old parent.0)) }
+            (λ (at : Node). cell_at at.body i) (heap_of self.old parent.0)) }
         ensures tokens { (t : ℕ) → slots_occur self.old t
             ≡ slots_occur self.new t + value_occurs (option_map view result) t }
         ensures length { length self.new ≡ length self.old }
     {
         let place = self.place_mut(parent);
-        link(&mut place.piece, step, id)
+        link(&mut place.piece, i, id)
     }
 
     /// Lets the owner of a place have it in this slot, and hands out the value that it had there, if it had one.
@@ -69,7 +68,7 @@ impl Slots {
     {
         match owner {
             FrameOwner::Root => None,
-            FrameOwner::Child(parent, step) => self.link_child(*parent, step, id),
+            FrameOwner::Child(parent, i) => self.link_child(*parent, *i, id),
         }
     }
 
@@ -78,7 +77,7 @@ impl Slots {
         ensures rest { Shows self.new (unlinks owner.now id.0 (heap_of self.old)) }
         ensures tokens { SameTokens self.old self.new }
     {
-        let FrameOwner::Child(parent, step) = owner else {
+        let FrameOwner::Child(parent, i) = owner else {
             return;
         };
         if parent.0 >= self.len() {
@@ -86,7 +85,7 @@ impl Slots {
         }
         let slot = self.slot_mut(*parent);
         match slot {
-            Slot::Used(place) => unlink(&mut place.piece, step, id),
+            Slot::Used(place) => unlink(&mut place.piece, *i, id),
             Slot::Free(_) => {}
         }
     }

@@ -1,6 +1,8 @@
 //! The places in slots.
 ghost use Rattle.std.specs.Borrow.{Lends, sem};
 ghost use Rattle.std.specs.Prelude.{◌≡◌, IsSome, Some, None};
+ghost use Rattle.fr_model.specs.Paths.{step_as};
+ghost use Rattle.fr_model.specs.Tree.{as_map};
 
 use crate::children::Children;
 use fr_arena::Idx;
@@ -28,16 +30,17 @@ impl SlotId {
     }
 }
 
-/// Where a place belongs: it is the root, or the child of the place in a slot, to which this step leads.
+/// Where a place belongs: it is the root, or the child of this number of the place in a slot.
 #[derive(Drop)]
 pub enum FrameOwner {
     Root,
-    Child(SlotId, PathStep),
+    Child(SlotId, u32),
 }
 
 /// As what a place is begun: with the fields of a struct or of an enum's variant of this number, with the elements of an array,
 /// around one child, which is the content of an option, of either side of a result, or what a pointer points to, with the items
-/// of a list, or as a pointer to a slice, with its items, that is open for more of them or closed.
+/// of a list, as a pointer to a slice, with its items, that is open for more of them or closed, with the items of a set, or with
+/// the keys and values of a map, which take turns, over as many entries as it had when it was begun.
 #[derive(Clone, Copy)]
 pub enum Form {
     Struct,
@@ -50,6 +53,8 @@ pub enum Form {
     List,
     Slice,
     ClosedSlice,
+    Set,
+    Map(u32),
 }
 
 /// What the children of a begun place are: the fields of a struct, or of the variant of this number, for which there are fills and
@@ -60,13 +65,25 @@ pub(crate) enum Parts {
     Others,
 }
 
+/// The step to child `i` of a map over a base of so many entries: to a key or a value of an entry, whose number doesn't count them.
+fn entry_step(base: u32, i: u32) -> PathStep
+    ensures step { result ≡ step_as (as_map base) i }
+{
+    let number = (i / 2).saturating_sub(base);
+    if i % 2 == 0 {
+        PathStep::MapKey(number)
+    } else {
+        PathStep::MapValue(number)
+    }
+}
+
 impl Form {
-    ghost use Rattle.fr_model.specs.Paths.{step_as};
-    ghost use Rattle.fr_model.specs.Tree.{form_number, same_form};
-    ghost use Rattle.fr_frame.specs.Bodies.{boxes};
+    ghost use Rattle.fr_model.specs.Tree.{base_of_form, form_number, same_form};
+    ghost use Rattle.fr_frame.specs.Bodies.{boxes, gathers};
     ghost use Rattle.fr_frame.specs.Heap.{as_form, parts_in};
 
-    /// The step to child `i` of a place that is begun so. A content, a side or a pointee is child 0.
+    /// The step to child `i` of a place that is begun so. A content, a side or a pointee is child 0; of a map's children each other
+    /// one is a key, before its value.
     pub fn step(self, i: u32) -> PathStep
         ensures step { result ≡ step_as (as_form self) i }
     {
@@ -77,6 +94,8 @@ impl Form {
             Form::Ok => PathStep::ResultOk,
             Form::Err => PathStep::ResultErr,
             Form::Pointer => PathStep::Deref,
+            Form::Set => PathStep::SetItem,
+            Form::Map(base) => entry_step(base, i),
         }
     }
 
@@ -94,7 +113,21 @@ impl Form {
             Form::List => 6,
             Form::Slice => 7,
             Form::ClosedSlice => 8,
-            Form::Variant(k) => 9 + k as u64,
+            Form::Set => 9,
+            Form::Map(_) => 10,
+            Form::Variant(k) => 13 + k as u64,
+        }
+    }
+
+    /// How many entries a map had when it was begun.
+    fn base(self) -> u32
+        ensures { result ≡ base_of_form (as_form self) }
+    {
+        match self {
+            Form::Map(base) => base,
+            Form::Struct | Form::Array | Form::Variant(_) | Form::List | Form::Set => 0,
+            Form::Some | Form::Ok | Form::Err | Form::Pointer => 0,
+            Form::Slice | Form::ClosedSlice => 0,
         }
     }
 
@@ -102,7 +135,7 @@ impl Form {
     pub fn is(self, other: Form) -> bool
         ensures same { result ≡ same_form (as_form self) (as_form other) }
     {
-        self.number() == other.number()
+        self.number() == other.number() && self.base() == other.base()
     }
 
     /// Whether what is made of a place that is begun so holds a box.
@@ -113,6 +146,19 @@ impl Form {
             Form::Struct | Form::Array | Form::Variant(_) | Form::List => false,
             Form::Some | Form::Ok | Form::Err | Form::Pointer => true,
             Form::Slice | Form::ClosedSlice => true,
+            Form::Set | Form::Map(_) => false,
+        }
+    }
+
+    /// Whether what is made of a place that is begun so is put together anew.
+    pub(crate) fn gathers(self) -> bool
+        ensures { result ≡ gathers (as_form self) }
+    {
+        match self {
+            Form::Struct | Form::Array | Form::Variant(_) | Form::List => false,
+            Form::Some | Form::Ok | Form::Err | Form::Pointer => false,
+            Form::Slice | Form::ClosedSlice => false,
+            Form::Set | Form::Map(_) => true,
         }
     }
 
@@ -125,6 +171,7 @@ impl Form {
             Form::Variant(k) => Parts::Fields(Some(k)),
             Form::Array | Form::Some | Form::Ok | Form::Err | Form::Pointer => Parts::Others,
             Form::List | Form::Slice | Form::ClosedSlice => Parts::Others,
+            Form::Set | Form::Map(_) => Parts::Others,
         }
     }
 }

@@ -1,17 +1,17 @@
 //! Places that are left half done and entered again: their mark, and the slot that a child is in.
 ghost use Rattle.std.specs.Prelude.{◌≡◌, ℕ, false, IsOk, IsSome, OnErr, OnOk, Some};
 ghost use Rattle.std.specs.Option.{option_map};
-ghost use Rattle.fr_shape.specs.Released.{Room, RoseBy};
+ghost use Rattle.fr_shape.specs.Released.{Conserved, Room, RoseBy};
 ghost use Rattle.fr_shape.specs.Val.{Val};
-ghost use Rattle.fr_frame.specs.Bodies.{takes_box, value_of, whole_body};
+ghost use Rattle.fr_frame.specs.Bodies.{body_occurs, takes_memory, value_of, whole_body};
 ghost use Rattle.fr_frame.specs.Changes.{Becomes, IfInUse, IsInUse, SameTokens, Shows};
 ghost use Rattle.fr_frame.specs.Heap.{child_slot, heap_of, marked, slot_occurs, slots_occur, with_mark};
 ghost use Rattle.fr_frame.specs.declared.places.SlotId.{SlotId as Number};
 
-use crate::pieces::{make_whole, release_piece, slot_at};
+use crate::making::make_whole;
+use crate::pieces::{release_piece, slot_at};
 use crate::places::{Slot, SlotId};
 use crate::slots::Slots;
-use fr_path::PathStep;
 use fr_shape::{Ledger, OutOfMemory};
 
 impl SlotId {
@@ -35,27 +35,31 @@ impl SlotId {
         }
     }
 
-    /// The slot of the child to which a step leads, where the place is begun, has that child, and has it in a slot.
-    pub fn child(self, slots: &Slots, step: &PathStep) -> Option<SlotId>
+    /// The slot of child `i`, where the place is begun, has that child, and has it in a slot.
+    pub fn child(self, slots: &Slots, i: u32) -> Option<SlotId>
         ensures slot { option_map (λ (child : Number). child.0) result
-            ≡ child_slot (heap_of slots.now) self.0 step.now }
+            ≡ child_slot (heap_of slots.now) self.0 i }
     {
-        slot_at(&slots.place(self)?.piece, step)
+        slot_at(&slots.place(self)?.piece, i)
     }
 
     /// Lets a place that is whole, or begun with each child there, be whole with its value. It stays as it was where there is no
-    /// memory for the box that this takes.
-    pub fn make_whole(self, slots: &mut Slots) -> Result<(), OutOfMemory>
+    /// memory for making it. What a set or a map leaves out of its value, as it is there twice, is released.
+    pub fn make_whole(self, slots: &mut Slots, ledger: &mut Ledger) -> Result<(), OutOfMemory>
         requires complete { IfInUse slots.old self.0 (λ at. IsSome (value_of at.body)) }
+        requires room { IfInUse slots.old self.0 (λ at. Room (body_occurs at.body) ledger.old) }
         ensures whole { OnOk result (IfInUse slots.old self.0 (λ at. (v : Val)
             → value_of at.body ≡ Some v → Becomes slots.old slots.new self.0 at (whole_body v))) }
-        ensures memory { IfInUse slots.old self.0 (λ at. takes_box at.body ≡ false → IsOk result) }
+        ensures memory { IfInUse slots.old self.0 (λ at.
+            takes_memory at.body ≡ false → IsOk result) }
         ensures refused { OnErr result (Shows slots.new (heap_of slots.old)) }
-        ensures tokens { SameTokens slots.old slots.new }
+        ensures conserved { Conserved (slots_occur slots.old) ledger.old (slots_occur slots.new)
+            ledger.new }
+        ensures ledger_kept { OnErr result (ledger.new ≡ ledger.old) }
     {
         let alloc = slots.alloc();
         let place = slots.place_mut(self);
-        make_whole(alloc, &mut place.piece)
+        make_whole(alloc, &mut place.piece, ledger)
     }
 }
 

@@ -6,7 +6,6 @@ ghost use Rattle.fr_shape.specs.Look.{def_of};
 ghost use Rattle.fr_frame.specs.Completing.{shape_of, IsPlanFor};
 
 use crate::*;
-use fr_path::PathStep;
 use fr_plan::{NodeId, TypePlanCore};
 use fr_shape::{
     Def, DefaultSource, EnumDef, EnumRepr, Field, Items, Ledger, NoHooks, PlanError,
@@ -181,7 +180,7 @@ fn validated(rt: &impl Abort, alloc: Global, value: u128) -> Result<(), ReflectE
     if id.begin(&mut slots, Form::Struct, 1).is_err() {
         panic!(rt; "no memory");
     }
-    id.put_child(&mut slots, &PathStep::Field(0), Value::Nat(value));
+    id.put_child(&mut slots, 0, Value::Nat(value));
     id.run_validators(&slots, &plan, &NoHooks)
 }
 
@@ -248,7 +247,7 @@ fn begun_around(rt: &impl Abort, alloc: Global, value: u128) -> Value {
     if id.begin(&mut slots, Form::Some, 1).is_err() {
         panic!(rt; "no memory");
     }
-    id.put_child(&mut slots, &Form::Some.step(0), Value::Nat(value));
+    id.put_child(&mut slots, 0, Value::Nat(value));
     let mut ledger = Ledger::new(alloc, 0).ok().expect(rt, "no memory");
     let value = id.into_value(&mut slots, &mut ledger);
     value.ok().expect(rt, "no memory")
@@ -307,7 +306,7 @@ fn validated_variant(rt: &impl Abort, alloc: Global, value: u128) -> Result<(), 
     if id.begin(&mut slots, Form::Variant(0), 1).is_err() {
         panic!(rt; "no memory");
     }
-    id.put_child(&mut slots, &PathStep::Field(0), Value::Nat(value));
+    id.put_child(&mut slots, 0, Value::Nat(value));
     id.run_validators(&slots, &plan, &NoHooks)
 }
 
@@ -321,4 +320,66 @@ fn a_refusal_names_the_variant(rt: HostRuntime) {
     };
     assert_eq!(&rt; field.variant, Some(0));
     assert_eq!(&rt; field.index, 0);
+}
+
+/// The table of u64 and a map from it to it.
+fn map_table(rt: &impl Abort, alloc: Global) -> ShapeTable {
+    let mut shapes = Items::new(alloc);
+    let number = Text::new(alloc, "u64").ok().expect(rt, "no memory");
+    let many = Text::new(alloc, "Many").ok().expect(rt, "no memory");
+    let scalar = Shape::new(alloc, number, Def::Scalar(ScalarKind::U64));
+    shapes.push(scalar).ok().expect(rt, "no memory");
+    let map = Shape::new(alloc, many, Def::Map(ShapeId(0), ShapeId(0)));
+    shapes.push(map).ok().expect(rt, "no memory");
+    ShapeTable::new(alloc, shapes)
+}
+
+/// The value of a map that is begun with two entries of the same key, with these values.
+fn map_of_one_key(rt: &impl Abort, alloc: Global, first: u128, second: u128) -> Value {
+    let table = map_table(rt, alloc);
+    let Ok(plan) = plan_of(alloc, &table) else {
+        panic!(rt; "no plan");
+    };
+    let mut slots = Slots::new(alloc);
+    let Ok(id) = slots.enter(&table, &plan, plan.root_id(), FrameOwner::Root) else {
+        panic!(rt; "no memory");
+    };
+    if is_empty(&table, &plan, plan.root_id()) {
+        panic!(rt; "a struct");
+    }
+    if id.begin(&mut slots, Form::Map(0), 4).is_err() {
+        panic!(rt; "no memory");
+    }
+    id.put_child(&mut slots, 0, Value::Nat(1));
+    id.put_child(&mut slots, 1, Value::Nat(first));
+    id.put_child(&mut slots, 2, Value::Nat(1));
+    id.put_child(&mut slots, 3, Value::Nat(second));
+    let mut ledger = Ledger::new(alloc, 0).ok().expect(rt, "no memory");
+    let value = id.into_value(&mut slots, &mut ledger);
+    value.ok().expect(rt, "no memory")
+}
+
+#[test]
+fn a_repeated_key_takes_the_new_value(rt: HostRuntime) {
+    let Value::Map(entries) = map_of_one_key(&rt, rt.alloc(), 2, 3) else {
+        panic!(&rt; "another value");
+    };
+    assert_eq!(&rt; entries.len(), 1);
+    let (_key, value) = entries.get(0).expect(&rt, "no entry");
+    assert!(&rt; matches!(value, Value::Nat(3)));
+}
+
+/// How many items a set with one item has, once another one ended.
+fn items_after(rt: &impl Abort, alloc: Global, held: u128, ended: u128) -> usize {
+    let mut items = Children::none_yet(alloc, 2).ok().expect(rt, "no memory");
+    let mut ledger = Ledger::new(alloc, 0).ok().expect(rt, "no memory");
+    items.put(0, Value::Nat(held));
+    items.end_item(1, Value::Nat(ended), &mut ledger);
+    items.len()
+}
+
+#[test]
+fn an_item_that_is_there_already_is_released(rt: HostRuntime) {
+    assert_eq!(&rt; items_after(&rt, rt.alloc(), 5, 5), 1);
+    assert_eq!(&rt; items_after(&rt, rt.alloc(), 5, 6), 2);
 }

@@ -10,7 +10,7 @@ use Rattle.fr_frame.specs.declared.places.Slot.{Slot}
 use Rattle.fr_frame.specs.Bodies.{opened_around, opened_some, IsClosed}
 use Rattle.fr_frame.specs.Changes.{SameTokens, Shows}
 use Rattle.fr_frame.specs.Heap.{heap_of, with_body}
-use Rattle.fr_frame.specs.Kids.{Kid, there, at, Plot, entered_plot, whole_plot, begun_plot, no_kids, kid, tree_of, tree_in, body_in, plot_occurs}
+use Rattle.fr_frame.specs.Kids.{Kid, there, at, Plot, entered_plot, whole_plot, begun_plot, no_kids, kid, tree_of, tree_in, body_in, plot_occurs, AreLeftIn}
 use Rattle.fr_store.specs.MoveLaws.{open_reach, open_top, top_changed, top_stands}
 use Rattle.fr_store.specs.Moves.{IsOpenAt, around_content, around_some, cursor_in, tree_in_slots}
 use Rattle.fr_store.specs.Numbers.{IsLast}
@@ -52,6 +52,7 @@ around_keeps : (plot : Plot) → KeepsChildren plot (around_plot plot)
 around_keeps entered_plot = keeps_same entered_plot
 around_keeps (whole_plot v) =
     keeps_closed (whole_plot v) (content_plot v (content_of v)) (may (content_of v)) (shut (content_of v))
+    (λ h. left (content_of v))
   where
     may : (content : Option Val) → MayHaveIts (body_in (content_plot v content))
     may (Some held) = omega arith
@@ -60,6 +61,10 @@ around_keeps (whole_plot v) =
     shut : (content : Option Val) → IsClosed (body_in (content_plot v content))
     shut (Some held) = (tt, tt)
     shut None = tt
+
+    left : (content : Option Val) → AreLeftIn (content_plot v content)
+    left (Some held) = (tt, tt, omega arith)
+    left None = tt
 around_keeps (begun_plot form kids) = keeps_same (begun_plot form kids)
 
 around_loses : (plot : Plot) → LosesNone plot (around_plot plot)

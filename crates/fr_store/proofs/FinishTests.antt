@@ -54,6 +54,7 @@ module _ (def : Def) (before after : List Slot) (node : NodeId) (n : ℕ) (free 
         once = λ m. omega (arith, at_most_once (nat_eq n m));
         leads = (refl, tt);
         along = along;
+        left = tt;
       })
       (λ t. same t ∙ none t)
       only refl

@@ -2,23 +2,23 @@
 use Rattle.std.proofs.Common.{◌≡◌, ◌≢◌, ℕ, zero, suc, ◌+◌, ◌<◌, ◌≤◌, true, false, List, [], ◌∷◌, ◌++◌, length, Option, Some, None, refl, sym, ◌∙◌, ap, subst, arith}
 use Rattle.std.specs.Prelude.{IsSome}
 use Rattle.fr_shape.specs.declared.shape.Def.{Def}
-use Rattle.fr_path.specs.declared.path_steps.PathStep.{PathStep}
-use Rattle.fr_model.specs.Paths.{step_as}
+use Rattle.fr_model.specs.Collections.{is_map, is_map_form}
 use Rattle.fr_model.specs.Places.{Place}
-use Rattle.fr_model.specs.Tree.{Form, as_struct, as_array, as_variant, as_some, as_ok, as_err, as_pointer, as_list, as_slice, as_closed_slice, Tree, Trees, begun, branch, and_last, count_below, count_trees, tree_at, change_at}
+use Rattle.fr_model.specs.Tree.{Form, as_struct, as_array, as_variant, as_some, as_ok, as_err, as_pointer, as_list, as_slice, as_closed_slice, as_set, as_map, as_dyn_array, as_dyn_object, Tree, hole, entered, whole, Trees, begun, branch, and_last, count_below, count_trees, tree_at, change_at}
 use Rattle.fr_plan.specs.declared.nodes.NodeId.{NodeId}
 use Rattle.fr_plan.specs.TypePlan.{Plan}
 use Rattle.fr_frame.specs.declared.places.FrameOwner.{FrameOwner}
 use Rattle.fr_frame.specs.declared.places.Slot.{Slot}
-use Rattle.fr_frame.specs.Bodies.{Body, begun_body, added, count_cells, IsGrowing, IsUnplaced, TakesItems}
+use Rattle.fr_frame.specs.Bodies.{Body, begun_body, added, added_entry, count_cells, IsGrowing, IsMapBody, IsUnplaced, TakesItems}
 use Rattle.fr_frame.specs.Cells.{Cell, absent}
 use Rattle.fr_frame.specs.Changes.{IfInUse, SameMarks, SameTokens, Shows}
 use Rattle.fr_frame.specs.Heap.{Node, Heap, depth_above, depth_below, depth_limit, heap_of, item_owner, stored_in, with_body, with_entered}
-use Rattle.fr_frame.specs.Kids.{Kid, gone, there, at, Plot, entered_plot, whole_plot, begun_plot, Kids, no_kids, kid, MayHave, tree_of, tree_in, trees_in, cell_of, cells_in, body_in, kid_occurs, kids_occur, plot_occurs, child_node, child_owner, HoldsAll}
+use Rattle.fr_frame.specs.Kids.{Kid, gone, there, at, Plot, entered_plot, whole_plot, begun_plot, Kids, no_kids, kid, MayHave, tree_of, tree_in, trees_in, cell_of, cells_in, body_in, kid_occurs, kids_occur, plot_occurs, child_node, child_owner, HoldsAll, IsThere, AreLeftAll}
 use Rattle.fr_store.specs.ChildLaws.{count_kids_trees, plot_formed}
 use Rattle.fr_store.specs.EnterLaws.{all_entered, child_plot, entered_kid, fresh_plot, fresh_tree, stands_entered, stay_entered, tokens_entered}
+use Rattle.fr_store.specs.LeftLaws.{entry_next, left_past}
 use Rattle.fr_store.specs.MoveLaws.{open_at_from, open_reach, open_top, so_top, tokens_kept, top_found, top_node, top_slot, top_so, top_stands_in}
-use Rattle.fr_store.specs.Moves.{HasForm, IsOpenAt, count_here, cursor_in, node_here, tree_here, tree_in_slots, with_item_of}
+use Rattle.fr_store.specs.Moves.{HasForm, IsOpenAt, count_here, cursor_in, node_here, tree_here, tree_in_slots, with_item_of, with_key_of}
 use Rattle.fr_store.specs.Numbers.{IsLast}
 use Rattle.fr_store.specs.Places.{IsPlaced, slot_at, slot_here}
 use Rattle.fr_store.specs.StandLaws.{all_kept, AllServe}
@@ -93,18 +93,15 @@ items_may_have as_some count takes = absurd takes
 items_may_have as_ok count takes = absurd takes
 items_may_have as_err count takes = absurd takes
 items_may_have as_pointer count takes = absurd takes
+items_may_have as_set count takes = tt
+items_may_have (as_map base) count takes = absurd takes
+items_may_have as_dyn_array count takes = tt
+items_may_have (as_dyn_object keys) count takes = absurd takes
 
-step_of_item : (form : Form) (i : ℕ) → TakesItems form → step_as form i ≡ PathStep.Index i
-step_of_item as_list i takes = refl
-step_of_item as_slice i takes = refl
-step_of_item as_closed_slice i takes = absurd takes
-step_of_item as_struct i takes = absurd takes
-step_of_item as_array i takes = absurd takes
-step_of_item (as_variant k) i takes = absurd takes
-step_of_item as_some i takes = absurd takes
-step_of_item as_ok i takes = absurd takes
-step_of_item as_err i takes = absurd takes
-step_of_item as_pointer i takes = absurd takes
+left_and_last : (form : Form) (i : ℕ) (ks : Kids) → AreLeftAll form i ks → AreLeftAll form i (kids_and_last ks gone)
+left_and_last form i no_kids all =
+    (left_past form i gone all refl, tt, omega (arith, all, entry_next i))
+left_and_last form i (kid k ks) all = (all.0, all.1, left_and_last form (suc i) ks all.2)
 
 -- the place keeps its other children
 grown_keeps : (form : Form) (kids : Kids) → TakesItems form
@@ -114,6 +111,7 @@ grown_keeps form kids takes = record {
   once = λ n. omega (arith, uses_and_last kids n);
   holds = λ plan heap node slot depth h.
       holds_and_last plan heap node slot form 0 depth kids (λ count. items_may_have form count takes) h;
+  left = λ h. left_and_last form 0 kids h;
 }
 
 grown_stay : (slot : ℕ) (form : Form) (kids : Kids)
@@ -129,10 +127,82 @@ grown_stay slot form kids (i ∷ place) placed =
       ap (λ (x : Kid). slot_here (kid_at place x)) same,
     )
 
--- An open builder's top takes items.
+-- So a place grows: behind its children come others that aren't there yet, and the first of them is then entered.
+pub record Grows (form : Form) (kids more : Kids) (change : Body → Body) (with_new : Def → Tree → Tree) : Type 1 where
+  pub body : begun_body form (cells_in more) ≡ change (begun_body form (cells_in kids))
+  pub keeps : KeepsChildren (begun_plot form kids) (begun_plot form more)
+  pub stay : (slot : ℕ) → AllStayPut (at slot false (begun_plot form kids)) (at slot false (begun_plot form more))
+  pub used : (n : ℕ) → uses_among more n ≡ uses_among kids n
+  pub occurs : (t : ℕ) → kids_occur more t ≡ kids_occur kids t
+  pub within : count_kids kids < count_kids more
+  pub nth : kid_nth (count_kids kids) more ≡ gone
+  pub tree : (n : ℕ) (def : Def) → begun form (trees_in (put_nth (count_kids kids) (at n false (fresh_plot def)) more))
+      ≡ with_new def (begun form (trees_in kids))
+
+-- one item
+items_grow : (form : Form) (kids : Kids) → TakesItems form → Grows form kids (kids_and_last kids gone) added with_item_of
+items_grow form kids takes = record {
+  body = ap (begun_body form) (cells_and_last kids);
+  keeps = grown_keeps form kids takes;
+  stay = λ slot. grown_stay slot form kids;
+  used = uses_and_last kids;
+  occurs = occurs_and_last kids;
+  within = omega (arith, count_and_last kids gone);
+  nth = nth_last kids gone;
+  tree = λ n def.
+      ap (λ (ks : Kids). begun form (trees_in ks)) (put_last kids gone (at n false (fresh_plot def)))
+      ∙ ap (begun form) (trees_and_last kids (at n false (fresh_plot def)))
+      ∙ ap (λ (t : Tree). begun form (and_last (trees_in kids) t)) (fresh_tree def);
+}
+
+-- one entry: its key, and its value, which isn't there yet
+put_key : (ks : Kids) (old new : Kid)
+    → put_nth (count_kids ks) new (kids_and_last (kids_and_last ks old) gone) ≡ kids_and_last (kids_and_last ks new) gone
+put_key no_kids old new = refl
+put_key (kid k ks) old new = ap (λ (xs : Kids). kid k xs) (put_key ks old new)
+
+two_cells : (ks : Kids) → cells_in (kids_and_last (kids_and_last ks gone) gone) ≡ cells_in ks ++ absent ∷ absent ∷ []
+two_cells no_kids = refl
+two_cells (kid k ks) = ap (λ (cs : List Cell). cell_of k ∷ cs) (two_cells ks)
+
+two_stay : (slot : ℕ) (form : Form) (kids : Kids)
+    → AllStayPut (at slot false (begun_plot form kids)) (at slot false (begun_plot form (kids_and_last (kids_and_last kids gone) gone)))
+two_stay slot form kids place placed =
+    let one = grown_stay slot form kids place placed in
+    let two = grown_stay slot form (kids_and_last kids gone) place one.0 in
+    (two.0, two.1 ∙ one.1)
+
+entries_grow : (base : ℕ) (kids : Kids)
+    → Grows (as_map base) kids (kids_and_last (kids_and_last kids gone) gone) added_entry with_key_of
+entries_grow base kids = record {
+  body = ap (begun_body (as_map base)) (two_cells kids);
+  keeps = record {
+    marked = λ h. marked_and_last (kids_and_last kids gone) (marked_and_last kids h);
+    once = λ n. omega (arith, uses_and_last kids n, uses_and_last (kids_and_last kids gone) n);
+    holds = λ plan heap node slot depth h.
+        holds_and_last plan heap node slot (as_map base) 0 depth (kids_and_last kids gone) (λ count. tt)
+        (holds_and_last plan heap node slot (as_map base) 0 depth kids (λ count. tt) h);
+    left = λ h.
+        left_and_last (as_map base) 0 (kids_and_last kids gone) (left_and_last (as_map base) 0 kids h);
+  };
+  stay = λ slot. two_stay slot (as_map base) kids;
+  used = λ n. omega (arith, uses_and_last kids n, uses_and_last (kids_and_last kids gone) n);
+  occurs = λ t. omega (arith, occurs_and_last kids t, occurs_and_last (kids_and_last kids gone) t);
+  within = omega (arith, count_and_last kids gone, count_and_last (kids_and_last kids gone) gone);
+  nth =
+      nth_before (count_kids kids) (kids_and_last kids gone) gone (omega (arith, count_and_last kids gone))
+      ∙ nth_last kids gone;
+  tree = λ n def.
+      ap (λ (ks : Kids). begun (as_map base) (trees_in ks)) (put_key kids gone (at n false (fresh_plot def)))
+      ∙ ap (begun (as_map base)) (trees_and_last (kids_and_last kids (at n false (fresh_plot def))) gone)
+      ∙ ap (λ (ts : Trees). begun (as_map base) (and_last ts hole)) (trees_and_last kids (at n false (fresh_plot def)))
+      ∙ ap (λ (t : Tree). begun (as_map base) (and_last (and_last (trees_in kids) t) hole)) (fresh_tree def);
+}
+
+-- An open builder's top grows.
 module _ (plan : Plan) (before : List Slot) (stack : List ℕ) (open_now : IsOpen plan before stack) (p : ℕ) (last : IsLast stack p)
-    (form : Form) (kids : Kids) (begun_now : (open_top plan before stack open_now).plot ≡ begun_plot form kids)
-    (takes : TakesItems form) where
+    (form : Form) (kids more : Kids) (begun_now : (open_top plan before stack open_now).plot ≡ begun_plot form kids)
+    (change : Body → Body) (with_new : Def → Tree → Tree) (grows : Grows form kids more change with_new) where
   abbrev k : Kid
   k = kid_here before stack
 
@@ -142,12 +212,9 @@ module _ (plan : Plan) (before : List Slot) (stack : List ℕ) (open_now : IsOpe
   abbrev top : Top plan (heap_of before) stack (cursor_in before stack) (kid_here before stack)
   top = open_top plan before stack open_now
 
-  -- with one child more, which isn't there yet
+  -- with more children, which aren't there yet
   abbrev grown : Heap
-  grown = with_body (heap_of before) p added
-
-  abbrev more : Kids
-  more = kids_and_last kids gone
+  grown = with_body (heap_of before) p change
 
   abbrev new : Kid
   new = at top.slot false (begun_plot form more)
@@ -158,42 +225,36 @@ module _ (plan : Plan) (before : List Slot) (stack : List ℕ) (open_now : IsOpe
   reach : Reaches place k
   reach = open_reach plan before stack open_now
 
-  pub takes_here : IfInUse before p (λ (found : Node). IsGrowing found.body)
-  unfolding top_node
-  takes_here =
-      so_top plan before stack open_now p last (λ (found : Node). IsGrowing found.body)
-      (subst (λ (plot : Plot). IsGrowing (body_in plot)) (sym begun_now) takes)
-
-  grown_body : begun_body form (cells_in more) ≡ added (body_in top.plot)
-  grown_body = ap (begun_body form) (cells_and_last kids) ∙ ap (λ (plot : Plot). added (body_in plot)) (sym begun_now)
+  grown_body : begun_body form (cells_in more) ≡ change (body_in top.plot)
+  grown_body = grows.body ∙ ap (λ (plot : Plot). change (body_in plot)) (sym begun_now)
 
   stands_grown : Stands plan grown stack place first
   stands_grown =
-      top_stands_in plan before grown stack open_now p last added (begun_plot form more) grown_body
-      (subst (λ (plot : Plot). KeepsChildren plot (begun_plot form more)) (sym begun_now) (grown_keeps form kids takes))
+      top_stands_in plan before grown stack open_now p last change (begun_plot form more) grown_body
+      (subst (λ (plot : Plot). KeepsChildren plot (begun_plot form more)) (sym begun_now) grows.keeps)
       (λ m. refl)
 
   stay_grown : AllStayPut k first
   stay_grown =
       stay_all place new k reach
       (subst (λ (x : Kid). AllStayPut x new) (sym (top.is ∙ ap (λ (plot : Plot). at top.slot false plot) begun_now))
-      (grown_stay top.slot form kids))
+      (grows.stay top.slot))
 
   -- each slot in use is still that of a place
   all_grown : AllServe grown first
   all_grown =
       all_kept (heap_of before) grown place new k reach open_now.all
-      (λ m used. used_mapped (heap_of before) p (λ (x : Node). record x { body = added x.body }) m used)
+      (λ m used. used_mapped (heap_of before) p (λ (x : Node). record x { body = change x.body }) m used)
       (λ m.
       let was : uses (kid_at place k) m ≡ uses (at top.slot false (begun_plot form kids)) m
       = ap (λ (x : Kid). uses x m) (top.is ∙ ap (λ (plot : Plot). at top.slot false plot) begun_now) in
-      omega (arith, was, uses_and_last kids m))
+      omega (arith, was, grows.used m))
 
   occurs_grown : (t : ℕ) → kid_occurs first t ≡ kid_occurs k t
   occurs_grown t =
       let was : kid_occurs (kid_at place k) t ≡ kids_occur kids t
       = ap (λ (x : Kid). kid_occurs x t) (top.is ∙ ap (λ (plot : Plot). at top.slot false plot) begun_now) in
-      omega (arith, occurs_put_at place new k t reach, was, occurs_and_last kids t)
+      omega (arith, occurs_put_at place new k t reach, was, grows.occurs t)
 
   -- what is on top of that
   abbrev now : Top plan grown stack place first
@@ -215,7 +276,7 @@ module _ (plan : Plan) (before : List Slot) (stack : List ℕ) (open_now : IsOpe
   unfolding top_node
   same_node =
       ap (λ (found : Option Node). node_of found)
-      (sym now.here ∙ ap grown slot_is ∙ body_here (heap_of before) p added (top_node plan before stack open_now p last)
+      (sym now.here ∙ ap grown slot_is ∙ body_here (heap_of before) p change (top_node plan before stack open_now p last)
       (top_found plan before stack open_now p last))
     where
       node_of : Option Node → NodeId
@@ -223,42 +284,44 @@ module _ (plan : Plan) (before : List Slot) (stack : List ℕ) (open_now : IsOpe
       node_of None = plan.root
 
   within : count_kids kids < count_kids more
-  within = omega (arith, count_and_last kids gone)
+  within = grows.within
 
   unplaced : IsUnplaced (cell_of (kid_nth (count_kids kids) more))
-  unplaced = subst (λ (x : Kid). IsUnplaced (cell_of x)) (sym (nth_last kids gone)) tt
+  unplaced = subst (λ (x : Kid). IsUnplaced (cell_of x)) (sym grows.nth) tt
 
-  owner_same : item_owner p (body_in top.plot) ≡ child_owner now.slot form (count_kids kids)
+  vacant_item : is_map_form form ≡ true → IsThere (kid_nth (count_kids kids) more) → ⊥
+  vacant_item of_map is_there = subst IsThere grows.nth is_there
+
+  owner_same : item_owner p (body_in top.plot) ≡ child_owner now.slot (count_kids kids)
   owner_same =
-      ap (λ (count : ℕ). FrameOwner.Child (record { 0 = p }) (PathStep.Index count))
+      ap (λ (count : ℕ). FrameOwner.Child (record { 0 = p }) count)
       (ap (λ (plot : Plot). count_cells (body_in plot)) begun_now ∙ cells_count kids)
-      ∙ ap (λ (step : PathStep). FrameOwner.Child (record { 0 = p }) step) (sym (step_of_item form (count_kids kids) takes))
-      ∙ ap (λ (m : ℕ). child_owner m form (count_kids kids)) (sym slot_is)
+      ∙ ap (λ (m : ℕ). child_owner m (count_kids kids)) (sym slot_is)
 
   module _ (after : List Slot) (next : List ℕ) (def : Def) (n : ℕ) (node : NodeId)
       (is : node ≡ child_node plan (node_along plan plan.root place k) form (count_kids kids)) (vacant : heap_of before n ≡ None)
       (shows : IfInUse before p (λ (found : Node). Shows after
-      (with_entered def (with_body (heap_of before) p added) node (item_owner p found.body) n)))
+      (with_entered def (with_body (heap_of before) p change) node (item_owner p found.body) n)))
       (limit : IfInUse before p (λ (found : Node). depth_below (heap_of before) (item_owner p found.body) < depth_limit))
       (tokens : SameTokens before after) (along : next ≡ stack ++ n ∷ []) where
     apart : n ≢ p
     apart e = let wrong = sym vacant ∙ ap (heap_of before) e ∙ top_found plan before stack open_now p last in cc
 
     free : grown n ≡ None
-    free = body_other (heap_of before) p added n apart ∙ vacant
+    free = body_other (heap_of before) p change n apart ∙ vacant
 
     shown : (m : ℕ) → heap_of after m
         ≡ with_entered def grown (child_node plan (node_along plan plan.root place first) form (count_kids kids))
-        (child_owner now.slot form (count_kids kids)) n m
+        (child_owner now.slot (count_kids kids)) n m
     unfolding top_node
     shown m =
         top_so plan before stack open_now p last
         (λ (found : Node). Shows after (with_entered def grown node (item_owner p found.body) n)) shows m
         ∙ ap (λ (o : FrameOwner). with_entered def grown node o n m) owner_same
-        ∙ ap (λ (x : NodeId). with_entered def grown x (child_owner now.slot form (count_kids kids)) n m)
+        ∙ ap (λ (x : NodeId). with_entered def grown x (child_owner now.slot (count_kids kids)) n m)
         (is ∙ ap (λ (x : NodeId). child_node plan x form (count_kids kids)) (sym same_node))
 
-    deep : depth_below grown (child_owner now.slot form (count_kids kids)) < depth_limit
+    deep : depth_below grown (child_owner now.slot (count_kids kids)) < depth_limit
     unfolding top_node
     deep =
         let was : depth_above (heap_of before p) < depth_limit
@@ -270,59 +333,53 @@ module _ (plan : Plan) (before : List Slot) (stack : List ℕ) (open_now : IsOpe
     abbrev item : Kid
     item =
         entered_kid plan grown (heap_of after) stack place first stands_grown now form more plot_same (count_kids kids) within
-        unplaced def n free shown deep
+        unplaced vacant_item def n free shown deep
 
     abbrev second : Kid
     second = put_at place item first
 
-    tree_second : tree_of second ≡ change_at place (with_item_of def) (tree_of k)
+    tree_second : tree_of second ≡ change_at place (with_new def) (tree_of k)
     tree_second =
         let fresh_child : child_plot def (kid_nth (count_kids kids) more) ≡ fresh_plot def
-        = ap (child_plot def) (nth_last kids gone) in
-        let children : put_nth (count_kids kids) (at n false (child_plot def (kid_nth (count_kids kids) more))) more
-        ≡ kids_and_last kids (at n false (fresh_plot def))
-        = ap (λ (plot : Plot). put_nth (count_kids kids) (at n false plot) more) fresh_child
-        ∙ put_last kids gone (at n false (fresh_plot def)) in
+        = ap (child_plot def) grows.nth in
         let was : tree_at place (tree_of k) ≡ begun form (trees_in kids)
         = sym (tree_of_at place k) ∙ ap tree_of top.is ∙ ap tree_in begun_now in
         ap tree_of (put_at_twice place new item k reach)
-        ∙ tree_change_at place (with_item_of def) item k
-        (ap (λ (ks : Kids). begun form (trees_in ks)) children
-        ∙ ap (begun form) (trees_and_last kids (at n false (fresh_plot def)))
-        ∙ ap (λ (t : Tree). begun form (and_last (trees_in kids) t)) (fresh_tree def)
-        ∙ ap (with_item_of def) (sym was))
+        ∙ tree_change_at place (with_new def) item k
+        (ap (λ (plot : Plot). begun form (trees_in (put_nth (count_kids kids) (at n false plot) more))) fresh_child
+        ∙ grows.tree n def ∙ ap (with_new def) (sym was))
 
     stands_second : Stands plan (heap_of after) (stack ++ n ∷ []) (place ++ count_kids kids ∷ []) second
     stands_second =
         stands_entered plan grown (heap_of after) stack place first stands_grown now form more plot_same (count_kids kids) within
-        unplaced def n free shown deep
+        unplaced vacant_item def n free shown deep
 
     occurs_second : (t : ℕ) → kid_occurs second t ≡ kid_occurs k t
     occurs_second t =
         tokens_entered plan grown (heap_of after) stack place first stands_grown now form more plot_same (count_kids kids) within
-        unplaced def n free shown deep t
+        unplaced vacant_item def n free shown deep t
         ∙ occurs_grown t
 
     all_second : AllServe (heap_of after) second
     all_second =
         all_entered plan grown (heap_of after) stack place first stands_grown now form more plot_same (count_kids kids) within
-        unplaced def n free shown deep all_grown
+        unplaced vacant_item def n free shown deep all_grown
 
     stay_second : AllStayPut k second
     stay_second way placed =
         let one = stay_grown way placed in
         let two = stay_entered plan grown (heap_of after) stack place first stands_grown now form more plot_same (count_kids kids)
-        within unplaced def n free shown deep way one.0 in
+        within unplaced vacant_item def n free shown deep way one.0 in
         (two.0, two.1 ∙ one.1)
 
-    open_item : IsOpenAt plan after next (place ++ count_kids kids ∷ []) (change_at place (with_item_of def) (tree_of k))
+    open_item : IsOpenAt plan after next (place ++ count_kids kids ∷ []) (change_at place (with_new def) (tree_of k))
         × AllStayPut k (kid_here after next)
     open_item =
         subst
-        (λ (s : List ℕ). IsOpenAt plan after s (place ++ count_kids kids ∷ []) (change_at place (with_item_of def) (tree_of k))
+        (λ (s : List ℕ). IsOpenAt plan after s (place ++ count_kids kids ∷ []) (change_at place (with_new def) (tree_of k))
         × AllStayPut k (kid_here after s)) (sym along) (
           open_at_from plan after (stack ++ n ∷ []) (place ++ count_kids kids ∷ []) second
-              (change_at place (with_item_of def) (tree_of k)) stands_second
+              (change_at place (with_new def) (tree_of k)) stands_second
               (tokens_kept before after k second tokens open_now.tokens occurs_second) all_second tree_second,
           stay_shown plan after (stack ++ n ∷ []) (place ++ count_kids kids ∷ []) second k stands_second stay_second,
         )
@@ -331,13 +388,13 @@ module _ (plan : Plan) (before : List Slot) (stack : List ℕ) (open_now : IsOpe
     marks_item m =
         ap stored_in (shown m)
         ∙ marked_entered def grown (child_node plan (node_along plan plan.root place first) form (count_kids kids))
-        (child_owner now.slot form (count_kids kids)) n m free
-        ∙ marked_body (heap_of before) p added m
+        (child_owner now.slot (count_kids kids)) n m free
+        ∙ marked_body (heap_of before) p change m
 
--- The same, as the calls say it.
+-- The same, as the calls say it, of a place that is begun so.
 module _ (plan : Plan) (before : List Slot) (stack : List ℕ) (open_now : IsOpen plan before stack) (p : ℕ) (last : IsLast stack p)
-    (form : Form) (has : HasForm form (tree_here before stack)) (takes : TakesItems form) where
-  formed : (kids : Kids) × ((open_top plan before stack open_now).plot ≡ begun_plot form kids)
+    (form : Form) (has : HasForm form (tree_here before stack)) where
+  pub formed : (kids : Kids) × ((open_top plan before stack open_now).plot ≡ begun_plot form kids)
   formed =
       let top = open_top plan before stack open_now in
       plot_formed form top.plot
@@ -350,8 +407,53 @@ module _ (plan : Plan) (before : List Slot) (stack : List ℕ) (open_now : IsOpe
       (sym (tree_of_at (cursor_in before stack) (kid_here before stack)) ∙ ap tree_of top.is ∙ ap tree_in formed.1)
       ∙ count_kids_trees formed.0
 
+  formed_here : (So : Body → Type 0) → So (begun_body form (cells_in formed.0)) → IfInUse before p (λ (found : Node). So found.body)
+  unfolding top_node
+  formed_here So so =
+      so_top plan before stack open_now p last (λ (found : Node). So found.body)
+      (subst (λ (plot : Plot). So (body_in plot)) (sym formed.1) so)
+
+  module _ (more : Kids) (change : Body → Body) (with_new : Def → Tree → Tree) (grows : Grows form formed.0 more change with_new)
+      (after : List Slot) (next : List ℕ) (def : Def) (n : ℕ) (node : NodeId)
+      (is : node ≡ child_node plan (node_here plan before stack) form (count_here before stack)) (vacant : heap_of before n ≡ None)
+      (shows : IfInUse before p (λ (found : Node). Shows after
+      (with_entered def (with_body (heap_of before) p change) node (item_owner p found.body) n)))
+      (limit : IfInUse before p (λ (found : Node). depth_below (heap_of before) (item_owner p found.body) < depth_limit))
+      (tokens : SameTokens before after) (along : next ≡ stack ++ n ∷ []) where
+    numbered : node ≡ child_node plan (node_here plan before stack) form (count_kids formed.0)
+    numbered = is ∙ ap (child_node plan (node_here plan before stack) form) counted
+
+    both : IsOpenAt plan after next (cursor_in before stack ++ count_kids formed.0 ∷ [])
+        (change_at (cursor_in before stack) (with_new def) (tree_in_slots before stack))
+        × AllStayPut (kid_here before stack) (kid_here after next)
+    both =
+        open_item plan before stack open_now p last form formed.0 more formed.1 change with_new grows after next def n node numbered
+        vacant shows limit tokens along
+
+    -- the new child is on top
+    pub child_entered : IsOpenAt plan after next (cursor_in before stack ++ count_here before stack ∷ [])
+        (change_at (cursor_in before stack) (with_new def) (tree_in_slots before stack))
+    child_entered =
+        subst
+        (λ (count : ℕ). IsOpenAt plan after next (cursor_in before stack ++ count ∷ [])
+        (change_at (cursor_in before stack) (with_new def) (tree_in_slots before stack)))
+        (sym counted) both.0
+
+    -- no place leaves its slot
+    pub child_stay : AllStayPut (kid_here before stack) (kid_here after next)
+    child_stay = both.1
+
+    -- and none is stored that wasn't, nor taken out of the store
+    pub child_marks : SameMarks before after
+    child_marks =
+        marks_item plan before stack open_now p last form formed.0 more formed.1 change with_new grows after next def n node numbered
+        vacant shows limit tokens along
+
+-- An item.
+module _ (plan : Plan) (before : List Slot) (stack : List ℕ) (open_now : IsOpen plan before stack) (p : ℕ) (last : IsLast stack p)
+    (form : Form) (has : HasForm form (tree_here before stack)) (takes : TakesItems form) where
   pub takes_item : IfInUse before p (λ (found : Node). IsGrowing found.body)
-  takes_item = takes_here plan before stack open_now p last form formed.0 formed.1 takes
+  takes_item = formed_here plan before stack open_now p last form has (λ (body : Body). IsGrowing body) takes
 
   module _ (after : List Slot) (next : List ℕ) (def : Def) (n : ℕ) (node : NodeId)
       (is : node ≡ child_node plan (node_here plan before stack) form (count_here before stack)) (vacant : heap_of before n ≡ None)
@@ -359,31 +461,81 @@ module _ (plan : Plan) (before : List Slot) (stack : List ℕ) (open_now : IsOpe
       (with_entered def (with_body (heap_of before) p added) node (item_owner p found.body) n)))
       (limit : IfInUse before p (λ (found : Node). depth_below (heap_of before) (item_owner p found.body) < depth_limit))
       (tokens : SameTokens before after) (along : next ≡ stack ++ n ∷ []) where
-    numbered : node ≡ child_node plan (node_here plan before stack) form (count_kids formed.0)
-    numbered = is ∙ ap (child_node plan (node_here plan before stack) form) counted
+    abbrev its : Kids
+    its = (formed plan before stack open_now p last form has).0
 
-    entered : IsOpenAt plan after next (cursor_in before stack ++ count_kids formed.0 ∷ [])
-        (change_at (cursor_in before stack) (with_item_of def) (tree_in_slots before stack))
-        × AllStayPut (kid_here before stack) (kid_here after next)
-    entered =
-        open_item plan before stack open_now p last form formed.0 formed.1 takes after next def n node numbered vacant shows limit
-        tokens along
-
-    -- the item is on top
     pub item_entered : IsOpenAt plan after next (cursor_in before stack ++ count_here before stack ∷ [])
         (change_at (cursor_in before stack) (with_item_of def) (tree_in_slots before stack))
     item_entered =
-        subst
-        (λ (count : ℕ). IsOpenAt plan after next (cursor_in before stack ++ count ∷ [])
-        (change_at (cursor_in before stack) (with_item_of def) (tree_in_slots before stack)))
-        (sym counted) entered.0
+        child_entered plan before stack open_now p last form has (kids_and_last its gone) added with_item_of
+        (items_grow form its takes) after next def n node is vacant shows limit tokens along
 
-    -- no place leaves its slot
     pub item_stay : AllStayPut (kid_here before stack) (kid_here after next)
-    item_stay = entered.1
+    item_stay =
+        child_stay plan before stack open_now p last form has (kids_and_last its gone) added with_item_of
+        (items_grow form its takes) after next def n node is vacant shows limit tokens along
 
-    -- and none is stored that wasn't, nor taken out of the store
     pub item_marks : SameMarks before after
     item_marks =
-        marks_item plan before stack open_now p last form formed.0 formed.1 takes after next def n node numbered vacant shows limit
-        tokens along
+        child_marks plan before stack open_now p last form has (kids_and_last its gone) added with_item_of
+        (items_grow form its takes) after next def n node is vacant shows limit tokens along
+
+-- A key.
+
+map_formed : (t : Tree) → is_map t ≡ true → (base : ℕ) × HasForm (as_map base) t
+map_formed hole of_map = absurd (cc)
+map_formed entered of_map = absurd (cc)
+map_formed (whole v) of_map = absurd (cc)
+map_formed (begun form ts) of_map = go form of_map
+  where
+    go : (form : Form) → is_map_form form ≡ true → (base : ℕ) × (form ≡ as_map base)
+    go (as_map base) of_map = (base, refl)
+    go as_struct of_map = absurd (cc)
+    go as_array of_map = absurd (cc)
+    go (as_variant k) of_map = absurd (cc)
+    go as_some of_map = absurd (cc)
+    go as_ok of_map = absurd (cc)
+    go as_err of_map = absurd (cc)
+    go as_pointer of_map = absurd (cc)
+    go as_list of_map = absurd (cc)
+    go as_slice of_map = absurd (cc)
+    go as_closed_slice of_map = absurd (cc)
+    go as_set of_map = absurd (cc)
+    go as_dyn_array of_map = absurd (cc)
+    go (as_dyn_object keys) of_map = absurd (cc)
+
+module _ (plan : Plan) (before : List Slot) (stack : List ℕ) (open_now : IsOpen plan before stack) (p : ℕ) (last : IsLast stack p)
+    (of_map : is_map (tree_here before stack) ≡ true) where
+  abbrev base : ℕ
+  base = (map_formed (tree_here before stack) of_map).0
+
+  has_map : HasForm (as_map base) (tree_here before stack)
+  has_map = (map_formed (tree_here before stack) of_map).1
+
+  pub takes_key : IfInUse before p (λ (found : Node). IsMapBody found.body)
+  takes_key = formed_here plan before stack open_now p last (as_map base) has_map (λ (body : Body). IsMapBody body) (base, refl)
+
+  module _ (after : List Slot) (next : List ℕ) (def : Def) (n : ℕ) (node : NodeId)
+      (is : node ≡ child_node plan (node_here plan before stack) (as_map 0) (count_here before stack)) (vacant : heap_of before n ≡ None)
+      (shows : IfInUse before p (λ (found : Node). Shows after
+      (with_entered def (with_body (heap_of before) p added_entry) node (item_owner p found.body) n)))
+      (limit : IfInUse before p (λ (found : Node). depth_below (heap_of before) (item_owner p found.body) < depth_limit))
+      (tokens : SameTokens before after) (along : next ≡ stack ++ n ∷ []) where
+    abbrev its_kids : Kids
+    its_kids = (formed plan before stack open_now p last (as_map base) has_map).0
+
+    pub key_entered : IsOpenAt plan after next (cursor_in before stack ++ count_here before stack ∷ [])
+        (change_at (cursor_in before stack) (with_key_of def) (tree_in_slots before stack))
+    key_entered =
+        child_entered plan before stack open_now p last (as_map base) has_map (kids_and_last (kids_and_last its_kids gone) gone)
+        added_entry with_key_of (entries_grow base its_kids) after next def n node is vacant shows limit tokens along
+
+    pub key_stay : AllStayPut (kid_here before stack) (kid_here after next)
+    key_stay =
+        child_stay plan before stack open_now p last (as_map base) has_map (kids_and_last (kids_and_last its_kids gone) gone)
+        added_entry with_key_of (entries_grow base its_kids) after next def n node is vacant shows limit tokens along
+
+    pub key_marks : SameMarks before after
+    key_marks =
+        child_marks plan before stack open_now p last (as_map base) has_map (kids_and_last (kids_and_last its_kids gone) gone)
+        added_entry with_key_of (entries_grow base its_kids) after next def n node is vacant shows limit tokens along

@@ -1,5 +1,12 @@
+pub mod BeneathChildren
+pub mod BeneathFails
+pub mod BeneathQueue
+pub mod BeneathSteps
+pub mod BeneathTurns
+pub mod ChildOrder
 pub mod ContentLaws
 pub mod EarlierLaws
+pub mod EndItemLaws
 pub mod FinishTests
 pub mod IndexLaws
 pub mod ItemLaws
@@ -7,7 +14,9 @@ pub mod KeptLaws
 pub mod LastLaws
 pub mod NoteLaws
 pub mod OpenLaws
+pub mod OrderLaws
 pub mod PairLaws
+pub mod PathOrder
 pub mod PlaceLaws
 pub mod PruneSteps
 pub mod PruneTurns
@@ -16,6 +25,7 @@ pub mod ReformLaws
 pub mod ReleasedLaws
 pub mod RestartLaws
 pub mod RunLaws
+pub mod SetKidLaws
 pub mod SetLaws
 pub mod SiblingLaws
 pub mod SpreadLaws

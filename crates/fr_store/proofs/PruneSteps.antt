@@ -2,7 +2,6 @@
 use Rattle.std.proofs.Common.{◌≡◌, ◌≢◌, ◌⊎◌, ℕ, zero, suc, ◌+◌, ◌-◌, ◌<◌, ◌≤◌, true, false, List, nat_eq, Option, Some, None, inl, inr, refl, sym, ◌∙◌, ap, subst, arith}
 use Rattle.fr_shape.specs.Released.{Room, RoseBy}
 use Rattle.fr_shape.specs.TokenLaws.{both, Room_fewer, Room_left, Room_risen}
-use Rattle.fr_model.specs.Paths.{step_as}
 use Rattle.fr_model.specs.Tree.{Form}
 use Rattle.fr_frame.specs.Bodies.{Body, begun_body, body_occurs, unlinked}
 use Rattle.fr_frame.specs.Cells.{Cell, slot_at}
@@ -52,7 +51,7 @@ pub record ChildHeld (heap : Heap) (n : ℕ) (rooted : IsRooted heap n) (i m : �
   pub form : Form
   pub body : rooted.found.body ≡ begun_body form (cells_in (beneath heap n))
   pub may_have : MayHave form (count_kids (beneath heap n))
-  pub holds : Holds rooted.plan heap (child_node rooted.plan rooted.found.node form i) (child_owner n form i)
+  pub holds : Holds rooted.plan heap (child_node rooted.plan rooted.found.node form i) (child_owner n i)
       (suc rooted.found.depth) (at m true below)
 
 nth_within : (i m : ℕ) (ks : Kids) (plot : Plot) → kid_nth i ks ≡ at m true plot → i < count_kids ks
@@ -77,7 +76,7 @@ child_held heap n rooted i m below is = go rooted.plot rooted.body rooted.holds 
           may_have = subst (λ (ks : Kids). MayHave form (count_kids ks)) (sym e)
               (may_have_all rooted.plan heap rooted.found.node n form (suc rooted.found.depth) kids holds);
           holds = subst
-              (λ (k : Kid). Holds rooted.plan heap (child_node rooted.plan rooted.found.node form i) (child_owner n form i)
+              (λ (k : Kid). Holds rooted.plan heap (child_node rooted.plan rooted.found.node form i) (child_owner n i)
               (suc rooted.found.depth) k) here
               (held_nth rooted.plan heap rooted.found.node n form 0 (suc rooted.found.depth) kids i i (omega arith) holds);
         }
@@ -90,7 +89,7 @@ pub record Child (before mid : Heap) (n : ℕ) (rooted : IsRooted before n) (i m
   pub form : Form
   pub body : rooted.found.body ≡ begun_body form (cells_in (beneath before n))
   pub may_have : MayHave form (count_kids (beneath before n))
-  pub owner : below.found.owner ≡ child_owner n form i
+  pub owner : below.found.owner ≡ child_owner n i
   pub stored : below.found.stored ≡ true
   pub deeper : below.found.depth ≡ suc rooted.found.depth
 
@@ -116,7 +115,7 @@ module _ (before mid : Heap) (n : ℕ) (rooted : IsRooted before n) (i : ℕ)
       (beneath_apart before n rooted x (omega (arith, all x, uses_first i (beneath before n) x)))
       (omega (arith, all x, uses_first i (beneath before n) x, beneath_once before n rooted x)) in
       let now = holds_frame rooted.plan before mid (child_node rooted.plan rooted.found.node held.form i)
-      (child_owner n held.form i) (suc rooted.found.depth) (at m true one.0) held.holds agree in
+      (child_owner n i) (suc rooted.found.depth) (at m true one.0) held.holds agree in
       let marked : AllMarked true (at m true one.0)
       = subst (λ (k : Kid). AllMarked true k) one.1 (nth_stored i (beneath before n) (beneath_stored before n rooted)) in
       record {
@@ -124,7 +123,7 @@ module _ (before mid : Heap) (n : ℕ) (rooted : IsRooted before n) (i : ℕ)
           plan = rooted.plan;
           found = record {
             node = child_node rooted.plan rooted.found.node held.form i;
-            owner = child_owner n held.form i;
+            owner = child_owner n i;
             stored = true;
             depth = suc rooted.found.depth;
             body = body_in one.0;
@@ -196,27 +195,27 @@ module _ (before mid : Heap) (n : ℕ) (rooted : IsRooted before n) (i : ℕ)
           ∙ still_here
 
       -- the child leaves its slot
-      module _ (after : Heap) (left : (x : ℕ) → after x ≡ without late m (child_owner n child.form i) x) where
+      module _ (after : Heap) (left : (x : ℕ) → after x ≡ without late m (child_owner n i) x) where
         after_other : (x : ℕ) → x ≢ n → x ≢ m → after x ≡ late x
         after_other x a b =
-            left x ∙ body_other (with_slot late m None) n (unlinked m (step_as child.form i)) x a
+            left x ∙ body_other (with_slot late m None) n (unlinked m i) x a
             ∙ slot_other late m None x b
 
         after_free : after m ≡ None
         after_free =
             left m
-            ∙ body_other (with_slot late m None) n (unlinked m (step_as child.form i)) m
+            ∙ body_other (with_slot late m None) n (unlinked m i) m
             (beneath_apart before n rooted m child_used)
             ∙ slot_here late m None
 
         after_here : after n ≡ Some (record rooted.found { body = pruned_first (suc i) rooted.found.body })
         after_here =
             left n
-            ∙ body_here (with_slot late m None) n (unlinked m (step_as child.form i))
+            ∙ body_here (with_slot late m None) n (unlinked m i)
             (record rooted.found { body = pruned_first i rooted.found.body })
             (slot_other late m None n (λ e. beneath_apart before n rooted m child_used (sym e)) ∙ above_here)
             ∙ ap (λ (b : Body). Some (record rooted.found { body = b }))
-            (ap (λ (b : Body). unlinked m (step_as child.form i) (pruned_first i b)) child.body
+            (ap (λ (b : Body). unlinked m i (pruned_first i b)) child.body
             ∙ unlinked_first child.form i m (count_kids (beneath before n)) (cells_in (beneath before n)) child.may_have
             (nth_within i m (beneath before n) child.below.plot child.is)
             (cell_in_slot i m (beneath before n) child.below.plot child.is)

@@ -172,7 +172,7 @@ module _ (n : ℕ) (start : List Slot) (rooted : IsRooted (heap_of start) n) (le
           so : (So : Node → Type 0) → IfInUse late m So → So (record next.below.found { body = pruned next.below.found.body })
           so So is = subst (λ (o : Option Node). IsSomeAnd o So) here is
 
-          gone_now : (x : ℕ) → heap_of after x ≡ without (heap_of late) m (child_owner n next.form i) x
+          gone_now : (x : ℕ) → heap_of after x ≡ without (heap_of late) m (child_owner n i) x
           gone_now x =
               so (λ (it : Node). Shows after (without (heap_of late) m it.owner)) left x
               ∙ ap (λ (o : FrameOwner). without (heap_of late) m o x) next.owner

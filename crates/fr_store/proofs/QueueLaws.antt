@@ -8,7 +8,7 @@ use Rattle.fr_model.specs.Places.{Place}
 use Rattle.fr_frame.specs.Kids.{Kid}
 use Rattle.fr_store.specs.declared.turning.StoredPlace.{StoredPlace}
 use Rattle.fr_store.specs.Numbers.{slot_of, slots_of}
-use Rattle.fr_store.specs.Places.{Pairs, AreAllStored, AreOnce, ComesEarlier, IsPlaced, IsSpread, IsStoredHere, first_key, counts_in, key_of, slot_at, slots_between, stored_here}
+use Rattle.fr_store.specs.Places.{Pairs, AreAllStored, AreOnce, ComesEarlier, IsPlaced, IsSpread, IsStoredHere, first_key, counts_in, key_of, order_below, slot_at, slots_between, stored_here}
 use Rattle.fr_store.specs.Ways.{counts_if, kid_at, uses, Leads}
 use Rattle.fr_store.specs.WayLaws.{counts_same, counts_other, same_or_other}
 use Rattle.fr_store.proofs.EarlierLaws.{earlier_differs}
@@ -60,7 +60,7 @@ module _ (k : Kid) where
   none_among p is = ap (λ (b : Bool). cond b (p ∷ []) []) is
 
   -- places in order are in different slots
-  slots_once : ((n : ℕ) → uses k n ≤ 1) → (places : List Place) → All (IsPlaced k) places → Pairs ComesEarlier places
+  slots_once : ((n : ℕ) → uses k n ≤ 1) → (places : List Place) → All (IsPlaced k) places → Pairs (ComesEarlier k) places
       → AreOnce (map (slot_at k) places)
   slots_once once [] placed order n = omega arith
   slots_once once (p ∷ places) placed order n =
@@ -73,8 +73,8 @@ module _ (k : Kid) where
       apart i d h e =
           let from = of_map (slot_at k) places (get_or (map (slot_at k) places) i d)
           (Contains-get_or (map (slot_at k) places) i d h) in
-          let earlier = All-contains (ComesEarlier p) places from.0 order.0 from.1 in
-          earlier_differs p from.0 earlier
+          let earlier = All-contains (ComesEarlier k p) places from.0 order.0 from.1 in
+          earlier_differs k p from.0 earlier
           (same_place p from.0 k once (All-head (IsPlaced k) p places placed)
           (All-contains (IsPlaced k) places from.0 rest from.1) (sym e ∙ sym from.2))
 
@@ -98,7 +98,7 @@ module _ (k : Kid) (cursor : Place) (once : (n : ℕ) → uses k n ≤ 1) (leads
       let here : All (IsPlaced k) (stored_among k all)
       = All-filter (λ p. stored_here (kid_at p k)) (IsPlaced k) all q.spreading.placed in
       let apart = slots_once k once (stored_among k all) here
-      (pairs_filter ComesEarlier (λ p. stored_here (kid_at p k)) all q.spreading.order) in
+      (pairs_filter (ComesEarlier k) (λ p. stored_here (kid_at p k)) all q.spreading.order) in
       let few = fits (map (slot_at k) (stored_among k all)) (slots_of places) apart
       (λ n at.
       let from = of_map (slot_at k) (stored_among k all) n at in
@@ -374,7 +374,8 @@ module _ (k : Kid) (cursor : Place) (once : (n : ℕ) → uses k n ≤ 1) (leads
             }
 
         -- another one comes after it
-        module _ (j : ℕ) (below : Place) (goes_on : o.below ≡ j ∷ below) (is : middle ≡ first_key n + (4294967295 - j)) where
+        module _ (j : ℕ) (below : Place) (goes_on : o.below ≡ j ∷ below) (small : j < 4294967296)
+            (is : middle ≡ first_key n + (4294967295 - order_below j (kid_at o.above k))) where
           next_way : Leads ((o.above ++ j ∷ []) ++ below) k
           next_way =
               subst (λ (c : Place). Leads c k) (sym (append_assoc o.above (j ∷ []) below))
@@ -386,9 +387,9 @@ module _ (k : Kid) (cursor : Place) (once : (n : ℕ) → uses k n ≤ 1) (leads
           placed_next : IsPlaced k (o.above ++ j ∷ [])
           placed_next = open_placed (o.above ++ j ∷ []) below k next_way
 
-          to : middle ≡ low + (4294967295 - j)
+          to : middle ≡ low + (4294967295 - order_below j (kid_at o.above k))
           unfolding low
-          to = is ∙ ap (λ (m : ℕ). first_key m + (4294967295 - j)) slot
+          to = is ∙ ap (λ (m : ℕ). first_key m + (4294967295 - order_below j (kid_at o.above k))) slot
 
           front : List Place
           front = children_of low middle
@@ -402,7 +403,7 @@ module _ (k : Kid) (cursor : Place) (once : (n : ℕ) → uses k n ≤ 1) (leads
           are : AreChildren k o.above added
           unfolding added front back children_of low
           are =
-              open_children k cursor once leads places stored sorted o.above here j middle placed_next unstored_next to
+              open_children k cursor once leads places stored sorted o.above here j middle placed_next unstored_next small to
               (one_of_open k cursor leads o.above j below (o.on_way ∙ ap (λ (l : Place). o.above ++ l) goes_on))
 
           front_stored : All (IsStoredHere k) front
@@ -480,7 +481,8 @@ module _ (k : Kid) (cursor : Place) (once : (n : ℕ) → uses k n ≤ 1) (leads
       -- what is known of the key in the middle, by what comes on the stack
       pub open_next : (o : OpenAhead k cursor q.waiting head opened at) → n ≡ slot_at k o.above
           → (length cursor + 1 ≤ opened + 1 → middle ≡ first_key n + 4294967296)
-          → ((j : ℕ) (below : Place) → o.below ≡ j ∷ below → middle ≡ first_key n + (4294967295 - j))
+          → ((j : ℕ) (below : Place) → o.below ≡ j ∷ below
+          → (j < 4294967296) × (middle ≡ first_key n + (4294967295 - order_below j (kid_at o.above k))))
           → IsQueue k cursor opened_more head (opened + 1)
           (length queue + length (slots_between (first_key n) middle places))
       open_next o slot last on =
@@ -497,7 +499,7 @@ module _ (k : Kid) (cursor : Place) (once : (n : ℕ) → uses k n ≤ 1) (leads
               = ap (λ (l : Place). length l) o.on_way ∙ length-append o.above o.below in
               let none = ap (λ (l : Place). length l) e in
               last_turn o slot e (last (omega (arith, o.number)))
-          go (j ∷ below) e = next_turn o slot j below e (on j below e)
+          go (j ∷ below) e = let told = on j below e in next_turn o slot j below e told.0 told.1
 
     -- Nothing is left.
     pub all_written : length cursor + 1 ≤ opened → length queue ≤ head → IsSpread k queue
@@ -521,8 +523,8 @@ module _ (k : Kid) (cursor : Place) (once : (n : ℕ) → uses k n ≤ 1) (leads
               stored = filter_passes (λ p. stored_here (kid_at p k)) q.done;
               slots_are = q.queue_is ∙ ap (λ (l : List Place). map (slot_at k) (stored_among k l)) whole;
               order =
-                  pairs_filter ComesEarlier (λ p. stored_here (kid_at p k)) q.done
-                  (subst (Pairs ComesEarlier) whole q.spreading.order);
+                  pairs_filter (ComesEarlier k) (λ p. stored_here (kid_at p k)) q.done
+                  (subst (Pairs (ComesEarlier k)) whole q.spreading.order);
               all = λ place here is.
                   in_filter (λ p. stored_here (kid_at p k)) q.done place (all_reached k q.done spreading place here) is;
             }

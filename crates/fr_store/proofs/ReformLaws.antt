@@ -1,9 +1,7 @@
 -- Laws of pointers to slices, for proofs: the top, an open one, is closed, or a closed one opened.
-use Rattle.std.proofs.Common.{◌≡◌, ℕ, zero, suc, ◌+◌, true, false, List, [], ◌∷◌, refl, sym, ◌∙◌, ap, subst, arith}
-use Rattle.fr_path.specs.declared.path_steps.PathStep.{PathStep}
-use Rattle.fr_model.specs.Paths.{step_as}
-use Rattle.fr_model.specs.Places.{Place}
-use Rattle.fr_model.specs.Tree.{Form, as_struct, as_array, as_variant, as_some, as_ok, as_err, as_pointer, as_list, as_slice, as_closed_slice, Tree, change_at}
+use Rattle.std.proofs.Common.{◌≡◌, ◌≤◌, ℕ, zero, suc, ◌+◌, true, false, List, [], ◌∷◌, refl, sym, ◌∙◌, ap, subst, arith}
+use Rattle.fr_model.specs.Places.{Place, entry_of}
+use Rattle.fr_model.specs.Tree.{Form, as_struct, as_array, as_variant, as_some, as_ok, as_err, as_pointer, as_list, as_slice, as_closed_slice, as_set, as_map, as_dyn_array, as_dyn_object, base_of_form, Tree, change_at}
 use Rattle.fr_plan.specs.declared.nodes.NodeId.{NodeId}
 use Rattle.fr_plan.specs.TypePlan.{Plan}
 use Rattle.fr_frame.specs.declared.places.FrameOwner.{FrameOwner}
@@ -11,7 +9,7 @@ use Rattle.fr_frame.specs.declared.places.Slot.{Slot}
 use Rattle.fr_frame.specs.Bodies.{reformed}
 use Rattle.fr_frame.specs.Changes.{SameMarks, SameTokens, Shows}
 use Rattle.fr_frame.specs.Heap.{Heap, heap_of, stored_in, with_body}
-use Rattle.fr_frame.specs.Kids.{Kid, at, Plot, entered_plot, whole_plot, begun_plot, Kids, no_kids, kid, MayHave, tree_of, tree_in, body_in, plot_occurs, child_node, child_owner, Holds, HoldsAll}
+use Rattle.fr_frame.specs.Kids.{Kid, at, Plot, entered_plot, whole_plot, begun_plot, Kids, no_kids, kid, MayHave, tree_of, tree_in, body_in, plot_occurs, child_node, child_owner, Holds, HoldsAll, IsLeftRightly, AreLeftAll}
 use Rattle.fr_store.specs.MoveLaws.{open_reach, open_top, top_changed, top_stands}
 use Rattle.fr_store.specs.Moves.{IsBegunSlice, IsOpenAt, IsSlice, begun_as, cursor_in, tree_here, tree_in_slots}
 use Rattle.fr_store.specs.Numbers.{IsLast}
@@ -67,18 +65,10 @@ slice_node plan node as_ok i is = absurd is
 slice_node plan node as_err i is = absurd is
 slice_node plan node as_pointer i is = absurd is
 slice_node plan node as_list i is = absurd is
-
-slice_step : (form : Form) (i : ℕ) → IsSlice form → step_as form i ≡ PathStep.Index i
-slice_step as_slice i is = refl
-slice_step as_closed_slice i is = refl
-slice_step as_struct i is = absurd is
-slice_step as_array i is = absurd is
-slice_step (as_variant k) i is = absurd is
-slice_step as_some i is = absurd is
-slice_step as_ok i is = absurd is
-slice_step as_err i is = absurd is
-slice_step as_pointer i is = absurd is
-slice_step as_list i is = absurd is
+slice_node plan node as_set i is = absurd is
+slice_node plan node (as_map base) i is = absurd is
+slice_node plan node as_dyn_array i is = absurd is
+slice_node plan node (as_dyn_object keys) i is = absurd is
 
 slice_may_have : (form : Form) (count : ℕ) → IsSlice form → MayHave form count
 slice_may_have as_slice count is = tt
@@ -91,15 +81,55 @@ slice_may_have as_ok count is = absurd is
 slice_may_have as_err count is = absurd is
 slice_may_have as_pointer count is = absurd is
 slice_may_have as_list count is = absurd is
+slice_may_have as_set count is = absurd is
+slice_may_have (as_map base) count is = absurd is
+slice_may_have as_dyn_array count is = absurd is
+slice_may_have (as_dyn_object keys) count is = absurd is
+
+-- nothing is asked of them
+slice_left : (form : Form) (i : ℕ) (k : Kid) → IsSlice form → IsLeftRightly form i k
+slice_left as_slice i k is = tt
+slice_left as_closed_slice i k is = tt
+slice_left as_struct i k is = absurd is
+slice_left as_array i k is = absurd is
+slice_left (as_variant n) i k is = absurd is
+slice_left as_some i k is = absurd is
+slice_left as_ok i k is = absurd is
+slice_left as_err i k is = absurd is
+slice_left as_pointer i k is = absurd is
+slice_left as_list i k is = absurd is
+slice_left as_set i k is = absurd is
+slice_left (as_map base) i k is = absurd is
+slice_left as_dyn_array i k is = absurd is
+slice_left (as_dyn_object keys) i k is = absurd is
+
+slice_base : (form : Form) (i : ℕ) → IsSlice form → base_of_form form ≤ entry_of i
+slice_base as_slice i is = omega arith
+slice_base as_closed_slice i is = omega arith
+slice_base as_struct i is = absurd is
+slice_base as_array i is = absurd is
+slice_base (as_variant n) i is = absurd is
+slice_base as_some i is = absurd is
+slice_base as_ok i is = absurd is
+slice_base as_err i is = absurd is
+slice_base as_pointer i is = absurd is
+slice_base as_list i is = absurd is
+slice_base as_set i is = absurd is
+slice_base (as_map base) i is = absurd is
+slice_base as_dyn_array i is = absurd is
+slice_base (as_dyn_object keys) i is = absurd is
+
+slices_left : (made form : Form) (i : ℕ) (ks : Kids) → IsSlice form → AreLeftAll made i ks → AreLeftAll form i ks
+slices_left made form i no_kids is all = slice_base form i is
+slices_left made form i (kid k ks) is all = (slice_left form i k is, all.1, slices_left made form (suc i) ks is all.2)
 
 slice_holds : (plan : Plan) (heap : Heap) (node : NodeId) (slot : ℕ) (made form : Form) (i depth : ℕ) (ks : Kids)
     → IsSlice made → IsSlice form → HoldsAll plan heap node slot made i depth ks → HoldsAll plan heap node slot form i depth ks
 slice_holds plan heap node slot made form i depth no_kids was is holds = slice_may_have form i is
 slice_holds plan heap node slot made form i depth (kid k ks) was is holds = (
-  subst (λ (x : NodeId). Holds plan heap x (child_owner slot form i) depth k)
+  subst (λ (x : NodeId). Holds plan heap x (child_owner slot i) depth k)
       (slice_node plan node made i was ∙ sym (slice_node plan node form i is))
-      (subst (λ (s : PathStep). Holds plan heap (child_node plan node made i) (FrameOwner.Child (record { 0 = slot }) s) depth k)
-      (slice_step made i was ∙ sym (slice_step form i is)) holds.0),
+      holds.0,
   slice_holds plan heap node slot made form (suc i) depth ks was is holds.1,
 )
 
@@ -111,6 +141,7 @@ reformed_keeps form (begun_plot made kids) is was = record {
   marked = λ h. h;
   once = λ n. omega arith;
   holds = λ plan heap node slot depth h. slice_holds plan heap node slot made form 0 depth kids was is h;
+  left = λ h. slices_left made form 0 kids is h;
 }
 
 -- The top is one.

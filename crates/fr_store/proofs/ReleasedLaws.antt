@@ -31,6 +31,15 @@ conserved_as first held left before after same conserved = record {
   none_falls = conserved.none_falls;
 }
 
+-- first here and then there
+pub conserved_on : (held mid left : ℕ → ℕ) (before now after : List ℕ) → Conserved held before mid now → Conserved mid now left after
+    → Conserved held before left after
+conserved_on held mid left before now after one two = record {
+  same_length = two.same_length ∙ one.same_length;
+  kept_or_released = λ t. omega (arith, one.kept_or_released t, two.kept_or_released t);
+  none_falls = λ t. omega (arith, one.none_falls t, two.none_falls t);
+}
+
 -- there is room for what is left
 pub room_left : (held left : ℕ → ℕ) (before after : List ℕ) → Conserved held before left after → Room held before
     → Room left after

@@ -1,7 +1,7 @@
 -- The top is begun anew, after all that is stored beneath it was released.
 use Rattle.std.proofs.Common.{◌≡◌, ℕ, zero, suc, ◌+◌, List, length, Option, Some, None, refl, sym, ◌∙◌, ap, subst, arith}
 use Rattle.std.specs.Prelude.{IsSomeAnd}
-use Rattle.fr_model.specs.Tree.{Form, Trees, begun, holes, change_at}
+use Rattle.fr_model.specs.Tree.{Form, base_of_form, Trees, begun, holes, change_at}
 use Rattle.fr_plan.specs.TypePlan.{Plan}
 use Rattle.fr_frame.specs.declared.places.Slot.{Slot}
 use Rattle.fr_frame.specs.Bodies.{begun_body, body_occurs, restarted}
@@ -9,7 +9,7 @@ use Rattle.fr_frame.specs.Cells.{Cell}
 use Rattle.fr_frame.specs.Changes.{IfInUse, Shows}
 use Rattle.fr_frame.specs.Heap.{Node, heap_of, slots_occur, with_body}
 use Rattle.fr_frame.specs.Kids.{Plot, begun_plot, MayHave, cells_in, body_in, plot_occurs}
-use Rattle.fr_store.specs.BeginLaws.{gones, gones_cells, gones_tokens, gones_trees, gones_unplaced}
+use Rattle.fr_store.specs.BeginLaws.{gones, gones_cells, gones_left, gones_tokens, gones_trees, gones_unplaced}
 use Rattle.fr_store.specs.Moves.{IsOpenAt, cursor_in, tree_in_slots}
 use Rattle.fr_store.specs.Numbers.{IsLast}
 use Rattle.fr_store.specs.Prunes.{beneath, pruned, slotted_occur, IsPruned}
@@ -32,7 +32,7 @@ anew_may_have form count may = subst (λ (n : ℕ). MayHave form n) (sym (gones_
 module _ (plan : Plan) (slots : List Slot) (stack : List ℕ) (open_now : IsOpen plan slots stack) (n : ℕ)
     (last : IsLast stack n) (mid : List Slot)
     (is : IsPruned (heap_of slots) (heap_of mid) n pruned (beneath (heap_of slots) n)) (form : Form) (count : ℕ)
-    (may : MayHave form count) (after : List Slot) (shows : Shows after (with_body (heap_of mid) n (restarted form count))) where
+    (may : MayHave form count) (none : base_of_form form ≡ 0) (after : List Slot) (shows : Shows after (with_body (heap_of mid) n (restarted form count))) where
   puts : Shows after (with_body (heap_of mid) n (λ old. body_in (anew form count)))
   puts m =
       shows m
@@ -48,7 +48,7 @@ module _ (plan : Plan) (slots : List Slot) (stack : List ℕ) (open_now : IsOpen
       (change_at (cursor_in slots stack) (λ old. begun form ts) (tree_in_slots slots stack)))
       (gones_trees count)
       (set_open plan slots stack open_now n last mid is after (anew form count) (anew_may_have form count may)
-      (gones_unplaced count) puts fell (more (heap_of mid n) put))
+      (gones_unplaced count) (gones_left form 0 count none) puts fell (more (heap_of mid n) put))
     where
       more : (found : Option Node)
           → IsSomeAnd found (λ (x : Node). (t : ℕ) → slots_occur mid t ≡ slots_occur after t + body_occurs x.body t)
@@ -60,14 +60,14 @@ module _ (plan : Plan) (slots : List Slot) (stack : List ℕ) (open_now : IsOpen
   pub restart_stay : StayPutButBeneath (cursor_in slots stack) (kid_here slots stack) (kid_here after stack)
   restart_stay =
       set_stay plan slots stack open_now n last mid is after (anew form count) (anew_may_have form count may)
-      (gones_unplaced count) puts
+      (gones_unplaced count) (gones_left form 0 count none) puts
 
   pub restart_kept : (store : List ℕ) → IsKept store mid → IsKept store after
   restart_kept =
       set_kept plan slots stack open_now n last mid is after (anew form count) (anew_may_have form count may)
-      (gones_unplaced count) puts
+      (gones_unplaced count) (gones_left form 0 count none) puts
 
   pub restart_marks : StoresNoMore slots mid → StoresNoMore slots after
   restart_marks =
       set_marks plan slots stack open_now n last mid is after (anew form count) (anew_may_have form count may)
-      (gones_unplaced count) puts
+      (gones_unplaced count) (gones_left form 0 count none) puts

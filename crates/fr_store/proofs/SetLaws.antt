@@ -10,13 +10,14 @@ use Rattle.fr_frame.specs.declared.places.Slot.{Slot}
 use Rattle.fr_frame.specs.Bodies.{body_occurs, IsClosed}
 use Rattle.fr_frame.specs.Changes.{IfInUse, IsInUse, Shows}
 use Rattle.fr_frame.specs.Heap.{Node, with_body, heap_of, slots_occur, marked, stored_in}
-use Rattle.fr_frame.specs.Kids.{Kid, at, Plot, Kids, cell_of, tree_of, tree_in, body_in, kid_occurs, plot_occurs, Holds, HoldsIn}
+use Rattle.fr_frame.specs.Kids.{Kid, at, Plot, Kids, cell_of, tree_of, tree_in, body_in, kid_occurs, plot_occurs, Holds, HoldsIn, AreLeftIn}
 use Rattle.fr_store.specs.HoldLaws.{AgreeBeside, Replaces}
 use Rattle.fr_store.specs.MoveLaws.{open_reach, open_top, top_slot, top_node, top_found, open_at_from}
 use Rattle.fr_store.specs.Moves.{IsOpenAt, cursor_in, tree_in_slots, tokens_here}
 use Rattle.fr_store.specs.Numbers.{IsLast}
 use Rattle.fr_store.specs.PruneLaws.{beneath_is, plot_tokens, pruned_tokens}
 use Rattle.fr_store.specs.Prunes.{beneath, IsRooted, slotted_occur, pruned, IsPruned}
+use Rattle.fr_store.specs.LeftLaws.{at_for_at}
 use Rattle.fr_store.specs.StandLaws.{all_changed, kid_is, stands_change, AllServe}
 use Rattle.fr_store.specs.Stands.{Stands, IsOpen, kid_here, kid_shown}
 use Rattle.fr_store.specs.StayLaws.{stay_but_beneath}
@@ -125,7 +126,7 @@ module _ (plan : Plan) (slots : List Slot) (stack : List ℕ) (open_now : IsOpen
 
     -- Something is put that has no child in a slot.
     module _ (after : List Slot) (new : Plot) (may : MayHaveIts (body_in new)) (closed : IsClosed (body_in new))
-        (puts : Shows after (with_body (heap_of mid) n (λ old. body_in new))) where
+        (left : AreLeftIn new) (puts : Shows after (with_body (heap_of mid) n (λ old. body_in new))) where
       set_here : heap_of after n ≡ Some (record (top_node plan slots stack open_now n last) { body = body_in new })
       set_here =
           puts n
@@ -191,7 +192,7 @@ module _ (plan : Plan) (slots : List Slot) (stack : List ℕ) (open_now : IsOpen
           (append-nil place)
           (stands_change plan (heap_of slots) (heap_of after) stack stack place [] [] (at n false new) k longer
           (sym (ap cell_of top.is ∙ ap (λ (x : ℕ). cell_of (at x false top.plot)) same)) agree replaces once
-          (refl, closed_marked true new closed)
+          (refl, closed_marked true new closed) (at_for_at (kid_at place k) top.slot n false top.plot new top.is) (λ h. left)
           (top.last ∙ ap (λ (x : ℕ). slots_above place k ++ x ∷ []) same))
 
       -- no place leaves its slot but those beneath

@@ -4,10 +4,11 @@ use Rattle.std.specs.List.{All, Contains, filter}
 use Rattle.std.specs.List.Sorted.{IsNonDecreasingBy}
 use Rattle.std.proofs.lemmas.List.Elements.{All-cons, All-append, All-contains, All-contains_itself, All-filter, All-head, All-map, All-tail, filter_passes, Contains-append_left, Contains-append_right}
 use Rattle.fr_model.specs.Places.{Place}
-use Rattle.fr_frame.specs.Kids.{Kid}
+use Rattle.fr_frame.specs.Kids.{Kid, gone, there, at, entered_plot, whole_plot, begun_plot}
 use Rattle.fr_store.specs.declared.turning.StoredPlace.{StoredPlace}
 use Rattle.fr_store.specs.Numbers.{slot_of, slots_of}
-use Rattle.fr_store.specs.Places.{Pairs, AreAllStored, AreOnce, ComesEarlier, IsNarrow, IsPlaced, IsStoredChildOf, IsStoredHere, child_of, first_key, is_between, key_of, slot_at, stored_here}
+use Rattle.fr_store.specs.Places.{Pairs, AreAllStored, AreOnce, ComesEarlier, IsAfterBelow, IsNarrow, IsPlaced, IsStoredChildOf, IsStoredHere, child_of, first_key, is_between, key_of, order_below, slot_at, stored_here}
+use Rattle.fr_store.specs.StepLaws.{order_later, order_small, order_told}
 use Rattle.fr_store.specs.Ways.{counts_if, kid_at, uses, Leads}
 use Rattle.fr_store.specs.WayLaws.{counts_same, same_or_other}
 use Rattle.fr_store.proofs.EarlierLaws.{siblings}
@@ -15,6 +16,29 @@ use Rattle.fr_store.proofs.PairLaws.{first_in, later_in, in_counted, in_filter, 
 use Rattle.fr_store.proofs.PlaceLaws.{open_unstored, placed_above, same_place, stored_or_open}
 use Rattle.fr_store.proofs.RunLaws.{between_is, between_told}
 use Rattle.fr_store.proofs.SpreadLaws.{AreChildren, IsChild}
+
+-- Where a child comes.
+
+told_below : (k : Kid) (i j : ℕ) → i < 4294967296 → j < 4294967296 → order_below i k ≡ order_below j k → i ≡ j
+told_below gone i j a b e = e
+told_below (there v) i j a b e = e
+told_below (at slot stored entered_plot) i j a b e = e
+told_below (at slot stored (whole_plot v)) i j a b e = e
+told_below (at slot stored (begun_plot form kids)) i j a b e = order_told form i j a b e
+
+later_below : (k : Kid) (i j : ℕ) → i < 4294967296 → j < 4294967296 → order_below j k < order_below i k → IsAfterBelow k i j
+later_below gone i j a b less = less
+later_below (there v) i j a b less = less
+later_below (at slot stored entered_plot) i j a b less = less
+later_below (at slot stored (whole_plot v)) i j a b less = less
+later_below (at slot stored (begun_plot form kids)) i j a b less = order_later form i j a b less
+
+small_below : (k : Kid) (i : ℕ) → i < 4294967296 → order_below i k < 4294967296
+small_below gone i a = a
+small_below (there v) i a = a
+small_below (at slot stored entered_plot) i a = a
+small_below (at slot stored (whole_plot v)) i a = a
+small_below (at slot stored (begun_plot form kids)) i a = order_small form i a
 
 same_last : (p q : Place) (i j : ℕ) → p ++ i ∷ [] ≡ q ++ j ∷ [] → (p ≡ q) × (i ≡ j)
 same_last [] [] i j e = (refl, cc)
@@ -38,7 +62,7 @@ module _ (k : Kid) (cursor : Place) (once : (n : ℕ) → uses k n ≤ 1) (leads
   its_parent : (place : StoredPlace) (above p : Place) → IsStoredChildOf k place above → IsPlaced k p
       → place.parent ≡ slot_at k p → above ≡ p
   its_parent place above p child placed e =
-      same_place above p k once (placed_above above (place.step ∷ []) k child.placed) placed (sym child.parent ∙ e)
+      same_place above p k once (placed_above above (place.number ∷ []) k child.placed) placed (sym child.parent ∙ e)
 
   -- of different places the keys are different, so the keys of sorted places rise
   rising : (xs : List StoredPlace) → IsNonDecreasingBy key_of xs → AreOnce (slots_of xs)
@@ -64,14 +88,19 @@ module _ (k : Kid) (cursor : Place) (once : (n : ℕ) → uses k n ≤ 1) (leads
       go y child small le among (inl e) =
           let first = All-head Child x xs each in
           let narrow_x : IsNarrow x = All-head IsNarrow x xs narrow in
+          let small_x : x.order < 4294967296 = narrow_x.1 in
+          let small_y : y.order < 4294967296 = small.1 in
           let parents : x.parent ≡ y.parent = omega arith in
-          let steps : x.step ≡ y.step = omega arith in
+          let orders : x.order ≡ y.order = omega arith in
           let above : first.0 ≡ child.0
-          = its_parent x first.0 child.0 first.1 (placed_above child.0 (y.step ∷ []) k child.1.placed)
+          = its_parent x first.0 child.0 first.1 (placed_above child.0 (y.number ∷ []) k child.1.placed)
           (parents ∙ child.1.parent) in
+          let numbers : x.number ≡ y.number
+          = told_below (kid_at child.0 k) x.number y.number narrow_x.0 small.0
+          (ap (λ (p : Place). order_below x.number (kid_at p k)) (sym above) ∙ sym first.1.order ∙ orders ∙ child.1.order) in
           let slots : slot_of x ≡ slot_of y
-          = first.1.slot ∙ ap (λ (p : Place). slot_at k (p ++ x.step ∷ [])) above
-          ∙ ap (λ (i : ℕ). slot_at k (child.0 ++ i ∷ [])) steps ∙ sym child.1.slot in
+          = first.1.slot ∙ ap (λ (p : Place). slot_at k (p ++ x.number ∷ [])) above
+          ∙ ap (λ (i : ℕ). slot_at k (child.0 ++ i ∷ [])) numbers ∙ sym child.1.slot in
           let one : counts_if (nat_eq (slot_of x) (slot_of y)) ≡ 1
           = ap (λ (n : ℕ). counts_if (nat_eq n (slot_of y))) slots ∙ counts_same (slot_of y) in
           absurd (omega (arith, apart (slot_of y), in_counted (slot_of y) (slots_of xs) among))
@@ -117,16 +146,23 @@ module _ (k : Kid) (cursor : Place) (once : (n : ℕ) → uses k n ≤ 1) (leads
       stored_all = All-map (IsStoredHere k) (child_of p) (found from to) (λ i d h. (each i d h).stored)
 
       pub are_below : All (IsChild p) (children from to)
-      are_below = All-map (IsChild p) (child_of p) (found from to) (λ i d h. ((get_or (found from to) i d).step, refl))
+      are_below = All-map (IsChild p) (child_of p) (found from to) (λ i d h. ((get_or (found from to) i d).number, refl))
 
-      pub in_order : Pairs ComesEarlier (children from to)
+      pub in_order : Pairs (ComesEarlier k) (children from to)
       in_order =
-          pairs_map (λ (x y : StoredPlace). key_of x < key_of y) ComesEarlier (child_of p)
+          pairs_map (λ (x y : StoredPlace). key_of x < key_of y) (ComesEarlier k) (child_of p)
           (λ (x : StoredPlace). Contains places x × (is_between from to x ≡ true))
           (λ x y one two less.
           let first = (is_child x one).parent in
           let second = (is_child y two).parent in
-          siblings p x.step y.step (omega arith)) (found from to) kept
+          let narrow_x : IsNarrow x = All-contains IsNarrow places x stored.narrow one.0 in
+          let narrow_y : IsNarrow y = All-contains IsNarrow places y stored.narrow two.0 in
+          let small_x : x.order < 4294967296 = narrow_x.1 in
+          let small_y : y.order < 4294967296 = narrow_y.1 in
+          let here_x : x.order ≡ order_below x.number (kid_at p k) = (is_child x one).order in
+          let here_y : y.order ≡ order_below y.number (kid_at p k) = (is_child y two).order in
+          siblings k p x.number y.number
+          (later_below (kid_at p k) x.number y.number narrow_x.0 narrow_y.0 (omega arith))) (found from to) kept
           (pairs_filter (λ (x y : StoredPlace). key_of x < key_of y) (is_between from to) places up)
 
       pub slots_are : (xs : List StoredPlace) → All (λ (x : StoredPlace). IsStoredChildOf k x p) xs
@@ -142,21 +178,28 @@ module _ (k : Kid) (cursor : Place) (once : (n : ℕ) → uses k n ≤ 1) (leads
 
     -- a stored child is among the places
     among : (i : ℕ) → IsPlaced k (p ++ i ∷ []) → IsStoredHere k (p ++ i ∷ [])
-        → (x : StoredPlace) × Contains places x × (x.parent ≡ slot_at k p) × (x.step ≡ i)
+        → (x : StoredPlace) × Contains places x × (x.parent ≡ slot_at k p) × (x.number ≡ i) × (x.order ≡ order_below i (kid_at p k))
     among i child is =
         let from = of_map slot_of places (slot_at k (p ++ i ∷ [])) (stored.all (p ++ i ∷ []) child is) in
         let its = All-contains (λ (place : StoredPlace). (above : Place) × IsStoredChildOf k place above) places from.0 stored.each from.1 in
-        let ways = same_last its.0 p from.0.step i
-        (same_place (child_of its.0 from.0) (p ++ i ∷ []) k once its.1.placed child (sym its.1.slot ∙ from.2)) in
-        (from.0, from.1, its.1.parent ∙ ap (slot_at k) ways.0, ways.1)
+        let ways = same_last its.0 p from.0.number i
+        (same_place (child_of its.0 from.0) (p ++ i ∷ []) k once its.1.placed child (sym its.1.slot ∙ from.2)) in (
+          from.0,
+          from.1,
+          its.1.parent ∙ ap (slot_at k) ways.0,
+          ways.1,
+          its.1.order ∙ ap (λ (q : Place). order_below from.0.number (kid_at q k)) ways.0
+              ∙ ap (λ (n : ℕ). order_below n (kid_at p k)) ways.1,
+        )
 
     listed : (from to i : ℕ) → IsPlaced k (p ++ i ∷ []) → IsStoredHere k (p ++ i ∷ [])
-        → ((x : StoredPlace) → IsNarrow x → x.parent ≡ slot_at k p → x.step ≡ i → (from ≤ key_of x) × (key_of x < to))
+        → ((x : StoredPlace) → x.order < 4294967296 → x.parent ≡ slot_at k p → x.order ≡ order_below i (kid_at p k)
+        → (from ≤ key_of x) × (key_of x < to))
         → Contains (children from to) (p ++ i ∷ [])
     listed from to i child is range =
         let x = among i child is in
         let small : IsNarrow x.0 = All-contains IsNarrow places x.0 stored.narrow x.1 in
-        let keys = range x.0 small x.2 x.3 in
+        let keys = range x.0 small.1 x.2 x.4 in
         subst (λ (j : ℕ). Contains (children from to) (p ++ j ∷ [])) x.3
         (in_map (child_of p) (found from to) x.0
         (in_filter (is_between from to) places x.0 x.1 (between_is from to x.0 keys.0 keys.1)))
@@ -169,12 +212,12 @@ module _ (k : Kid) (cursor : Place) (once : (n : ℕ) → uses k n ≤ 1) (leads
       each = are_below low (low + 4294967296) (omega arith) (omega arith);
       order = in_order low (low + 4294967296) (omega arith) (omega arith);
       all = λ i child.
-          listed low (low + 4294967296) i child (none_open i child) (λ x small parent step. (omega arith, omega arith));
+          listed low (low + 4294967296) i child (none_open i child) (λ x small parent order. (omega arith, omega arith));
     }
 
     -- child j is open, the others aren't
     module _ (j middle : ℕ) (at_j : IsPlaced k (p ++ j ∷ [])) (open_j : stored_here (kid_at (p ++ j ∷ []) k) ≡ false)
-        (is_middle : middle ≡ low + (4294967295 - j))
+        (small_j : j < 4294967296) (is_middle : middle ≡ low + (4294967295 - order_below j (kid_at p k)))
         (others : (i : ℕ) → i ≢ j → IsPlaced k (p ++ i ∷ []) → IsStoredHere k (p ++ i ∷ [])) where
       above_low : low ≤ middle
       above_low = omega arith
@@ -185,55 +228,80 @@ module _ (k : Kid) (cursor : Place) (once : (n : ℕ) → uses k n ≤ 1) (leads
       abbrev pub all_children : List Place
       all_children = children low middle ++ (p ++ j ∷ []) ∷ children middle (low + 4294967296)
 
-      front_step : (x : StoredPlace) → Contains places x × (is_between low middle x ≡ true) → j < x.step
-      front_step x is =
+      order_j : order_below j (kid_at p k) < 4294967296
+      order_j = small_below (kid_at p k) j small_j
+
+      narrow_of : (x : StoredPlace) → Contains places x → IsNarrow x
+      narrow_of x among_them = All-contains IsNarrow places x stored.narrow among_them
+
+      front_order : (x : StoredPlace) → Contains places x × (is_between low middle x ≡ true)
+          → order_below j (kid_at p k) < order_below x.number (kid_at p k)
+      front_order x is =
           let keys = between_told low middle x is.1 in
           let less = keys.1 in
-          let parent = (is_child low middle (omega arith) below_high x is).parent in
-          let small : IsNarrow x = All-contains IsNarrow places x stored.narrow is.0 in
+          let child = is_child low middle (omega arith) below_high x is in
+          let parent = child.parent in
+          let order : x.order ≡ order_below x.number (kid_at p k) = child.order in
+          let small : x.order < 4294967296 = (narrow_of x is.0).1 in
           omega arith
 
-      back_step : (x : StoredPlace) → Contains places x × (is_between middle (low + 4294967296) x ≡ true) → x.step < j
-      back_step x is =
+      back_order : (x : StoredPlace) → Contains places x × (is_between middle (low + 4294967296) x ≡ true)
+          → order_below x.number (kid_at p k) < order_below j (kid_at p k)
+      back_order x is =
           let keys = between_told middle (low + 4294967296) x is.1 in
           let at_least = keys.0 in
           let child = is_child middle (low + 4294967296) above_low (omega arith) x is in
           let parent = child.parent in
-          let small : IsNarrow x = All-contains IsNarrow places x stored.narrow is.0 in
-          go (same_or_other x.step j) child.stored (omega arith)
+          let order : x.order ≡ order_below x.number (kid_at p k) = child.order in
+          let small : x.order < 4294967296 = (narrow_of x is.0).1 in
+          let bound = order_j in
+          go child.stored (same_or_other (order_below x.number (kid_at p k)) (order_below j (kid_at p k))) (omega arith)
         where
-          go : (x.step ≡ j) ⊎ (x.step ≢ j) → IsStoredHere k (child_of p x) → x.step ≤ j → x.step < j
-          go (inl e) st le =
-              let no : false ≡ true = sym open_j ∙ ap (λ (i : ℕ). stored_here (kid_at (p ++ i ∷ []) k)) (sym e) ∙ st in
+          go : IsStoredHere k (child_of p x)
+              → (order_below x.number (kid_at p k) ≡ order_below j (kid_at p k))
+              ⊎ (order_below x.number (kid_at p k) ≢ order_below j (kid_at p k))
+              → order_below x.number (kid_at p k) ≤ order_below j (kid_at p k)
+              → order_below x.number (kid_at p k) < order_below j (kid_at p k)
+          go st (inl e) le =
+              let same : x.number ≡ j = told_below (kid_at p k) x.number j (narrow_of x is.0).0 small_j e in
+              let no : false ≡ true = sym open_j ∙ ap (λ (i : ℕ). stored_here (kid_at (p ++ i ∷ []) k)) (sym same) ∙ st in
               absurd (cc)
-          go (inr ne) st le = omega arith
+          go st (inr ne) le = omega arith
 
-      front_all : (q : Place) → ((x : StoredPlace) → Contains places x × (is_between low middle x ≡ true) → ComesEarlier (child_of p x) q)
-          → All (λ (c : Place). ComesEarlier c q) (children low middle)
+      front_step : (x : StoredPlace) → Contains places x × (is_between low middle x ≡ true) → IsAfterBelow (kid_at p k) x.number j
+      front_step x is = later_below (kid_at p k) x.number j (narrow_of x is.0).0 small_j (front_order x is)
+
+      back_step : (x : StoredPlace) → Contains places x × (is_between middle (low + 4294967296) x ≡ true)
+          → IsAfterBelow (kid_at p k) j x.number
+      back_step x is = later_below (kid_at p k) j x.number small_j (narrow_of x is.0).0 (back_order x is)
+
+      front_all : (q : Place) → ((x : StoredPlace) → Contains places x × (is_between low middle x ≡ true) → ComesEarlier k (child_of p x) q)
+          → All (λ (c : Place). ComesEarlier k c q) (children low middle)
       front_all q so =
-          All-map (λ (c : Place). ComesEarlier c q) (child_of p) (found low middle)
+          All-map (λ (c : Place). ComesEarlier k c q) (child_of p) (found low middle)
           (λ i d h. so (get_or (found low middle) i d) (kept low middle (omega arith) below_high i d h))
 
       back_all : (q : Place)
-          → ((x : StoredPlace) → Contains places x × (is_between middle (low + 4294967296) x ≡ true) → ComesEarlier q (child_of p x))
-          → All (ComesEarlier q) (children middle (low + 4294967296))
+          → ((x : StoredPlace) → Contains places x × (is_between middle (low + 4294967296) x ≡ true) → ComesEarlier k q (child_of p x))
+          → All (ComesEarlier k q) (children middle (low + 4294967296))
       back_all q so =
-          All-map (ComesEarlier q) (child_of p) (found middle (low + 4294967296))
+          All-map (ComesEarlier k q) (child_of p) (found middle (low + 4294967296))
           (λ i d h. so (get_or (found middle (low + 4294967296)) i d) (kept middle (low + 4294967296) above_low (omega arith) i d h))
 
-      from_middle : All (ComesEarlier (p ++ j ∷ [])) (children middle (low + 4294967296))
-      from_middle = back_all (p ++ j ∷ []) (λ y is. siblings p j y.step (back_step y is))
+      from_middle : All (ComesEarlier k (p ++ j ∷ [])) (children middle (low + 4294967296))
+      from_middle = back_all (p ++ j ∷ []) (λ y is. siblings k p j y.number (back_step y is))
 
       from_front : (x : StoredPlace) → Contains places x × (is_between low middle x ≡ true)
-          → All (ComesEarlier (child_of p x)) ((p ++ j ∷ []) ∷ children middle (low + 4294967296))
+          → All (ComesEarlier k (child_of p x)) ((p ++ j ∷ []) ∷ children middle (low + 4294967296))
       from_front x is =
-          All-cons (ComesEarlier (child_of p x)) (p ++ j ∷ []) (children middle (low + 4294967296))
-          (siblings p x.step j (front_step x is))
+          All-cons (ComesEarlier k (child_of p x)) (p ++ j ∷ []) (children middle (low + 4294967296))
+          (siblings k p x.number j (front_step x is))
           (back_all (child_of p x)
           (λ y other.
-          let high = front_step x is in
-          let less = back_step y other in
-          siblings p x.step y.step (omega arith)))
+          let high = front_order x is in
+          let less = back_order y other in
+          siblings k p x.number y.number
+          (later_below (kid_at p k) x.number y.number (narrow_of x is.0).0 (narrow_of y other.0).0 (omega arith))))
 
       pub open_children : AreChildren k p all_children
       open_children = record {
@@ -248,33 +316,44 @@ module _ (k : Kid) (cursor : Place) (once : (n : ℕ) → uses k n ≤ 1) (leads
             (All-cons (IsChild p) (p ++ j ∷ []) (children middle (low + 4294967296)) (j, refl)
             (are_below middle (low + 4294967296) above_low (omega arith)));
         order =
-            pairs_append ComesEarlier (children low middle) ((p ++ j ∷ []) ∷ children middle (low + 4294967296))
+            pairs_append (ComesEarlier k) (children low middle) ((p ++ j ∷ []) ∷ children middle (low + 4294967296))
             (in_order low middle (omega arith) below_high)
             (from_middle, in_order middle (low + 4294967296) above_low (omega arith))
-            (All-map (λ (c : Place). All (ComesEarlier c) ((p ++ j ∷ []) ∷ children middle (low + 4294967296))) (child_of p)
+            (All-map (λ (c : Place). All (ComesEarlier k c) ((p ++ j ∷ []) ∷ children middle (low + 4294967296))) (child_of p)
             (found low middle)
             (λ i d h. from_front (get_or (found low middle) i d) (kept low middle (omega arith) below_high i d h)));
         all = λ i child. at_child i child (same_or_other i j);
       }
         where
-          beside : (i : ℕ) → IsPlaced k (p ++ i ∷ []) → i ≢ j → (j < i) ⊎ (i < j) → Contains all_children (p ++ i ∷ [])
+          beside : (i : ℕ) → IsPlaced k (p ++ i ∷ []) → i ≢ j
+              → (order_below j (kid_at p k) < order_below i (kid_at p k)) ⊎ (order_below i (kid_at p k) < order_below j (kid_at p k))
+              → Contains all_children (p ++ i ∷ [])
           beside i child ne (inl more) =
               Contains-append_left (children low middle) ((p ++ j ∷ []) ∷ children middle (low + 4294967296)) (p ++ i ∷ [])
-              (listed low middle i child (others i ne child) (λ x small parent step. (omega arith, omega arith)))
+              (listed low middle i child (others i ne child) (λ x small parent order. (omega arith, omega arith)))
           beside i child ne (inr less) =
+              let bound = order_j in
               Contains-append_right (children low middle) ((p ++ j ∷ []) ∷ children middle (low + 4294967296)) (p ++ i ∷ [])
               (later_in (p ++ j ∷ []) (p ++ i ∷ []) (children middle (low + 4294967296))
-              (listed middle (low + 4294967296) i child (others i ne child) (λ x small parent step. (omega arith, omega arith))))
+              (listed middle (low + 4294967296) i child (others i ne child) (λ x small parent order. (omega arith, omega arith))))
 
-          either : (i : ℕ) → i ≢ j → (j < i) ⊎ (i < j)
-          either i ne = grind (arith, ne)
+          apart : (a b : ℕ) → a ≢ b → (b < a) ⊎ (a < b)
+          apart a b ne = grind (arith, ne)
+
+          either : (i : ℕ) → IsPlaced k (p ++ i ∷ []) → i ≢ j
+              → (order_below j (kid_at p k) < order_below i (kid_at p k)) ⊎ (order_below i (kid_at p k) < order_below j (kid_at p k))
+          either i child ne =
+              let x = among i child (others i ne child) in
+              let narrow : i < 4294967296 = subst (λ (n : ℕ). n < 4294967296) x.3 (narrow_of x.0 x.1).0 in
+              apart (order_below i (kid_at p k)) (order_below j (kid_at p k))
+              (λ e. ne (told_below (kid_at p k) i j narrow small_j e))
 
           at_child : (i : ℕ) → IsPlaced k (p ++ i ∷ []) → (i ≡ j) ⊎ (i ≢ j) → Contains all_children (p ++ i ∷ [])
           at_child i child (inl e) =
               Contains-append_right (children low middle) ((p ++ j ∷ []) ∷ children middle (low + 4294967296)) (p ++ i ∷ [])
               (subst (λ (n : ℕ). Contains ((p ++ j ∷ []) ∷ children middle (low + 4294967296)) (p ++ n ∷ [])) (sym e)
               (first_in (p ++ j ∷ []) (children middle (low + 4294967296))))
-          at_child i child (inr ne) = beside i child ne (either i ne)
+          at_child i child (inr ne) = beside i child ne (either i child ne)
 
 -- Which children are open.
 module _ (k : Kid) (cursor : Place) (leads : Leads cursor k) (p : Place) where

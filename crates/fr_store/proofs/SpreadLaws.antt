@@ -18,7 +18,7 @@ IsChild above place = (i : ℕ) × (place ≡ above ++ i ∷ [])
 pub record AreChildren (k : Kid) (above : Place) (children : List Place) : Type 0 where
   pub placed : All (IsPlaced k) children
   pub each : All (IsChild above) children
-  pub order : Pairs ComesEarlier children
+  pub order : Pairs (ComesEarlier k) children
   pub all : (i : ℕ) → IsPlaced k (above ++ i ∷ []) → Contains children (above ++ i ∷ [])
 
 -- where a place comes from: it is the root, or a child of one of these
@@ -28,7 +28,7 @@ ComesOf done place = (place ≡ []) ⊎ ((above : Place) × (i : ℕ) × Contain
 -- These are places in order. Of the first ones the children are among them too, and the others wait for that.
 pub record IsSpreading (k : Kid) (done waiting : List Place) : Type 0 where
   pub placed : All (IsPlaced k) (done ++ waiting)
-  pub order : Pairs ComesEarlier (done ++ waiting)
+  pub order : Pairs (ComesEarlier k) (done ++ waiting)
   pub root : Contains (done ++ waiting) []
   pub children : (place : Place) (i : ℕ) → Contains done place → IsPlaced k (place ++ i ∷ [])
       → Contains (done ++ waiting) (place ++ i ∷ [])
@@ -38,7 +38,7 @@ pub record IsSpreading (k : Kid) (done waiting : List Place) : Type 0 where
 pub spreads_root : (k : Kid) → IsHere k → IsSpreading k [] ([] ∷ [])
 spreads_root k here = record {
   placed = All-cons (IsPlaced k) [] [] (record { reaches = tt; here = here }) (All-nil (IsPlaced k));
-  order = (All-nil (ComesEarlier []), tt);
+  order = (All-nil (ComesEarlier k []), tt);
   root = first_in [] [];
   children = λ place i at placed. absurd (omega (arith, at.1));
   origin = All-cons (ComesOf []) [] [] (inl refl) (All-nil (ComesOf []));
@@ -60,19 +60,19 @@ module _ (k : Kid) (done rest : List Place) (p : Place) (s : IsSpreading k done 
   abbrev listed : List Place
   listed = done ++ p ∷ rest
 
-  before_p : All (λ q. ComesEarlier q p) done
+  before_p : All (λ q. ComesEarlier k q p) done
   before_p i d h =
-      All-head (ComesEarlier (get_or done i d)) p rest (pairs_cross ComesEarlier done (p ∷ rest) s.order i d h)
+      All-head (ComesEarlier k (get_or done i d)) p rest (pairs_cross (ComesEarlier k) done (p ∷ rest) s.order i d h)
 
-  before_added : (q : Place) → ComesOf done q → All (ComesEarlier q) added
+  before_added : (q : Place) → ComesOf done q → All (ComesEarlier k q) added
   before_added q (inl e) i d h =
       let child = are.each i d h in
-      subst (ComesEarlier q) (sym child.1) (subst (λ (l : Place). ComesEarlier l (p ++ child.0 ∷ [])) (sym e) (root_earlier p child.0))
+      subst (ComesEarlier k q) (sym child.1) (subst (λ (l : Place). ComesEarlier k l (p ++ child.0 ∷ [])) (sym e) (root_earlier k p child.0))
   before_added q (inr from) i d h =
       let child = are.each i d h in
-      subst (ComesEarlier q) (sym child.1)
-      (subst (λ (l : Place). ComesEarlier l (p ++ child.0 ∷ [])) (sym from.3)
-      (children_earlier from.0 p from.1 child.0 (All-contains (λ q. ComesEarlier q p) done from.0 before_p from.2)))
+      subst (ComesEarlier k q) (sym child.1)
+      (subst (λ (l : Place). ComesEarlier k l (p ++ child.0 ∷ [])) (sym from.3)
+      (children_earlier k from.0 p from.1 child.0 (All-contains (λ q. ComesEarlier k q p) done from.0 before_p from.2)))
 
   children_more : (place : Place) (i : ℕ) → Contains (done ++ p ∷ []) place → IsPlaced k (place ++ i ∷ [])
       → Contains (listed ++ added) (place ++ i ∷ [])
@@ -100,8 +100,8 @@ module _ (k : Kid) (done rest : List Place) (p : Place) (s : IsSpreading k done 
   spreads_on = record {
     placed = subst (All (IsPlaced k)) (sym (parts done rest p added)) (All-append (IsPlaced k) listed added s.placed are.placed);
     order =
-        subst (Pairs ComesEarlier) (sym (parts done rest p added))
-        (pairs_append ComesEarlier listed added s.order are.order
+        subst (Pairs (ComesEarlier k)) (sym (parts done rest p added))
+        (pairs_append (ComesEarlier k) listed added s.order are.order
         (λ i d h. before_added (get_or listed i d) (s.origin i d h)));
     root = subst (λ (l : List Place). Contains l []) (sym (parts done rest p added)) (Contains-append_left listed added [] s.root);
     children = λ place i at placed.

@@ -12,15 +12,15 @@ use Rattle.fr_frame.specs.declared.places.SlotId.{SlotId}
 use Rattle.fr_frame.specs.Heap.{Node, heap_of}
 use Rattle.fr_frame.specs.Kids.{Kid}
 use Rattle.fr_store.specs.declared.turning.StoredPlace.{StoredPlace}
-use Rattle.fr_store.specs.Moves.{OwnerIsNumbered}
+use Rattle.fr_store.specs.Moves.{HasOwner}
 use Rattle.fr_store.specs.Numbers.{number_of, numbers, slot_of, slots_of}
-use Rattle.fr_store.specs.Places.{AreAllStored, IsKeyOf, IsPlaced, IsSpread, IsStoredChildOf, child_of, first_key, key_of, slot_at, slots_between}
+use Rattle.fr_store.specs.Places.{AreAllStored, IsKeyOf, IsPlaced, IsSpread, IsStoredChildOf, child_of, first_key, key_of, order_below, slot_at, slots_between}
 use Rattle.fr_store.specs.Stands.{IsOpen, cursor_shown, kid_shown}
-use Rattle.fr_store.specs.Ways.{slots_along, uses, Leads}
+use Rattle.fr_store.specs.Ways.{kid_at, slots_along, uses, Leads}
 use Rattle.fr_store.proofs.PairLaws.{fits, in_map, of_map}
 use Rattle.fr_store.proofs.PlaceLaws.{along_long, along_nth, open_placed}
 use Rattle.fr_store.proofs.QueueLaws.{IsQueue, OpenAhead, ahead_now, all_written, few_written, head_within, open_next, queue_starts, stored_next}
-use Rattle.fr_store.proofs.StoredLaws.{child_key, child_numbered}
+use Rattle.fr_store.proofs.StoredLaws.{child_key, child_owned}
 
 get_there : (xs : List ℕ) (i d : ℕ) → i < length xs → slice_get xs i ≡ Some (get_or xs i d)
 get_there [] i d h = absurd (omega arith)
@@ -139,12 +139,12 @@ module _ (plan : Plan) (slots : List Slot) (stack : List ℕ) (is_open : IsOpen 
           (subst (λ (c : Place). Leads c k)
           (o.on_way ∙ ap (λ (l : Place). o.above ++ l) e ∙ sym (append_assoc o.above (j ∷ []) below)) leads)
 
-      pub open_numbered : (n : ℕ) → slice_get (numbers on_stack) (opened + 1) ≡ Some n
-          → IsSomeAnd (heap_of slots n) (λ (found : Node). OwnerIsNumbered found.owner)
-      open_numbered n told = go (ahead 0 0) (ahead 0 0).below refl
+      pub open_owned : (n : ℕ) → slice_get (numbers on_stack) (opened + 1) ≡ Some n
+          → IsSomeAnd (heap_of slots n) (λ (found : Node). HasOwner found.owner)
+      open_owned n told = go (ahead 0 0) (ahead 0 0).below refl
         where
           go : (o : OpenAhead k cursor s.queue.waiting head opened at) (below : Place) → o.below ≡ below
-              → IsSomeAnd (heap_of slots n) (λ (found : Node). OwnerIsNumbered found.owner)
+              → IsSomeAnd (heap_of slots n) (λ (found : Node). HasOwner found.owner)
           go o [] e =
               let lengths : length cursor ≡ length o.above + length o.below
               = ap (λ (l : Place). length l) o.on_way ∙ length-append o.above o.below in
@@ -156,12 +156,12 @@ module _ (plan : Plan) (slots : List Slot) (stack : List ℕ) (is_open : IsOpen 
           go o (j ∷ below) e =
               let both : Some (slot_at k (o.above ++ j ∷ [])) ≡ Some n = sym (next_at o j below e) ∙ told in
               let is : slot_at k (o.above ++ j ∷ []) ≡ n = cc in
-              subst (λ (m : ℕ). IsSomeAnd (heap_of slots m) (λ (found : Node). OwnerIsNumbered found.owner)) is
-              (child_numbered plan (heap_of slots) stack cursor k is_open.stands o.above j (next_placed o j below e))
+              subst (λ (m : ℕ). IsSomeAnd (heap_of slots m) (λ (found : Node). HasOwner found.owner)) is
+              (child_owned plan (heap_of slots) stack cursor k is_open.stands o.above j (next_placed o j below e))
 
       module _ (n middle : ℕ) (read : n ≡ get_or stack opened 0)
           (key : (m : ℕ) → slice_get (numbers on_stack) (opened + 1) ≡ Some m
-          → IsSomeAnd (heap_of slots m) (λ (found : Node). IsKeyOf middle found.owner))
+          → IsSomeAnd (heap_of slots m) (λ (found : Node). IsKeyOf (heap_of slots) middle found.owner))
           (none : length on_stack ≤ opened + 1 → middle ≡ first_key n + 4294967296) where
         slot_is : (o : OpenAhead k cursor s.queue.waiting head opened at) → n ≡ slot_at k o.above
         slot_is o =
@@ -180,9 +180,11 @@ module _ (plan : Plan) (slots : List Slot) (stack : List ℕ) (is_open : IsOpen 
             open_next k cursor once leads places stored sorted (take count order) head opened at s.queue n middle open_still now o
             (slot_is o) (λ last. none (omega (arith, stack_same)))
             (λ j below e.
-            child_key plan (heap_of slots) stack cursor k is_open.stands o.above j middle (next_placed o j below e)
-            (key (slot_at k (o.above ++ j ∷ [])) (next_at o j below e))
-            ∙ ap (λ (m : ℕ). first_key m + (4294967295 - j)) (sym (slot_is o)))
+            let told = child_key plan (heap_of slots) stack cursor k is_open.stands o.above j middle (next_placed o j below e)
+            (key (slot_at k (o.above ++ j ∷ [])) (next_at o j below e)) in (
+              told.0,
+              told.1 ∙ ap (λ (m : ℕ). first_key m + (4294967295 - order_below j (kid_at o.above k))) (sym (slot_is o)),
+            ))
 
         pub open_room : count + length (slots_between (first_key n) middle places)
             + length (slots_between middle (first_key n + 4294967296) places) ≤ length places

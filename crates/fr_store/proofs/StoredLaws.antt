@@ -6,42 +6,38 @@ use Rattle.std.specs.Prelude.{IsSomeAnd}
 use Rattle.std.proofs.lemmas.List.Elements.{Contains-get_or}
 use Rattle.std.proofs.lemmas.List.Sorted.{All-permutation, Contains-permutation, IsPermutation-map, sum_by-IsPermutation}
 use Rattle.std.proofs.lemmas.List.Sums.{sum_by-cons}
-use Rattle.fr_path.specs.Order.{number}
-use Rattle.fr_model.specs.Paths.{step_as}
 use Rattle.fr_model.specs.Places.{Place}
-use Rattle.fr_model.specs.Tree.{Form, as_struct, as_array, as_variant, as_some, as_ok, as_err, as_pointer, as_list, as_slice, as_closed_slice}
 use Rattle.fr_plan.specs.declared.nodes.NodeId.{NodeId}
 use Rattle.fr_plan.specs.TypePlan.{Plan}
 use Rattle.fr_frame.specs.declared.places.FrameOwner.{FrameOwner}
 use Rattle.fr_frame.specs.Heap.{Node, Heap, marked, stored_in}
 use Rattle.fr_frame.specs.Kids.{Kid, gone, there, at, entered_plot, whole_plot, begun_plot, Holds, child_owner}
 use Rattle.fr_store.specs.declared.turning.StoredPlace.{StoredPlace}
-use Rattle.fr_store.specs.HoldLaws.{holds_at, may_have_all}
+use Rattle.fr_store.specs.HoldLaws.{holds_at}
 use Rattle.fr_store.specs.LeaveLaws.{below_root, owner_append}
-use Rattle.fr_store.specs.Moves.{OwnerIsNumbered}
+use Rattle.fr_store.specs.Moves.{HasOwner}
 use Rattle.fr_store.specs.Numbers.{slot_of, slots_of}
-use Rattle.fr_store.specs.Places.{counts_in, AreOnce, AreAllStored, BelongsTo, IsHere, IsKeyOf, IsNarrow, IsNoted, IsPlaced, IsStoredChildOf, IsStoredHere, first_key, slot_at, slot_here}
+use Rattle.fr_store.specs.Places.{counts_in, AreOnce, AreAllStored, BelongsTo, IsHere, IsKeyOf, IsNarrow, IsNoted, IsPlaced, IsStoredChildOf, IsStoredHere, first_key, order_at, order_below, slot_at, slot_here}
 use Rattle.fr_store.specs.Stands.{Stands}
-use Rattle.fr_store.specs.Ways.{count_kids, counts_if, kid_at, node_along, owner_along, owner_below, uses, Reaches}
-use Rattle.fr_store.specs.WayLaws.{number_of_step}
+use Rattle.fr_store.specs.Ways.{counts_if, kid_at, node_along, owner_along, owner_below, uses, Reaches}
 use Rattle.fr_store.proofs.PairLaws.{in_map}
 use Rattle.fr_store.proofs.PlaceLaws.{mark_at, open_unstored, place_of, placed_above, placed_child}
 
 -- The owner of a child.
 
--- (the step to the child tells its number)
-owner_over : (plan : Plan) (heap : Heap) (node : NodeId) (by : FrameOwner) (depth : ℕ) (owner : FrameOwner) (i : ℕ) (k : Kid)
-    → Holds plan heap node by depth k → Reaches (i ∷ []) k
-    → (form : Form) × (owner_below owner i k ≡ child_owner (slot_here k) form i) × (number (step_as form i) ≡ i)
-owner_over plan heap node by depth owner i gone holds reach = absurd reach
-owner_over plan heap node by depth owner i (there v) holds reach = absurd reach
-owner_over plan heap node by depth owner i (at slot stored entered_plot) holds reach = absurd reach
-owner_over plan heap node by depth owner i (at slot stored (whole_plot v)) holds reach = absurd reach
-owner_over plan heap node by depth owner i (at slot stored (begun_plot form kids)) holds reach = (
-  form,
-  refl,
-  number_of_step form (count_kids kids) i (may_have_all plan heap node slot form (suc depth) kids holds.2) reach.0,
-)
+owner_over : (owner : FrameOwner) (i : ℕ) (k : Kid) → Reaches (i ∷ []) k → owner_below owner i k ≡ child_owner (slot_here k) i
+owner_over owner i gone reach = absurd reach
+owner_over owner i (there v) reach = absurd reach
+owner_over owner i (at slot stored entered_plot) reach = absurd reach
+owner_over owner i (at slot stored (whole_plot v)) reach = absurd reach
+owner_over owner i (at slot stored (begun_plot form kids)) reach = refl
+
+-- and where it comes among the children there
+order_over : (plan : Plan) (heap : Heap) (node : NodeId) (owner : FrameOwner) (depth i : ℕ) (k : Kid)
+    → Holds plan heap node owner depth k → IsHere k → order_at (heap (slot_here k)) i ≡ order_below i k
+order_over plan heap node owner depth i gone holds here = absurd here
+order_over plan heap node owner depth i (there v) holds here = absurd here
+order_over plan heap node owner depth i (at slot stored plot) holds here = ap (λ (x : Option Node). order_at x i) holds.0
 
 found_in : (plan : Plan) (heap : Heap) (node : NodeId) (owner : FrameOwner) (depth : ℕ) (k : Kid)
     → Holds plan heap node owner depth k → IsHere k
@@ -57,64 +53,54 @@ found_in plan heap node owner depth (at slot stored plot) holds here = (
 module _ (plan : Plan) (heap : Heap) (stack : List ℕ) (cursor : Place) (k : Kid) (stands : Stands plan heap stack cursor k) where
   -- what is found in the slot of a child
   pub child_found : (above : Place) (i : ℕ) → IsPlaced k (above ++ i ∷ [])
-      → (found : Node) × (form : Form) × (heap (slot_at k (above ++ i ∷ [])) ≡ Some found)
-      × (found.owner ≡ child_owner (slot_at k above) form i) × (number (step_as form i) ≡ i)
+      → (found : Node) × (heap (slot_at k (above ++ i ∷ [])) ≡ Some found) × (found.owner ≡ child_owner (slot_at k above) i)
   child_found above i placed =
       let place : Place = above ++ i ∷ [] in
       let found = found_in plan heap (node_along plan plan.root place k) (owner_along FrameOwner.Root place k)
       (0 + length place) (kid_at place k) (holds_at plan heap plan.root FrameOwner.Root 0 place k stands.holds placed.reaches)
       placed.here in
-      let over = owner_over plan heap (node_along plan plan.root above k) (owner_along FrameOwner.Root above k)
-      (0 + length above) (owner_along FrameOwner.Root above k) i (kid_at above k)
-      (holds_at plan heap plan.root FrameOwner.Root 0 above k stands.holds (placed_above above (i ∷ []) k placed).reaches)
-      (placed_child above i k placed).reaches in
-      (found.0, over.0, found.1, found.2 ∙ owner_append FrameOwner.Root above i k ∙ over.1, over.2)
+      let over = owner_over (owner_along FrameOwner.Root above k) i (kid_at above k) (placed_child above i k placed).reaches in
+      (found.0, found.1, found.2 ∙ owner_append FrameOwner.Root above i k ∙ over)
 
-  numbered_by : (slot : ℕ) (form : Form) (i : ℕ) (owner : FrameOwner) → owner ≡ child_owner slot form i → OwnerIsNumbered owner
-  numbered_by slot form i owner e = subst OwnerIsNumbered (sym e) (go form)
-    where
-      go : (form : Form) → OwnerIsNumbered (child_owner slot form i)
-      go as_struct = tt
-      go as_array = tt
-      go (as_variant k) = tt
-      go as_some = tt
-      go as_ok = tt
-      go as_err = tt
-      go as_pointer = tt
-      go as_list = tt
-      go as_slice = tt
-      go as_closed_slice = tt
+  -- where it comes among the children of the place above
+  child_order : (above : Place) (i : ℕ) → IsPlaced k (above ++ i ∷ [])
+      → order_at (heap (slot_at k above)) i ≡ order_below i (kid_at above k)
+  child_order above i placed =
+      let over = placed_above above (i ∷ []) k placed in
+      order_over plan heap (node_along plan plan.root above k) (owner_along FrameOwner.Root above k) (0 + length above) i
+      (kid_at above k) (holds_at plan heap plan.root FrameOwner.Root 0 above k stands.holds over.reaches) over.here
 
-  -- the step to it has a number
-  pub child_numbered : (above : Place) (i : ℕ) → IsPlaced k (above ++ i ∷ [])
-      → IsSomeAnd (heap (slot_at k (above ++ i ∷ []))) (λ (found : Node). OwnerIsNumbered found.owner)
-  child_numbered above i placed =
+  -- it has an owner
+  pub child_owned : (above : Place) (i : ℕ) → IsPlaced k (above ++ i ∷ [])
+      → IsSomeAnd (heap (slot_at k (above ++ i ∷ []))) (λ (found : Node). HasOwner found.owner)
+  child_owned above i placed =
       let told = child_found above i placed in
-      subst (λ (x : Option Node). IsSomeAnd x (λ (found : Node). OwnerIsNumbered found.owner)) (sym told.2)
-      (numbered_by (slot_at k above) told.1 i told.0.owner told.3)
+      subst (λ (x : Option Node). IsSomeAnd x (λ (found : Node). HasOwner found.owner)) (sym told.1)
+      (subst HasOwner (sym told.2) tt)
 
   -- its key
   pub child_key : (above : Place) (i key : ℕ) → IsPlaced k (above ++ i ∷ [])
-      → IsSomeAnd (heap (slot_at k (above ++ i ∷ []))) (λ (found : Node). IsKeyOf key found.owner)
-      → key ≡ first_key (slot_at k above) + (4294967295 - i)
+      → IsSomeAnd (heap (slot_at k (above ++ i ∷ []))) (λ (found : Node). IsKeyOf heap key found.owner)
+      → (i < 4294967296) × (key ≡ first_key (slot_at k above) + (4294967295 - order_below i (kid_at above k)))
   child_key above i key placed is =
       let told = child_found above i placed in
-      let here : IsKeyOf key told.0.owner
-      = subst (λ (x : Option Node). IsSomeAnd x (λ (found : Node). IsKeyOf key found.owner)) told.2 is in
-      let by : IsKeyOf key (child_owner (slot_at k above) told.1 i) = subst (λ (o : FrameOwner). IsKeyOf key o) told.3 here in
-      by ∙ ap (λ (n : ℕ). first_key (slot_at k above) + (4294967295 - n)) told.4
+      let here : IsKeyOf heap key told.0.owner
+      = subst (λ (x : Option Node). IsSomeAnd x (λ (found : Node). IsKeyOf heap key found.owner)) told.1 is in
+      let by : IsKeyOf heap key (child_owner (slot_at k above) i)
+      = subst (λ (o : FrameOwner). IsKeyOf heap key o) told.2 here in
+      (by.0, by.1 ∙ ap (λ (n : ℕ). first_key (slot_at k above) + (4294967295 - n)) (child_order above i placed))
 
   -- where it belongs
   child_belongs : (above : Place) (i : ℕ) (place : StoredPlace) → IsPlaced k (above ++ i ∷ [])
       → slot_of place ≡ slot_at k (above ++ i ∷ []) → IsNoted heap place
-      → (place.parent ≡ slot_at k above) × (place.step ≡ i)
+      → (place.parent ≡ slot_at k above) × (place.number ≡ i) × (place.order ≡ order_below i (kid_at above k))
   child_belongs above i place placed same noted =
       let told = child_found above i placed in
-      let here : BelongsTo place told.0.owner
-      = subst (λ (x : Option Node). IsSomeAnd x (λ (found : Node). BelongsTo place found.owner)) (ap heap same ∙ told.2) noted in
-      let by : BelongsTo place (child_owner (slot_at k above) told.1 i)
-      = subst (λ (o : FrameOwner). BelongsTo place o) told.3 here in
-      (by.0, by.1 ∙ told.4)
+      let here : BelongsTo heap place told.0.owner
+      = subst (λ (x : Option Node). IsSomeAnd x (λ (found : Node). BelongsTo heap place found.owner)) (ap heap same ∙ told.1) noted in
+      let by : BelongsTo heap place (child_owner (slot_at k above) i)
+      = subst (λ (o : FrameOwner). BelongsTo heap place o) told.2 here in
+      (by.0, by.1, by.2 ∙ child_order above i placed)
 
   module _ (all : (n : ℕ) → IsSome (heap n) → 0 < uses k n) where
     marked_found : (x : Option Node) → stored_in x ≡ true → IsSome x
@@ -146,12 +132,11 @@ module _ (plan : Plan) (heap : Heap) (stack : List ℕ) (cursor : Place) (k : Ki
               sym (ap (slot_at k) e) ∙ slot,
             )
 
-    pub stored_numbered : (n : ℕ) → marked heap n ≡ true
-        → IsSomeAnd (heap n) (λ (found : Node). OwnerIsNumbered found.owner)
-    stored_numbered n is =
+    pub stored_owned : (n : ℕ) → marked heap n ≡ true → IsSomeAnd (heap n) (λ (found : Node). HasOwner found.owner)
+    stored_owned n is =
         let lies = stored_place n is in
-        subst (λ (m : ℕ). IsSomeAnd (heap m) (λ (found : Node). OwnerIsNumbered found.owner)) lies.4
-        (child_numbered lies.0 lies.1 lies.2)
+        subst (λ (m : ℕ). IsSomeAnd (heap m) (λ (found : Node). HasOwner found.owner)) lies.4
+        (child_owned lies.0 lies.1 lies.2)
 
     -- what is noted of it is so
     noted_child : (place : StoredPlace) → marked heap (slot_of place) ≡ true → IsNoted heap place
@@ -159,7 +144,7 @@ module _ (plan : Plan) (heap : Heap) (stack : List ℕ) (cursor : Place) (k : Ki
     noted_child place is noted =
         let lies = stored_place (slot_of place) is in
         let belongs = child_belongs lies.0 lies.1 place lies.2 (sym lies.4) noted in
-        let e : lies.0 ++ lies.1 ∷ [] ≡ lies.0 ++ place.step ∷ []
+        let e : lies.0 ++ lies.1 ∷ [] ≡ lies.0 ++ place.number ∷ []
         = ap (λ (i : ℕ). lies.0 ++ i ∷ []) (sym belongs.1) in (
           lies.0,
           record {
@@ -167,6 +152,7 @@ module _ (plan : Plan) (heap : Heap) (stack : List ℕ) (cursor : Place) (k : Ki
             placed = subst (IsPlaced k) e lies.2;
             stored = subst (IsStoredHere k) e lies.3;
             slot = sym lies.4 ∙ ap (slot_at k) e;
+            order = belongs.2 ∙ ap (λ (i : ℕ). order_below i (kid_at lies.0 k)) (sym belongs.1);
           },
         )
 

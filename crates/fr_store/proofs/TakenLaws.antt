@@ -3,7 +3,7 @@ use Rattle.std.proofs.Common.{◌≡◌, ℕ, zero, suc, ◌+◌, ◌≤◌, Lis
 use Rattle.std.specs.Prelude.{IsSome, IsSomeAnd, is_some}
 use Rattle.fr_shape.specs.Hooks.{Meanings}
 use Rattle.fr_shape.specs.Look.{Table}
-use Rattle.fr_shape.specs.Released.{Room}
+use Rattle.fr_shape.specs.Released.{Conserved, Room}
 use Rattle.fr_shape.specs.TokenLaws.{Room_fewer, Room_same}
 use Rattle.fr_model.specs.Places.{deferred_column}
 use Rattle.fr_plan.specs.TypePlan.{Plan}
@@ -17,6 +17,7 @@ use Rattle.fr_store.specs.MoveLaws.{slots_tokens}
 use Rattle.fr_store.specs.Moves.{tokens_in}
 use Rattle.fr_store.specs.Stands.{IsOpen}
 use Rattle.fr_store.specs.TopLaws.{slot_here}
+use Rattle.fr_store.proofs.ReleasedLaws.{room_left}
 
 -- a place in a slot has no token oftener than all slots
 pub held_in : (slots : List Slot) (n : ℕ) (found : Node) (t : ℕ) → heap_of slots n ≡ Some found
@@ -56,15 +57,14 @@ closed_room plan before first stack n ledger now open_now room tokens same close
         (is.becomes n ∙ slot_here (heap_of before) n (Some (record at { body = is.body }))) all
     go None is = absurd is
 
--- of an open builder whose tokens are the same there is as much room
+-- of an open builder that lost none but released ones there is room for what is left
 pub room_still : (plan : Plan) (before now : List Slot) (stack : List ℕ) (ledger after : List ℕ) → IsOpen plan before stack
-    → IsOpen plan now stack → SameTokens before now → after ≡ ledger → Room (tokens_in before stack) ledger
+    → IsOpen plan now stack → Conserved (slots_occur before) ledger (slots_occur now) after → Room (tokens_in before stack) ledger
     → Room (tokens_in now stack) after
-room_still plan before now stack ledger after open_before open_now tokens same room =
-    subst (Room (tokens_in now stack)) (sym same)
-    (Room_same (tokens_in before stack) (tokens_in now stack) ledger
-    (λ t.
-    omega (arith, tokens t, slots_tokens plan before stack open_before t, slots_tokens plan now stack open_now t)) room)
+room_still plan before now stack ledger after open_before open_now conserved room =
+    Room_same (slots_occur now) (tokens_in now stack) after (slots_tokens plan now stack open_now)
+    (room_left (slots_occur before) (slots_occur now) ledger after conserved
+    (Room_same (tokens_in before stack) (slots_occur before) ledger (λ t. sym (slots_tokens plan before stack open_before t)) room))
 
 -- What was completed has a value.
 pub filled_valued : (means : Meanings) (table : Table) (plan : Plan) (before first : List Slot) (n : ℕ)

@@ -1,13 +1,16 @@
 -- From the list of all stored places to the walk.
-use Rattle.std.proofs.Common.{◌≡◌, ℕ, true, Bool, List, [], ◌∷◌, get_or, map, reverse, sym, ◌∙◌, ap, subst}
+use Rattle.std.proofs.Common.{◌≡◌, ℕ, true, Bool, List, [], ◌∷◌, map, reverse, sym, ◌∙◌, ap, subst}
 use Rattle.std.specs.List.{All}
 use Rattle.std.proofs.lemmas.List.Elements.{All-head, All-tail}
 use Rattle.fr_model.specs.Places.{Place}
-use Rattle.fr_frame.specs.Kids.{Kid, gone, there, at, Plot, tree_of}
+use Rattle.fr_plan.specs.TypePlan.{Plan}
+use Rattle.fr_frame.specs.Heap.{Heap}
+use Rattle.fr_frame.specs.Kids.{Kid, gone, there, at, Plot}
 use Rattle.fr_store.specs.Places.{ComesEarlier, IsHere, IsPlaced, IsSpread, IsStoredHere, slot_at, slot_here, stored_here}
+use Rattle.fr_store.specs.Stands.{Stands}
 use Rattle.fr_store.specs.Walks.{AreStoredAt, IsWalk}
-use Rattle.fr_store.specs.Ways.{kid_at, Reaches}
-use Rattle.fr_store.proofs.EarlierLaws.{IsToldIn, in_walk_order}
+use Rattle.fr_store.specs.Ways.{kid_at}
+use Rattle.fr_store.proofs.EarlierLaws.{in_walk_order}
 use Rattle.fr_store.proofs.PairLaws.{all_reverse, in_reverse, map_reverse, pairs_reverse}
 
 stored_plot : (k : Kid) → IsHere k → stored_here k ≡ true → (plot : Plot) × (k ≡ at (slot_here k) true plot)
@@ -27,9 +30,9 @@ stored_list k (p ∷ places) placed marked_so =
     )
 
 -- all stored places, read from the end
-pub walk_of : (k : Kid) (slots : List ℕ) → ((place : Place) → Reaches place k → IsToldIn (tree_of k) place) → IsSpread k slots
-    → IsWalk k (reverse slots)
-walk_of k slots told s = record {
+pub walk_of : (plan : Plan) (heap : Heap) (stack : List ℕ) (cursor : Place) (k : Kid) → Stands plan heap stack cursor k
+    → (slots : List ℕ) → IsSpread k slots → IsWalk k (reverse slots)
+walk_of plan heap stack cursor k stands slots s = record {
   places = reverse s.places;
   stored =
       subst (λ (l : List ℕ). AreStoredAt k l (reverse s.places))
@@ -37,9 +40,8 @@ walk_of k slots told s = record {
       (stored_list k (reverse s.places) (all_reverse (IsPlaced k) s.places s.placed)
       (all_reverse (IsStoredHere k) s.places s.stored));
   order =
-      in_walk_order (tree_of k) (reverse s.places)
-      (λ i d h. told (get_or (reverse s.places) i d) (all_reverse (IsPlaced k) s.places s.placed i d h).reaches)
-      (pairs_reverse ComesEarlier s.places s.order);
+      in_walk_order plan heap stack cursor k stands (reverse s.places) (all_reverse (IsPlaced k) s.places s.placed)
+      (pairs_reverse (ComesEarlier k) s.places s.order);
   all = λ slot place st.
       in_reverse s.places place
       (s.all place (record { reaches = st.reaches; here = subst IsHere (sym st.is) tt }) (ap stored_here st.is));

@@ -11,8 +11,7 @@ use Rattle.fr_frame.specs.Bodies.{whole_body, body_occurs, value_of, IsClosed}
 use Rattle.fr_frame.specs.Changes.{Becomes, IfInUse, SameTokens, Shows}
 use Rattle.fr_frame.specs.Heap.{Node, heap_of, stored_in, with_body, with_slot}
 use Rattle.fr_frame.specs.Kids.{Kid, at, Plot, whole_plot, body_in, plot_occurs}
-use Rattle.fr_store.specs.EndLaws.{value_tokens}
-use Rattle.fr_store.specs.MoveLaws.{closed_open, open_reach, open_top, so_top, top_changed, top_found, top_node, top_slot, top_so, top_stands}
+use Rattle.fr_store.specs.MoveLaws.{closed_open, open_reach, open_top, so_top, top_changed_held, top_found, top_node, top_slot, top_so, top_stands}
 use Rattle.fr_store.specs.Moves.{AtTop, IsOpenAt, cursor_in, tree_in_slots}
 use Rattle.fr_store.specs.Numbers.{IsLast}
 use Rattle.fr_store.specs.Stands.{IsOpen, kid_here}
@@ -29,12 +28,6 @@ module _ (plan : Plan) (before after : List Slot) (stack : List ℕ) (open_now :
   closed : IsClosed (body_in (open_top plan before stack open_now).plot)
   closed = closed_open plan before stack open_now strict
 
-  may : MayHaveIts (body_in (open_top plan before stack open_now).plot)
-  may =
-      let top = open_top plan before stack open_now in
-      held_may_have plan (heap_of before) (node_along plan plan.root (cursor_in before stack) (kid_here before stack)) top.slot
-      _ top.plot top.children
-
   shows : (v : Val) → value_of (body_in (open_top plan before stack open_now).plot) ≡ Some v
       → Shows after (with_body (heap_of before) n (λ old. whole_body v))
   unfolding top_node
@@ -44,16 +37,13 @@ module _ (plan : Plan) (before after : List Slot) (stack : List ℕ) (open_now :
       ∙ ap (λ (found : Option Node). with_slot (heap_of before) n (option_map (λ (x : Node). record x { body = whole_body v }) found) m)
       (sym (top_found plan before stack open_now n last))
 
-  open_whole : (v : Val) → value_of (body_in (open_top plan before stack open_now).plot) ≡ Some v → SameTokens before after
+  open_whole : (v : Val) → value_of (body_in (open_top plan before stack open_now).plot) ≡ Some v
       → IsOpenAt plan after stack (cursor_in before stack)
       (change_at (cursor_in before stack) (λ old. whole v) (tree_in_slots before stack))
-  open_whole v is tokens =
+  open_whole v is =
       let top = open_top plan before stack open_now in
-      top_changed plan before after stack open_now n last (λ old. whole_body v) (whole_plot v) refl
-      (keeps_closed top.plot (whole_plot v) tt tt) (loses_none top.plot (whole_plot v) closed) (shows v is)
-      (λ t.
-      let worth : body_occurs (body_in top.plot) t ≡ occurs v t = value_tokens (body_in top.plot) v t may is in
-      omega (arith, tokens t, worth, closed_occur top.plot t closed))
+      top_changed_held plan before after stack open_now n last (λ old. whole_body v) (whole_plot v) refl
+      (keeps_closed top.plot (whole_plot v) tt tt (λ h. tt)) (loses_none top.plot (whole_plot v) closed) (shows v is)
 
   stay_by : (v : Val) → value_of (body_in (open_top plan before stack open_now).plot) ≡ Some v
       → AllStayPut (kid_here before stack) (kid_here after stack)
@@ -64,7 +54,7 @@ module _ (plan : Plan) (before after : List Slot) (stack : List ℕ) (open_now :
       let new : Kid = at top.slot false (whole_plot v) in
       stay_shown plan after stack place (put_at place new k) k
       (top_stands plan before after stack open_now n last (λ old. whole_body v) (whole_plot v) refl
-      (keeps_closed top.plot (whole_plot v) tt tt) (shows v is))
+      (keeps_closed top.plot (whole_plot v) tt tt (λ h. tt)) (shows v is))
       (stay_all place new k (open_reach plan before stack open_now)
       (subst (λ (x : Kid). AllStayPut x new) (sym top.is) (here top.slot top.plot closed)))
     where
@@ -85,16 +75,16 @@ module _ (plan : Plan) (before after : List Slot) (stack : List ℕ) (open_now :
       go (Some v) e some = (v, e)
       go None e some = absurd (cc)
 
-  pub whole_now : SameTokens before after → AtTop before stack (λ (found : Node). (v : Val) → value_of found.body ≡ Some v
+  pub whole_now : AtTop before stack (λ (found : Node). (v : Val) → value_of found.body ≡ Some v
       → IsOpenAt plan after stack (cursor_in before stack)
       (change_at (cursor_in before stack) (λ old. whole v) (tree_in_slots before stack)))
   unfolding top_node
-  whole_now tokens p ends =
+  whole_now p ends =
       so_top plan before stack open_now p ends
       (λ (found : Node). (v : Val) → value_of found.body ≡ Some v
       → IsOpenAt plan after stack (cursor_in before stack)
       (change_at (cursor_in before stack) (λ old. whole v) (tree_in_slots before stack)))
-      (λ v is. open_whole v is tokens)
+      (λ v is. open_whole v is)
 
   pub whole_stay : IfInUse before n (λ (found : Node). IsSome (value_of found.body))
       → AllStayPut (kid_here before stack) (kid_here after stack)

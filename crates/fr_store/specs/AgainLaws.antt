@@ -2,7 +2,6 @@
 use Rattle.std.proofs.Common.{◌≡◌, ◌≢◌, ℕ, suc, ◌+◌, ◌<◌, ◌≤◌, true, false, List, [], ◌∷◌, ◌++◌, append-nil, append_assoc, length, nat_eq, option_map, Option, Some, refl, sym, ◌∙◌, ap, subst, arith}
 use Rattle.std.specs.Prelude.{IsSome}
 use Rattle.fr_shape.specs.declared.shape.Def.{Def}
-use Rattle.fr_model.specs.Paths.{step_as}
 use Rattle.fr_model.specs.Places.{Place}
 use Rattle.fr_model.specs.Step.{enter}
 use Rattle.fr_model.specs.Tree.{Form, Tree, Trees, begun, change_child, tree_at, change_at}
@@ -13,12 +12,13 @@ use Rattle.fr_frame.specs.Changes.{SameTokens, Shows}
 use Rattle.fr_frame.specs.Bodies.{begun_body}
 use Rattle.fr_frame.specs.Cells.{Cell}
 use Rattle.fr_frame.specs.Heap.{heap_of, Node, Heap, with_mark}
-use Rattle.fr_frame.specs.Kids.{Kid, at, Plot, entered_plot, whole_plot, begun_plot, Kids, tree_of, tree_in, trees_in, cell_of, cells_in, kid_occurs, plot_occurs, kids_occur, child_node, child_owner, Holds}
+use Rattle.fr_frame.specs.Kids.{Kid, at, Plot, entered_plot, whole_plot, begun_plot, Kids, tree_of, tree_in, trees_in, cell_of, cells_in, kid_occurs, plot_occurs, kids_occur, child_node, child_owner, Holds, IsThere, AreLeftRightly, AreLeftIn, AreLeftAll}
 use Rattle.fr_store.specs.ChildLaws.{child_held, kids_held, kids_stored, not_parent, parent_is, part_uses, placed_child, plot_has}
 use Rattle.fr_store.specs.HoldLaws.{AgreeBeside, Replaces, cells_put_nth, holds_frame_in, holds_put_nth}
 use Rattle.fr_store.specs.MoveLaws.{open_at_from, open_top, tokens_kept, top_slot}
 use Rattle.fr_store.specs.Moves.{HasChild, IsOpenAt, cursor_in, tree_here, tree_in_slots}
 use Rattle.fr_store.specs.Numbers.{IsLast}
+use Rattle.fr_store.specs.LeftLaws.{at_for_at, left_as, left_nth, left_put_nth}
 use Rattle.fr_store.specs.StandLaws.{all_kept, stands_change, AllServe}
 use Rattle.fr_store.specs.Stands.{Stands, IsOpen, kid_here, kid_shown}
 use Rattle.fr_store.specs.StayLaws.{stay_all, stay_marked, stay_shown}
@@ -59,12 +59,12 @@ module _ (plan : Plan) (heap other : Heap) (stack : List ℕ) (place : Place) (k
   elsewhere m ne =
       shows m ∙ slot_other heap child (option_map (λ (x : Node). record x { stored = false }) (heap child)) m ne
 
-  held : Holds plan heap (child_node plan (node_along plan plan.root place k) form i) (child_owner top.slot form i)
+  held : Holds plan heap (child_node plan (node_along plan plan.root place k) form i) (child_owner top.slot i)
       (suc (length place)) (at child true plot)
   held =
       subst
       (λ (x : Kid). Holds plan heap (child_node plan (node_along plan plan.root place k) form i)
-      (child_owner top.slot form i) (suc (length place)) x) is
+      (child_owner top.slot i) (suc (length place)) x) is
       (child_held plan heap stack place k stands top form kids begun_now i within)
 
   beneath : (m : ℕ) → 0 < uses_in plot m → m ≢ child
@@ -85,7 +85,7 @@ module _ (plan : Plan) (heap other : Heap) (stack : List ℕ) (place : Place) (k
           let among : 0 < uses_among kids m = subst (λ (x : ℕ). 0 < uses_among kids x) (sym e) child_among in
           absurd (omega (arith, part m, stands.once m))
 
-  child_again : Holds plan other (child_node plan (node_along plan plan.root place k) form i) (child_owner top.slot form i)
+  child_again : Holds plan other (child_node plan (node_along plan plan.root place k) form i) (child_owner top.slot i)
       (suc (length place)) (at child false plot)
   child_again = (
     shows child ∙ slot_here heap child (option_map (λ (x : Node). record x { stored = false }) (heap child))
@@ -149,6 +149,15 @@ module _ (plan : Plan) (heap other : Heap) (stack : List ℕ) (place : Place) (k
       (stay_all (i ∷ []) (at child false plot) (at top.slot false (begun_plot form kids)) (within, tt)
       (stay_marked (kid_nth i kids) (at child false plot) child true false plot is refl)))
 
+  -- it was stored, so that it was no item of a set and none of a base
+  left : AreLeftRightly (kid_at place k) → AreLeftRightly again_kid
+  left all =
+      let among : AreLeftAll form 0 kids
+      = subst (λ (p : Plot). AreLeftIn p) begun_now (subst (λ (x : Kid). AreLeftRightly x) top.is all) in
+      left_put_nth form 0 i i (at child false plot) kids (omega arith)
+      (left_as form i (kid_nth i kids) (at child false plot) (λ h. refl) (λ h there. absurd (subst IsThere is there)))
+      (subst (λ (x : Kid). AreLeftRightly x) is (left_nth form 0 i i kids (omega arith) among)) among
+
   child_leads : Leads [] (at child false plot)
   child_leads =
       let marks : AllMarked true (at child true plot)
@@ -166,6 +175,8 @@ module _ (plan : Plan) (heap other : Heap) (stack : List ℕ) (place : Place) (k
         stored_but i (λ below. Leads [] below) (at child false plot) kids within
             (kids_stored plan heap stack place k stands top form kids begun_now i within) child_leads,
       )
+      (at_for_at (kid_at place k) top.slot top.slot false top.plot (begun_plot form (put_nth i (at child false plot) kids)) top.is)
+      left
       (ap (λ (s : List ℕ). s ++ child ∷ []) top.last ∙ append_assoc (slots_above place k) (top.slot ∷ []) (child ∷ [])
       ∙ ap (λ (x : Kid). slots_above place k ++ top.slot ∷ slots_along [] x)
       (sym (nth_put i (at child false plot) kids within)))
@@ -193,7 +204,7 @@ module _ (plan : Plan) (heap other : Heap) (stack : List ℕ) (place : Place) (k
 -- A child of an open builder's top that is stored is entered again.
 pub open_again : (plan : Plan) (before after : List Slot) (stack next : List ℕ) → IsOpen plan before stack → (p : ℕ)
     → IsLast stack p → (form : Form) (i : ℕ) (def : Def) (child : ℕ) → HasChild form i (tree_here before stack)
-    → IsStoredChild (heap_of before) p (step_as form i) child → Shows after (with_mark (heap_of before) child false)
+    → IsStoredChild (heap_of before) p i child → Shows after (with_mark (heap_of before) child false)
     → SameTokens before after → next ≡ stack ++ child ∷ []
     → IsOpenAt plan after next (cursor_in before stack ++ i ∷ [])
     (change_at (cursor_in before stack) (change_child i (enter def)) (tree_in_slots before stack))
@@ -206,8 +217,8 @@ open_again plan before after stack next open_now p last form i def child has sto
     let here : HasChild form i (tree_in top.plot)
     = subst (λ (t : Tree). HasChild form i t) (sym (tree_of_at place k) ∙ ap tree_of top.is) has in
     let found = plot_has form i top.plot here in
-    let at_top : IsStoredChild (heap_of before) top.slot (step_as form i) child
-    = subst (λ (x : ℕ). IsStoredChild (heap_of before) x (step_as form i) child) (sym same) stored in
+    let at_top : IsStoredChild (heap_of before) top.slot i child
+    = subst (λ (x : ℕ). IsStoredChild (heap_of before) x i child) (sym same) stored in
     let placed = placed_child plan (heap_of before) stack place k open_now.stands top form found.0 found.1 i found.2 child
     at_top.slot in
     let now : Kid = put_at place

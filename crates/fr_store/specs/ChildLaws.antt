@@ -1,7 +1,6 @@
 -- Laws of the children of the top, for proofs.
 use Rattle.std.proofs.Common.{◌≡◌, ℕ, suc, ◌+◌, ◌<◌, Bool, true, false, List, length, nat_eq, Some, refl, sym, ◌∙◌, ap, subst, arith}
 use Rattle.std.specs.Option.{option_and_then}
-use Rattle.fr_model.specs.Paths.{step_as}
 use Rattle.fr_model.specs.Places.{Place}
 use Rattle.fr_model.specs.Tree.{Form, count_trees}
 use Rattle.fr_plan.specs.TypePlan.{Plan}
@@ -79,25 +78,25 @@ module _ (plan : Plan) (heap : Heap) (stack : List ℕ) (place : Place) (k : Kid
       let same : uses_in top.plot n ≡ uses_among kids n = ap (λ (p : Plot). uses_in p n) begun_now in
       not_beneath plan heap stack place k stands top n (omega arith)
 
-  pub child_held : Holds plan heap (child_node plan (node_along plan plan.root place k) form i) (child_owner top.slot form i)
+  pub child_held : Holds plan heap (child_node plan (node_along plan plan.root place k) form i) (child_owner top.slot i)
       (suc (length place)) (kid_nth i kids)
   child_held =
       holds_nth plan heap (node_along plan plan.root place k) top.slot form 0 (suc (length place)) kids i i (omega arith) within
       kids_held
 
-  pub child_cell : option_and_then (λ (x : Node). cell_at x.body (step_as form i)) (heap top.slot)
+  pub child_cell : option_and_then (λ (x : Node). cell_at x.body i) (heap top.slot)
       ≡ Some (cell_of (kid_nth i kids))
   child_cell =
-      ap (option_and_then (λ (x : Node). cell_at x.body (step_as form i))) parent_is
+      ap (option_and_then (λ (x : Node). cell_at x.body i)) parent_is
       ∙ cell_of_child form i kids kids_may_have within
 
   -- a child that isn't stored is in no slot
-  pub unplaced_child : ((child : ℕ) → IsStoredChild heap top.slot (step_as form i) child → ⊥)
+  pub unplaced_child : ((child : ℕ) → IsStoredChild heap top.slot i child → ⊥)
       → IsUnplaced (cell_of (kid_nth i kids))
   unplaced_child none = go (kid_nth i kids) refl child_held (marked_nth true i kids kids_stored)
     where
       go : (x : Kid) → kid_nth i kids ≡ x
-          → Holds plan heap (child_node plan (node_along plan plan.root place k) form i) (child_owner top.slot form i)
+          → Holds plan heap (child_node plan (node_along plan plan.root place k) form i) (child_owner top.slot i)
           (suc (length place)) x
           → AllMarked true x → IsUnplaced (cell_of x)
       go gone e held marks = tt
@@ -109,7 +108,7 @@ module _ (plan : Plan) (heap : Heap) (stack : List ℕ) (place : Place) (k : Kid
           })
 
   -- one that is in a slot is stored
-  pub placed_child : (child : ℕ) → child_slot heap top.slot (step_as form i) ≡ Some child
+  pub placed_child : (child : ℕ) → child_slot heap top.slot i ≡ Some child
       → (plot : Plot) × (kid_nth i kids ≡ at child true plot)
   placed_child child is =
       go (kid_nth i kids) refl (sym (ap (option_and_then slot_of_cell) child_cell) ∙ is) (marked_nth true i kids kids_stored)

@@ -10,8 +10,8 @@ use Rattle.fr_model.specs.FinishLaws.{Closes, closed_at, ClosingKeepsCompletion,
 use Rattle.fr_model.specs.Paths.{steps_in, step_as}
 use Rattle.fr_model.specs.Places.{Place, deferred_column}
 use Rattle.fr_model.specs.Relation.{HasPlace}
-use Rattle.fr_model.specs.Tree.{Form, as_struct, as_array, as_variant, as_some, as_ok, as_err, as_pointer, as_list, as_slice, as_closed_slice, Tree, hole, entered, whole, begun, Trees, no_trees, branch, tree_nth, change_nth, child_tree, tree_at, change_at, child_as, shapes_from, shape_in, shape_below, count_trees}
-use Rattle.fr_model.specs.Well.{Suits, SuitAll, AreTouched, IsBegunAs, IsBegunRightly, IsContent, IsTouched}
+use Rattle.fr_model.specs.Tree.{Form, as_struct, as_array, as_variant, as_some, as_ok, as_err, as_pointer, as_list, as_slice, as_closed_slice, as_set, as_map, as_dyn_array, as_dyn_object, Tree, hole, entered, whole, begun, Trees, no_trees, branch, tree_nth, change_nth, child_tree, tree_at, change_at, child_as, shapes_from, shape_in, shape_below, count_trees}
+use Rattle.fr_model.specs.Well.{Suits, SuitAll, AreEntries, AreTouched, IsBegunAs, IsBegunRightly, IsContent, IsTouched}
 use Rattle.fr_store.specs.Turns.{CompletesAsBefore}
 use Rattle.fr_store.specs.WayLaws.{same_or_other}
 
@@ -251,6 +251,21 @@ all_touched_change i change no_trees touched all = all
 all_touched_change zero change (branch t ts) touched all = (touched, all.1)
 all_touched_change (suc i) change (branch t ts) touched all = (all.0, all_touched_change i change ts touched all.1)
 
+-- nor a key, nor a value
+entries_change : (i : ℕ) (change : Tree → Tree) (ts : Trees) → IsTouched (change (tree_nth i ts)) → AreEntries ts
+    → AreEntries (change_nth i change ts)
+entries_change i change no_trees touched all = all
+entries_change i change (branch key no_trees) touched all = absurd all
+entries_change zero change (branch key (branch value no_trees)) touched all = touched
+entries_change (suc zero) change (branch key (branch value no_trees)) touched all = all
+entries_change (suc (suc i)) change (branch key (branch value no_trees)) touched all = all
+entries_change zero change (branch key (branch value (branch next rest))) touched all = (touched, all.1, all.2)
+entries_change (suc zero) change (branch key (branch value (branch next rest))) touched all = (all.0, touched, all.2)
+entries_change (suc (suc zero)) change (branch key (branch value (branch next rest))) touched all =
+    (all.0, all.1, entries_change zero change (branch next rest) touched all.2)
+entries_change (suc (suc (suc i))) change (branch key (branch value (branch next rest))) touched all =
+    (all.0, all.1, entries_change (suc i) change (branch next rest) touched all.2)
+
 rightly_change : (table : Table) (s : ℕ) (form : Form) (i : ℕ) (change : Tree → Tree) (ts : Trees)
     → IsTouched (change (tree_nth i ts)) → IsBegunRightly table s form ts → IsBegunRightly table s form (change_nth i change ts)
 rightly_change table s as_struct i change ts touched rightly = tt
@@ -263,6 +278,11 @@ rightly_change table s as_pointer i change ts touched rightly = (content_change 
 rightly_change table s as_list i change ts touched rightly = all_touched_change i change ts touched rightly
 rightly_change table s as_slice i change ts touched rightly = (all_touched_change i change ts touched rightly.0, rightly.1)
 rightly_change table s as_closed_slice i change ts touched rightly =
+    (all_touched_change i change ts touched rightly.0, rightly.1)
+rightly_change table s as_set i change ts touched rightly = all_touched_change i change ts touched rightly
+rightly_change table s (as_map base) i change ts touched rightly = entries_change i change ts touched rightly
+rightly_change table s as_dyn_array i change ts touched rightly = all_touched_change i change ts touched rightly
+rightly_change table s (as_dyn_object keys) i change ts touched rightly =
     (all_touched_change i change ts touched rightly.0, rightly.1)
 
 -- something else that suits the place's shape is put there

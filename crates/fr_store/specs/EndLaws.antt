@@ -5,7 +5,6 @@ use Rattle.std.specs.Prelude.{is_some, IsSome, IsSomeAnd, if◌then◌else◌}
 use Rattle.fr_shape.specs.Fits.{count_vals}
 use Rattle.fr_shape.specs.Tokens.{occurs, vals_occur}
 use Rattle.fr_shape.specs.Val.{Val, Vals, no_vals, first}
-use Rattle.fr_model.specs.Paths.{step_as}
 use Rattle.fr_model.specs.Complete.{made, value_as}
 use Rattle.fr_model.specs.Places.{Place, up, one_more, vals_nth}
 use Rattle.fr_model.specs.Tree.{Form, as_struct, as_array, as_variant, as_some, as_ok, as_err, as_pointer, as_list, as_slice, as_closed_slice, whole, change_at}
@@ -16,10 +15,11 @@ use Rattle.fr_frame.specs.Bodies.{Body, entered_body, whole_body, begun_body, va
 use Rattle.fr_frame.specs.Cells.{Cell, absent, given, placed, cells_occur, values_of}
 use Rattle.fr_frame.specs.Changes.{IfInUse, SameTokens, Shows}
 use Rattle.fr_frame.specs.Heap.{Node, Heap, with_body, without, gives, held_by, heap_of, marked, stored_in, slots_occur}
-use Rattle.fr_frame.specs.Kids.{Kid, gone, there, at, Plot, begun_plot, Kids, no_kids, kid, MayHave, tree_of, cell_of, cells_in, body_in, kid_occurs, plot_occurs, child_owner, Holds}
+use Rattle.fr_frame.specs.Kids.{Kid, gone, there, at, Plot, begun_plot, Kids, no_kids, kid, MayHave, tree_of, cell_of, cells_in, body_in, kid_occurs, plot_occurs, child_owner, Holds, AreLeftIn}
 use Rattle.fr_store.specs.HoldLaws.{holds_at, may_have_at}
 use Rattle.fr_store.specs.LeaveLaws.{Above, above_of, gone_above, gone_is, left_top, owner_append, put_append, above_append, up_append, cell_of_child, may_have_put, with_child, within_put}
-use Rattle.fr_store.specs.MoveLaws.{same_last, same_front, open_at_from, open_strict}
+use Rattle.fr_store.specs.LeftLaws.{left_put_nth, left_value}
+use Rattle.fr_store.specs.MoveLaws.{same_last, same_front, open_at_held, open_strict}
 use Rattle.fr_store.specs.Moves.{IsOpenAt, cursor_in, tree_in_slots}
 use Rattle.fr_store.specs.Numbers.{IsLast}
 use Rattle.fr_store.specs.StandLaws.{all_kept_but, kid_is, AllServe}
@@ -31,39 +31,7 @@ use Rattle.fr_store.specs.TopLaws.{MayHaveIts, Top, cells_count, held_may_have, 
 use Rattle.fr_store.specs.Ways.{count_kids, kid_at, put_nth, put_below, put_at, slots_above, counts_if, uses, uses_in, NoneStored, Leads, Reaches, node_along, owner_along, owner_below}
 use Rattle.fr_store.specs.WayLaws.{counts_other, nth_put, leads_reach, occurs_put_at, tree_put_at, kid_put_at, put_at_twice, put_below_twice}
 
--- The value that a place comes to has its tokens.
-
-values_tokens : (cs : List Cell) (vs : Vals) (t : ℕ) → values_of cs ≡ Some vs → cells_occur cs t ≡ vals_occur vs t
-values_tokens [] vs t e = let same : no_vals ≡ vs = cc in ap (λ (us : Vals). vals_occur us t) same
-values_tokens (absent ∷ cs) vs t e = absurd (cc)
-values_tokens (placed n ∷ cs) vs t e = absurd (cc)
-values_tokens (given v ∷ cs) vs t e = go (values_of cs) refl e (λ us. values_tokens cs us t)
-  where
-    go : (rest : Option Vals) → values_of cs ≡ rest → one_more (Some v) rest ≡ Some vs
-        → ((us : Vals) → values_of cs ≡ Some us → cells_occur cs t ≡ vals_occur us t)
-        → occurs v t + cells_occur cs t ≡ vals_occur vs t
-    go None is h more = absurd (cc)
-    go (Some us) is h more =
-        let same : first v us ≡ vs = cc in
-        ap (λ (n : ℕ). occurs v t + n) (more us is) ∙ ap (λ (ws : Vals). vals_occur ws t) same
-
--- what is made of some values has their tokens: of more than one only a struct, an array, a variant, a list or a slice is made
-one_tokens : (vs : Vals) (t : ℕ) → count_vals vs ≤ 1 → vals_occur vs t ≡ occurs (vals_nth vs 0) t
-one_tokens no_vals t few = refl
-one_tokens (first v no_vals) t few = omega arith
-one_tokens (first v (first w vs)) t few = absurd (omega arith)
-
-made_tokens : (form : Form) (vs : Vals) (t : ℕ) → MayHave form (count_vals vs) → vals_occur vs t ≡ occurs (value_as form vs) t
-made_tokens as_struct vs t may = refl
-made_tokens as_array vs t may = refl
-made_tokens (as_variant k) vs t may = refl
-made_tokens as_some vs t may = one_tokens vs t may
-made_tokens as_ok vs t may = one_tokens vs t may
-made_tokens as_err vs t may = one_tokens vs t may
-made_tokens as_pointer vs t may = one_tokens vs t may
-made_tokens as_list vs t may = refl
-made_tokens as_slice vs t may = refl
-made_tokens as_closed_slice vs t may = refl
+-- The value that a place comes to.
 
 -- what is begun and has a value makes it of its children's
 pub made_value : (form : Form) (cells : List Cell) (v : Val) → value_of (begun_body form cells) ≡ Some v
@@ -92,15 +60,6 @@ values_count (placed n ∷ cells) vs e = absurd (cc)
 values_count (given v ∷ cells) vs e =
     let rest = more_is v (values_of cells) vs e in
     ap count_vals (sym rest.2) ∙ ap suc (values_count cells rest.0 rest.1)
-
-pub value_tokens : (body : Body) (v : Val) (t : ℕ) → MayHaveIts body → value_of body ≡ Some v → body_occurs body t ≡ occurs v t
-value_tokens entered_body v t may e = absurd (cc)
-value_tokens (whole_body w) v t may e = let same : w ≡ v = cc in ap (λ (x : Val). occurs x t) same
-value_tokens (begun_body form cells) v t may e =
-    let is = made_of form (values_of cells) v (made_value form cells v e) in
-    values_tokens cells is.0 t is.1
-    ∙ made_tokens form is.0 t (subst (λ (n : ℕ). MayHave form n) (sym (values_count cells is.0 is.1)) may)
-    ∙ ap (λ (x : Val). occurs x t) is.2
 
 unplaced_given : (i : ℕ) (v : Val) (ks : Kids) → AreUnplaced (cells_in ks) → AreUnplaced (cells_in (put_nth i (there v) ks))
 unplaced_given i v no_kids closed = tt
@@ -137,23 +96,18 @@ module _ (plan : Plan) (slots : List Slot) (stack : List ℕ) (open_now : IsOpen
       may_have_at plan (heap_of slots) plan.root FrameOwner.Root 0 above kid_now above_now.slot false above_now.form
       above_now.kids stands_now.holds (leads_reach above (i ∷ []) kid_now stands_now.leads) above_now.is
 
-  top_may_have : MayHaveIts (body_in top_now.plot)
-  top_may_have =
-      held_may_have plan (heap_of slots) (node_along plan plan.root (above ++ i ∷ []) kid_now) top_now.slot
-      (suc (length (above ++ i ∷ []))) top_now.plot top_now.children
-
-  pub owner_now : owner_along FrameOwner.Root (above ++ i ∷ []) kid_now ≡ child_owner above_now.slot above_now.form i
+  pub owner_now : owner_along FrameOwner.Root (above ++ i ∷ []) kid_now ≡ child_owner above_now.slot i
   owner_now =
       owner_append FrameOwner.Root above i kid_now
       ∙ ap (λ (x : Kid). owner_below (owner_along FrameOwner.Root above kid_now) i x) above_now.is
 
   -- all slots once the top's is free and the place above hasn't it any more
   abbrev pub without_top : ℕ → Heap
-  without_top n = without (heap_of slots) n (child_owner above_now.slot above_now.form i)
+  without_top n = without (heap_of slots) n (child_owner above_now.slot i)
 
   -- and once its value is there
   abbrev pub with_value : ℕ → Val → Heap
-  with_value n v = with_body (without_top n) above_now.slot (λ old. with_cell old (step_as above_now.form i) (given v))
+  with_value n v = with_body (without_top n) above_now.slot (λ old. with_cell old i (given v))
 
   -- the top is left
   pub stands_left : (next : List ℕ) (n : ℕ) → stack ≡ next ++ n ∷ []
@@ -178,7 +132,7 @@ module _ (plan : Plan) (slots : List Slot) (stack : List ℕ) (open_now : IsOpen
   -- what is in the top's slot
   top_is : (n : ℕ) → top_now.slot ≡ n → heap_of slots n ≡ Some (record {
     node = node_along plan plan.root (above ++ i ∷ []) kid_now;
-    owner = child_owner above_now.slot above_now.form i;
+    owner = child_owner above_now.slot i;
     stored = false;
     depth = length (above ++ i ∷ []);
     body = body_in top_now.plot;
@@ -199,7 +153,7 @@ module _ (plan : Plan) (slots : List Slot) (stack : List ℕ) (open_now : IsOpen
   owned_now n same =
       subst (λ (o : Option Node). IsSomeAnd o (λ (x : Node). held_by (heap_of slots) x.owner ≡ Some (placed n)))
       (sym (top_is n same))
-      (ap (option_and_then (λ (x : Node). cell_at x.body (step_as above_now.form i))) above_holds.0
+      (ap (option_and_then (λ (x : Node). cell_at x.body i)) above_holds.0
       ∙ cell_of_child above_now.form i above_now.kids above_may_have above_now.within
       ∙ ap (λ (x : Kid). Some (cell_of x)) (sym above_now.child ∙ top_now.is)
       ∙ ap (λ (m : ℕ). Some (placed m)) same)
@@ -238,8 +192,8 @@ module _ (plan : Plan) (slots : List Slot) (stack : List ℕ) (open_now : IsOpen
     stands_ended after v puts =
         let rest : Kids = put_nth i gone above_now.kids in
         let new : Plot = begun_plot above_now.form (put_nth i (there v) rest) in
-        let changed : with_cell (body_in top_left.plot) (step_as above_now.form i) (given v) ≡ body_in new
-        = ap (λ (p : Plot). with_cell (body_in p) (step_as above_now.form i) (given v)) plot_left
+        let changed : with_cell (body_in top_left.plot) i (given v) ≡ body_in new
+        = ap (λ (p : Plot). with_cell (body_in p) i (given v)) plot_left
         ∙ with_child above_now.form i (there v) rest (may_have_put above_now.form i gone above_now.kids above_may_have)
         (within_put i gone above_now.kids above_now.within) in
         let here : after top_left.slot ≡ Some (record {
@@ -251,9 +205,9 @@ module _ (plan : Plan) (slots : List Slot) (stack : List ℕ) (open_now : IsOpen
         })
         = puts top_left.slot
         ∙ ap
-        (λ (x : ℕ). with_body (without_top n) x (λ old. with_cell old (step_as above_now.form i) (given v)) top_left.slot)
+        (λ (x : ℕ). with_body (without_top n) x (λ old. with_cell old i (given v)) top_left.slot)
         (sym slot_left)
-        ∙ body_here (without_top n) top_left.slot (λ old. with_cell old (step_as above_now.form i) (given v)) (record {
+        ∙ body_here (without_top n) top_left.slot (λ old. with_cell old i (given v)) (record {
           node = node_along plan plan.root above (put_at (above ++ i ∷ []) gone kid_now);
           owner = owner_along FrameOwner.Root above (put_at (above ++ i ∷ []) gone kid_now);
           stored = false;
@@ -269,15 +223,18 @@ module _ (plan : Plan) (slots : List Slot) (stack : List ℕ) (open_now : IsOpen
         })) changed in
         let beside : (x : ℕ) → x ≢ top_left.slot → after x ≡ without_top n x
         = λ x ne. puts x
-        ∙ ap (λ (y : ℕ). with_body (without_top n) y (λ old. with_cell old (step_as above_now.form i) (given v)) x)
+        ∙ ap (λ (y : ℕ). with_body (without_top n) y (λ old. with_cell old i (given v)) x)
         (sym slot_left)
-        ∙ body_other (without_top n) top_left.slot (λ old. with_cell old (step_as above_now.form i) (given v)) x ne in
+        ∙ body_other (without_top n) top_left.slot (λ old. with_cell old i (given v)) x ne in
         let ended = top_replaced plan (without_top n) after next above (put_at (above ++ i ∷ []) gone kid_now) new
         (stands_left next n last) top_left
         (keeps_closed top_left.plot new
         (subst (λ (n : ℕ). MayHave above_now.form n) (sym (cells_count (put_nth i (there v) rest)))
         (may_have_put above_now.form i (there v) rest (may_have_put above_now.form i gone above_now.kids above_may_have)))
-        (unplaced_given i v rest above_now.rest)) here beside in
+        (unplaced_given i v rest above_now.rest)
+        (λ all. left_put_nth above_now.form 0 i i (there v) rest (omega arith) (λ was. left_value above_now.form i v) tt
+        (subst AreLeftIn plot_left all)))
+        here beside in
         let one : put_below i (there v) (gone_above above i kid_now above_now) ≡ at top_left.slot false new
         = ap (λ (x : ℕ). at x false new) (sym slot_left) in
         let two : put_below i (there v) (gone_above above i kid_now above_now)
@@ -303,31 +260,23 @@ module _ (plan : Plan) (slots : List Slot) (stack : List ℕ) (open_now : IsOpen
         from : (x : ℕ) → IsSome (after x)
             → IsSome (heap_of slots x) × (uses (kid_at (above ++ i ∷ []) kid_now) x ≤ uses (there v) x)
         from x used =
-            let still = used_without (heap_of slots) n (child_owner above_now.slot above_now.form i) x
+            let still = used_without (heap_of slots) n (child_owner above_now.slot i) x
             (used_mapped (without_top n) above_now.slot
-            (λ (at : Node). record at { body = with_cell at.body (step_as above_now.form i) (given v) }) x
+            (λ (at : Node). record at { body = with_cell at.body i (given v) }) x
             (subst (λ (o : Option Node). IsSome o) (puts x) used)) in
             let other : counts_if (nat_eq top_now.slot x) ≡ 0
             = counts_other top_now.slot x (λ e. still.0 (sym e ∙ slot_now next n last)) in
             (still.1, omega (arith, part x, other, closed_uses top_now.plot x closed_now))
 
     -- a builder that has ended
-    open_ended : (after : List Slot) (v : Val) → Shows after (with_value n v) → SameTokens slots after
-        → value_of (body_in top_now.plot) ≡ Some v
+    open_ended : (after : List Slot) (v : Val) → Shows after (with_value n v)
         → IsOpenAt plan after next (up (cursor_in slots stack))
         (change_at (cursor_in slots stack) (λ old. whole v) (tree_in_slots slots stack))
     unfolding kid_now
-    open_ended after v puts tokens value =
-        let ended = open_at_from plan after next above (put_at (above ++ i ∷ []) (there v) kid_now)
+    open_ended after v puts =
+        let ended = open_at_held plan after next above (put_at (above ++ i ∷ []) (there v) kid_now)
         (change_at (above ++ i ∷ []) (λ old. whole v) (tree_of kid_now))
         (stands_ended (heap_of after) v puts)
-        (λ t.
-        let here : kid_occurs (kid_at (above ++ i ∷ []) kid_now) t ≡ plot_occurs top_now.plot t
-        = ap (λ (x : Kid). kid_occurs x t) top_now.is in
-        let now : slots_occur slots t ≡ kid_occurs kid_now t = open_now.tokens t in
-        let worth : body_occurs (body_in top_now.plot) t ≡ occurs v t = value_tokens (body_in top_now.plot) v t top_may_have value in
-        let own : plot_occurs top_now.plot t ≡ body_occurs (body_in top_now.plot) t = closed_occur top_now.plot t closed_now in
-        omega (arith, occurs_put_at (above ++ i ∷ []) (there v) kid_now t reach_now, own, worth, tokens t))
         (all_ended (heap_of after) v puts) (tree_put_at (above ++ i ∷ []) (there v) kid_now) in
         subst
         (λ (p : Place). IsOpenAt plan after next (up p) (change_at p (λ old. whole v) (tree_in_slots slots stack)))
@@ -382,15 +331,15 @@ module _ (plan : Plan) (slots : List Slot) (stack : List ℕ) (open_now : IsOpen
       strict_ended complete x =
           let held = has_value complete in
           ap stored_in (puts_now held.0 held.1 x)
-          ∙ marked_body (without_top n) above_now.slot (λ old. with_cell old (step_as above_now.form i) (given held.0)) x
-          ∙ unmarked_without (heap_of slots) n (child_owner above_now.slot above_now.form i) x (nothing x)
+          ∙ marked_body (without_top n) above_now.slot (λ old. with_cell old i (given held.0)) x
+          ∙ unmarked_without (heap_of slots) n (child_owner above_now.slot i) x (nothing x)
 
       -- what ending owes, of whatever value the top comes to
-      pub ended_so : SameTokens slots after → (p : ℕ) → IsLast stack p
+      pub ended_so : (p : ℕ) → IsLast stack p
           → IfInUse slots p (λ (found : Node). (v : Val) → value_of found.body ≡ Some v
           → IsOpenAt plan after next (up (cursor_in slots stack))
           (change_at (cursor_in slots stack) (λ old. whole v) (tree_in_slots slots stack)))
-      ended_so tokens p ends_so =
+      ended_so p ends_so =
           let same : top_now.slot ≡ p
           = same_last (slots_above (above ++ i ∷ []) kid_now) ends_so.0 top_now.slot p (sym top_now.last ∙ ends_so.1) in
           subst
@@ -398,7 +347,7 @@ module _ (plan : Plan) (slots : List Slot) (stack : List ℕ) (open_now : IsOpen
           → IsOpenAt plan after next (up (cursor_in slots stack))
           (change_at (cursor_in slots stack) (λ old. whole v) (tree_in_slots slots stack))))
           (sym (top_is p same))
-          (λ v is. open_ended after v (puts_now v is) tokens is)
+          (λ v is. open_ended after v (puts_now v is))
 
     -- Its slot is free, and its value lost.
     pub strict_left : (after : List Slot)
@@ -406,4 +355,4 @@ module _ (plan : Plan) (slots : List Slot) (stack : List ℕ) (open_now : IsOpen
     strict_left after left x =
         let shows = subst (λ (o : Option Node). IsSomeAnd o (λ (y : Node). Shows after (without (heap_of slots) n y.owner)))
         (top_is n (slot_now next n last)) left in
-        ap stored_in (shows x) ∙ unmarked_without (heap_of slots) n (child_owner above_now.slot above_now.form i) x (nothing x)
+        ap stored_in (shows x) ∙ unmarked_without (heap_of slots) n (child_owner above_now.slot i) x (nothing x)

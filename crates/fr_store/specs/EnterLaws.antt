@@ -4,10 +4,10 @@ use Rattle.std.specs.Prelude.{IsSome, if◌then◌else◌}
 use Rattle.fr_shape.specs.declared.shape.Def.{Def}
 use Rattle.fr_shape.specs.Fills.{is_empty_struct}
 use Rattle.fr_shape.specs.Val.{product, no_vals}
-use Rattle.fr_model.specs.Paths.{step_as}
+use Rattle.fr_model.specs.Collections.{is_map, is_map_form}
 use Rattle.fr_model.specs.Places.{Place}
 use Rattle.fr_model.specs.Step.{enter}
-use Rattle.fr_model.specs.Tree.{Form, Tree, Trees, whole, entered, begun, fresh, change_child, tree_at, change_at}
+use Rattle.fr_model.specs.Tree.{Form, Tree, Trees, child_tree, hole, whole, entered, begun, fresh, change_child, tree_at, change_at}
 use Rattle.fr_plan.specs.declared.nodes.NodeId.{NodeId}
 use Rattle.fr_plan.specs.TypePlan.{Plan}
 use Rattle.fr_frame.specs.declared.places.FrameOwner.{FrameOwner}
@@ -15,10 +15,11 @@ use Rattle.fr_frame.specs.declared.places.Slot.{Slot}
 use Rattle.fr_frame.specs.Changes.{SameTokens, Shows}
 use Rattle.fr_frame.specs.Bodies.{Body, entered_body, whole_body, begun_body, fresh_body, taken_over, linked, linked_by, IsUnplaced, IsClosed}
 use Rattle.fr_frame.specs.Heap.{heap_of, marked, stored_in, Node, Heap, with_entered, entered_node, links, held_by, depth_below, depth_above, depth_limit}
-use Rattle.fr_frame.specs.Kids.{Kid, gone, there, at, Plot, entered_plot, whole_plot, begun_plot, Kids, MayHave, tree_of, tree_in, cell_of, cells_in, body_in, trees_in, kid_occurs, plot_occurs, kids_occur, child_node, child_owner, Holds}
+use Rattle.fr_frame.specs.Kids.{Kid, gone, there, at, Plot, entered_plot, whole_plot, begun_plot, Kids, MayHave, tree_of, tree_in, cell_of, cells_in, body_in, trees_in, kid_occurs, plot_occurs, kids_occur, child_node, child_owner, Holds, IsThere, AreLeftRightly, AreLeftIn, AreLeftAll}
 use Rattle.fr_store.specs.ChildLaws.{child_cell, kids_held, kids_may_have, kids_stored, not_parent, parent_is, part_uses, plot_has, unplaced_child}
 use Rattle.fr_store.specs.HoldLaws.{Replaces, holds_put_nth, unused}
 use Rattle.fr_store.specs.LeaveLaws.{cell_of_child, with_child}
+use Rattle.fr_store.specs.LeftLaws.{at_for_at, left_as, left_put_nth}
 use Rattle.fr_store.specs.MoveLaws.{open_at_from, open_top, tokens_kept, top_slot}
 use Rattle.fr_store.specs.Moves.{HasChild, IsOpenAt, cursor_in, node_here, tree_here, tree_in_slots}
 use Rattle.fr_store.specs.Numbers.{IsLast}
@@ -104,13 +105,13 @@ child_may_have def (at slot stored plot) = tt
 
 linked_child : (form : Form) (i n : ℕ) (ks : Kids) (plot : Plot) → MayHave form (count_kids ks) → i < count_kids ks
     → IsUnplaced (cell_of (kid_nth i ks))
-    → linked n (step_as form i) (begun_body form (cells_in ks)) ≡ begun_body form (cells_in (put_nth i (at n false plot) ks))
+    → linked n i (begun_body form (cells_in ks)) ≡ begun_body form (cells_in (put_nth i (at n false plot) ks))
 linked_child form i n ks plot may h unplaced =
-    ap (linked_by n (step_as form i) (begun_body form (cells_in ks))) (cell_of_child form i ks may h)
+    ap (linked_by n i (begun_body form (cells_in ks))) (cell_of_child form i ks may h)
     ∙ go (kid_nth i ks) unplaced
   where
     go : (k : Kid) → IsUnplaced (cell_of k)
-        → linked_by n (step_as form i) (begun_body form (cells_in ks)) (Some (cell_of k))
+        → linked_by n i (begun_body form (cells_in ks)) (Some (cell_of k))
         ≡ begun_body form (cells_in (put_nth i (at n false plot) ks))
     go gone u = with_child form i (at n false plot) ks may h
     go (there v) u = with_child form i (at n false plot) ks may h
@@ -121,14 +122,30 @@ unplaced_kid gone n u = refl
 unplaced_kid (there v) n u = refl
 unplaced_kid (at slot stored plot) n u = absurd u
 
+-- what is put at the child's place has no children yet
+child_left : (def : Def) (k : Kid) → AreLeftIn (child_plot def k)
+child_left def gone = go (is_empty_struct def)
+  where
+    go : (empty : Bool) → AreLeftIn (if empty then whole_plot (product no_vals) else entered_plot)
+    go true = tt
+    go false = tt
+child_left def (there v) = tt
+child_left def (at slot stored plot) = tt
+
+hole_not_there : (k : Kid) → tree_of k ≡ hole → IsThere k → ⊥
+hole_not_there gone e is = is
+hole_not_there (there v) e is = cc
+hole_not_there (at slot stored plot) e is = is
+
 -- Child i of the top, which is in no slot, is entered into slot n, which was free.
 module _ (plan : Plan) (heap other : Heap) (stack : List ℕ) (place : Place) (k : Kid)
     (stands : Stands plan heap stack place k) (top : Top plan heap stack place k) (form : Form) (kids : Kids)
     (begun_now : top.plot ≡ begun_plot form kids) (i : ℕ) (within : i < count_kids kids)
-    (unplaced : IsUnplaced (cell_of (kid_nth i kids))) (def : Def) (n : ℕ) (free : heap n ≡ None)
+    (unplaced : IsUnplaced (cell_of (kid_nth i kids)))
+    (vacant : is_map_form form ≡ true → IsThere (kid_nth i kids) → ⊥) (def : Def) (n : ℕ) (free : heap n ≡ None)
     (shows : (m : ℕ) → other m ≡ with_entered def heap (child_node plan (node_along plan plan.root place k) form i)
-    (child_owner top.slot form i) n m)
-    (limit : depth_below heap (child_owner top.slot form i) < depth_limit) where
+    (child_owner top.slot i) n m)
+    (limit : depth_below heap (child_owner top.slot i) < depth_limit) where
   abbrev pub entered_kids : Kids
   entered_kids = put_nth i (at n false (child_plot def (kid_nth i kids))) kids
 
@@ -147,10 +164,10 @@ module _ (plan : Plan) (heap other : Heap) (stack : List ℕ) (place : Place) (k
   })
   parent_now =
       shows top.slot
-      ∙ slot_other (links (child_owner top.slot form i) n heap) n
-      (Some (entered_node def heap (child_node plan (node_along plan plan.root place k) form i) (child_owner top.slot form i)))
+      ∙ slot_other (links (child_owner top.slot i) n heap) n
+      (Some (entered_node def heap (child_node plan (node_along plan plan.root place k) form i) (child_owner top.slot i)))
       top.slot apart
-      ∙ body_here heap top.slot (linked n (step_as form i)) (record {
+      ∙ body_here heap top.slot (linked n i) (record {
         node = node_along plan plan.root place k;
         owner = owner_along FrameOwner.Root place k;
         stored = false;
@@ -166,32 +183,32 @@ module _ (plan : Plan) (heap other : Heap) (stack : List ℕ) (place : Place) (k
       })) (linked_child form i n kids (child_plot def (kid_nth i kids))
       (kids_may_have plan heap stack place k stands top form kids begun_now i within) within unplaced)
 
-  depth_is : depth_below heap (child_owner top.slot form i) ≡ suc (length place)
+  depth_is : depth_below heap (child_owner top.slot i) ≡ suc (length place)
   depth_is = ap depth_above top.here
 
   child_now : other n ≡ Some (record {
     node = child_node plan (node_along plan plan.root place k) form i;
-    owner = child_owner top.slot form i;
+    owner = child_owner top.slot i;
     stored = false;
     depth = suc (length place);
     body = body_in (child_plot def (kid_nth i kids));
   })
   child_now =
-      let held : held_by heap (child_owner top.slot form i) ≡ Some (cell_of (kid_nth i kids))
+      let held : held_by heap (child_owner top.slot i) ≡ Some (cell_of (kid_nth i kids))
       = child_cell plan heap stack place k stands top form kids begun_now i within in
       shows n
-      ∙ slot_here (links (child_owner top.slot form i) n heap) n
-      (Some (entered_node def heap (child_node plan (node_along plan plan.root place k) form i) (child_owner top.slot form i)))
+      ∙ slot_here (links (child_owner top.slot i) n heap) n
+      (Some (entered_node def heap (child_node plan (node_along plan plan.root place k) form i) (child_owner top.slot i)))
       ∙ ap (λ (d : ℕ). Some (record {
         node = child_node plan (node_along plan plan.root place k) form i;
-        owner = child_owner top.slot form i;
+        owner = child_owner top.slot i;
         stored = false;
         depth = d;
-        body = taken_over def (held_by heap (child_owner top.slot form i));
+        body = taken_over def (held_by heap (child_owner top.slot i));
       })) depth_is
       ∙ ap (λ (b : Body). Some (record {
         node = child_node plan (node_along plan plan.root place k) form i;
-        owner = child_owner top.slot form i;
+        owner = child_owner top.slot i;
         stored = false;
         depth = suc (length place);
         body = b;
@@ -206,10 +223,10 @@ module _ (plan : Plan) (heap other : Heap) (stack : List ℕ) (place : Place) (k
   elsewhere : (m : ℕ) → m ≢ top.slot → 0 < uses k m → other m ≡ heap m
   elsewhere m ne h =
       shows m
-      ∙ slot_other (links (child_owner top.slot form i) n heap) n
-      (Some (entered_node def heap (child_node plan (node_along plan plan.root place k) form i) (child_owner top.slot form i)))
+      ∙ slot_other (links (child_owner top.slot i) n heap) n
+      (Some (entered_node def heap (child_node plan (node_along plan plan.root place k) form i) (child_owner top.slot i)))
       m serves
-      ∙ body_other heap top.slot (linked n (step_as form i)) m ne
+      ∙ body_other heap top.slot (linked n i) m ne
     where
       serves : m ≢ n
       serves e =
@@ -233,7 +250,7 @@ module _ (plan : Plan) (heap other : Heap) (stack : List ℕ) (place : Place) (k
   replaces node owner depth holds =
       let same = top_held plan heap stack place k stands top node owner depth holds in
       let child : Holds plan other (child_node plan (node_along plan plan.root place k) form i)
-      (child_owner top.slot form i) (suc (length place)) (at n false (child_plot def (kid_nth i kids)))
+      (child_owner top.slot i) (suc (length place)) (at n false (child_plot def (kid_nth i kids)))
       = (
         child_now,
         subst (λ (d : ℕ). d < depth_limit) depth_is limit,
@@ -275,7 +292,7 @@ module _ (plan : Plan) (heap other : Heap) (stack : List ℕ) (place : Place) (k
       from m used =
           go m
           (used_entered def heap (child_node plan (node_along plan plan.root place k) form i) (record { 0 = top.slot })
-          (step_as form i) n m (subst (λ (o : Option Node). IsSome o) (shows m) used))
+          i n m (subst (λ (o : Option Node). IsSome o) (shows m) used))
 
   -- no place leaves its slot
   pub stay_entered : AllStayPut k (put_at place entered_kid k)
@@ -287,6 +304,16 @@ module _ (plan : Plan) (heap other : Heap) (stack : List ℕ) (place : Place) (k
       (sym (top.is ∙ ap (λ (p : Plot). at top.slot false p) begun_now))
       (stay_all (i ∷ []) (at n false (child_plot def (kid_nth i kids))) (at top.slot false (begun_plot form kids)) (within, tt)
       (stay_unplaced (kid_nth i kids) (at n false (child_plot def (kid_nth i kids))) unplaced)))
+
+  -- it isn't stored, and it was none of a base
+  left : AreLeftRightly (kid_at place k) → AreLeftRightly entered_kid
+  left all =
+      let among : AreLeftAll form 0 kids
+      = subst (λ (p : Plot). AreLeftIn p) begun_now (subst (λ (x : Kid). AreLeftRightly x) top.is all) in
+      left_put_nth form 0 i i (at n false (child_plot def (kid_nth i kids))) kids (omega arith)
+      (left_as form i (kid_nth i kids) (at n false (child_plot def (kid_nth i kids))) (λ h. refl)
+      (λ h there. absurd (vacant h there)))
+      (child_left def (kid_nth i kids)) among
 
   pub stands_entered : Stands plan other (stack ++ n ∷ []) (place ++ i ∷ []) (put_at place entered_kid k)
   stands_entered =
@@ -300,6 +327,7 @@ module _ (plan : Plan) (heap other : Heap) (stack : List ℕ) (place : Place) (k
             (kids_stored plan heap stack place k stands top form kids begun_now i within)
             (refl, closed_marked true (child_plot def (kid_nth i kids)) (child_closed def (kid_nth i kids))),
       )
+      (at_for_at (kid_at place k) top.slot top.slot false top.plot (begun_plot form entered_kids) top.is) left
       (ap (λ (s : List ℕ). s ++ n ∷ []) top.last ∙ append_assoc (slots_above place k) (top.slot ∷ []) (n ∷ [])
       ∙ ap (λ (x : Kid). slots_above place k ++ top.slot ∷ slots_along [] x)
       (sym (nth_put i (at n false (child_plot def (kid_nth i kids))) kids within)))
@@ -329,15 +357,17 @@ module _ (plan : Plan) (heap other : Heap) (stack : List ℕ) (place : Place) (k
 module _ (plan : Plan) (before : List Slot) (stack : List ℕ) (open_now : IsOpen plan before stack) (p : ℕ)
     (last : IsLast stack p) where
   pub open_entered : (after : List Slot) (next : List ℕ) (form : Form) (i : ℕ) (def : Def) (n : ℕ) (node : NodeId)
-      → HasChild form i (tree_here before stack) → node ≡ child_node plan (node_here plan before stack) form i
-      → ((child : ℕ) → IsStoredChild (heap_of before) p (step_as form i) child → ⊥) → heap_of before n ≡ None
-      → Shows after (with_entered def (heap_of before) node (child_owner p form i) n)
-      → depth_below (heap_of before) (child_owner p form i) < depth_limit → SameTokens before after
+      → HasChild form i (tree_here before stack)
+      → (is_map (tree_here before stack) ≡ true → child_tree i (tree_here before stack) ≡ hole)
+      → node ≡ child_node plan (node_here plan before stack) form i
+      → ((child : ℕ) → IsStoredChild (heap_of before) p i child → ⊥) → heap_of before n ≡ None
+      → Shows after (with_entered def (heap_of before) node (child_owner p i) n)
+      → depth_below (heap_of before) (child_owner p i) < depth_limit → SameTokens before after
       → next ≡ stack ++ n ∷ []
       → IsOpenAt plan after next (cursor_in before stack ++ i ∷ [])
       (change_at (cursor_in before stack) (change_child i (enter def)) (tree_in_slots before stack))
       × AllStayPut (kid_here before stack) (kid_here after next)
-  open_entered after next form i def n node has is none free shows limit tokens along =
+  open_entered after next form i def n node has map_hole is none free shows limit tokens along =
       let place : Place = cursor_in before stack in
       let k : Kid = kid_shown (heap_of before) stack in
       let top = open_top plan before stack open_now in
@@ -347,34 +377,39 @@ module _ (plan : Plan) (before : List Slot) (stack : List ℕ) (open_now : IsOpe
       let found = plot_has form i top.plot here in
       let unplaced : IsUnplaced (cell_of (kid_nth i found.0))
       = unplaced_child plan (heap_of before) stack place k open_now.stands top form found.0 found.1 i found.2
-      (subst (λ (x : ℕ). (child : ℕ) → IsStoredChild (heap_of before) x (step_as form i) child → ⊥) (sym same) none) in
+      (subst (λ (x : ℕ). (child : ℕ) → IsStoredChild (heap_of before) x i child → ⊥) (sym same) none) in
+      let began : tree_here before stack ≡ begun form (trees_in found.0)
+      = sym (tree_of_at place k) ∙ ap tree_of top.is ∙ ap tree_in found.1 in
+      let vacant : is_map_form form ≡ true → IsThere (kid_nth i found.0) → ⊥
+      = λ of_map there. hole_not_there (kid_nth i found.0)
+      (tree_of_nth i found.0 ∙ ap (child_tree i) (sym began) ∙ map_hole (ap is_map began ∙ of_map)) there in
       let shown : (m : ℕ) → heap_of after m
       ≡ with_entered def (heap_of before) (child_node plan (node_along plan plan.root place k) form i)
-      (child_owner top.slot form i) n m
+      (child_owner top.slot i) n m
       = λ m. shows m
-      ∙ ap (λ (x : NodeId). with_entered def (heap_of before) x (child_owner p form i) n m) is
+      ∙ ap (λ (x : NodeId). with_entered def (heap_of before) x (child_owner p i) n m) is
       ∙ ap (λ (x : ℕ). with_entered def (heap_of before)
-      (child_node plan (node_along plan plan.root place k) form i) (child_owner x form i) n m) (sym same) in
-      let deep : depth_below (heap_of before) (child_owner top.slot form i) < depth_limit
-      = subst (λ (x : ℕ). depth_below (heap_of before) (child_owner x form i) < depth_limit) (sym same) limit in
+      (child_node plan (node_along plan plan.root place k) form i) (child_owner x i) n m) (sym same) in
+      let deep : depth_below (heap_of before) (child_owner top.slot i) < depth_limit
+      = subst (λ (x : ℕ). depth_below (heap_of before) (child_owner x i) < depth_limit) (sym same) limit in
       let now : Kid = put_at place
       (entered_kid plan (heap_of before) (heap_of after) stack place k open_now.stands top form found.0 found.1 i
-      found.2 unplaced def n free shown deep) k in
+      found.2 unplaced vacant def n free shown deep) k in
       let stands : Stands plan (heap_of after) (stack ++ n ∷ []) (place ++ i ∷ []) now
       = stands_entered plan (heap_of before) (heap_of after) stack place k open_now.stands top form found.0 found.1 i
-      found.2 unplaced def n free shown deep in
+      found.2 unplaced vacant def n free shown deep in
       let same_tokens : (t : ℕ) → kid_occurs now t ≡ kid_occurs k t
       = tokens_entered plan (heap_of before) (heap_of after) stack place k open_now.stands top form found.0 found.1 i
-      found.2 unplaced def n free shown deep in
+      found.2 unplaced vacant def n free shown deep in
       let all : AllServe (heap_of after) now
       = all_entered plan (heap_of before) (heap_of after) stack place k open_now.stands top form found.0 found.1 i
-      found.2 unplaced def n free shown deep open_now.all in
+      found.2 unplaced vacant def n free shown deep open_now.all in
       let tree : tree_of now ≡ change_at place (change_child i (enter def)) (tree_of k)
       = tree_entered plan (heap_of before) (heap_of after) stack place k open_now.stands top form found.0 found.1 i
-      found.2 unplaced def n free shown deep in
+      found.2 unplaced vacant def n free shown deep in
       let stay : AllStayPut k now
       = stay_entered plan (heap_of before) (heap_of after) stack place k open_now.stands top form found.0 found.1 i
-      found.2 unplaced def n free shown deep in
+      found.2 unplaced vacant def n free shown deep in
       subst
       (λ (s : List ℕ). IsOpenAt plan after s (place ++ i ∷ [])
       (change_at place (change_child i (enter def)) (tree_of k)) × AllStayPut k (kid_here after s)) (sym along) (
@@ -386,17 +421,18 @@ module _ (plan : Plan) (before : List Slot) (stack : List ℕ) (open_now : IsOpe
 
   -- the same, of slots that are those
   pub open_entered_from : (mid after : List Slot) (next : List ℕ) (form : Form) (i : ℕ) (def : Def) (n : ℕ) (node : NodeId)
-      → mid ≡ before → HasChild form i (tree_here before stack) → node ≡ child_node plan (node_here plan before stack) form i
-      → ((child : ℕ) → IsStoredChild (heap_of before) p (step_as form i) child → ⊥) → heap_of mid n ≡ None
-      → Shows after (with_entered def (heap_of mid) node (child_owner p form i) n)
-      → depth_below (heap_of mid) (child_owner p form i) < depth_limit → SameTokens mid after → next ≡ stack ++ n ∷ []
+      → mid ≡ before → HasChild form i (tree_here before stack)
+      → (is_map (tree_here before stack) ≡ true → child_tree i (tree_here before stack) ≡ hole) → node ≡ child_node plan (node_here plan before stack) form i
+      → ((child : ℕ) → IsStoredChild (heap_of before) p i child → ⊥) → heap_of mid n ≡ None
+      → Shows after (with_entered def (heap_of mid) node (child_owner p i) n)
+      → depth_below (heap_of mid) (child_owner p i) < depth_limit → SameTokens mid after → next ≡ stack ++ n ∷ []
       → IsOpenAt plan after next (cursor_in before stack ++ i ∷ [])
       (change_at (cursor_in before stack) (change_child i (enter def)) (tree_in_slots before stack))
       × AllStayPut (kid_here before stack) (kid_here after next)
-  open_entered_from mid after next form i def n node same has is none free shows limit tokens along =
-      open_entered after next form i def n node has is none (subst (λ (s : List Slot). heap_of s n ≡ None) same free)
-      (subst (λ (s : List Slot). Shows after (with_entered def (heap_of s) node (child_owner p form i) n)) same shows)
-      (subst (λ (s : List Slot). depth_below (heap_of s) (child_owner p form i) < depth_limit) same limit)
+  open_entered_from mid after next form i def n node same has map_hole is none free shows limit tokens along =
+      open_entered after next form i def n node has map_hole is none (subst (λ (s : List Slot). heap_of s n ≡ None) same free)
+      (subst (λ (s : List Slot). Shows after (with_entered def (heap_of s) node (child_owner p i) n)) same shows)
+      (subst (λ (s : List Slot). depth_below (heap_of s) (child_owner p i) < depth_limit) same limit)
       (subst (λ (s : List Slot). SameTokens s after) same tokens) along
 
 -- no place is stored that wasn't

@@ -10,6 +10,7 @@ use Rattle.fr_model.specs.Finish.{failures_but, failures_off}
 use Rattle.fr_model.specs.Paths.{steps_in, step_as}
 use Rattle.fr_model.specs.Places.{Place}
 use Rattle.fr_model.specs.Relation.{HasPlace}
+use Rattle.fr_model.specs.Well.{IsTouched}
 use Rattle.fr_model.specs.Tree.{Form, Tree, hole, entered, whole, begun, Trees, no_trees, branch, tree_nth, tree_at, child_as, count_trees, shape_in}
 use Rattle.fr_store.specs.HeadLaws.{contains_cases}
 
@@ -62,6 +63,7 @@ pub record TellsLack (hooks : Meanings) (table : Table) (s : ℕ) (path : List P
   pub place : HasPlace here tree
   pub path_is : failure.path ≡ path ++ steps_in here tree
   pub lacks : own_lack hooks table (shape_in table s here tree) (tree_at here tree) ≡ Some failure.kind
+  pub touched : IsTouched (tree_at here tree)
 
 -- so it is of a child, as many further on
 record TellsOfChild (hooks : Meanings) (table : Table) (s : ℕ) (form : Form) (i : ℕ) (path : List PathStep) (ts : Trees) (failure : Failure) : Type 0 where
@@ -108,6 +110,7 @@ of_begun hooks table s form path ts failure told =
           child.path_is
           ∙ append_assoc path (step_as form told.j ∷ []) (steps_in child.here (tree_nth told.j ts));
       lacks = child.lacks;
+      touched = child.touched;
     }
 
 mutual
@@ -116,7 +119,7 @@ mutual
   tells hooks table s path hole failure found = absurd (nothing_in failure found)
   tells hooks table s path entered failure found =
       let itself = at_itself path (own_lack hooks table s entered) failure found in
-      record { here = []; place = tt; path_is = itself.0 ∙ sym (append-nil path); lacks = itself.1 }
+      record { here = []; place = tt; path_is = itself.0 ∙ sym (append-nil path); lacks = itself.1; touched = tt }
   tells hooks table s path (whole v) failure found = absurd (nothing_in failure found)
   tells hooks table s path (begun form ts) failure found =
       go
@@ -130,7 +133,7 @@ mutual
       go (inl beneath) below = of_begun hooks table s form path ts failure (below beneath)
       go (inr here) below =
           let itself = at_itself path (lack_of_begun hooks table s form ts) failure here in
-          record { here = []; place = tt; path_is = itself.0 ∙ sym (append-nil path); lacks = itself.1 }
+          record { here = []; place = tt; path_is = itself.0 ∙ sym (append-nil path); lacks = itself.1; touched = tt }
 
   tells_among : (hooks : Meanings) (table : Table) (s : ℕ) (form : Form) (i : ℕ) (path : List PathStep) (ts : Trees)
       (failure : Failure) → Contains (failures_among hooks table s form i path ts) failure

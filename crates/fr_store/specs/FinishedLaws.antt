@@ -69,7 +69,7 @@ mutual
   unmarked_among plan heap node slot form i depth no_kids n holds none h = absurd (omega arith)
   unmarked_among plan heap node slot form i depth (kid k ks) n holds none h =
       go (uses k n) refl
-      (λ here. unmarked plan heap (child_node plan node form i) (child_owner slot form i) depth k n holds.0 none.0 here)
+      (λ here. unmarked plan heap (child_node plan node form i) (child_owner slot i) depth k n holds.0 none.0 here)
       (λ later. unmarked_among plan heap node slot form (suc i) depth ks n holds.1 none.1 later)
     where
       go : (count : ℕ) → uses k n ≡ count → (0 < uses k n → marked heap n ≡ false)

@@ -5,7 +5,7 @@ use Rattle.std.specs.List.{Contains}
 use Rattle.std.specs.Option.{option_or}
 use Rattle.std.specs.Prelude.{is_none, is_some}
 use Rattle.fr_path.specs.declared.path_steps.PathStep.{PathStep}
-use Rattle.fr_path.specs.Order.{number, walk_order}
+use Rattle.fr_path.specs.Order.{walk_order}
 use Rattle.fr_shape.specs.declared.error.ReflectErrorKind.{ReflectErrorKind}
 use Rattle.fr_shape.specs.Hooks.{Meanings}
 use Rattle.fr_shape.specs.Look.{Table}
@@ -18,12 +18,13 @@ use Rattle.fr_model.specs.Paths.{steps_in}
 use Rattle.fr_model.specs.Places.{Place}
 use Rattle.fr_model.specs.Relation.{HasPlace}
 use Rattle.fr_model.specs.Tree.{strict, deferred, Tree, Trees, no_trees, branch, tree_at, count_trees, shape_in}
-use Rattle.fr_model.specs.Well.{AllOff, AtCursor, OffBut, Leads as LeadsIn}
+use Rattle.fr_model.specs.Well.{AllOff, AtCursor, IsTouched, OffBut, Leads as LeadsIn}
 use Rattle.fr_frame.specs.Bodies.{IsClosed, AreUnplaced}
 use Rattle.fr_frame.specs.Kids.{Kid, gone, there, at, Plot, entered_plot, whole_plot, begun_plot, Kids, no_kids, kid, tree_of, tree_in, trees_in, cells_in, body_in}
 use Rattle.fr_store.specs.FailLaws.{TellsLack, tells_off}
 use Rattle.fr_store.specs.HeadLaws.{Head, later, head_closed}
 use Rattle.fr_store.specs.OffLaws.{marked_off, off_stored, reach_place}
+use Rattle.fr_store.specs.Places.{IsHere}
 use Rattle.fr_store.specs.Walks.{IsStoredAt, ComesBefore, IsWalk}
 use Rattle.fr_store.specs.Ways.{count_kids, kid_nth, kid_at, AllMarked, AllMarkedIn, AllMarkedAmong, StoredBut, NoneStored, Leads, Reaches}
 use Rattle.fr_store.specs.WayLaws.{tree_of_at, tree_of_nth}
@@ -178,11 +179,19 @@ mutual
     no_marks_among ks (λ i slot place h stored. none (suc i) slot place (omega arith) stored),
   )
 
+-- what lacks something by itself and is no hole is in a slot
+lacking_here : (hooks : Meanings) (table : Table) (s : ℕ) (k : Kid) (kind : ReflectErrorKind) → IsTouched (tree_of k)
+    → own_lack hooks table s (tree_of k) ≡ Some kind → IsHere k
+lacking_here hooks table s gone kind touched lacks = absurd touched
+lacking_here hooks table s (there v) kind touched lacks = absurd (cc)
+lacking_here hooks table s (at slot stored plot) kind touched lacks = tt
+
 -- The first place of a walk, where it lacks something by itself.
 module _ (hooks : Meanings) (table : Table) (s : ℕ) (k : Kid) (cursor : Place) (leads : Leads cursor k) (n : ℕ) (rest : List ℕ)
     (walk : IsWalk k (n ∷ rest)) (head : Head k n rest walk.places) (kind : ReflectErrorKind)
     (lacks : own_lack hooks table (shape_in table s head.place (tree_of k)) (tree_at head.place (tree_of k)) ≡ Some kind)
-    (told_by_numbers : (place : Place) → Reaches place k → map number (steps_in place (tree_of k)) ≡ place) where
+    (told_by_steps : (p q : Place) → Reaches p k → IsHere (kid_at p k) → Reaches q k → IsHere (kid_at q k)
+    → steps_in p (tree_of k) ≡ steps_in q (tree_of k) → p ≡ q) where
   first_failure : Failure
   first_failure = record { path = [] ++ steps_in head.place (tree_of k); kind = kind }
 
@@ -221,9 +230,11 @@ module _ (hooks : Meanings) (table : Table) (s : ℕ) (k : Kid) (cursor : Place)
 
       same_place : told.here ≡ lies.here
       same_place =
-          sym (told_by_numbers told.here (place_reach told.here k told.place))
-          ∙ ap (map number) (sym told.path_is ∙ lies.at)
-          ∙ told_by_numbers lies.here (place_reach lies.here k lies.place)
+          told_by_steps told.here lies.here (place_reach told.here k told.place)
+          (lacking_here hooks table (shape_in table s told.here (tree_of k)) (kid_at told.here k) other.kind
+          (subst IsTouched (sym (tree_of_at told.here k)) told.touched)
+          (ap (own_lack hooks table (shape_in table s told.here (tree_of k))) (tree_of_at told.here k) ∙ told.lacks))
+          (place_reach lies.here k lies.place) (subst IsHere (sym stored.1.is) tt) (sym told.path_is ∙ lies.at)
 
       go : (head.place ≡ lies.here) ⊎ Contains head.places lies.here → IsOrAfter first_failure other
       go (inl e) =

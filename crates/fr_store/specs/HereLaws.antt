@@ -8,31 +8,31 @@ use Rattle.fr_shape.specs.Look.{Table}
 use Rattle.fr_shape.specs.Fits.{count_vals}
 use Rattle.fr_shape.specs.Tokens.{occurs}
 use Rattle.fr_shape.specs.Val.{Val, Vals, no_vals, first, product, variant, some, ok, err, list_of, ptr}
-use Rattle.fr_model.specs.Complete.{complete, complete_all, hole_takes, valid_child, value_as}
+use Rattle.fr_model.specs.Complete.{complete, complete_all, failing_child, hole_takes, unless_failing, valid_child, value_as}
 use Rattle.fr_model.specs.Failing.{own_lack}
 use Rattle.fr_model.specs.Finish.{begun_with, finished_here}
-use Rattle.fr_model.specs.Laws.{CompletingKeepsTokens}
-use Rattle.fr_model.specs.Places.{Place, deferred_column, one_more, vals_nth}
-use Rattle.fr_model.specs.Tree.{Form, as_struct, as_array, as_variant, as_some, as_ok, as_err, as_pointer, as_list, as_slice, as_closed_slice, Tree, hole, whole, begun, Trees, no_trees, branch, change_at, child_as, count_trees, for_hole, shape_in, tree_at, tree_occurs, wholes}
+use Rattle.fr_model.specs.Places.{Place, entry_of, deferred_column, one_more, vals_nth}
+use Rattle.fr_model.specs.Tree.{Form, as_struct, as_array, as_variant, as_some, as_ok, as_err, as_pointer, as_list, as_slice, as_closed_slice, as_set, as_map, as_dyn_array, as_dyn_object, base_of_form, Tree, hole, whole, begun, Trees, no_trees, branch, change_at, child_as, count_trees, for_hole, shape_in, tree_at, tree_occurs, wholes}
 use Rattle.fr_model.specs.Well.{Suits}
 use Rattle.fr_plan.specs.LookupLaws.{LookupsAgree, LookupPathsAgree}
 use Rattle.fr_plan.specs.TypePlan.{Plan}
 use Rattle.fr_frame.specs.declared.places.Slot.{Slot}
-use Rattle.fr_frame.specs.Bodies.{Body, entered_body, whole_body, begun_body, body_occurs, own_tree, trees_of, value_of, IsClosed, AreUnplaced}
+use Rattle.fr_frame.specs.Bodies.{Body, entered_body, whole_body, begun_body, body_occurs, gathers, own_tree, trees_of, value_of, IsClosed, AreUnplaced}
 use Rattle.fr_frame.specs.Cells.{Cell, absent, given, placed, values_of}
 use Rattle.fr_frame.specs.Changes.{Becomes, IfInUse, SameTokens, Shows}
 use Rattle.fr_frame.specs.Completing.{shape_of, FillsAt, IsPlanFor, MayComplete}
-use Rattle.fr_frame.specs.Defaults.{KeepsForm, WhyNotDefault}
+use Rattle.fr_frame.specs.Defaults.{KeepGiven, KeepsForm, WhyNotDefault}
 use Rattle.fr_frame.specs.Heap.{Node, heap_of, marked, slots_occur, stored_in, with_body, with_slot}
-use Rattle.fr_frame.specs.Kids.{Kid, gone, MayHave, Plot, tree_of, tree_in, trees_in, cells_in, body_in, kids_in, plot_in, kid_occurs, plot_occurs}
-use Rattle.fr_store.specs.EndLaws.{made_of, made_value, more_is, value_tokens, values_count}
-use Rattle.fr_store.specs.MoveLaws.{closed_open, open_top, so_top, top_changed, top_found, top_node, top_so}
+use Rattle.fr_frame.specs.Kids.{Kid, gone, MayHave, Plot, tree_of, tree_in, trees_in, cells_in, body_in, kids_in, plot_in, kid_occurs, plot_occurs, begun_plot, entered_plot, whole_plot, AreLeftRightly, AreLeftIn, AreLeftAll}
+use Rattle.fr_store.specs.EndLaws.{made_of, made_value, more_is, values_count}
+use Rattle.fr_store.specs.LeftLaws.{left_at, left_end, left_value}
+use Rattle.fr_store.specs.MoveLaws.{closed_open, open_top, so_top, top_changed_held, top_found, top_node, top_so}
 use Rattle.fr_store.specs.Moves.{IsOpenAt, cursor_in, tree_in_slots}
 use Rattle.fr_store.specs.Numbers.{IsLast}
 use Rattle.fr_store.specs.ShapeLaws.{Along}
 use Rattle.fr_store.specs.Stands.{IsOpen}
 use Rattle.fr_store.specs.Stored.{NothingStored}
-use Rattle.fr_store.specs.TopLaws.{MayHaveIts, closed_occur, held_may_have, closed_tree, keeps_closed, loses_none, slot_here, slot_other}
+use Rattle.fr_store.specs.TopLaws.{MayHaveIts, cells_count, closed_occur, held_may_have, closed_tree, keeps_closed, loses_none, slot_here, slot_other}
 use Rattle.fr_store.specs.TurnedLaws.{along_open, count_of, may_complete, shape_along}
 use Rattle.fr_store.specs.Turning.{FinishedHere, LacksHere, becomes_whole, kid_here}
 use Rattle.fr_store.specs.Turns.{root_shape}
@@ -115,39 +115,138 @@ same_one (first v (first x vs)) (first w ws) count few e = absurd (omega arith)
 same_list : (one others : Vals) → list_of one ≡ list_of others → one ≡ others
 same_list one others e = cc
 
--- as many values of which the same is made, being so many as there may be, are the same
-same_made : (form : Form) (one others : Vals) (v : Val) → count_vals one ≡ count_vals others
+-- as many values of which the same is made, being so many as there may be, are the same; of those that a set, a map or a dynamic
+-- value is put together of that is known otherwise
+same_made : (form : Form) (one others : Vals) (v : Val) → (gathers form ≡ true → one ≡ others) → count_vals one ≡ count_vals others
     → MayHave form (count_vals one) → value_as form one ≡ v → value_as form others ≡ v → one ≡ others
-same_made as_struct one others v count may e f = let same : product one ≡ product others = e ∙ sym f in cc
-same_made as_array one others v count may e f = let same : product one ≡ product others = e ∙ sym f in cc
-same_made (as_variant k) one others v count may e f =
+same_made as_struct one others v kept count may e f = let same : product one ≡ product others = e ∙ sym f in cc
+same_made as_array one others v kept count may e f = let same : product one ≡ product others = e ∙ sym f in cc
+same_made (as_variant k) one others v kept count may e f =
     let same : variant k one ≡ variant k others = e ∙ sym f in cc
-same_made as_some one others v count may e f =
+same_made as_some one others v kept count may e f =
     let same : some (vals_nth one 0) ≡ some (vals_nth others 0) = e ∙ sym f in
     same_one one others count may (cc)
-same_made as_ok one others v count may e f =
+same_made as_ok one others v kept count may e f =
     let same : ok (vals_nth one 0) ≡ ok (vals_nth others 0) = e ∙ sym f in
     same_one one others count may (cc)
-same_made as_err one others v count may e f =
+same_made as_err one others v kept count may e f =
     let same : err (vals_nth one 0) ≡ err (vals_nth others 0) = e ∙ sym f in
     same_one one others count may (cc)
-same_made as_pointer one others v count may e f =
+same_made as_pointer one others v kept count may e f =
     let same : ptr (vals_nth one 0) ≡ ptr (vals_nth others 0) = e ∙ sym f in
     same_one one others count may (cc)
-same_made as_list one others v count may e f = let same : list_of one ≡ list_of others = e ∙ sym f in cc
-same_made as_slice one others v count may e f =
+same_made as_list one others v kept count may e f = let same : list_of one ≡ list_of others = e ∙ sym f in cc
+same_made as_slice one others v kept count may e f =
     let same : ptr (list_of one) ≡ ptr (list_of others) = e ∙ sym f in
     same_list one others (cc)
-same_made as_closed_slice one others v count may e f =
+same_made as_closed_slice one others v kept count may e f =
     let same : ptr (list_of one) ≡ ptr (list_of others) = e ∙ sym f in
     same_list one others (cc)
+same_made as_set one others v kept count may e f = kept refl
+same_made (as_map base) one others v kept count may e f = kept refl
+same_made as_dyn_array one others v kept count may e f = kept refl
+same_made (as_dyn_object keys) one others v kept count may e f = kept refl
 
-value_closed : (body : Body) (v : Val) → value_of body ≡ Some v → IsClosed body
+-- where a hole takes nothing, what completes has the value of each child that was there
+none_valid : (failing : Option ReflectErrorKind) → unless_failing failing None ≡ None
+none_valid (Some kind) = refl
+none_valid None = refl
+
+kept_values : (means : Meanings) (table : Table) (s : ℕ) (form : Form)
+    → ((i : ℕ) → hole_takes deferred_column table s form i ≡ None) → (i : ℕ) (cells others : List Cell) (vs us : Vals)
+    → complete_all deferred_column means table s form i (trees_of cells) ≡ Some vs → values_of others ≡ Some us
+    → length others ≡ length cells → KeepGiven cells others → vs ≡ us
+kept_values means table s form none i [] [] vs us e f long keep = cc
+kept_values means table s form none i [] (d ∷ ds) vs us e f long keep = absurd (omega (arith, long))
+kept_values means table s form none i (c ∷ cells) [] vs us e f long keep = absurd (omega (arith, long))
+kept_values means table s form none i (absent ∷ cells) (d ∷ ds) vs us e f long keep =
+    let lost : one_more None (complete_all deferred_column means table s form (suc i) (trees_of cells)) ≡ Some vs
+    = sym (ap (λ (value : Option Val). one_more value (complete_all deferred_column means table s form (suc i) (trees_of cells)))
+    (ap (valid_child means table s form i) (none i) ∙ none_valid (failing_child means table s form i None))) ∙ e in
+    absurd (cc)
+kept_values means table s form none i (placed n ∷ cells) (d ∷ ds) vs us e f long keep =
+    let lost : one_more None (complete_all deferred_column means table s form (suc i) (trees_of cells)) ≡ Some vs
+    = sym (ap (λ (value : Option Val). one_more value (complete_all deferred_column means table s form (suc i) (trees_of cells)))
+    (ap (valid_child means table s form i) (none i) ∙ none_valid (failing_child means table s form i None))) ∙ e in
+    absurd (cc)
+kept_values means table s form none i (given v ∷ cells) (d ∷ ds) vs us e f long keep =
+    go (failing_child means table s form i (Some v)) e
+    (λ ws is. kept_values means table s form none (suc i) cells ds ws rest.0 is rest.1 (omega (arith, long)) keep.1)
+  where
+    rest : (ws : Vals) × (values_of ds ≡ Some ws) × (first v ws ≡ us)
+    rest = more_is v (values_of ds) us (ap (λ (c : Cell). values_of (c ∷ ds)) (sym keep.0) ∙ f)
+
+    go : (failing : Option ReflectErrorKind)
+        → one_more (unless_failing failing (Some v)) (complete_all deferred_column means table s form (suc i) (trees_of cells)) ≡ Some vs
+        → ((ws : Vals) → complete_all deferred_column means table s form (suc i) (trees_of cells) ≡ Some ws → ws ≡ rest.0)
+        → vs ≡ us
+    go (Some kind) e same = absurd (cc)
+    go None e same =
+        let more = more_is v (complete_all deferred_column means table s form (suc i) (trees_of cells)) vs e in
+        sym more.2 ∙ ap (λ (ws : Vals). first v ws) (same more.0 more.1) ∙ rest.2
+
+none_taken : (table : Table) (s : ℕ) (form : Form) → gathers form ≡ true → (i : ℕ) → hole_takes deferred_column table s form i ≡ None
+none_taken table s as_set gather i = refl
+none_taken table s (as_map base) gather i = refl
+none_taken table s as_dyn_array gather i = refl
+none_taken table s (as_dyn_object keys) gather i = refl
+none_taken table s as_struct gather i = absurd (cc)
+none_taken table s (as_variant k) gather i = absurd (cc)
+none_taken table s as_array gather i = refl
+none_taken table s as_some gather i = refl
+none_taken table s as_ok gather i = refl
+none_taken table s as_err gather i = refl
+none_taken table s as_pointer gather i = refl
+none_taken table s as_list gather i = refl
+none_taken table s as_slice gather i = refl
+none_taken table s as_closed_slice gather i = refl
+
+pub value_closed : (body : Body) (v : Val) → value_of body ≡ Some v → IsClosed body
 value_closed entered_body v e = tt
 value_closed (whole_body w) v e = tt
 value_closed (begun_body form cells) v e =
     let values = made_of form (values_of cells) v (made_value form cells v e) in
     values_unplaced cells values.0 values.1
+
+-- what has a value has all its children: of a base none is missing, where there are as many as there were
+given_left : (form : Form) (i : ℕ) (cells : List Cell) (vs : Vals) (m : ℕ) → m ≡ i + length cells → base_of_form form ≤ entry_of m
+    → values_of cells ≡ Some vs → AreLeftAll form i (kids_in (λ slot. gone) cells)
+given_left form i [] vs m long past e =
+    let same : m ≡ i = omega arith in
+    subst (λ (n : ℕ). base_of_form form ≤ entry_of n) same past
+given_left form i (absent ∷ cells) vs m long past e = absurd (cc)
+given_left form i (placed n ∷ cells) vs m long past e = absurd (cc)
+given_left form i (given v ∷ cells) vs m long past e =
+    let rest = more_is v (values_of cells) vs e in
+    (left_value form i v, tt, given_left form (suc i) cells rest.0 m (omega arith) past rest.1)
+
+-- a place has the children of its base
+abbrev HasBase : Body → Type 0
+HasBase entered_body = Unit {0}
+HasBase (whole_body v) = Unit {0}
+HasBase (begun_body form cells) = base_of_form form ≤ entry_of (length cells)
+
+value_left : (body : Body) (v : Val) → HasBase body → value_of body ≡ Some v → AreLeftIn (closed_plot body)
+value_left entered_body v has e = tt
+value_left (whole_body w) v has e = tt
+value_left (begun_body form cells) v has e =
+    let values = made_of form (values_of cells) v (made_value form cells v e) in
+    given_left form 0 cells values.0 (length cells) (omega arith) has values.1
+
+left_base : (plot : Plot) → AreLeftIn plot → HasBase (body_in plot)
+left_base entered_plot left = tt
+left_base (whole_plot v) left = tt
+left_base (begun_plot form kids) left =
+    left_end form 0 kids (length (cells_in kids)) (omega (arith, cells_count kids)) left
+
+kept_base : (was now : Body) → becomes_whole was ≡ false → HasBase was → KeepsForm was now → HasBase now
+kept_base entered_body now e has keeps = absurd (cc)
+kept_base (whole_body v) now e has keeps = subst (λ (b : Body). HasBase b) (sym keeps) tt
+kept_base (begun_body form cells) entered_body e has keeps = absurd keeps
+kept_base (begun_body form cells) (whole_body w) e has keeps = absurd keeps
+kept_base (begun_body form cells) (begun_body other others) e has keeps =
+    subst (λ (n : ℕ). base_of_form other ≤ entry_of n) (sym keeps.1)
+    (subst (λ (f : Form). base_of_form f ≤ entry_of (length cells)) (sym keeps.0) has)
 
 -- what a place that doesn't become whole becomes, by the place that it was
 finished_as : (means : Meanings) (table : Table) (s : ℕ) (was now : Body) (v : Val) → becomes_whole was ≡ false
@@ -164,7 +263,9 @@ finished_as means table s (begun_body form cells) (begun_body other others) v e 
     let made_count : count_vals was.0 ≡ length cells
     = completed_count means table s form 0 (trees_of cells) was.0 was.1 ∙ count_of cells in
     let same : was.0 ≡ now.0
-    = same_made form was.0 now.0 v (made_count ∙ sym keeps.1 ∙ sym (values_count others now.0 now.1))
+    = same_made form was.0 now.0 v
+    (λ gather. kept_values means table s form (none_taken table s form gather) 0 cells others was.0 now.0 was.1 now.1 keeps.1 keeps.2)
+    (made_count ∙ sym keeps.1 ∙ sym (values_count others now.0 now.1))
     (subst (λ (n : ℕ). MayHave form n) (sym made_count) may) was.2
     (ap (λ (f : Form). value_as f now.0) (sym keeps.0) ∙ now.2) in
     ap (option_map (begun_with form)) was.1
@@ -298,41 +399,19 @@ module _ (plan : Plan) (before : List Slot) (stack : List ℕ) (open_now : IsOpe
           ∙ fills.filled.meant
 
       -- in the end it has this body, and all else is as it was
-      module _ (keeps_tokens : CompletingKeepsTokens) (after : List Slot) (body : Body)
-          (valued : value_of body ≡ Some fills.filled.value) (may : MayHaveIts body)
+      module _ (after : List Slot) (body : Body)
+          (valued : value_of body ≡ Some fills.filled.value) (may : MayHaveIts body) (has_base : HasBase body)
           (meant : finished_here means table (shape_of plan (top_node plan before stack open_now n last).node)
           (own_tree (top_node plan before stack open_now n last).body)
           ≡ Some (own_tree body))
           (shows : (m : ℕ)
           → heap_of after m
-          ≡ with_slot (heap_of before) n (Some (record (top_node plan before stack open_now n last) { body = body })) m)
-          (tokens : SameTokens before after) where
+          ≡ with_slot (heap_of before) n (Some (record (top_node plan before stack open_now n last) { body = body })) m) where
         changed : Shows after (with_body (heap_of before) n (λ old. body))
         changed m =
             shows m
             ∙ ap (λ (found : Option Node). with_slot (heap_of before) n (option_map (λ (x : Node). record x { body = body }) found) m)
             (sym (top_found plan before stack open_now n last))
-
-        tokens_there : (t : ℕ)
-            → slots_occur after t + plot_occurs (open_top plan before stack open_now).plot t
-            ≡ slots_occur before t + plot_occurs (closed_plot body) t
-        tokens_there t =
-            let top = open_top plan before stack open_now in
-            let part : plot_occurs top.plot t ≡ tree_occurs (tree_at (cursor_in before stack) (tree_in_slots before stack)) t
-            = ap (λ (x : Kid). kid_occurs x t) (sym top.is) ∙ tree_tokens (kid_at (cursor_in before stack) (kid_here before stack)) t
-            ∙ ap (λ (x : Tree). tree_occurs x t) (tree_of_at (cursor_in before stack) (kid_here before stack)) in
-            let value : occurs fills.filled.value t
-            ≡ tree_occurs (tree_at (cursor_in before stack) (tree_in_slots before stack)) t
-            = keeps_tokens deferred_column means table
-            (shape_in table (root_shape plan) (cursor_in before stack) (tree_in_slots before stack))
-            (tree_at (cursor_in before stack) (tree_in_slots before stack)) fills.filled.value t checked here.suits makes in
-            let back = body_back body (value_closed body fills.filled.value valued) in
-            let new : plot_occurs (closed_plot body) t ≡ body_occurs body t
-            = closed_occur (closed_plot body) t
-            (subst IsClosed (sym back) (value_closed body fills.filled.value valued))
-            ∙ ap (λ (b : Body). body_occurs b t) back in
-            omega
-            (arith, tokens t, part, value, new, value_tokens body fills.filled.value t may valued)
 
         finished_now : FinishedHere means table plan before stack after
         unfolding top_node
@@ -347,13 +426,14 @@ module _ (plan : Plan) (before : List Slot) (stack : List ℕ) (open_now : IsOpe
               (λ (t : Tree). IsOpenAt plan after stack (cursor_in before stack)
               (change_at (cursor_in before stack) (λ old. t) (tree_in_slots before stack)))
               (tree_back body)
-              (top_changed plan before after stack open_now n last (λ old. body) (closed_plot body)
+              (top_changed_held plan before after stack open_now n last (λ old. body) (closed_plot body)
               (body_back body (value_closed body fills.filled.value valued))
               (keeps_closed (open_top plan before stack open_now).plot (closed_plot body)
               (subst (λ (b : Body). MayHaveIts b) (sym (body_back body (value_closed body fills.filled.value valued))) may)
               (subst IsClosed (sym (body_back body (value_closed body fills.filled.value valued)))
-              (value_closed body fills.filled.value valued)))
-              (loses_none (open_top plan before stack open_now).plot (closed_plot body) closed) changed tokens_there);
+              (value_closed body fills.filled.value valued))
+              (λ all. value_left body fills.filled.value has_base valued))
+              (loses_none (open_top plan before stack open_now).plot (closed_plot body) closed) changed);
         }
 
         nothing_now : NothingStored after
@@ -374,8 +454,7 @@ module _ (plan : Plan) (before : List Slot) (stack : List ℕ) (open_now : IsOpe
                 ∙ strict m
 
       -- one that stays as it was
-      module _ (keeps_tokens : CompletingKeepsTokens) (tokens : SameTokens before first)
-          (form : IfInUse before n (λ (x : Node). IfInUse first n (λ (y : Node). KeepsForm x.body y.body)))
+      module _ (form : IfInUse before n (λ (x : Node). IfInUse first n (λ (y : Node). KeepsForm x.body y.body)))
           (plain : IfInUse before n (λ (x : Node). false ≡ becomes_whole x.body)) where
         kept_so : KeepsForm (top_node plan before stack open_now n last).body fills.body
         kept_so =
@@ -392,6 +471,15 @@ module _ (plan : Plan) (before : List Slot) (stack : List ℕ) (open_now : IsOpe
         it_may_have =
             kept_may_have (top_node plan before stack open_now n last).body fills.body not_whole its_may_have kept_so
 
+        it_has_base : HasBase fills.body
+        unfolding top_node
+        it_has_base =
+            kept_base (top_node plan before stack open_now n last).body fills.body not_whole
+            (left_base (open_top plan before stack open_now).plot
+            (subst (λ (x : Kid). AreLeftRightly x) (open_top plan before stack open_now).is
+            (left_at (cursor_in before stack) (kid_here before stack) open_now.stands.left)))
+            kept_so
+
         as_it_was : finished_here means table (shape_of plan (top_node plan before stack open_now n last).node)
             (own_tree (top_node plan before stack open_now n last).body)
             ≡ Some (own_tree fills.body)
@@ -402,13 +490,13 @@ module _ (plan : Plan) (before : List Slot) (stack : List ℕ) (open_now : IsOpe
 
         pub finished_begun : FinishedHere means table plan before stack first
         finished_begun =
-            finished_now keeps_tokens first fills.body fills.filled.held it_may_have as_it_was fills.becomes tokens
+            finished_now first fills.body fills.filled.held it_may_have it_has_base as_it_was fills.becomes
 
         pub nothing_begun : NothingStored first
-        nothing_begun = nothing_now keeps_tokens first fills.body fills.filled.held it_may_have as_it_was fills.becomes tokens
+        nothing_begun = nothing_now first fills.body fills.filled.held it_may_have it_has_base as_it_was fills.becomes
 
       -- one that becomes whole
-      module _ (keeps_tokens : CompletingKeepsTokens) (after : List Slot) (tokens : SameTokens before after)
+      module _ (after : List Slot)
           (whole_then : IfInUse first n (λ (x : Node). (v : Val) → value_of x.body ≡ Some v → Becomes first after n x (whole_body v)))
           (plain : IfInUse before n (λ (x : Node). true ≡ becomes_whole x.body)) where
         becomes : Becomes first after n (record (top_node plan before stack open_now n last) { body = fills.body })
@@ -452,7 +540,7 @@ module _ (plan : Plan) (before : List Slot) (stack : List ℕ) (open_now : IsOpe
             (sym (top_so plan before stack open_now n last (λ (x : Node). true ≡ becomes_whole x.body) plain)) fills.filled.meant
 
         pub finished_whole : FinishedHere means table plan before stack after
-        finished_whole = finished_now keeps_tokens after (whole_body fills.filled.value) refl tt as_whole shows_whole tokens
+        finished_whole = finished_now after (whole_body fills.filled.value) refl tt tt as_whole shows_whole
 
         pub nothing_whole : NothingStored after
-        nothing_whole = nothing_now keeps_tokens after (whole_body fills.filled.value) refl tt as_whole shows_whole tokens
+        nothing_whole = nothing_now after (whole_body fills.filled.value) refl tt tt as_whole shows_whole

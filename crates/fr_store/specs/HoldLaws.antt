@@ -1,8 +1,5 @@
 -- Laws of what heaps hold, for proofs: other heaps that hold the same, or the same with something else at one place.
 use Rattle.std.proofs.Common.{◌≡◌, ◌≢◌, ◌⊎◌, ℕ, zero, suc, ◌+◌, ◌<◌, Bool, false, List, [], ◌∷◌, ◌++◌, length, map, nat_eq, Option, Some, None, inl, inr, refl, sym, ◌∙◌, ap, subst, arith}
-use Rattle.fr_path.specs.declared.path_steps.PathStep.{PathStep}
-use Rattle.fr_path.specs.Order.{number}
-use Rattle.fr_model.specs.Paths.{step_as, steps_in}
 use Rattle.fr_model.specs.Places.{Place}
 use Rattle.fr_model.specs.Tree.{Form, Tree, tree_nth}
 use Rattle.fr_plan.specs.declared.nodes.NodeId.{NodeId}
@@ -12,9 +9,9 @@ use Rattle.fr_frame.specs.Bodies.{begun_body}
 use Rattle.fr_frame.specs.Cells.{Cell}
 use Rattle.fr_frame.specs.Heap.{Node, Heap, depth_limit, marked, stored_in}
 use Rattle.fr_frame.specs.Kids.{Kid, gone, there, at, Plot, entered_plot, whole_plot, begun_plot, Kids, no_kids, kid, MayHave, tree_of, trees_in, cell_of, cells_in, body_in, kid_in, kids_in, plot_in, kid_by, kid_from, child_node, child_owner, Holds, HoldsIn, HoldsAll}
-use Rattle.fr_store.specs.Stands.{step_of_owner, step_to, steps_to}
+use Rattle.fr_store.specs.Stands.{cursor_shown, number_of_owner, number_to}
 use Rattle.fr_store.specs.Ways.{count_kids, kid_nth, kid_at, put_nth, put_at, slots_along, counts_if, uses, uses_in, uses_among, AllMarkedIn, AllMarkedAmong, NoneStored, Leads, Reaches, node_along, owner_along}
-use Rattle.fr_store.specs.WayLaws.{counts_same, counts_other, same_or_other, leads_reach, leads_at, number_of_step, uses_nth, uses_at, tree_of_nth}
+use Rattle.fr_store.specs.WayLaws.{counts_same, counts_other, same_or_other, leads_reach, leads_at, uses_nth, uses_at, tree_of_nth}
 
 -- the other heap has the same under each number that serves in it
 abbrev pub AgreeOn : Heap → Heap → Kid → Type 0
@@ -45,7 +42,7 @@ mutual
       → HoldsAll plan other node slot form i depth ks
   holds_frame_among plan heap other node slot form i depth no_kids holds agree = holds
   holds_frame_among plan heap other node slot form i depth (kid k ks) holds agree = (
-    holds_frame plan heap other (child_node plan node form i) (child_owner slot form i) depth k holds.0
+    holds_frame plan heap other (child_node plan node form i) (child_owner slot i) depth k holds.0
         (λ n h. agree n (omega arith)),
     holds_frame_among plan heap other node slot form (suc i) depth ks holds.1 (λ n h. agree n (omega arith)),
   )
@@ -75,7 +72,7 @@ mutual
   unused_among plan heap node slot form i depth no_kids n holds free = refl
   unused_among plan heap node slot form i depth (kid k ks) n holds free =
       omega
-      (arith, unused plan heap (child_node plan node form i) (child_owner slot form i) depth k n holds.0 free, unused_among plan heap node slot form (suc i) depth ks n holds.1 free)
+      (arith, unused plan heap (child_node plan node form i) (child_owner slot i) depth k n holds.0 free, unused_among plan heap node slot form (suc i) depth ks n holds.1 free)
 
 -- where nothing that the heap holds is stored
 mutual
@@ -97,7 +94,7 @@ mutual
       → HoldsAll plan heap node slot form i depth ks → ((n : ℕ) → marked heap n ≡ false) → AllMarkedAmong false ks
   none_stored_among plan heap node slot form i depth no_kids holds none = tt
   none_stored_among plan heap node slot form i depth (kid k ks) holds none = (
-    none_stored plan heap (child_node plan node form i) (child_owner slot form i) depth k holds.0 none,
+    none_stored plan heap (child_node plan node form i) (child_owner slot i) depth k holds.0 none,
     none_stored_among plan heap node slot form (suc i) depth ks holds.1 none,
   )
 
@@ -105,11 +102,11 @@ mutual
 
 pub holds_nth : (plan : Plan) (heap : Heap) (node : NodeId) (slot : ℕ) (form : Form) (first depth : ℕ) (ks : Kids) (i m : ℕ)
     → m ≡ first + i → i < count_kids ks → HoldsAll plan heap node slot form first depth ks
-    → Holds plan heap (child_node plan node form m) (child_owner slot form m) depth (kid_nth i ks)
+    → Holds plan heap (child_node plan node form m) (child_owner slot m) depth (kid_nth i ks)
 holds_nth plan heap node slot form first depth no_kids i m e h holds = absurd (omega arith)
 holds_nth plan heap node slot form first depth (kid k ks) zero m e h holds =
     let same : first ≡ m = omega arith in
-    subst (λ (j : ℕ). Holds plan heap (child_node plan node form j) (child_owner slot form j) depth k) same holds.0
+    subst (λ (j : ℕ). Holds plan heap (child_node plan node form j) (child_owner slot j) depth k) same holds.0
 holds_nth plan heap node slot form first depth (kid k ks) (suc i) m e h holds =
     holds_nth plan heap node slot form (suc first) depth ks i m (omega arith) (omega arith) holds.1
 
@@ -125,9 +122,9 @@ holds_at plan heap node owner depth (i ∷ place) (at slot stored (begun_plot fo
     let child = holds_nth plan heap node slot form 0 (suc depth) kids i i (omega arith) reach.0 holds.2 in
     subst
     (λ (d : ℕ). Holds plan heap (node_along plan (child_node plan node form i) place (kid_nth i kids))
-    (owner_along (child_owner slot form i) place (kid_nth i kids)) d (kid_at place (kid_nth i kids)))
+    (owner_along (child_owner slot i) place (kid_nth i kids)) d (kid_at place (kid_nth i kids)))
     same
-    (holds_at plan heap (child_node plan node form i) (child_owner slot form i) (suc depth) place (kid_nth i kids) child
+    (holds_at plan heap (child_node plan node form i) (child_owner slot i) (suc depth) place (kid_nth i kids) child
     reach.1)
 holds_at plan heap node owner depth (i ∷ place) (at slot stored entered_plot) holds reach = absurd reach
 holds_at plan heap node owner depth (i ∷ place) (at slot stored (whole_plot v)) holds reach = absurd reach
@@ -158,23 +155,6 @@ may_have_at plan heap node owner depth place k slot stored form kids holds reach
     (holds_at plan heap node owner depth place k holds reach) in
     may_have_all plan heap (node_along plan node place k) slot form (suc (depth + length place)) kids held.2
 
--- the numbers of the steps to a place are the place
-pub numbers_at : (plan : Plan) (heap : Heap) (node : NodeId) (owner : FrameOwner) (depth : ℕ) (place : Place) (k : Kid)
-    → Holds plan heap node owner depth k → Reaches place k → map number (steps_in place (tree_of k)) ≡ place
-numbers_at plan heap node owner depth [] k holds reach = refl
-numbers_at plan heap node owner depth (i ∷ place) (at slot stored (begun_plot form kids)) holds reach =
-    let child = holds_nth plan heap node slot form 0 (suc depth) kids i i (omega arith) reach.0 holds.2 in
-    ap (λ (n : ℕ). n ∷ map number (steps_in place (tree_nth i (trees_in kids))))
-    (number_of_step form (count_kids kids) i (may_have_all plan heap node slot form (suc depth) kids holds.2) reach.0)
-    ∙ ap (λ (t : Tree). i ∷ map number (steps_in place t)) (sym (tree_of_nth i kids))
-    ∙ ap (λ (more : Place). i ∷ more)
-    (numbers_at plan heap (child_node plan node form i) (child_owner slot form i) (suc depth) place (kid_nth i kids) child
-    reach.1)
-numbers_at plan heap node owner depth (i ∷ place) (at slot stored entered_plot) holds reach = absurd reach
-numbers_at plan heap node owner depth (i ∷ place) (at slot stored (whole_plot v)) holds reach = absurd reach
-numbers_at plan heap node owner depth (i ∷ place) gone holds reach = absurd reach
-numbers_at plan heap node owner depth (i ∷ place) (there v) holds reach = absurd reach
-
 -- Something else at one place.
 
 -- where one heap holds the old, the other holds the new
@@ -193,11 +173,11 @@ pub replaced_nth : (plan : Plan) (heap other : Heap) (node : NodeId) (slot : ℕ
     → HoldsAll plan heap node slot form first depth ks → HoldsAll plan other node slot form first depth (put_nth i new ks)
 replaced_nth plan heap other node slot form first depth no_kids i new step agree holds = holds
 replaced_nth plan heap other node slot form first depth (kid k ks) zero new step agree holds = (
-  step (child_node plan node form first) (child_owner slot form first) depth holds.0,
+  step (child_node plan node form first) (child_owner slot first) depth holds.0,
   holds_frame_among plan heap other node slot form (suc first) depth ks holds.1 (λ n h. agree n (omega arith)),
 )
 replaced_nth plan heap other node slot form first depth (kid k ks) (suc i) new step agree holds = (
-  holds_frame plan heap other (child_node plan node form first) (child_owner slot form first) depth k holds.0
+  holds_frame plan heap other (child_node plan node form first) (child_owner slot first) depth k holds.0
       (λ n h. agree n (omega (arith, uses_nth i ks n))),
   replaced_nth plan heap other node slot form (suc first) depth ks i new step (λ n h. agree n (omega arith)) holds.1,
 )
@@ -206,16 +186,16 @@ replaced_nth plan heap other node slot form first depth (kid k ks) (suc i) new s
 pub holds_put_nth : (plan : Plan) (heap other : Heap) (node : NodeId) (slot : ℕ) (form : Form) (first depth : ℕ) (ks : Kids)
     (i m : ℕ) (new : Kid) → m ≡ first + i → ((n : ℕ) → uses (kid_nth i ks) n < uses_among ks n → other n ≡ heap n)
     → HoldsAll plan heap node slot form first depth ks
-    → Holds plan other (child_node plan node form m) (child_owner slot form m) depth new
+    → Holds plan other (child_node plan node form m) (child_owner slot m) depth new
     → HoldsAll plan other node slot form first depth (put_nth i new ks)
 holds_put_nth plan heap other node slot form first depth no_kids i m new e agree holds is = holds
 holds_put_nth plan heap other node slot form first depth (kid k ks) zero m new e agree holds is =
     let same : m ≡ first = omega arith in (
-      subst (λ (j : ℕ). Holds plan other (child_node plan node form j) (child_owner slot form j) depth new) same is,
+      subst (λ (j : ℕ). Holds plan other (child_node plan node form j) (child_owner slot j) depth new) same is,
       holds_frame_among plan heap other node slot form (suc first) depth ks holds.1 (λ n h. agree n (omega arith)),
     )
 holds_put_nth plan heap other node slot form first depth (kid k ks) (suc i) m new e agree holds is = (
-  holds_frame plan heap other (child_node plan node form first) (child_owner slot form first) depth k holds.0
+  holds_frame plan heap other (child_node plan node form first) (child_owner slot first) depth k holds.0
       (λ n h. agree n (omega (arith, uses_nth i ks n))),
   holds_put_nth plan heap other node slot form (suc first) depth ks i m new (omega arith) (λ n h. agree n (omega arith))
       holds.1 is,
@@ -302,26 +282,25 @@ mutual
   read_back_among plan heap node slot form i depth levels no_kids e holds = refl
   read_back_among plan heap node slot form i depth levels (kid k ks) e holds =
       ap (λ (x : Kid). kid x (kids_in (kid_from levels heap) (cells_in ks)))
-      (read_back plan heap (child_node plan node form i) (child_owner slot form i) depth levels k e holds.0)
+      (read_back plan heap (child_node plan node form i) (child_owner slot i) depth levels k e holds.0)
       ∙ ap (λ (xs : Kids). kid k xs) (read_back_among plan heap node slot form (suc i) depth levels ks e holds.1)
 
--- the steps that the owners tell are those of the tree
-pub steps_read : (plan : Plan) (heap : Heap) (node : NodeId) (owner : FrameOwner) (depth : ℕ) (place : Place) (k : Kid)
+-- the numbers that the owners tell are the place
+pub numbers_read : (plan : Plan) (heap : Heap) (node : NodeId) (owner : FrameOwner) (depth : ℕ) (place : Place) (k : Kid)
     → Holds plan heap node owner depth k → Leads place k
-    → steps_to heap (slots_along place k) ≡ step_of_owner owner ++ steps_in place (tree_of k)
-steps_read plan heap node owner depth [] (at slot stored plot) holds leads =
-    ap (λ (found : Option Node). step_to found ++ []) holds.0
-steps_read plan heap node owner depth [] gone holds leads = absurd leads
-steps_read plan heap node owner depth [] (there v) holds leads = absurd leads
-steps_read plan heap node owner depth (i ∷ place) (at slot stored (begun_plot form kids)) holds leads =
+    → cursor_shown heap (slots_along place k) ≡ number_of_owner owner ++ place
+numbers_read plan heap node owner depth [] (at slot stored plot) holds leads =
+    ap (λ (found : Option Node). number_to found ++ []) holds.0
+numbers_read plan heap node owner depth [] gone holds leads = absurd leads
+numbers_read plan heap node owner depth [] (there v) holds leads = absurd leads
+numbers_read plan heap node owner depth (i ∷ place) (at slot stored (begun_plot form kids)) holds leads =
     let reach = leads_reach (i ∷ []) place (at slot stored (begun_plot form kids)) leads in
     let child = holds_nth plan heap node slot form 0 (suc depth) kids i i (omega arith) reach.0 holds.2 in
-    ap (λ (found : Option Node). step_to found ++ steps_to heap (slots_along place (kid_nth i kids))) holds.0
-    ∙ ap (λ (steps : List PathStep). step_of_owner owner ++ steps)
-    (steps_read plan heap (child_node plan node form i) (child_owner slot form i) (suc depth) place (kid_nth i kids) child
-    (leads_at (i ∷ []) place (at slot stored (begun_plot form kids)) leads)
-    ∙ ap (λ (t : Tree). step_as form i ∷ steps_in place t) (tree_of_nth i kids))
-steps_read plan heap node owner depth (i ∷ place) (at slot stored entered_plot) holds leads = absurd leads.1
-steps_read plan heap node owner depth (i ∷ place) (at slot stored (whole_plot v)) holds leads = absurd leads.1
-steps_read plan heap node owner depth (i ∷ place) gone holds leads = absurd leads
-steps_read plan heap node owner depth (i ∷ place) (there v) holds leads = absurd leads
+    ap (λ (found : Option Node). number_to found ++ cursor_shown heap (slots_along place (kid_nth i kids))) holds.0
+    ∙ ap (λ (more : Place). number_of_owner owner ++ more)
+    (numbers_read plan heap (child_node plan node form i) (child_owner slot i) (suc depth) place (kid_nth i kids) child
+    (leads_at (i ∷ []) place (at slot stored (begun_plot form kids)) leads))
+numbers_read plan heap node owner depth (i ∷ place) (at slot stored entered_plot) holds leads = absurd leads.1
+numbers_read plan heap node owner depth (i ∷ place) (at slot stored (whole_plot v)) holds leads = absurd leads.1
+numbers_read plan heap node owner depth (i ∷ place) gone holds leads = absurd leads
+numbers_read plan heap node owner depth (i ∷ place) (there v) holds leads = absurd leads

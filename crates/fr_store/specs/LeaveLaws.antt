@@ -1,24 +1,23 @@
 -- Laws of leaving the top, for proofs: its slot is free again, and its owner hasn't that child.
 use Rattle.std.proofs.Common.{◌≡◌, ◌≢◌, ◌⊎◌, ℕ, zero, suc, ◌+◌, ◌<◌, ◌≤◌, Bool, true, false, List, [], ◌∷◌, ◌++◌, append-nil, nat_eq, Option, Some, None, slice_get, set, inl, inr, refl, sym, ◌∙◌, ap, subst, arith}
-use Rattle.std.specs.Option.{option_and_then}
 use Rattle.std.specs.Prelude.{if◌then◌else◌}
 use Rattle.std.proofs.lemmas.Grind.{common_steps}
 use Rattle.std.proofs.lemmas.Bool.Decides.{nat_tests}
-use Rattle.fr_model.specs.Paths.{step_as}
 use Rattle.fr_model.specs.Places.{Place, is_root, up}
-use Rattle.fr_model.specs.Tree.{Form, as_struct, as_array, as_variant, as_some, as_ok, as_err, as_pointer, as_list, as_slice, as_closed_slice}
+use Rattle.fr_model.specs.Tree.{Form}
 use Rattle.fr_plan.specs.TypePlan.{Plan}
 use Rattle.fr_frame.specs.declared.places.FrameOwner.{FrameOwner}
-use Rattle.fr_frame.specs.Bodies.{Body, begun_body, cell_at, with_cell, with_nth, unlinked, unlinked_by, child_number, AreUnplaced}
+use Rattle.fr_frame.specs.Bodies.{Body, begun_body, cell_at, with_cell, unlinked, unlinked_by, AreUnplaced}
 use Rattle.fr_frame.specs.Cells.{Cell, absent, placed}
 use Rattle.fr_frame.specs.Heap.{Heap, with_slot, with_body, without}
-use Rattle.fr_frame.specs.Kids.{Kid, gone, there, at, Plot, entered_plot, whole_plot, begun_plot, Kids, no_kids, kid, MayHave, cell_of, cells_in, child_owner, Holds}
+use Rattle.fr_frame.specs.Kids.{Kid, gone, there, at, Plot, entered_plot, whole_plot, begun_plot, Kids, no_kids, kid, MayHave, cell_of, cells_in, child_owner, Holds, IsThere, AreLeftRightly}
 use Rattle.fr_store.specs.HoldLaws.{AgreeBeside, Replaces, may_have_all}
+use Rattle.fr_store.specs.LeftLaws.{at_for_at, left_as, left_put_nth}
 use Rattle.fr_store.specs.StandLaws.{stands_change}
 use Rattle.fr_store.specs.Stands.{Stands}
 use Rattle.fr_store.specs.TopLaws.{slot_other, body_here, body_other, unplaced_uses, unplaced_holds, unplaced_by_marks, closed_marked, Top}
 use Rattle.fr_store.specs.Ways.{count_kids, kid_nth, kid_below, kid_at, put_nth, put_below, put_at, slots_above, counts_if, uses, uses_in, uses_among, AllMarked, AllMarkedAmong, StoredBut, NoneStored, Leads, owner_along, owner_below}
-use Rattle.fr_store.specs.WayLaws.{count_put, counts_same, only_one, same_or_other, leads_reach, leads_at, marked_at, uses_at, uses_nth}
+use Rattle.fr_store.specs.WayLaws.{count_put, counts_same, same_or_other, leads_reach, leads_at, marked_at, uses_at, uses_nth}
 
 -- Ways in two parts.
 
@@ -76,30 +75,13 @@ cells_put i new no_kids = refl
 cells_put zero new (kid k ks) = refl
 cells_put (suc i) new (kid k ks) = ap (λ (cs : List Cell). cell_of k ∷ cs) (cells_put i new ks)
 
--- the step of a child leads to it
-pub number_of_child : (form : Form) (count i : ℕ) → MayHave form count → i < count → child_number form (step_as form i) ≡ Some i
-number_of_child as_struct count i may h = refl
-number_of_child as_array count i may h = refl
-number_of_child (as_variant k) count i may h = refl
-number_of_child as_some count i may h = ap (λ (n : ℕ). Some n) (only_one count i may h)
-number_of_child as_ok count i may h = ap (λ (n : ℕ). Some n) (only_one count i may h)
-number_of_child as_err count i may h = ap (λ (n : ℕ). Some n) (only_one count i may h)
-number_of_child as_pointer count i may h = ap (λ (n : ℕ). Some n) (only_one count i may h)
-number_of_child as_list count i may h = refl
-number_of_child as_slice count i may h = refl
-number_of_child as_closed_slice count i may h = refl
-
 pub cell_of_child : (form : Form) (i : ℕ) (ks : Kids) → MayHave form (count_kids ks) → i < count_kids ks
-    → cell_at (begun_body form (cells_in ks)) (step_as form i) ≡ Some (cell_of (kid_nth i ks))
-cell_of_child form i ks may h =
-    ap (option_and_then (slice_get (cells_in ks))) (number_of_child form (count_kids ks) i may h) ∙ cells_nth i ks h
+    → cell_at (begun_body form (cells_in ks)) i ≡ Some (cell_of (kid_nth i ks))
+cell_of_child form i ks may h = cells_nth i ks h
 
 pub with_child : (form : Form) (i : ℕ) (new : Kid) (ks : Kids) → MayHave form (count_kids ks) → i < count_kids ks
-    → with_cell (begun_body form (cells_in ks)) (step_as form i) (cell_of new) ≡ begun_body form (cells_in (put_nth i new ks))
-with_child form i new ks may h =
-    ap (λ (found : Option ℕ). begun_body form (with_nth (cells_in ks) (cell_of new) found))
-    (number_of_child form (count_kids ks) i may h)
-    ∙ ap (begun_body form) (cells_put i new ks)
+    → with_cell (begun_body form (cells_in ks)) i (cell_of new) ≡ begun_body form (cells_in (put_nth i new ks))
+with_child form i new ks may h = ap (begun_body form) (cells_put i new ks)
 
 -- as many children as before
 pub may_have_put : (form : Form) (i : ℕ) (new : Kid) (ks : Kids) → MayHave form (count_kids ks)
@@ -111,13 +93,13 @@ within_put i new ks h = subst (λ (n : ℕ). i < n) (sym (count_put i new ks)) h
 
 pub unlinked_child : (form : Form) (i n : ℕ) (ks : Kids) → MayHave form (count_kids ks) → i < count_kids ks
     → cell_of (kid_nth i ks) ≡ placed n
-    → unlinked n (step_as form i) (begun_body form (cells_in ks)) ≡ begun_body form (cells_in (put_nth i gone ks))
+    → unlinked n i (begun_body form (cells_in ks)) ≡ begun_body form (cells_in (put_nth i gone ks))
 unlinked_child form i n ks may h is =
     let e : nat_eq n n ≡ true = grind (arith, common_steps, nat_tests) in
-    ap (unlinked_by n (step_as form i) (begun_body form (cells_in ks)))
+    ap (unlinked_by n i (begun_body form (cells_in ks)))
     (cell_of_child form i ks may h ∙ ap (λ (c : Cell). Some c) is)
     ∙ ap
-    (λ (b : Bool). if b then with_cell (begun_body form (cells_in ks)) (step_as form i) absent
+    (λ (b : Bool). if b then with_cell (begun_body form (cells_in ks)) i absent
     else begun_body form (cells_in ks)) e
     ∙ with_child form i gone ks may h
 
@@ -184,7 +166,9 @@ left_top plan heap other stack next above i k n stands top found same shows alon
     subst (λ (x : Kid). Stands plan other next above x) (sym (gone_is above i k found))
     (subst (λ (p : Place). Stands plan other next p (put_at above new k)) (append-nil above)
     (stands_change plan heap other stack next above (i ∷ []) [] new k stands (ap cell_of (sym found.is)) agree replaces once
-    (refl, closed_marked true (begun_plot found.form rest) found.rest) along))
+    (refl, closed_marked true (begun_plot found.form rest) found.rest)
+    (at_for_at (kid_at above k) found.slot found.slot false (begun_plot found.form found.kids) (begun_plot found.form rest) found.is)
+    left along))
   where
     rest : Kids
     rest = put_nth i gone found.kids
@@ -197,6 +181,13 @@ left_top plan heap other stack next above i k n stands top found same shows alon
 
     child : kid_nth i found.kids ≡ at top.slot false top.plot
     child = sym found.child ∙ top.is
+
+    -- the child was in a slot, so that it was none of a base
+    left : AreLeftRightly (kid_at above k) → AreLeftRightly new
+    left all =
+        left_put_nth found.form 0 i i gone found.kids (omega arith)
+        (left_as found.form i (kid_nth i found.kids) gone (λ h. refl) (λ h is. absurd (subst IsThere child is))) tt
+        (subst AreLeftRightly found.is all)
 
     child_uses : (m : ℕ) → counts_if (nat_eq n m) ≤ uses_among found.kids m
     child_uses m =
@@ -219,18 +210,18 @@ left_top plan heap other stack next above i k n stands top found same shows alon
         = ap (λ (m : ℕ). counts_if (nat_eq m found.slot)) (sym e) ∙ one in
         absurd (omega (arith, part found.slot, child_uses found.slot, once_here found.slot))
 
-    owner : owner_along FrameOwner.Root (above ++ i ∷ []) k ≡ child_owner found.slot found.form i
+    owner : owner_along FrameOwner.Root (above ++ i ∷ []) k ≡ child_owner found.slot i
     owner =
         owner_append FrameOwner.Root above i k
         ∙ ap (λ (x : Kid). owner_below (owner_along FrameOwner.Root above k) i x) found.is
 
     now : (m : ℕ) → other m
-        ≡ with_body (with_slot heap n None) found.slot (unlinked n (step_as found.form i)) m
+        ≡ with_body (with_slot heap n None) found.slot (unlinked n i) m
     now m = shows m ∙ ap (λ (o : FrameOwner). without heap n o m) owner
 
     elsewhere : (m : ℕ) → m ≢ found.slot → m ≢ n → other m ≡ heap m
     elsewhere m a b =
-        now m ∙ body_other (with_slot heap n None) found.slot (unlinked n (step_as found.form i)) m a
+        now m ∙ body_other (with_slot heap n None) found.slot (unlinked n i) m a
         ∙ slot_other heap n None m b
 
     agree : AgreeBeside heap other k (kid_at above k)
@@ -250,7 +241,7 @@ left_top plan heap other stack next above i k n stands top found same shows alon
     replaces node by depth holds =
         let was = subst (λ (x : Kid). Holds plan heap node by depth x) found.is holds in (
           now found.slot
-              ∙ body_here (with_slot heap n None) found.slot (unlinked n (step_as found.form i)) (record {
+              ∙ body_here (with_slot heap n None) found.slot (unlinked n i) (record {
                 node = node;
                 owner = by;
                 stored = false;

@@ -1,5 +1,7 @@
 pub mod AgainLaws
 pub mod BeginLaws
+pub mod Beneath
+pub mod BeneathLaws
 pub mod ChildLaws
 pub mod ClosingLaws
 pub mod EndLaws
@@ -12,6 +14,7 @@ pub mod HeldLaws
 pub mod HereLaws
 pub mod HoldLaws
 pub mod LeaveLaws
+pub mod LeftLaws
 pub mod MoveLaws
 pub mod Moves
 pub mod Numbers
@@ -24,8 +27,10 @@ pub mod StandLaws
 pub mod Stands
 pub mod StayLaws
 pub mod Staying
+pub mod StepLaws
 pub mod StoreLaws
 pub mod Stored
+pub mod TokenLaws
 pub mod TopLaws
 pub mod TurnLaws
 pub mod TurnedLaws

@@ -20,6 +20,7 @@ use Rattle.fr_store.specs.HoldLaws.{none_stored}
 use Rattle.fr_store.specs.StandLaws.{all_kept, open_from, cursor_is, tree_is, AllServe}
 use Rattle.fr_store.specs.Stands.{Stands, IsOpen, kid_here, kid_shown}
 use Rattle.fr_store.specs.Stored.{NothingStored}
+use Rattle.fr_store.specs.TokenLaws.{tokens_held}
 use Rattle.fr_store.specs.TopLaws.{body_here, body_other, closed_occur, closed_top, keeps_closed, loses_none, top_uses, used_mapped, KeepsChildren, LosesNone, Top, top_of, top_replaced}
 use Rattle.fr_store.specs.Ways.{kid_at, put_at, slots_above, NoneStored, Leads, Reaches, node_along, owner_along}
 use Rattle.fr_store.specs.WayLaws.{leads_reach, occurs_put_at, tree_put_at, tree_of_at, tree_tokens}
@@ -132,6 +133,13 @@ open_at_from plan slots stack place k tree stands tokens all is = record {
   built = tree_is plan (heap_of slots) stack place k stands ∙ is;
 }
 
+-- the same where nothing is known of tokens: the slots hold those of what stands
+pub open_at_held : (plan : Plan) (slots : List Slot) (stack : List ℕ) (place : Place) (k : Kid) (tree : Tree)
+    → Stands plan (heap_of slots) stack place k → AllServe (heap_of slots) k → tree_of k ≡ tree
+    → IsOpenAt plan slots stack place tree
+open_at_held plan slots stack place k tree stands all is =
+    open_at_from plan slots stack place k tree stands (tokens_held plan slots stack place k stands all) all is
+
 -- the slots hold the tokens of the tree
 pub slots_tokens : (plan : Plan) (slots : List Slot) (stack : List ℕ) → IsOpen plan slots stack
     → (t : ℕ) → slots_occur slots t ≡ tree_occurs (tree_in_slots slots stack) t
@@ -222,6 +230,30 @@ top_changed plan before after stack open_now n last change new is keeps loses sh
     (λ m. omega (arith, top_uses plan (heap_of before) stack place k open_now.stands top m, loses m)))
     (tree_put_at place (at top.slot false new) k)
 
+-- the same where nothing is known of tokens
+pub top_changed_held : (plan : Plan) (before after : List Slot) (stack : List ℕ) (open_now : IsOpen plan before stack) (n : ℕ)
+    → IsLast stack n → (change : Body → Body) (new : Plot)
+    → body_in new ≡ change (body_in (open_top plan before stack open_now).plot)
+    → KeepsChildren (open_top plan before stack open_now).plot new
+    → LosesNone (open_top plan before stack open_now).plot new
+    → Shows after (with_body (heap_of before) n change)
+    → IsOpenAt plan after stack (cursor_in before stack)
+    (change_at (cursor_in before stack) (λ old. tree_in new) (tree_in_slots before stack))
+top_changed_held plan before after stack open_now n last change new is keeps loses shows =
+    let k : Kid = kid_shown (heap_of before) stack in
+    let place : Place = cursor_in before stack in
+    let top = open_top plan before stack open_now in
+    open_at_held plan after stack place (put_at place (at top.slot false new) k)
+    (change_at place (λ old. tree_in new) (tree_of k))
+    (top_stands plan before after stack open_now n last change new is keeps shows)
+    (all_kept (heap_of before) (heap_of after) place (at top.slot false new) k (open_reach plan before stack open_now)
+    open_now.all
+    (λ m used.
+    used_mapped (heap_of before) n (λ (x : Node). record x { body = change x.body }) m
+    (subst (λ (o : Option Node). IsSome o) (shows m) used))
+    (λ m. omega (arith, top_uses plan (heap_of before) stack place k open_now.stands top m, loses m)))
+    (tree_put_at place (at top.slot false new) k)
+
 -- Where none of the top's children is in a slot.
 module _ (plan : Plan) (before : List Slot) (stack : List ℕ) (open_now : IsOpen plan before stack) (n : ℕ) (last : IsLast stack n)
     (closed : IsClosed (body_in (open_top plan before stack open_now).plot)) where
@@ -255,5 +287,5 @@ module _ (plan : Plan) (before : List Slot) (stack : List ℕ) (open_now : IsOpe
       (λ (found : Node). (t : ℕ) → slots_occur before t + occurs v t
       ≡ slots_occur after t + body_occurs found.body t) tokens in
       top_changed plan before after stack open_now n last (λ old. whole_body v) (whole_plot v) refl
-      (keeps_closed top.plot (whole_plot v) tt tt) (loses_none top.plot (whole_plot v) closed) shows
+      (keeps_closed top.plot (whole_plot v) tt tt (λ h. tt)) (loses_none top.plot (whole_plot v) closed) shows
       (λ t. omega (arith, so t, closed_occur top.plot t closed))

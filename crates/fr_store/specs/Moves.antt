@@ -1,11 +1,12 @@
 -- What the moves of a builder do, as contracts see it.
-use Rattle.std.specs.Prelude.{◌≡◌, ℕ, ◌<◌, List, Option, Some, None}
+use Rattle.std.specs.Prelude.{◌≡◌, ℕ, ◌<◌, Bool, ◌||◌, List, Option, Some, None}
 use Rattle.fr_shape.specs.declared.shape.Def.{Def}
 use Rattle.fr_shape.specs.Val.{Val}
-use Rattle.fr_path.specs.declared.path_steps.PathStep.{PathStep}
+use Rattle.fr_model.specs.Collections.{is_set, is_set_form}
 use Rattle.fr_model.specs.Contents.{around, content_of}
+use Rattle.fr_model.specs.DynamicPlaces.{is_begun_dynamic, is_dynamic_form}
 use Rattle.fr_model.specs.Places.{Place}
-use Rattle.fr_model.specs.Tree.{Form, as_struct, as_array, as_variant, as_some, as_ok, as_err, as_pointer, as_list, as_slice, as_closed_slice, Tree, hole, entered, whole, begun, and_last, count_below, count_trees, fresh, change_at, tree_at, tree_occurs}
+use Rattle.fr_model.specs.Tree.{Form, as_struct, as_array, as_variant, as_some, as_ok, as_err, as_pointer, as_list, as_slice, as_closed_slice, as_set, as_map, as_dyn_array, as_dyn_object, Tree, hole, entered, whole, begun, and_last, count_below, count_trees, fresh, change_at, tree_at, tree_occurs}
 use Rattle.fr_plan.specs.declared.nodes.NodeId.{NodeId}
 use Rattle.fr_plan.specs.TypePlan.{Plan}
 use Rattle.fr_frame.specs.declared.places.FrameOwner.{FrameOwner}
@@ -50,25 +51,10 @@ tokens_in slots stack t = tree_occurs (tree_in_slots slots stack) t
 abbrev pub AtTop : List Slot → List ℕ → (Node → Type 0) → Type 0
 AtTop slots stack So = (n : ℕ) → IsLast stack n → IfInUse slots n So
 
--- the step leads to a field, an element or an item, or, as to number 0, to a content, a side or a pointee
-abbrev pub IsNumberedStep : PathStep → Type 0
-IsNumberedStep (PathStep.Field i) = Unit {0}
-IsNumberedStep (PathStep.Index i) = Unit {0}
-IsNumberedStep PathStep.Deref = Unit {0}
-IsNumberedStep PathStep.Inner = ⊥
-IsNumberedStep PathStep.OptionSome = Unit {0}
-IsNumberedStep PathStep.Proxy = ⊥
-IsNumberedStep (PathStep.MapKey i) = ⊥
-IsNumberedStep (PathStep.MapValue i) = ⊥
-IsNumberedStep PathStep.ResultOk = Unit {0}
-IsNumberedStep PathStep.ResultErr = Unit {0}
-IsNumberedStep PathStep.SetItem = ⊥
-IsNumberedStep (PathStep.Entry key) = ⊥
-
--- such a step leads to a place of this owner from the one above
-abbrev pub OwnerIsNumbered : FrameOwner → Type 0
-OwnerIsNumbered FrameOwner.Root = ⊥
-OwnerIsNumbered (FrameOwner.Child parent step) = IsNumberedStep step
+-- the place of this owner is a child of one above
+abbrev pub HasOwner : FrameOwner → Type 0
+HasOwner FrameOwner.Root = ⊥
+HasOwner (FrameOwner.Child parent i) = Unit {0}
 
 -- a place that is begun so may have any number of children
 abbrev pub TakesMany : Form → Type 0
@@ -82,6 +68,10 @@ TakesMany as_pointer = ⊥
 TakesMany as_list = Unit {0}
 TakesMany as_slice = Unit {0}
 TakesMany as_closed_slice = Unit {0}
+TakesMany as_set = Unit {0}
+TakesMany (as_map base) = Unit {0}
+TakesMany as_dyn_array = Unit {0}
+TakesMany (as_dyn_object keys) = Unit {0}
 
 -- with this content, if it has one, the place is begun as an option around it; else it stays as it was
 abbrev pub around_content : (content : Option Val) → (old : Tree) → Tree
@@ -120,6 +110,22 @@ with_item_of def entered = entered
 with_item_of def (whole v) = whole v
 with_item_of def (begun form ts) = begun form (and_last ts (fresh def))
 
+-- a begun map with one more entry behind the others: its key, of this definition, is just entered, and its value isn't there yet; any
+-- other place stays as it was
+abbrev pub with_key_of : Def → Tree → Tree
+with_key_of def hole = hole
+with_key_of def entered = entered
+with_key_of def (whole v) = whole v
+with_key_of def (begun form ts) = begun form (and_last (and_last ts (fresh def)) hole)
+
+-- a place that is begun so is a set or a dynamic value: its children are completed as they are left, and are never stored
+abbrev pub takes_at_end_as : Form → Bool
+takes_at_end_as form = is_set_form form || is_dynamic_form form
+
+-- so it is of what stands here
+abbrev pub takes_at_end : Tree → Bool
+takes_at_end tree = is_set tree || is_begun_dynamic tree
+
 -- a place that is begun so is a pointer to a slice, open or closed
 abbrev pub IsSlice : Form → Type 0
 IsSlice as_slice = Unit {0}
@@ -132,6 +138,10 @@ IsSlice as_ok = ⊥
 IsSlice as_err = ⊥
 IsSlice as_pointer = ⊥
 IsSlice as_list = ⊥
+IsSlice as_set = ⊥
+IsSlice (as_map base) = ⊥
+IsSlice as_dyn_array = ⊥
+IsSlice (as_dyn_object keys) = ⊥
 
 -- the place is begun as one
 abbrev pub IsBegunSlice : Tree → Type 0

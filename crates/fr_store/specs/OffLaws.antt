@@ -21,12 +21,12 @@ nth_other zero (suc j) new (kid k ks) ne = refl
 nth_other (suc i) zero new (kid k ks) ne = refl
 nth_other (suc i) (suc j) new (kid k ks) ne = nth_other i j new ks (λ e. ne (ap suc e))
 
-among_nth : (i : ℕ) (ks : Kids) → AllMarkedAmong true ks → AllMarked true (kid_nth i ks)
+pub among_nth : (i : ℕ) (ks : Kids) → AllMarkedAmong true ks → AllMarked true (kid_nth i ks)
 among_nth i no_kids all = tt
 among_nth zero (kid k ks) all = all.0
 among_nth (suc i) (kid k ks) all = among_nth i ks all.1
 
-but_nth : (i j : ℕ) (Below : Kid → Type 0) (ks : Kids) → StoredBut j Below ks → i ≢ j → AllMarked true (kid_nth i ks)
+pub but_nth : (i j : ℕ) (Below : Kid → Type 0) (ks : Kids) → StoredBut j Below ks → i ≢ j → AllMarked true (kid_nth i ks)
 but_nth i j Below no_kids but ne = absurd but
 but_nth zero zero Below (kid k ks) but ne = absurd (ne refl)
 but_nth zero (suc j) Below (kid k ks) but ne = but.0
@@ -64,7 +64,7 @@ off_same : (i j : ℕ) (place here : Place) → i ≡ j → IsOffTheWay (j ∷ p
 off_same i j place here e off =
     off_below j place here (subst (λ (n : ℕ). IsOffTheWay (j ∷ place) (n ∷ here)) e off)
 
-leads_same : (i j : ℕ) (place : Place) (ks : Kids) → i ≡ j → StoredBut j (λ below. Leads place below) ks
+pub leads_same : (i j : ℕ) (place : Place) (ks : Kids) → i ≡ j → StoredBut j (λ below. Leads place below) ks
     → Leads place (kid_nth i ks)
 leads_same i j place ks e but =
     subst (λ (n : ℕ). Leads place (kid_nth n ks)) (sym e) (below_nth j (λ below. Leads place below) ks but)

@@ -1,14 +1,15 @@
 -- Places in slots, listed by their paths: what the order of the walk is made of.
-use Rattle.std.specs.Prelude.{◌≡◌, ◌⊎◌, ℕ, ◌+◌, ◌-◌, ◌*◌, ◌<◌, ◌≤◌, Bool, true, false, cond, List, [], ◌∷◌, ◌++◌, filter, length, ltb, map, nat_eq, IsSomeAnd}
+use Rattle.std.specs.Prelude.{◌≡◌, ◌⊎◌, ℕ, ◌+◌, ◌-◌, ◌*◌, ◌<◌, ◌≤◌, Bool, true, false, cond, List, [], ◌∷◌, ◌++◌, filter, length, ltb, map, nat_eq, Option, Some, None, IsSomeAnd, if◌then◌else◌}
 use Rattle.std.specs.List.{All, Contains}
-use Rattle.fr_path.specs.Order.{number}
-use Rattle.fr_model.specs.Places.{Place}
+use Rattle.fr_model.specs.Places.{Place, is_key, entry_of}
+use Rattle.fr_model.specs.Tree.{Form, as_struct, as_array, as_variant, as_some, as_ok, as_err, as_pointer, as_list, as_slice, as_closed_slice, as_set, as_map, as_dyn_array, as_dyn_object}
 use Rattle.fr_frame.specs.declared.places.FrameOwner.{FrameOwner}
+use Rattle.fr_frame.specs.Bodies.{Body, entered_body, whole_body, begun_body}
 use Rattle.fr_frame.specs.Heap.{Node, Heap}
-use Rattle.fr_frame.specs.Kids.{Kid, gone, there, at}
+use Rattle.fr_frame.specs.Kids.{Kid, gone, there, at, Plot, entered_plot, whole_plot, begun_plot, body_in}
 use Rattle.fr_store.specs.declared.turning.StoredPlace.{StoredPlace}
 use Rattle.fr_store.specs.Numbers.{slot_of, slots_of}
-use Rattle.fr_store.specs.Ways.{counts_if, kid_at, Reaches}
+use Rattle.fr_store.specs.Ways.{counts_if, kid_at, kid_below, Reaches}
 
 -- Lists.
 
@@ -25,6 +26,73 @@ counts_in n (m ∷ ms) = counts_if (nat_eq m n) + counts_in n ms
 -- none is in it twice
 abbrev pub AreOnce : List ℕ → Type 0
 AreOnce ms = (n : ℕ) → counts_in n ms ≤ 1
+
+-- The order of children.
+
+-- where child i comes among the children of a place that is begun so: a map's keys all come before its values
+abbrev pub order_as : Form → ℕ → ℕ
+order_as as_struct i = i
+order_as as_array i = i
+order_as (as_variant k) i = i
+order_as as_some i = i
+order_as as_ok i = i
+order_as as_err i = i
+order_as as_pointer i = i
+order_as as_list i = i
+order_as as_slice i = i
+order_as as_closed_slice i = i
+order_as as_set i = i
+order_as (as_map base) i = if is_key i then entry_of i else entry_of i + 2147483648
+order_as as_dyn_array i = i
+order_as (as_dyn_object keys) i = i
+
+-- the same of what was put at the place
+abbrev pub order_in : Body → ℕ → ℕ
+order_in entered_body i = i
+order_in (whole_body v) i = i
+order_in (begun_body form cells) i = order_as form i
+
+abbrev pub order_at : Option Node → ℕ → ℕ
+order_at (Some found) i = order_in found.body i
+order_at None i = i
+
+abbrev pub order_below : ℕ → Kid → ℕ
+order_below i gone = i
+order_below i (there v) = i
+order_below i (at slot stored plot) = order_in (body_in plot) i
+
+-- of two children the first comes later
+abbrev pub IsLater : (first_is_key second_is_key : Bool) → (i j : ℕ) → Type 0
+IsLater false true i j = Unit {0}
+IsLater true false i j = ⊥
+IsLater true true i j = j < i
+IsLater false false i j = j < i
+
+abbrev pub IsAfter : Form → (i j : ℕ) → Type 0
+IsAfter as_struct i j = j < i
+IsAfter as_array i j = j < i
+IsAfter (as_variant k) i j = j < i
+IsAfter as_some i j = j < i
+IsAfter as_ok i j = j < i
+IsAfter as_err i j = j < i
+IsAfter as_pointer i j = j < i
+IsAfter as_list i j = j < i
+IsAfter as_slice i j = j < i
+IsAfter as_closed_slice i j = j < i
+IsAfter as_set i j = j < i
+IsAfter (as_map base) i j = IsLater (is_key i) (is_key j) i j
+IsAfter as_dyn_array i j = j < i
+IsAfter (as_dyn_object keys) i j = j < i
+
+abbrev pub IsAfterIn : Plot → (i j : ℕ) → Type 0
+IsAfterIn entered_plot i j = j < i
+IsAfterIn (whole_plot v) i j = j < i
+IsAfterIn (begun_plot form kids) i j = IsAfter form i j
+
+abbrev pub IsAfterBelow : Kid → (i j : ℕ) → Type 0
+IsAfterBelow gone i j = j < i
+IsAfterBelow (there v) i j = j < i
+IsAfterBelow (at slot stored plot) i j = IsAfterIn plot i j
 
 -- Places.
 
@@ -52,15 +120,16 @@ pub record IsPlaced (k : Kid) (place : Place) : Type 0 where
 abbrev pub slot_at : Kid → Place → ℕ
 slot_at k place = slot_here (kid_at place k)
 
--- of two ways of one length: where they part, the first has the child of the higher number
-abbrev pub IsAbove : (first second : Place) → Type 0
-IsAbove [] second = ⊥
-IsAbove (i ∷ first) [] = ⊥
-IsAbove (i ∷ first) (j ∷ second) = (j < i) ⊎ ((i ≡ j) × IsAbove first second)
+-- of two ways of one length: where they part, the first has the child that comes later there
+abbrev pub IsAbove : Kid → (first second : Place) → Type 0
+IsAbove k [] second = ⊥
+IsAbove k (i ∷ first) [] = ⊥
+IsAbove k (i ∷ first) (j ∷ second) =
+    IsAfterBelow k i j ⊎ ((i ≡ j) × IsAbove (kid_below i k) first second)
 
 -- the shorter way comes first, and of two of one length that which is above
-abbrev pub ComesEarlier : (first second : Place) → Type 0
-ComesEarlier first second = (length first < length second) ⊎ ((length first ≡ length second) × IsAbove first second)
+abbrev pub ComesEarlier : Kid → (first second : Place) → Type 0
+ComesEarlier k first second = (length first < length second) ⊎ ((length first ≡ length second) × IsAbove k first second)
 
 -- a place that is stored lies there
 abbrev pub IsStoredHere : Kid → Place → Type 0
@@ -72,26 +141,27 @@ pub record IsSpread (k : Kid) (slots : List ℕ) : Type 0 where
   pub placed : All (IsPlaced k) places
   pub stored : All (IsStoredHere k) places
   pub slots_are : slots ≡ map (slot_at k) places
-  pub order : Pairs ComesEarlier places
+  pub order : Pairs (ComesEarlier k) places
   pub all : (place : Place) → IsPlaced k place → IsStoredHere k place → Contains places place
 
--- What is noted of a stored place: where the place above lies, and the step from there.
+-- What is noted of a stored place: where the place above lies, which child it is there, and where it comes among those.
 
 abbrev pub IsNarrow : StoredPlace → Type 0
-IsNarrow place = place.step < 4294967296
+IsNarrow place = (place.number < 4294967296) × (place.order < 4294967296)
 
 -- a place of this owner belongs there
-abbrev pub BelongsTo : StoredPlace → FrameOwner → Type 0
-BelongsTo place FrameOwner.Root = ⊥
-BelongsTo place (FrameOwner.Child parent step) = (place.parent ≡ parent.0) × (place.step ≡ number step)
+abbrev pub BelongsTo : Heap → StoredPlace → FrameOwner → Type 0
+BelongsTo heap place FrameOwner.Root = ⊥
+BelongsTo heap place (FrameOwner.Child parent i) =
+    (place.parent ≡ parent.0) × (place.number ≡ i) × (place.order ≡ order_at (heap parent.0) i)
 
 -- so the place in its slot does
 abbrev pub IsNoted : Heap → StoredPlace → Type 0
-IsNoted heap place = IsSomeAnd (heap (slot_of place)) (λ (at : Node). BelongsTo place at.owner)
+IsNoted heap place = IsSomeAnd (heap (slot_of place)) (λ (at : Node). BelongsTo heap place at.owner)
 
 -- where it lies, the place above lying there
 abbrev pub child_of : Place → StoredPlace → Place
-child_of above place = above ++ place.step ∷ []
+child_of above place = above ++ place.number ∷ []
 
 -- it is a stored child of a place
 pub record IsStoredChildOf (k : Kid) (place : StoredPlace) (above : Place) : Type 0 where
@@ -99,6 +169,7 @@ pub record IsStoredChildOf (k : Kid) (place : StoredPlace) (above : Place) : Typ
   pub placed : IsPlaced k (child_of above place)
   pub stored : IsStoredHere k (child_of above place)
   pub slot : slot_of place ≡ slot_at k (child_of above place)
+  pub order : place.order ≡ order_below place.number (kid_at above k)
 
 -- These are all stored places, each but once.
 pub record AreAllStored (k : Kid) (places : List StoredPlace) : Type 0 where
@@ -107,13 +178,13 @@ pub record AreAllStored (k : Kid) (places : List StoredPlace) : Type 0 where
   pub once : AreOnce (slots_of places)
   pub all : (place : Place) → IsPlaced k place → IsStoredHere k place → Contains (slots_of places) (slot_at k place)
 
--- Keys, by which stored places are sorted: the children of one place are together, the last one first.
+-- Keys, by which stored places are sorted: the children of one place are together, the last one of the walk first.
 
 abbrev pub first_key : (parent : ℕ) → ℕ
 first_key parent = parent * 4294967296
 
 abbrev pub key_of : StoredPlace → ℕ
-key_of place = first_key place.parent + (4294967295 - place.step)
+key_of place = first_key place.parent + (4294967295 - place.order)
 
 -- the key is one of these, the last one not counted
 abbrev pub is_between : (from to : ℕ) → StoredPlace → Bool
@@ -124,6 +195,7 @@ abbrev pub slots_between : (from to : ℕ) → List StoredPlace → List ℕ
 slots_between from to places = slots_of (filter (is_between from to) places)
 
 -- The key that a place of this owner would have.
-abbrev pub IsKeyOf : ℕ → FrameOwner → Type 0
-IsKeyOf key FrameOwner.Root = ⊥
-IsKeyOf key (FrameOwner.Child parent step) = key ≡ first_key parent.0 + (4294967295 - number step)
+abbrev pub IsKeyOf : Heap → ℕ → FrameOwner → Type 0
+IsKeyOf heap key FrameOwner.Root = ⊥
+IsKeyOf heap key (FrameOwner.Child parent i) =
+    (i < 4294967296) × (key ≡ first_key parent.0 + (4294967295 - order_at (heap parent.0) i))

@@ -5,17 +5,15 @@ use Rattle.std.specs.Option.{option_and_then}
 use Rattle.std.proofs.lemmas.Grind.{common_steps}
 use Rattle.std.proofs.lemmas.Bool.Decides.{nat_tests}
 use Rattle.fr_shape.specs.Released.{RoseBy}
-use Rattle.fr_model.specs.Paths.{step_as}
 use Rattle.fr_model.specs.Tree.{Form}
 use Rattle.fr_plan.specs.declared.nodes.NodeId.{NodeId}
 use Rattle.fr_plan.specs.TypePlan.{Plan}
 use Rattle.fr_frame.specs.declared.places.FrameOwner.{FrameOwner}
 use Rattle.fr_frame.specs.declared.places.Slot.{Slot}
-use Rattle.fr_frame.specs.Bodies.{Body, entered_body, whole_body, begun_body, body_occurs, cell_at, with_cell, with_nth, unlinked, unlinked_by, IsClosed, AreUnplaced}
+use Rattle.fr_frame.specs.Bodies.{Body, entered_body, whole_body, begun_body, body_occurs, cell_at, with_cell, unlinked, unlinked_by, IsClosed, AreUnplaced}
 use Rattle.fr_frame.specs.Cells.{Cell, absent, given, placed, cells_occur, slot_at, slot_of_cell}
 use Rattle.fr_frame.specs.Heap.{Node, Heap, depth_limit, heap_of, slots_occur}
 use Rattle.fr_frame.specs.Kids.{Kid, gone, there, at, Plot, entered_plot, whole_plot, begun_plot, Kids, no_kids, kid, MayHave, cell_of, cells_in, body_in, kid_in, kids_in, plot_in, kid_by, kid_from, child_node, child_owner, Holds, HoldsIn, HoldsAll, plot_occurs, kids_occur}
-use Rattle.fr_store.specs.LeaveLaws.{number_of_child}
 use Rattle.fr_store.specs.Prunes.{kids_in_plot, kids_below, beneath, IsRooted, slotted_occurs, slotted_occur, emptied, pruned, IsPruned, cells_in_body}
 use Rattle.fr_store.specs.Stored.{IsKept, StoresNoMore}
 use Rattle.fr_store.specs.Ways.{kid_nth, uses, uses_in, uses_among, AllMarkedIn, AllMarkedAmong}
@@ -89,7 +87,7 @@ mutual
   read_more_among plan heap node slot form i depth levels no_kids e holds = refl
   read_more_among plan heap node slot form i depth levels (kid k ks) e holds =
       ap (λ (x : Kid). kid x (kids_in (kid_from levels heap) (cells_in ks)))
-      (read_more plan heap (child_node plan node form i) (child_owner slot form i) depth levels k e holds.0)
+      (read_more plan heap (child_node plan node form i) (child_owner slot i) depth levels k e holds.0)
       ∙ ap (λ (xs : Kids). kid k xs) (read_more_among plan heap node slot form (suc i) depth levels ks e holds.1)
 
 -- what lies beneath the place is what is read off the heap
@@ -237,24 +235,23 @@ pruned_slot i (begun_body form cells) = ap (option_and_then slot_of_cell) (empti
 
 unlinked_at : (form : Form) (i m count : ℕ) (cells : List Cell) → MayHave form count → i < count
     → slice_get cells i ≡ Some (placed m)
-    → unlinked m (step_as form i) (begun_body form cells) ≡ begun_body form (set cells i absent)
+    → unlinked m i (begun_body form cells) ≡ begun_body form (set cells i absent)
 unlinked_at form i m count cells may h is =
     let e : nat_eq m m ≡ true = grind (arith, common_steps, nat_tests) in
-    ap (unlinked_by m (step_as form i) (begun_body form cells)) here
-    ∙ ap (λ (b : Bool). if b then with_cell (begun_body form cells) (step_as form i) absent else begun_body form cells) e
+    ap (unlinked_by m i (begun_body form cells)) here
+    ∙ ap (λ (b : Bool). if b then with_cell (begun_body form cells) i absent else begun_body form cells) e
     ∙ there_too
   where
-    here : cell_at (begun_body form cells) (step_as form i) ≡ Some (placed m)
-    here = ap (option_and_then (slice_get cells)) (number_of_child form count i may h) ∙ is
+    here : cell_at (begun_body form cells) i ≡ Some (placed m)
+    here = is
 
-    there_too : with_cell (begun_body form cells) (step_as form i) absent ≡ begun_body form (set cells i absent)
-    there_too =
-        ap (λ (found : Option ℕ). begun_body form (with_nth cells absent found)) (number_of_child form count i may h)
+    there_too : with_cell (begun_body form cells) i absent ≡ begun_body form (set cells i absent)
+    there_too = refl
 
 -- one more child leaves its slot
 pub unlinked_first : (form : Form) (i m count : ℕ) (cells : List Cell) → MayHave form count → i < count
     → slice_get cells i ≡ Some (placed m)
-    → unlinked m (step_as form i) (pruned_first i (begun_body form cells)) ≡ pruned_first (suc i) (begun_body form cells)
+    → unlinked m i (pruned_first i (begun_body form cells)) ≡ pruned_first (suc i) (begun_body form cells)
 unlinked_first form i m count cells may h is =
     unlinked_at form i m count (emptied_first i cells) may h (emptied_get i cells ∙ is)
     ∙ ap (begun_body form) (emptied_set i m cells is)
@@ -316,10 +313,10 @@ slotless_tokens (suc i) (kid k ks) t is = slotless_tokens i ks t is
 
 pub held_nth : (plan : Plan) (heap : Heap) (node : NodeId) (slot : ℕ) (form : Form) (first depth : ℕ) (ks : Kids) (i m : ℕ)
     → m ≡ first + i → HoldsAll plan heap node slot form first depth ks
-    → Holds plan heap (child_node plan node form m) (child_owner slot form m) depth (kid_nth i ks)
+    → Holds plan heap (child_node plan node form m) (child_owner slot m) depth (kid_nth i ks)
 held_nth plan heap node slot form first depth no_kids i m e holds = tt
 held_nth plan heap node slot form first depth (kid k ks) zero m e holds =
     let same : first ≡ m = omega arith in
-    subst (λ (j : ℕ). Holds plan heap (child_node plan node form j) (child_owner slot form j) depth k) same holds.0
+    subst (λ (j : ℕ). Holds plan heap (child_node plan node form j) (child_owner slot j) depth k) same holds.0
 held_nth plan heap node slot form first depth (kid k ks) (suc i) m e holds =
     held_nth plan heap node slot form (suc first) depth ks i m (omega arith) holds.1

@@ -1,5 +1,5 @@
 -- The shapes of the plan's nodes along a way through places in slots: those that the table has there.
-use Rattle.std.proofs.Common.{◌≡◌, ℕ, zero, suc, ◌+◌, ◌<◌, Bool, true, false, List, [], ◌∷◌, length, Option, Some, None, option_map, slice_get, refl, sym, ◌∙◌, ap, subst, arith}
+use Rattle.std.proofs.Common.{◌≡◌, ℕ, zero, suc, ◌+◌, ◌<◌, Bool, true, false, List, [], ◌∷◌, length, Option, Some, None, option_map, slice_get, unwrap_or, refl, sym, ◌∙◌, ap, subst, arith}
 use Rattle.std.specs.Prelude.{if◌then◌else◌}
 use Rattle.fr_shape.specs.declared.error.Operation.{Operation}
 use Rattle.fr_shape.specs.declared.shape.Def.{Def}
@@ -10,16 +10,16 @@ use Rattle.fr_shape.specs.declared.shape.ShapeId.{ShapeId}
 use Rattle.fr_shape.specs.declared.shape.VariantDef.{VariantDef}
 use Rattle.fr_shape.specs.Checked.{IsChecked}
 use Rattle.fr_shape.specs.Look.{Table, IsIn, def_of, def_or_other}
-use Rattle.fr_model.specs.Places.{Place, child_shape, item_shape, pointee_shape, shape_or_zero}
-use Rattle.fr_model.specs.Tree.{Form, as_struct, as_array, as_variant, as_some, as_ok, as_err, as_pointer, as_list, as_slice, as_closed_slice, Tree, Trees, no_trees, branch, tree_nth, tree_at, child_as, shapes_from, shape_in, count_trees}
+use Rattle.fr_model.specs.Places.{Place, child_shape, entry_shape, is_key, item_shape, pointee_shape, shape_or_zero}
+use Rattle.fr_model.specs.Tree.{Form, as_struct, as_array, as_variant, as_some, as_ok, as_err, as_pointer, as_list, as_slice, as_closed_slice, as_set, as_map, as_dyn_array, as_dyn_object, Tree, Trees, no_trees, branch, tree_nth, tree_at, child_as, shapes_from, shape_in, count_trees}
 use Rattle.fr_model.specs.Contents.{is_slice, pointee_refusal, pointer_refusal, points_to_slice}
-use Rattle.fr_model.specs.Well.{HasContent, HasElements, HasFields, HasFieldsOf, HasPointee, HasSide, HasVariantFields, IsBegunRightly, IsFullAs, IsList, MayPoint, PointsTo, Suits, SuitAll}
+use Rattle.fr_model.specs.Well.{HasContent, HasElements, HasEntries, HasFields, HasFieldsOf, HasPointee, HasSide, HasVariantFields, IsBegunRightly, IsFullAs, IsList, IsSet, MayPoint, PointsTo, Suits, SuitAll}
 use Rattle.fr_plan.specs.declared.nodes.NodeId.{NodeId}
 use Rattle.fr_plan.specs.declared.nodes.TypePlanNode.{TypePlanNode}
 use Rattle.fr_plan.specs.Lookups.{node_at}
-use Rattle.fr_plan.specs.LookupLaws.{Step, struct_field_step, enum_variant_field_step, list_item_step, option_inner_step, result_ok_step, result_err_step, pointer_pointee_step, looked_up, child_in, shape_at, LookupsAgree, LookupPathsAgree}
+use Rattle.fr_plan.specs.LookupLaws.{Step, struct_field_step, enum_variant_field_step, list_item_step, set_item_step, map_key_step, map_value_step, option_inner_step, result_ok_step, result_err_step, pointer_pointee_step, looked_up, child_in, shape_at, LookupsAgree, LookupPathsAgree}
 use Rattle.fr_plan.specs.TypePlan.{Plan, IsPlanOf}
-use Rattle.fr_frame.specs.Kids.{Kid, gone, there, at, entered_plot, whole_plot, begun_plot, Kids, no_kids, kid, tree_of, trees_in, child_node}
+use Rattle.fr_frame.specs.Kids.{Kid, gone, there, at, entered_plot, whole_plot, begun_plot, Kids, no_kids, kid, tree_of, trees_in, child_node, entry_found}
 use Rattle.fr_store.specs.Ways.{count_kids, kid_nth, Reaches, node_along}
 use Rattle.fr_store.specs.WayLaws.{tree_of_nth}
 
@@ -29,7 +29,8 @@ pub record IsOfShape (plan : Plan) (node : NodeId) (s : ℕ) : Type 0 where
   pub there : node_at plan node ≡ Some found
   pub shape : found.shape.0 ≡ s
 
--- a child of a place that is begun so is one lookup away; what a pointer to a slice has as its items is two
+-- a child of a place that is begun so is one lookup away; what a pointer to a slice has as its items is two, and a
+-- part of a dynamic value none
 abbrev pub IsLookedUp : Form → Type 0
 IsLookedUp as_struct = Unit {0}
 IsLookedUp as_array = Unit {0}
@@ -41,6 +42,14 @@ IsLookedUp as_pointer = Unit {0}
 IsLookedUp as_list = Unit {0}
 IsLookedUp as_slice = ⊥
 IsLookedUp as_closed_slice = ⊥
+IsLookedUp as_set = Unit {0}
+IsLookedUp (as_map base) = Unit {0}
+IsLookedUp as_dyn_array = ⊥
+IsLookedUp (as_dyn_object keys) = ⊥
+
+abbrev entry_step : (of_key : Bool) → Step
+entry_step true = map_key_step
+entry_step false = map_value_step
 
 -- the lookup of a child of a place that is begun so, and the first one of a slice's item
 abbrev pub step_of : Form → ℕ → Step
@@ -54,6 +63,10 @@ step_of as_pointer i = pointer_pointee_step
 step_of as_list i = list_item_step
 step_of as_slice i = pointer_pointee_step
 step_of as_closed_slice i = pointer_pointee_step
+step_of as_set i = set_item_step
+step_of (as_map base) i = entry_step (is_key i)
+step_of as_dyn_array i = list_item_step
+step_of (as_dyn_object keys) i = list_item_step
 
 -- what is looked up
 record Leads (plan : Plan) (found : TypePlanNode) (step : Step) (t : ShapeId) : Type 0 where
@@ -131,6 +144,16 @@ module _ (table : Table) (id : ShapeId) (shape : Shape) (is : slice_get table id
   list_child (Def.List item) e full = record { child = item; there = rw (is, e) refl; number = rw (is, e) refl }
   list_child _ e full = absurd full
 
+  set_child : (def : Def) → shape.def ≡ def → IsSet def → Has table id set_item_step (child_as table id.0 as_set i)
+  set_child (Def.Set item) e full = record { child = item; there = rw (is, e) refl; number = rw (is, e) refl }
+  set_child _ e full = absurd full
+
+  map_child : (of_key : Bool) (def : Def) → shape.def ≡ def → HasEntries def count
+      → Has table id (entry_step of_key) (entry_shape (def_of table id.0) of_key)
+  map_child true (Def.Map key item) e full = record { child = key; there = rw (is, e) refl; number = rw (is, e) refl }
+  map_child false (Def.Map key item) e full = record { child = item; there = rw (is, e) refl; number = rw (is, e) refl }
+  map_child _ _ e full = absurd full
+
 has_child : (table : Table) (id : ShapeId) (form : Form) (count i : ℕ) → IsLookedUp form
     → IsFullAs (def_of table id.0) form count → i < count → Has table id (step_of form i) (child_as table id.0 form i)
 has_child table id form count i one full below = go (slice_get table id.0) refl form one full
@@ -147,6 +170,10 @@ has_child table id form count i one full below = go (slice_get table id.0) refl 
     go (Some shape) is as_list one full = list_child table id shape is count i below shape.def refl full
     go (Some shape) is as_slice one full = absurd one
     go (Some shape) is as_closed_slice one full = absurd one
+    go (Some shape) is as_set one full = set_child table id shape is count i below shape.def refl full
+    go (Some shape) is (as_map base) one full = map_child table id shape is count i below (is_key i) shape.def refl full
+    go (Some shape) is as_dyn_array one full = absurd one
+    go (Some shape) is (as_dyn_object keys) one full = absurd one
     go None is as_struct one full = absurd full
     go None is as_array one full = absurd full
     go None is (as_variant k) one full = absurd full
@@ -157,6 +184,10 @@ has_child table id form count i one full below = go (slice_get table id.0) refl 
     go None is as_list one full = absurd full
     go None is as_slice one full = absurd one
     go None is as_closed_slice one full = absurd one
+    go None is as_set one full = absurd full
+    go None is (as_map base) one full = absurd full
+    go None is as_dyn_array one full = absurd one
+    go None is (as_dyn_object keys) one full = absurd one
 
 -- What a pointer to a slice points to, and the items of that.
 record SliceAt (table : Table) (id : ShapeId) : Type 0 where
@@ -209,6 +240,10 @@ PointsRightly table s as_pointer = Unit {0}
 PointsRightly table s as_list = Unit {0}
 PointsRightly table s as_slice = MayPoint table s true
 PointsRightly table s as_closed_slice = MayPoint table s true
+PointsRightly table s as_set = Unit {0}
+PointsRightly table s (as_map base) = Unit {0}
+PointsRightly table s as_dyn_array = Unit {0}
+PointsRightly table s (as_dyn_object keys) = Unit {0}
 
 pub points_rightly : (table : Table) (s : ℕ) (form : Form) (ts : Trees) → IsBegunRightly table s form ts
     → PointsRightly table s form
@@ -222,6 +257,10 @@ points_rightly table s as_pointer ts rightly = tt
 points_rightly table s as_list ts rightly = tt
 points_rightly table s as_slice ts rightly = rightly.1
 points_rightly table s as_closed_slice ts rightly = rightly.1
+points_rightly table s as_set ts rightly = tt
+points_rightly table s (as_map base) ts rightly = tt
+points_rightly table s as_dyn_array ts rightly = tt
+points_rightly table s (as_dyn_object keys) ts rightly = tt
 
 count_in : (ks : Kids) → count_trees (trees_in ks) ≡ count_kids ks
 count_in no_kids = refl
@@ -310,6 +349,11 @@ module _ (agree : LookupsAgree) (table : Table) (root : ShapeId) (plan : Plan) (
           let same : child_node plan node as_slice i ≡ next.node = rw (is.there, first.is, met.1, next.is) refl in
           of_child form next.node pointed.items.child (pointed.items.number ∙ sym number) (node_is ∙ same) next.shape
 
+      entry_same : (of_key : Bool) (next : NodeId) → looked_up plan is.found (entry_step of_key) ≡ Some next
+          → unwrap_or (entry_found plan node of_key) (record { 0 = 0 }) ≡ next
+      entry_same true next e = rw (is.there, e) refl
+      entry_same false next e = rw (is.there, e) refl
+
       go : (form : Form) → IsFullAs (def_of table is.found.shape.0) form count → PointsRightly table is.found.shape.0 form
           → IsOfShape plan (child_node plan node form i) (child_as table is.found.shape.0 form i)
       go as_struct full points =
@@ -358,6 +402,17 @@ module _ (agree : LookupsAgree) (table : Table) (root : ShapeId) (plan : Plan) (
           of_child as_list next.node child.child child.number same next.shape
       go as_slice full points = slice_shaped as_slice refl refl points
       go as_closed_slice full points = slice_shaped as_closed_slice refl refl points
+      go as_set full points =
+          let child = has as_set tt full in
+          let next = looked node is.found set_item_step child.child is.there child.there in
+          let same : child_node plan node as_set i ≡ next.node = rw (is.there, next.is) refl in
+          of_child as_set next.node child.child child.number same next.shape
+      go (as_map base) full points =
+          let child = has (as_map base) tt full in
+          let next = looked node is.found (entry_step (is_key i)) child.child is.there child.there in
+          of_child (as_map base) next.node child.child child.number (entry_same (is_key i) next.node next.is) next.shape
+      go as_dyn_array full points = record { found = is.found; there = is.there; shape = refl }
+      go (as_dyn_object keys) full points = record { found = is.found; there = is.there; shape = refl }
 
   pub along : (place : Place) (k : Kid) (node : NodeId) (s : ℕ) → IsOfShape plan node s → Suits table s (tree_of k)
       → Reaches place k

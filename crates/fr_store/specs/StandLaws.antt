@@ -1,33 +1,34 @@
 -- Laws of slots and stacks that stand for a tree, for proofs.
-use Rattle.std.proofs.Common.{◌≡◌, ◌⊎◌, ℕ, ◌+◌, ◌<◌, ◌≤◌, List, [], ◌∷◌, ◌++◌, append-nil, map, inl, inr, refl, sym, ◌∙◌, ap, subst, arith}
+use Rattle.std.proofs.Common.{◌≡◌, ◌⊎◌, ℕ, ◌+◌, ◌<◌, ◌≤◌, List, [], ◌∷◌, ◌++◌, append-nil, inl, inr, refl, sym, ◌∙◌, ap, subst, arith}
 use Rattle.std.specs.Prelude.{IsSome}
-use Rattle.fr_path.specs.Order.{number}
-use Rattle.fr_model.specs.Paths.{steps_in}
 use Rattle.fr_model.specs.Places.{Place}
 use Rattle.fr_plan.specs.TypePlan.{Plan}
 use Rattle.fr_frame.specs.declared.places.FrameOwner.{FrameOwner}
 use Rattle.fr_frame.specs.declared.places.Slot.{Slot}
 use Rattle.fr_frame.specs.Heap.{Heap, depth_limit, heap_of, slots_occur}
-use Rattle.fr_frame.specs.Kids.{Kid, gone, there, at, tree_of, cell_of, kid_in, kid_from, kid_occurs}
-use Rattle.fr_store.specs.HoldLaws.{AgreeBeside, Replaces, numbers_at, replaces_at, read_back, steps_read}
-use Rattle.fr_store.specs.Stands.{Stands, kid_shown, tree_shown, steps_to, cursor_shown, IsOpen}
+use Rattle.fr_frame.specs.Kids.{Kid, gone, there, at, tree_of, cell_of, kid_in, kid_from, kid_occurs, AreLeftRightly}
+use Rattle.fr_store.specs.HoldLaws.{AgreeBeside, Replaces, numbers_read, replaces_at, read_back}
+use Rattle.fr_store.specs.LeftLaws.{IsLeftAs, left_at, left_put_at}
+use Rattle.fr_store.specs.Stands.{Stands, kid_shown, tree_shown, cursor_shown, IsOpen}
 use Rattle.fr_store.specs.Ways.{kid_at, put_at, slots_along, slots_above, uses, Leads, Reaches}
 use Rattle.fr_store.specs.WayLaws.{leads_reach, leads_put_at, along_put_at, uses_at, uses_put_at}
 
 -- One change. What lies at a place on the way is replaced: it stays in its slot, all beside it is as it was, the new is held where
--- the old was, uses no slot twice and none that serves beside it, and the way goes on in it.
+-- the old was, uses no slot twice and none that serves beside it, the way goes on in it, and nothing of it is stored that may not be.
 pub stands_change : (plan : Plan) (heap other : Heap) (stack next : List ℕ) (place old below : Place) (new k : Kid)
     → Stands plan heap stack (place ++ old) k → cell_of new ≡ cell_of (kid_at place k)
     → AgreeBeside heap other k (kid_at place k) → Replaces plan heap other (kid_at place k) new
     → ((n : ℕ) → uses k n + uses new n ≤ 1 + uses (kid_at place k) n) → Leads below new
+    → IsLeftAs (kid_at place k) new → (AreLeftRightly (kid_at place k) → AreLeftRightly new)
     → next ≡ slots_above place k ++ slots_along below new → Stands plan other next (place ++ below) (put_at place new k)
-stands_change plan heap other stack next place old below new k stands same agree replaces once leads along =
+stands_change plan heap other stack next place old below new k stands same agree replaces once leads same_as left along =
     let reach = leads_reach place old k stands.leads in
     record {
       holds = replaces_at plan heap other place new k same agree replaces plan.root FrameOwner.Root 0 stands.holds;
       once = λ n. omega (arith, uses_put_at place new k n reach, once n);
       leads = leads_put_at place old below new k stands.leads leads;
       along = along ∙ sym (along_put_at place below new k reach);
+      left = left_put_at place new k same_as (left (left_at place k stands.left)) stands.left;
     }
 
 -- Slots in use.
@@ -81,17 +82,11 @@ module _ (plan : Plan) (heap : Heap) (stack : List ℕ) (place : Place) (k : Kid
   pub tree_is : tree_shown heap stack ≡ tree_of k
   tree_is = ap tree_of kid_is
 
-  -- the path that the owners tell is the path of the cursor
-  pub steps_are : steps_to heap stack ≡ steps_in place (tree_of k)
-  steps_are =
-      ap (steps_to heap) stands.along
-      ∙ steps_read plan heap plan.root FrameOwner.Root 0 place k stands.holds stands.leads
-
+  -- the place that the owners tell is the cursor
   pub cursor_is : cursor_shown heap stack ≡ place
   cursor_is =
-      ap (map number) steps_are
-      ∙ numbers_at plan heap plan.root FrameOwner.Root 0 place k stands.holds
-      (leads_reach place [] k (subst (λ (p : Place). Leads p k) (sym (append-nil place)) stands.leads))
+      ap (cursor_shown heap) stands.along
+      ∙ numbers_read plan heap plan.root FrameOwner.Root 0 place k stands.holds stands.leads
 
 -- what stands for something stands for what is shown
 pub stands_shown : (plan : Plan) (heap : Heap) (stack : List ℕ) (place : Place) (k : Kid) → Stands plan heap stack place k

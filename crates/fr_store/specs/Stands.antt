@@ -1,23 +1,22 @@
 -- How slots and a stack of them stand for one tree and the place at which a builder works.
-use Rattle.std.specs.Prelude.{◌≡◌, ℕ, ◌<◌, ◌≤◌, List, [], ◌∷◌, ◌++◌, map, Option, Some, None, IsSome}
-use Rattle.fr_path.specs.declared.path_steps.PathStep.{PathStep}
-use Rattle.fr_path.specs.Order.{number}
+use Rattle.std.specs.Prelude.{◌≡◌, ℕ, ◌<◌, ◌≤◌, List, [], ◌∷◌, ◌++◌, Option, Some, None, IsSome}
 use Rattle.fr_model.specs.Places.{Place}
 use Rattle.fr_model.specs.Tree.{Tree}
 use Rattle.fr_plan.specs.TypePlan.{Plan}
 use Rattle.fr_frame.specs.declared.places.FrameOwner.{FrameOwner}
 use Rattle.fr_frame.specs.declared.places.Slot.{Slot}
 use Rattle.fr_frame.specs.Heap.{Node, Heap, heap_of, slots_occur}
-use Rattle.fr_frame.specs.Kids.{Kid, gone, tree_of, kid_of, Holds, kid_occurs}
+use Rattle.fr_frame.specs.Kids.{Kid, gone, tree_of, kid_of, Holds, kid_occurs, AreLeftRightly}
 use Rattle.fr_store.specs.Ways.{slots_along, uses, Leads}
 
 -- The heap holds this from the root on, no slot serves twice in it, the way leads to a place and all that is off it is stored,
--- and the stack is the slots along the way.
+-- and the stack is the slots along the way. No item of a set and no part of a dynamic value is stored.
 pub record Stands (plan : Plan) (heap : Heap) (stack : List ℕ) (place : Place) (top : Kid) : Type 0 where
   pub holds : Holds plan heap plan.root FrameOwner.Root 0 top
   pub once : (n : ℕ) → uses top n ≤ 1
   pub leads : Leads place top
   pub along : stack ≡ slots_along place top
+  pub left : AreLeftRightly top
 
 -- Read off the slots and the stack.
 
@@ -33,22 +32,19 @@ kid_here slots stack = kid_shown (heap_of slots) stack
 abbrev pub tree_shown : Heap → List ℕ → Tree
 tree_shown heap stack = tree_of (kid_shown heap stack)
 
-abbrev pub step_of_owner : FrameOwner → List PathStep
-step_of_owner FrameOwner.Root = []
-step_of_owner (FrameOwner.Child parent step) = step ∷ []
+-- which child of its owner a place is
+abbrev pub number_of_owner : FrameOwner → Place
+number_of_owner FrameOwner.Root = []
+number_of_owner (FrameOwner.Child parent i) = i ∷ []
 
-abbrev pub step_to : Option Node → List PathStep
-step_to (Some node) = step_of_owner node.owner
-step_to None = []
+abbrev pub number_to : Option Node → Place
+number_to (Some node) = number_of_owner node.owner
+number_to None = []
 
--- the steps that lead to the places in these slots, each from the place above
-abbrev pub steps_to : Heap → List ℕ → List PathStep
-steps_to heap [] = []
-steps_to heap (slot ∷ slots) = step_to (heap slot) ++ steps_to heap slots
-
--- the place in the last slot of the stack, by numbers of children
+-- the place in the last slot of the stack, by numbers of children: each place in these slots knows its own
 abbrev pub cursor_shown : Heap → List ℕ → Place
-cursor_shown heap stack = map number (steps_to heap stack)
+cursor_shown heap [] = []
+cursor_shown heap (slot ∷ slots) = number_to (heap slot) ++ cursor_shown heap slots
 
 -- Builders that are open, in either mode: slots and stack stand for what they show, the slots hold just the tokens of the tree,
 -- and no slot is in use but for a place of it.

@@ -170,5 +170,6 @@ stay_refused plan before after stack open_now shows =
       once = open_now.stands.once;
       leads = open_now.stands.leads;
       along = open_now.stands.along;
+      left = open_now.stands.left;
     })
     (stay_same (kid_here before stack))

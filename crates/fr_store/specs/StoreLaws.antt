@@ -2,17 +2,18 @@
 use Rattle.std.proofs.Common.{◌≡◌, ◌≢◌, ◌↔◌, ℕ, zero, suc, ◌+◌, ◌<◌, ◌≤◌, Bool, true, false, List, [], ◌∷◌, ◌++◌, append-nil, nat_eq, option_map, Option, Some, None, IfSome, IsNone, refl, sym, ◌∙◌, ap, subst, arith}
 use Rattle.std.specs.Prelude.{IsSome}
 use Rattle.fr_model.specs.Places.{Place, is_root, up}
-use Rattle.fr_model.specs.Tree.{Form, Tree, Trees, begun, branch}
+use Rattle.fr_model.specs.Tree.{Form, Tree, Trees, begun, branch, tree_at}
 use Rattle.fr_plan.specs.TypePlan.{Plan}
 use Rattle.fr_frame.specs.declared.places.Slot.{Slot}
 use Rattle.fr_frame.specs.declared.places.SlotId.{SlotId}
 use Rattle.fr_frame.specs.Changes.{SameTokens, Shows}
 use Rattle.fr_frame.specs.Heap.{Node, Heap, heap_of, marked, stored_in, with_mark}
-use Rattle.fr_frame.specs.Kids.{Kid, gone, there, at, entered_plot, whole_plot, begun_plot, Kids, no_kids, kid, tree_of, trees_in, cell_of, kid_occurs, Holds}
+use Rattle.fr_frame.specs.Kids.{Kid, gone, there, at, entered_plot, whole_plot, begun_plot, Kids, no_kids, kid, tree_of, trees_in, cell_of, kid_occurs, Holds, IsThere, AreLeftRightly, AreLeftAll}
 use Rattle.fr_store.specs.HoldLaws.{AgreeBeside, Replaces, holds_frame_in, replaces_at}
 use Rattle.fr_store.specs.LeaveLaws.{above_append, below_root, kid_at_append, put_append, up_append}
 use Rattle.fr_store.specs.MoveLaws.{open_at_from, same_front, same_last, top_found, top_node}
-use Rattle.fr_store.specs.Moves.{IsOpenAt, cursor_in, tree_in_slots}
+use Rattle.fr_store.specs.LeftLaws.{at_for_at, left_as, left_nth, left_put_nth}
+use Rattle.fr_store.specs.Moves.{IsOpenAt, cursor_in, tree_in_slots, takes_at_end, takes_at_end_as}
 use Rattle.fr_store.specs.Numbers.{IsLast}
 use Rattle.fr_store.specs.StandLaws.{all_kept, stands_change, AllServe}
 use Rattle.fr_store.specs.Stands.{Stands, IsOpen, kid_here, kid_shown}
@@ -20,7 +21,7 @@ use Rattle.fr_store.specs.StayLaws.{stay_all, stay_marked, stay_shown}
 use Rattle.fr_store.specs.Staying.{AllStayPut}
 use Rattle.fr_store.specs.TopLaws.{slot_here, slot_other, top_uses, used_mapped, Top, top_of}
 use Rattle.fr_store.specs.Ways.{count_kids, kid_nth, kid_at, put_nth, put_at, slots_above, counts_if, uses, uses_in, uses_among, AllMarked, AllMarkedAmong, StoredBut, Leads, Reaches}
-use Rattle.fr_store.specs.WayLaws.{counts_same, leads_reach, leads_at, occurs_put_at, uses_at, uses_nth, uses_put_nth}
+use Rattle.fr_store.specs.WayLaws.{counts_same, leads_reach, leads_at, occurs_put_at, tree_of_at, uses_at, uses_nth, uses_put_nth}
 
 -- A part with the same tree.
 
@@ -80,7 +81,8 @@ parent_of above i k leads = go (kid_at above k) refl (leads_at above (i ∷ []) 
 -- The top is stored as it is.
 module _ (plan : Plan) (heap other : Heap) (stack next : List ℕ) (above : Place) (i : ℕ) (k : Kid)
     (stands : Stands plan heap stack (above ++ i ∷ []) k) (top : Top plan heap stack (above ++ i ∷ []) k)
-    (shows : (m : ℕ) → other m ≡ with_mark heap top.slot true m) (found : Parent above i k) where
+    (shows : (m : ℕ) → other m ≡ with_mark heap top.slot true m) (found : Parent above i k)
+    (not_item : takes_at_end_as found.form ≡ false) where
   abbrev pub stored_top : Kid
   stored_top = at top.slot true top.plot
 
@@ -137,6 +139,16 @@ module _ (plan : Plan) (heap other : Heap) (stack next : List ℕ) (above : Plac
       (replaces_at plan heap other (i ∷ []) stored_top (at found.slot false (begun_plot found.form found.kids))
       (ap cell_of (sym child)) siblings child_stored)
 
+  -- it is no item of a set, and was in a slot, so that it was none of a base
+  left : AreLeftRightly (kid_at above k) → AreLeftRightly stored_above
+  left all =
+      let among : AreLeftAll found.form 0 found.kids = subst (λ (x : Kid). AreLeftRightly x) found.is all in
+      left_put_nth found.form 0 i i stored_top found.kids (omega arith)
+      (left_as found.form i (kid_nth i found.kids) stored_top
+      (λ is. let apart : true ≡ false = sym is ∙ not_item in absurd (cc))
+      (λ h there. absurd (subst IsThere child there)))
+      (subst (λ (x : Kid). AreLeftRightly x) child (left_nth found.form 0 i i found.kids (omega arith) among)) among
+
   once : (m : ℕ) → uses k m + uses stored_above m ≤ 1 + uses (kid_at above k) m
   once m = omega (arith, stands.once m, part m, child_uses m, uses_put_nth i stored_top found.kids m found.within)
 
@@ -151,6 +163,9 @@ module _ (plan : Plan) (heap other : Heap) (stack next : List ℕ) (above : Plac
       (stands_change plan heap other stack next above (i ∷ []) [] stored_above k stands (ap cell_of (sym found.is)) agree
       replaces once
       (refl, all_stored i (λ below. Leads [] below) stored_top found.kids found.others (refl, top.stored))
+      (at_for_at (kid_at above k) found.slot found.slot false (begun_plot found.form found.kids)
+      (begun_plot found.form (put_nth i (at top.slot true top.plot) found.kids)) found.is)
+      left
       (along ∙ above_append above i k stands.leads found.slot false (begun_plot found.form found.kids) found.is)))
 
   -- each slot in use is that of a place
@@ -205,11 +220,13 @@ taken_off stack next n None last taken none = absurd (not_empty last.0 (sym last
 
 -- An open builder leaves its top as it is.
 pub open_left : (plan : Plan) (before after : List Slot) (stack next : List ℕ) → IsOpen plan before stack
-    → is_root (cursor_in before stack) ≡ false → (n : ℕ) → stack ≡ next ++ n ∷ []
+    → is_root (cursor_in before stack) ≡ false
+    → takes_at_end (tree_at (up (cursor_in before stack)) (tree_in_slots before stack)) ≡ false
+    → (n : ℕ) → stack ≡ next ++ n ∷ []
     → Shows after (with_mark (heap_of before) n true) → SameTokens before after
     → IsOpenAt plan after next (up (cursor_in before stack)) (tree_in_slots before stack)
     × AllStayPut (kid_here before stack) (kid_here after next)
-open_left plan before after stack next open_now below n taken shows tokens =
+open_left plan before after stack next open_now below not_item n taken shows tokens =
     let k : Kid = kid_shown (heap_of before) stack in
     let way = below_root (cursor_in before stack) below in
     let place : Place = way.0 ++ way.1 ∷ [] in
@@ -221,16 +238,21 @@ open_left plan before after stack next open_now below n taken shows tokens =
     let stored : (m : ℕ) → heap_of after m ≡ with_mark (heap_of before) top.slot true m
     = λ m. shows m ∙ ap (λ (x : ℕ). with_mark (heap_of before) x true m) (sym same) in
     let found = parent_of way.0 way.1 k stands.leads in
+    let plain : takes_at_end_as found.form ≡ false
+    = ap takes_at_end
+    (sym (ap tree_of found.is) ∙ tree_of_at way.0 k
+    ∙ ap (λ (p : Place). tree_at p (tree_of k)) (sym (ap up way.2 ∙ up_append way.0 way.1)))
+    ∙ not_item in
     let after_it : Stands plan (heap_of after) next way.0 (put_at place (at top.slot true top.plot) k)
-    = stands_left plan (heap_of before) (heap_of after) stack next way.0 way.1 k stands top stored found
+    = stands_left plan (heap_of before) (heap_of after) stack next way.0 way.1 k stands top stored found plain
     (sym (same_front (slots_above place k) next top.slot n both)) in
     let left : IsOpenAt plan after next way.0 (tree_of k)
     = open_at_from plan after next way.0 (put_at place (at top.slot true top.plot) k) (tree_of k) after_it
     (λ t. tokens t ∙ open_now.tokens t
-    ∙ sym (tokens_left plan (heap_of before) (heap_of after) stack next way.0 way.1 k stands top stored found t))
-    (all_left plan (heap_of before) (heap_of after) stack next way.0 way.1 k stands top stored found open_now.all)
-    (tree_left plan (heap_of before) (heap_of after) stack next way.0 way.1 k stands top stored found) in (
+    ∙ sym (tokens_left plan (heap_of before) (heap_of after) stack next way.0 way.1 k stands top stored found plain t))
+    (all_left plan (heap_of before) (heap_of after) stack next way.0 way.1 k stands top stored found plain open_now.all)
+    (tree_left plan (heap_of before) (heap_of after) stack next way.0 way.1 k stands top stored found plain) in (
       subst (λ (p : Place). IsOpenAt plan after next p (tree_of k)) (sym (ap up way.2 ∙ up_append way.0 way.1)) left,
       stay_shown plan after next way.0 (put_at place (at top.slot true top.plot) k) k after_it
-          (stay_left plan (heap_of before) (heap_of after) stack next way.0 way.1 k stands top stored found),
+          (stay_left plan (heap_of before) (heap_of after) stack next way.0 way.1 k stands top stored found plain),
     )

@@ -8,14 +8,14 @@ use Rattle.fr_model.specs.Places.{Place}
 use Rattle.fr_model.specs.Tree.{Form, Trees, begun, branch}
 use Rattle.fr_plan.specs.declared.nodes.NodeId.{NodeId}
 use Rattle.fr_plan.specs.TypePlan.{Plan}
-use Rattle.fr_path.specs.declared.path_steps.PathStep.{PathStep}
 use Rattle.fr_frame.specs.declared.places.FrameOwner.{FrameOwner}
 use Rattle.fr_frame.specs.declared.places.SlotId.{SlotId}
 use Rattle.fr_frame.specs.Bodies.{Body, entered_body, whole_body, begun_body, body_occurs, linked, unlinked, IsClosed, AreUnplaced, own_tree, trees_of}
 use Rattle.fr_frame.specs.Cells.{cells_occur}
 use Rattle.fr_frame.specs.Heap.{Node, Heap, with_slot, with_body, without, with_entered, entered_node, links, marked, stored_in, depth_limit}
-use Rattle.fr_frame.specs.Kids.{Kid, gone, there, at, Plot, entered_plot, whole_plot, begun_plot, Kids, no_kids, kid, MayHave, tree_of, tree_in, trees_in, cell_of, cells_in, body_in, plot_occurs, kids_occur, Holds, HoldsIn, HoldsAll}
+use Rattle.fr_frame.specs.Kids.{Kid, gone, there, at, Plot, entered_plot, whole_plot, begun_plot, Kids, no_kids, kid, MayHave, tree_of, tree_in, trees_in, cell_of, cells_in, body_in, plot_occurs, kids_occur, Holds, HoldsIn, HoldsAll, AreLeftRightly, AreLeftIn}
 use Rattle.fr_store.specs.HoldLaws.{Replaces, holds_at, holds_frame_in, may_have}
+use Rattle.fr_store.specs.LeftLaws.{at_for_at}
 use Rattle.fr_store.specs.StandLaws.{stands_change}
 use Rattle.fr_store.specs.Stands.{Stands}
 use Rattle.fr_store.specs.Ways.{count_kids, kid_at, put_at, slots_along, slots_above, counts_if, uses, uses_in, uses_among, AllMarked, AllMarkedIn, AllMarkedAmong, NoneStored, Leads, node_along, owner_along}
@@ -64,7 +64,7 @@ used_mapped heap n change m used = go (same_or_other m n)
     go (inr ne) = subst (λ (o : Option Node). IsSome o) (slot_other heap n (option_map change (heap n)) m ne) used
 
 -- where a child of the place in slot p entered slot n, that slot alone came into use
-pub used_entered : (def : Def) (heap : Heap) (node : NodeId) (p : SlotId) (step : PathStep) (n m : ℕ)
+pub used_entered : (def : Def) (heap : Heap) (node : NodeId) (p : SlotId) (step n m : ℕ)
     → IsSome (with_entered def heap node (FrameOwner.Child p step) n m) → (m ≡ n) ⊎ IsSome (heap m)
 used_entered def heap node p step n m used = go (same_or_other m n)
   where
@@ -318,13 +318,16 @@ pub record KeepsChildren (old new : Plot) : Type 0 where
   pub once : (n : ℕ) → uses_in new n ≤ uses_in old n
   pub holds : (plan : Plan) (heap : Heap) (node : NodeId) (slot depth : ℕ) → HoldsIn plan heap node slot depth old
       → HoldsIn plan heap node slot depth new
+  pub left : AreLeftIn old → AreLeftIn new
 
 -- none of its children is in a slot
-pub keeps_closed : (old new : Plot) → MayHaveIts (body_in new) → IsClosed (body_in new) → KeepsChildren old new
-keeps_closed old new may closed = record {
+pub keeps_closed : (old new : Plot) → MayHaveIts (body_in new) → IsClosed (body_in new) → (AreLeftIn old → AreLeftIn new)
+    → KeepsChildren old new
+keeps_closed old new may closed left = record {
   marked = λ h. closed_marked true new closed;
   once = λ n. omega (arith, closed_uses new n closed);
   holds = λ plan heap node slot depth h. closed_holds plan heap node slot depth new may closed;
+  left = left;
 }
 
 -- each child that was in a slot is in it still
@@ -340,6 +343,7 @@ keeps_same plot = record {
   marked = λ h. h;
   once = λ n. omega arith;
   holds = λ plan heap node slot depth h. h;
+  left = λ h. h;
 }
 
 module _ (plan : Plan) (heap : Heap) (stack : List ℕ) (place : Place) (k : Kid) (stands : Stands plan heap stack place k)
@@ -401,7 +405,8 @@ top_replaced plan heap other stack place k new stands top keeps here beside =
     subst (λ (p : Place). Stands plan other stack p (put_at place (at top.slot false new) k)) (append-nil place)
     (stands_change plan heap other stack stack place [] [] (at top.slot false new) k longer
     (ap cell_of (sym top.is)) (λ n h. beside n (not_beside plan heap stack place k stands top n h)) replaces once
-    (refl, keeps.marked top.stored) top.last)
+    (refl, keeps.marked top.stored) (at_for_at (kid_at place k) top.slot top.slot false top.plot new top.is)
+    (λ all. keeps.left (subst AreLeftRightly top.is all)) top.last)
   where
     replaces : Replaces plan heap other (kid_at place k) (at top.slot false new)
     replaces node owner depth holds =

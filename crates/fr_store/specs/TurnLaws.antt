@@ -3,7 +3,6 @@ use Rattle.std.proofs.Common.{◌≡◌, ◌≢◌, ◌⊎◌, ℕ, zero, suc, �
 use Rattle.std.specs.Prelude.{is_some}
 use Rattle.fr_shape.specs.Val.{Val}
 use Rattle.fr_model.specs.Finishing.{IsOffTheWay}
-use Rattle.fr_model.specs.Paths.{step_as}
 use Rattle.fr_model.specs.Places.{Place}
 use Rattle.fr_model.specs.Tree.{Form}
 use Rattle.fr_plan.specs.declared.nodes.NodeId.{NodeId}
@@ -14,6 +13,7 @@ use Rattle.fr_frame.specs.Cells.{given, placed}
 use Rattle.fr_frame.specs.Heap.{Node, Heap, stored_in, marked, with_slot, with_body, without}
 use Rattle.fr_frame.specs.Kids.{Kid, gone, there, at, Plot, entered_plot, whole_plot, begun_plot, Kids, no_kids, kid, MayHave, cell_of, cells_in, body_in, child_node, child_owner, Holds, HoldsAll}
 use Rattle.fr_store.specs.HoldLaws.{AgreeBeside, Replaces, holds_at, holds_frame, may_have_all, replaces_at}
+use Rattle.fr_store.specs.LeftLaws.{left_put_at, there_for_any}
 use Rattle.fr_store.specs.LeaveLaws.{below_root, cell_of_child, kid_at_append, may_have_put, owner_append, put_append, unlinked_child, with_child, within_put}
 use Rattle.fr_store.specs.OffLaws.{along_off, leads_off, off_stored}
 use Rattle.fr_store.specs.Stands.{Stands}
@@ -27,7 +27,7 @@ use Rattle.fr_store.specs.WayLaws.{counts_same, nth_put, same_or_other, uses_at,
 module _ (heap first mid last : Heap) (n q i : ℕ) (below above : Node) (body : Body) (form : Form) (kids : Kids) (v : Val)
     (apart : n ≢ q) (here : heap n ≡ Some below) (over : heap q ≡ Some above)
     (begun : above.body ≡ begun_body form (cells_in kids)) (may : MayHave form (count_kids kids)) (within : i < count_kids kids)
-    (child : cell_of (kid_nth i kids) ≡ placed n) (owner : below.owner ≡ child_owner q form i)
+    (child : cell_of (kid_nth i kids) ≡ placed n) (owner : below.owner ≡ child_owner q i)
     (puts : (m : ℕ) → first m ≡ with_slot heap n (Some (record below { body = body })) m)
     (leaves : (m : ℕ) → mid m ≡ without first n below.owner m) where
   first_here : first n ≡ Some (record below { body = body })
@@ -36,31 +36,31 @@ module _ (heap first mid last : Heap) (n q i : ℕ) (below above : Node) (body :
   first_over : first q ≡ Some above
   first_over = puts q ∙ slot_other heap n (Some (record below { body = body })) q (λ e. apart (sym e)) ∙ over
 
-  left : (m : ℕ) → mid m ≡ with_body (with_slot first n None) q (unlinked n (step_as form i)) m
+  left : (m : ℕ) → mid m ≡ with_body (with_slot first n None) q (unlinked n i) m
   left m = leaves m ∙ ap (λ (o : FrameOwner). without first n o m) owner
 
   mid_over : mid q ≡ Some (record above { body = begun_body form (cells_in (put_nth i gone kids)) })
   mid_over =
       left q
-      ∙ body_here (with_slot first n None) q (unlinked n (step_as form i)) above
+      ∙ body_here (with_slot first n None) q (unlinked n i) above
       (slot_other first n None q (λ e. apart (sym e)) ∙ first_over)
       ∙ ap (λ (b : Body). Some (record above { body = b }))
-      (ap (unlinked n (step_as form i)) begun ∙ unlinked_child form i n kids may within child)
+      (ap (unlinked n i) begun ∙ unlinked_child form i n kids may within child)
 
   mid_here : mid n ≡ None
   mid_here =
-      left n ∙ body_other (with_slot first n None) q (unlinked n (step_as form i)) n apart ∙ slot_here first n None
+      left n ∙ body_other (with_slot first n None) q (unlinked n i) n apart ∙ slot_here first n None
 
   mid_other : (m : ℕ) → m ≢ q → m ≢ n → mid m ≡ heap m
   mid_other m a b =
-      left m ∙ body_other (with_slot first n None) q (unlinked n (step_as form i)) m a ∙ slot_other first n None m b
+      left m ∙ body_other (with_slot first n None) q (unlinked n i) m a ∙ slot_other first n None m b
       ∙ puts m ∙ slot_other heap n (Some (record below { body = body })) m b
 
-  module _ (ends : (m : ℕ) → last m ≡ with_body mid q (λ old. with_cell old (step_as form i) (given v)) m) where
+  module _ (ends : (m : ℕ) → last m ≡ with_body mid q (λ old. with_cell old i (given v)) m) where
     pub last_over : last q ≡ Some (record above { body = begun_body form (cells_in (put_nth i (there v) kids)) })
     last_over =
         ends q
-        ∙ body_here mid q (λ old. with_cell old (step_as form i) (given v))
+        ∙ body_here mid q (λ old. with_cell old i (given v))
         (record above { body = begun_body form (cells_in (put_nth i gone kids)) }) mid_over
         ∙ ap (λ (b : Body). Some (record above { body = b }))
         (with_child form i (there v) (put_nth i gone kids) (may_have_put form i gone kids may)
@@ -73,11 +73,11 @@ module _ (heap first mid last : Heap) (n q i : ℕ) (below above : Node) (body :
         twice (suc j) (kid k ks) = ap (λ (xs : Kids). kid k xs) (twice j ks)
 
     pub last_here : last n ≡ None
-    last_here = ends n ∙ body_other mid q (λ old. with_cell old (step_as form i) (given v)) n apart ∙ mid_here
+    last_here = ends n ∙ body_other mid q (λ old. with_cell old i (given v)) n apart ∙ mid_here
 
     pub last_other : (m : ℕ) → m ≢ q → m ≢ n → last m ≡ heap m
     last_other m a b =
-        ends m ∙ body_other mid q (λ old. with_cell old (step_as form i) (given v)) m a ∙ mid_other m a b
+        ends m ∙ body_other mid q (λ old. with_cell old i (given v)) m a ∙ mid_other m a b
 
     -- all others are in use as before
     pub in_use_last : (m : ℕ) → m ≢ n → is_some (last m) ≡ is_some (heap m)
@@ -124,7 +124,7 @@ pub record Over (here : Place) (k : Kid) (n : ℕ) (plot : Plot) : Type 0 where
   pub is : kid_at above k ≡ at slot mark (begun_plot form kids)
   pub within : i < count_kids kids
   pub child : kid_nth i kids ≡ at n true plot
-  pub owner : owner_along FrameOwner.Root here k ≡ child_owner slot form i
+  pub owner : owner_along FrameOwner.Root here k ≡ child_owner slot i
 
 pub over_of : (here : Place) (k : Kid) (n : ℕ) (plot : Plot) → here ≢ [] → Reaches here k → kid_at here k ≡ at n true plot
     → Over here k n plot
@@ -169,7 +169,7 @@ frame_all : (plan : Plan) (heap other : Heap) (node : NodeId) (slot : ℕ) (form
     → HoldsAll plan other node slot form i depth ks
 frame_all plan heap other node slot form i depth no_kids holds agree = holds
 frame_all plan heap other node slot form i depth (kid k ks) holds agree = (
-  holds_frame plan heap other (child_node plan node form i) (child_owner slot form i) depth k holds.0
+  holds_frame plan heap other (child_node plan node form i) (child_owner slot i) depth k holds.0
       (λ m h. agree m (omega arith)),
   frame_all plan heap other node slot form (suc i) depth ks holds.1 (λ m h. agree m (omega arith)),
 )
@@ -183,7 +183,7 @@ holds_value plan heap other node slot form first depth i no_kids v holds agree =
 holds_value plan heap other node slot form first depth zero (kid k ks) v holds agree =
     (tt, frame_all plan heap other node slot form (suc first) depth ks holds.1 (λ m h. agree m (omega arith)))
 holds_value plan heap other node slot form first depth (suc i) (kid k ks) v holds agree = (
-  holds_frame plan heap other (child_node plan node form first) (child_owner slot form first) depth k holds.0
+  holds_frame plan heap other (child_node plan node form first) (child_owner slot first) depth k holds.0
       (λ m h. agree m (omega (arith, uses_nth i ks m))),
   holds_value plan heap other node slot form (suc first) depth i ks v holds.1 (λ m h. agree m (omega arith)),
 )
@@ -278,6 +278,7 @@ module _ (plan : Plan) (heap : Heap) (stack : List ℕ) (cursor here : Place) (k
       once = λ m. omega (arith, uses_put_at here (there v) k m reach, stands.once m);
       leads = leads_off cursor here (there v) k stands.leads due_off reach tt;
       along = stands.along ∙ sym (along_off cursor here (there v) k stands.leads due_off reach);
+      left = left_put_at here (there v) k (there_for_any (kid_at here k) (there v) tt refl) tt stands.left;
     }
       where
         new : Kid

@@ -13,8 +13,6 @@ use Rattle.fr_model.specs.Failing.{own_lack}
 use Rattle.fr_model.specs.Finish.{finished, failures_off}
 use Rattle.fr_model.specs.FinishLaws.{Closes, closed_at, ClosingKeepsCompletion, ClosingKeepsFailures, ClosingKeepsFailuresOff, ClosingKeepsFinish}
 use Rattle.fr_model.specs.Finishing.{IsOffTheWay}
-use Rattle.fr_model.specs.Laws.{CompletingKeepsTokens}
-use Rattle.fr_model.specs.Paths.{step_as}
 use Rattle.fr_model.specs.Places.{Place, deferred_column}
 use Rattle.fr_model.specs.Relation.{HasPlace}
 use Rattle.fr_model.specs.Tree.{Tree, count_trees, shape_in, tree_at, tree_occurs}
@@ -39,6 +37,7 @@ use Rattle.fr_store.specs.OffLaws.{reach_place}
 use Rattle.fr_store.specs.ShapeLaws.{IsOfShape, Along, along, root_shaped}
 use Rattle.fr_store.specs.StandLaws.{cursor_is, kid_is, stands_shown, tree_is}
 use Rattle.fr_store.specs.Stands.{IsOpen, Stands}
+use Rattle.fr_store.specs.TokenLaws.{tokens_held}
 use Rattle.fr_store.specs.TopLaws.{closed_tree, closed_uses, slot_here, slot_other}
 use Rattle.fr_store.specs.TurnLaws.{Over, due_apart, due_found, due_node, due_off, due_over, in_use_last, last_here, last_other, last_over, marked_last, over_found, over_may_have, over_node, stands_turned}
 use Rattle.fr_store.specs.Turning.{HasTurned, IsLackingAt, KeepsTheRest, MayTurn, kid_here}
@@ -138,7 +137,7 @@ module _ (plan : Plan) (before : List Slot) (stack : List ℕ) (n : ℕ) (open_n
   so_said : (So : Node → Type 0) → So below → IfInUse before n So
   so_said So so = subst (λ (x : Option Node). IsSomeAnd x So) (sym found) so
 
-  owner : below.owner ≡ child_owner over.slot over.form over.i
+  owner : below.owner ≡ child_owner over.slot over.i
   unfolding below
   owner = over.owner
 
@@ -195,7 +194,7 @@ module _ (plan : Plan) (before : List Slot) (stack : List ℕ) (n : ℕ) (open_n
         go (inr wants) = inl wants.memory
 
     -- It is completed, and its value is handed up.
-    module _ (means : Meanings) (keeps_tokens : CompletingKeepsTokens) (first last : List Slot)
+    module _ (means : Meanings) (first last : List Slot)
         (filled : IfInUse before n (FillsAt deferred_column means table plan before first n)) where
       fills : FillsAt deferred_column means table plan before first n below
       fills = said (λ (x : Node). FillsAt deferred_column means table plan before first n x) filled
@@ -252,8 +251,8 @@ module _ (plan : Plan) (before : List Slot) (stack : List ℕ) (n : ℕ) (open_n
           subst (λ (o : Option Node). IsSomeAnd o (λ (x : Node). held_by (heap_of first) x.owner ≡ Some (placed n)))
           (sym first_found)
           (ap (held_by (heap_of first)) owner
-          ∙ ap (option_and_then (λ (x : Node). cell_at x.body (step_as over.form over.i))) first_over
-          ∙ ap (λ (b : Body). cell_at b (step_as over.form over.i)) above_begun
+          ∙ ap (option_and_then (λ (x : Node). cell_at x.body over.i)) first_over
+          ∙ ap (λ (b : Body). cell_at b over.i) above_begun
           ∙ cell_of_child over.form over.i over.kids may over.within ∙ ap (λ (c : Cell). Some c) child)
         where
           first_over : heap_of first over.slot ≡ Some above
@@ -262,14 +261,10 @@ module _ (plan : Plan) (before : List Slot) (stack : List ℕ) (n : ℕ) (open_n
               ∙ slot_other (heap_of before) n (Some (record below { body = fills.body })) over.slot (λ e. apart (sym e))
               ∙ above_found
 
-      module _ (filling : SameTokens before first) (handing : SameTokens first last)
-          (handed : IfInUse first n (λ (x : Node). (w : Val) → value_of x.body ≡ Some w
+      module _ (handed : IfInUse first n (λ (x : Node). (w : Val) → value_of x.body ≡ Some w
           → Shows last (gives x.owner w (without (heap_of first) n x.owner)))) where
-        pub same_tokens : SameTokens before last
-        same_tokens t = omega (arith, filling t, handing t)
-
         ends : (m : ℕ)
-            → heap_of last m ≡ with_body mid over.slot (λ old. with_cell old (step_as over.form over.i) (given v)) m
+            → heap_of last m ≡ with_body mid over.slot (λ old. with_cell old over.i (given v)) m
         ends m =
             subst
             (λ (o : Option Node). IsSomeAnd o (λ (x : Node). (w : Val) → value_of x.body ≡ Some w
@@ -290,19 +285,6 @@ module _ (plan : Plan) (before : List Slot) (stack : List ℕ) (n : ℕ) (open_n
             (last_other (heap_of before) (heap_of first) mid (heap_of last) n over.slot over.i below above
             fills.body over.form over.kids v apart found above_found above_begun may over.within child owner fills.becomes (λ m. refl)
             ends)
-
-        tokens_after : (t : ℕ) → slots_occur last t ≡ kid_occurs kid_after t
-        unfolding kid_after
-        tokens_after t =
-            let value : occurs v t ≡ tree_occurs (tree_at due.place (tree_in_slots before stack)) t
-            = keeps_tokens deferred_column means table (shape_in table (root_shape plan) due.place (tree_in_slots before stack))
-            (tree_at due.place (tree_in_slots before stack)) v t checked here.suits makes in
-            let part : kid_occurs (kid_at due.place (kid_here before stack)) t
-            ≡ tree_occurs (tree_at due.place (tree_in_slots before stack)) t
-            = tree_tokens (kid_at due.place (kid_here before stack)) t
-            ∙ ap (λ (x : Tree). tree_occurs x t) (tree_of_at due.place (kid_here before stack)) in
-            omega
-            (arith, same_tokens t, open_now.tokens t, value, part, occurs_put_at due.place (there v) (kid_here before stack) t due.reaches)
 
         -- each slot in use is that of a place
         all_after : (m : ℕ) → IsSome (heap_of last m) → 0 < uses kid_after m
@@ -342,7 +324,8 @@ module _ (plan : Plan) (before : List Slot) (stack : List ℕ) (n : ℕ) (open_n
         open_after : IsOpenAt plan last stack (cursor_in before stack) (closed_at due.place v (tree_in_slots before stack))
         open_after =
             open_shown plan last stack (cursor_in before stack) kid_after
-            (closed_at due.place v (tree_in_slots before stack)) stands_after tokens_after all_after tree_after
+            (closed_at due.place v (tree_in_slots before stack)) stands_after
+            (tokens_held plan last stack (cursor_in before stack) kid_after stands_after all_after) all_after tree_after
 
         pub has_turned : HasTurned means table plan before stack last n
         has_turned = record {

@@ -16,7 +16,6 @@ use Rattle.fr_model.specs.Well.{Suits}
 use Rattle.fr_plan.specs.TypePlan.{Plan}
 use Rattle.fr_frame.specs.declared.places.Slot.{Slot}
 use Rattle.fr_frame.specs.Bodies.{Body, entered_body, whole_body, begun_body, IsClosed}
-use Rattle.fr_frame.specs.Changes.{SameTokens}
 use Rattle.fr_frame.specs.Heap.{heap_of, marked}
 use Rattle.fr_frame.specs.Kids.{Kid, at, Plot, there, body_in}
 use Rattle.fr_store.specs.Moves.{IsOpenAt, cursor_in, tree_in_slots}
@@ -111,7 +110,6 @@ pub record Walked (means : Meanings) (table : Table) (plan : Plan) (before : Lis
   pub failing : (path : List PathStep)
       → failures_off means table (root_shape plan) path (cursor_in before stack) (tree_in_slots now stack)
       ≡ failures_off means table (root_shape plan) path (cursor_in before stack) (tree_in_slots before stack)
-  pub tokens : SameTokens before now
   pub marks : (n : ℕ) → marked (heap_of now) n ≡ true → marked (heap_of before) n ≡ true
 
 -- The place at which the builder works was finished, and all else is as it was.

@@ -21,16 +21,15 @@ use Rattle.fr_model.specs.Well.{Suits}
 use Rattle.fr_plan.specs.TypePlan.{Plan}
 use Rattle.fr_frame.specs.declared.places.Slot.{Slot}
 use Rattle.fr_frame.specs.declared.places.FrameOwner.{FrameOwner}
-use Rattle.fr_frame.specs.Changes.{SameTokens}
 use Rattle.fr_frame.specs.Heap.{heap_of}
 use Rattle.fr_frame.specs.Kids.{Kid, there}
 use Rattle.fr_store.specs.ClosingLaws.{steps_kept, suits_at, suits_change}
 use Rattle.fr_store.specs.HeadLaws.{Head, contains_cases, head_closed, head_of, one_place, walk_on}
-use Rattle.fr_store.specs.HoldLaws.{numbers_at}
 use Rattle.fr_store.specs.HeldLaws.{first_fails, held_by_first, leads_deferred}
 use Rattle.fr_store.specs.Moves.{cursor_in, tree_in_slots}
 use Rattle.fr_store.specs.OffLaws.{reach_place}
 use Rattle.fr_store.specs.Stands.{IsOpen}
+use Rattle.fr_store.specs.StepLaws.{same_steps}
 use Rattle.fr_store.specs.Turning.{HasTurned, IsLackingAt, KeepsTheRest, MayTurn, StoppedByTurns, Walked, kid_here, next_place}
 use Rattle.fr_store.specs.Turns.{CompletesAsBefore, IsHeldUp, KeepThoseLeft, Turned, root_shape}
 use Rattle.fr_store.specs.Walks.{AreInWalkOrder, AreStoredAt, IsStoredAt, IsWalk}
@@ -137,7 +136,6 @@ module _ (means : Meanings) (table : Table) (plan : Plan) (before : List Slot) (
     path = refl;
     finish = refl;
     failing = λ path. refl;
-    tokens = λ t. refl;
     marks = λ n is. is;
   }
 
@@ -163,9 +161,9 @@ module _ (means : Meanings) (table : Table) (plan : Plan) (before : List Slot) (
 
     -- it had its turn
     pub walk_goes_on : CompletingFits → IsChecked table → (next : List Slot) → HasTurned means table plan now stack next n
-        → KeepsTheRest means table plan now stack next → SameTokens now next
+        → KeepsTheRest means table plan now stack next
         → Walked means table plan before stack next walk rest
-    walk_goes_on fitting checked next turned keeps tokens = record {
+    walk_goes_on fitting checked next turned keeps = record {
       first = walked.first;
       still = turned.stands.open_still;
       cursor = turned.stands.cursor ∙ walked.cursor;
@@ -208,7 +206,6 @@ module _ (means : Meanings) (table : Table) (plan : Plan) (before : List Slot) (
           ≡ failures_off means table (root_shape plan) path p (tree_in_slots now stack))
           walked.cursor (keeps.failing path)
           ∙ walked.failing path;
-      tokens = λ t. tokens t ∙ walked.tokens t;
       marks = λ m is. walked.marks m (turned.marks m is);
     }
       where
@@ -306,8 +303,9 @@ module _ (means : Meanings) (table : Table) (plan : Plan) (before : List Slot) (
             (λ (p : Place). own_lack means table (shape_in table (root_shape plan) p (tree_in_slots now stack))
             (tree_at p (tree_in_slots now stack)) ≡ Some kind)
             same lacks.lacks)
-            (λ place reach. numbers_at plan (heap_of now) plan.root FrameOwner.Root 0 place (kid_here now stack)
-            walked.still.stands.holds reach)
+            (λ p q reach here other beside same. same_steps plan (heap_of now) plan.root FrameOwner.Root 0 p q
+            (kid_here now stack) walked.still.stands.holds walked.still.stands.left
+            (inl (cursor_in now stack, walked.still.stands.leads)) reach here other beside same)
             lie lacking first
 
         as_at_first : failures_off means table (root_shape plan) [] (cursor_in now stack) (tree_in_slots now stack)

@@ -2,8 +2,6 @@
 use Rattle.std.proofs.Common.{◌≡◌, ◌≢◌, ◌⊎◌, ℕ, zero, suc, ◌+◌, ◌<◌, ◌≤◌, Bool, true, false, List, [], ◌∷◌, ◌++◌, nat_eq, refl, sym, ◌∙◌, ap, arith}
 use Rattle.std.proofs.lemmas.Grind.{common_steps}
 use Rattle.std.proofs.lemmas.Bool.Decides.{nat_tests}
-use Rattle.fr_path.specs.Order.{number}
-use Rattle.fr_model.specs.Paths.{step_as}
 use Rattle.fr_model.specs.Places.{Place}
 use Rattle.fr_model.specs.Tree.{Form, as_struct, as_array, as_variant, as_some, as_ok, as_err, as_pointer, as_list, as_slice, as_closed_slice, Tree, begun, Trees, branch, tree_nth, change_nth, child_tree, tree_at, change_at, tree_occurs, trees_occur}
 use Rattle.fr_frame.specs.Kids.{Kid, gone, there, at, Plot, entered_plot, whole_plot, begun_plot, Kids, no_kids, kid, MayHave, tree_of, tree_in, trees_in, kid_occurs, plot_occurs, kids_occur}
@@ -341,16 +339,3 @@ put_at_twice (i ∷ place) old new (there v) reach = absurd reach
 -- the only one is the first
 pub only_one : (count i : ℕ) → count ≤ 1 → i < count → 0 ≡ i
 only_one count i may h = omega arith
-
--- the step to a child tells its number: of the children of one place only a field, an element and an item have others beside them
-pub number_of_step : (form : Form) (count i : ℕ) → MayHave form count → i < count → number (step_as form i) ≡ i
-number_of_step as_struct count i may h = refl
-number_of_step as_array count i may h = refl
-number_of_step (as_variant k) count i may h = refl
-number_of_step as_some count i may h = only_one count i may h
-number_of_step as_ok count i may h = only_one count i may h
-number_of_step as_err count i may h = only_one count i may h
-number_of_step as_pointer count i may h = only_one count i may h
-number_of_step as_list count i may h = refl
-number_of_step as_slice count i may h = refl
-number_of_step as_closed_slice count i may h = refl

@@ -166,7 +166,7 @@ node_along plan node (i ∷ place) k = node_along plan (node_below plan node i k
 abbrev pub owner_in_plot : FrameOwner → (slot : ℕ) → ℕ → Plot → FrameOwner
 owner_in_plot owner slot i entered_plot = owner
 owner_in_plot owner slot i (whole_plot v) = owner
-owner_in_plot owner slot i (begun_plot form kids) = child_owner slot form i
+owner_in_plot owner slot i (begun_plot form kids) = child_owner slot i
 
 abbrev pub owner_below : FrameOwner → ℕ → Kid → FrameOwner
 owner_below owner i gone = owner

@@ -1,13 +1,14 @@
 //! Going back from the place at which a builder works to the one above.
-ghost use Rattle.std.specs.Prelude.{◌≡◌, IsOk, IsSome, OnErr, OnOk, Some, false};
+ghost use Rattle.std.specs.Prelude.{◌≡◌, IsOk, IsSome, OnErr, OnOk, Some, true, false};
 ghost use Rattle.fr_shape.specs.Released.{Conserved, Room};
 ghost use Rattle.fr_shape.specs.Val.{Val};
+ghost use Rattle.fr_model.specs.Collections.{is_set, number_in, with_ended_item};
 ghost use Rattle.fr_model.specs.Places.{is_root, up};
-ghost use Rattle.fr_model.specs.Tree.{whole};
-ghost use Rattle.fr_frame.specs.Bodies.{takes_box, value_of};
-ghost use Rattle.fr_frame.specs.Changes.{SameTokens};
+ghost use Rattle.fr_model.specs.Tree.{change_at, tree_at, whole};
+ghost use Rattle.fr_frame.specs.Bodies.{takes_memory, value_of};
+ghost use Rattle.fr_frame.specs.Changes.{SameMarks, SameTokens};
 ghost use Rattle.fr_frame.specs.Heap.{slots_occur};
-ghost use Rattle.fr_store.specs.Moves.{changed_here, cursor_in, tokens_here, tree_in_slots, AtTop, IsOpenAt};
+ghost use Rattle.fr_store.specs.Moves.{changed_here, cursor_in, takes_at_end, tokens_here, tree_in_slots, AtTop, IsOpenAt};
 ghost use Rattle.fr_store.specs.Stands.{kid_here, IsOpen};
 ghost use Rattle.fr_store.specs.Staying.{AllStayPut, StayPutBut};
 ghost use Rattle.fr_store.specs.Stored.{IsKept, NothingStored};
@@ -19,7 +20,8 @@ use fr_shape::{Ledger, OutOfMemory};
 
 impl Stack {
     /// Strict mode: the value of the place on top goes into the place above, where the builder then works. Only a begun option, result
-    /// or pointer, also one to a slice, takes memory: a box for what it holds. Where there is none, what was put there is released.
+    /// or pointer, also one to a slice, takes memory: a box for what it holds; and a set or a map, which is put together anew: what is
+    /// there twice is released. Where there is none, what was put there is released.
     #[inline(always)]
     pub fn end(
         &mut self,
@@ -38,11 +40,10 @@ impl Stack {
             (changed_here (λ old. whole v) slots.old self.old))) }
         ensures places { OnOk result (StayPutBut (cursor_in slots.old self.old)
             (kid_here slots.old self.old) (kid_here slots.new self.new)) }
-        ensures memory { AtTop slots.old self.old (λ at. takes_box at.body ≡ false → IsOk result) }
-        ensures ledger { OnOk result (ledger.new ≡ ledger.old) }
+        ensures memory { AtTop slots.old self.old (λ at. takes_memory at.body ≡ false → IsOk result) }
         ensures strict { NothingStored slots.new }
-        ensures tokens { OnErr result (Conserved (slots_occur slots.old) ledger.old
-            (slots_occur slots.new) ledger.new) }
+        ensures conserved { Conserved (slots_occur slots.old) ledger.old
+            (slots_occur slots.new) ledger.new }
     {
         let _plan = plan;
         let Some(place) = self.pop() else {
@@ -51,7 +52,42 @@ impl Stack {
         place.hand_up(slots, ledger)
     }
 
-    /// Deferred mode: the place on top is stored as it is, and the builder works at the place above.
+    /// The item on top, of a set, ends: its value goes behind the items that the set has, unless it is one of them already, and
+    /// the builder works at the set. What is there already is released. Where there is no memory, what was put there is released.
+    pub fn end_item(
+        &mut self,
+        slots: &mut Slots,
+        plan: &TypePlanCore,
+        ledger: &mut Ledger,
+    ) -> Result<(), OutOfMemory>
+        requires is_open { IsOpen plan.now slots.old self.old }
+        requires below { is_root (cursor_in slots.old self.old) ≡ false }
+        requires of_set { is_set (tree_at (up (cursor_in slots.old self.old))
+            (tree_in_slots slots.old self.old)) ≡ true }
+        requires complete { AtTop slots.old self.old (λ at. IsSome (value_of at.body)) }
+        requires room { Room (tokens_here slots.old self.old) ledger.old }
+        ensures ended { OnOk result (AtTop slots.old self.old (λ at.
+            (v : Val) → value_of at.body ≡ Some v
+            → IsOpenAt plan.now slots.new self.new (up (cursor_in slots.old self.old))
+            (change_at (up (cursor_in slots.old self.old))
+            (with_ended_item (number_in (cursor_in slots.old self.old)) v)
+            (tree_in_slots slots.old self.old)))) }
+        ensures places { OnOk result (StayPutBut (cursor_in slots.old self.old)
+            (kid_here slots.old self.old) (kid_here slots.new self.new)) }
+        ensures memory { AtTop slots.old self.old (λ at. takes_memory at.body ≡ false → IsOk result) }
+        ensures marks { SameMarks slots.old slots.new }
+        ensures conserved { Conserved (slots_occur slots.old) ledger.old
+            (slots_occur slots.new) ledger.new }
+    {
+        let _plan = plan;
+        let Some(item) = self.pop() else {
+            unreachable!()
+        };
+        item.end_item(slots, ledger)
+    }
+
+    /// Deferred mode: the place on top, which is no item of a set and no part of a dynamic value, is stored as it is, and the
+    /// builder works at the place above.
     pub fn leave(
         &mut self,
         slots: &mut Slots,
@@ -61,6 +97,8 @@ impl Stack {
         requires is_open { IsOpen plan.now slots.old self.old }
         requires kept { IsKept store.old slots.old }
         requires below { is_root (cursor_in slots.old self.old) ≡ false }
+        requires not_item { takes_at_end (tree_at (up (cursor_in slots.old self.old))
+            (tree_in_slots slots.old self.old)) ≡ false }
         ensures left { OnOk result (IsOpenAt plan.now slots.new self.new
             (up (cursor_in slots.old self.old)) (tree_in_slots slots.old self.old)) }
         ensures places { AllStayPut (kid_here slots.old self.old) (kid_here slots.new self.new) }

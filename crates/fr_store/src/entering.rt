@@ -1,8 +1,9 @@
 //! Going on to a child of the place at which a builder works.
-ghost use Rattle.std.specs.Prelude.{◌≡◌, ◌∷◌, ◌++◌, [], ◌<◌, length, OnOk, OnErr};
+ghost use Rattle.std.specs.Prelude.{◌≡◌, ◌∷◌, ◌++◌, [], ◌<◌, length, true, OnOk, OnErr};
 ghost use Rattle.fr_shape.specs.Look.{def_of};
+ghost use Rattle.fr_model.specs.Collections.{is_map};
 ghost use Rattle.fr_model.specs.Step.{enter, opened_as};
-ghost use Rattle.fr_model.specs.Tree.{change_child};
+ghost use Rattle.fr_model.specs.Tree.{base_of_form, change_child, child_tree, hole};
 ghost use Rattle.fr_frame.specs.Bodies.{HoldsSome, MayOpen};
 ghost use Rattle.fr_frame.specs.Changes.{SameMarks, SameTokens, Shows};
 ghost use Rattle.fr_frame.specs.Completing.{shape_of};
@@ -20,7 +21,8 @@ use fr_shape::{OutOfMemory, ShapeTable};
 
 impl Stack {
     /// Begins the place on top, so that its children can be entered: an entered one has none of so many children yet, of a
-    /// whole one each has its part of the value, those of a list being its items, a begun one stays as it is.
+    /// whole one each has its part of the value, those of a list or a set being its items and those of a map its keys and values in
+    /// turn, a begun one stays as it is. A map that holds a value is begun over its entries.
     pub fn begin(
         &self,
         slots: &mut Slots,
@@ -31,6 +33,7 @@ impl Stack {
         requires is_open { IsOpen plan.now slots.old self.now }
         requires may_open { AtTop slots.old self.now (λ at. MayOpen (as_form form) at.body) }
         requires many { TakesMany (as_form form) }
+        requires base { base_of_form (as_form form) ≡ 0 }
         ensures begun { OnOk result (IsOpenAt plan.now slots.new self.now
             (cursor_in slots.old self.now)
             (changed_here (opened_as (as_form form) count) slots.old self.now)) }
@@ -66,7 +69,7 @@ impl Stack {
     }
 
     /// Enters child `i` of the place on top, which is begun: the child is on top then. One that holds something keeps it, and one
-    /// that was stored is taken out of the store as it is.
+    /// that was stored is taken out of the store as it is. Of a map only a child that isn't there is entered.
     #[inline(always)]
     pub fn enter(
         &mut self,
@@ -84,6 +87,8 @@ impl Stack {
         requires node { node
             ≡ child_node plan.now (node_here plan.now slots.old self.old) (as_form form) i }
         requires planned { node.0 < length plan.now.nodes }
+        requires map_hole { is_map (tree_here slots.old self.old) ≡ true
+            → child_tree i (tree_here slots.old self.old) ≡ hole }
         ensures entered { OnOk result (IsOpenAt plan.now slots.new self.new
             (cursor_in slots.old self.old ++ i ∷ [])
             (changed_here (change_child i (enter (def_of table.now (shape_of plan.now node))))
@@ -100,12 +105,12 @@ impl Stack {
             unreachable!()
         };
         self.push(above)?;
-        let step = form.step(i);
-        if let Some(child) = store.take(slots, above, &step) {
+        let _form = form;
+        if let Some(child) = store.take(slots, above, i) {
             self.put_top(child);
             return Ok(());
         }
-        match slots.enter(table, plan, node, FrameOwner::Child(above, step)) {
+        match slots.enter(table, plan, node, FrameOwner::Child(above, i)) {
             Ok(child) => {
                 self.put_top(child);
                 Ok(())

@@ -1,4 +1,4 @@
-//! Tests of the end of deferred mode on a struct with a field that is at most 5.
+//! Tests of the end of deferred mode, and of completing what lies beneath a place, on a struct with a field that is at most 5.
 ghost use Rattle.std.specs.Prelude.{◌≡◌, ◌<◌, [], ◌∷◌, length, false, IfOk, IfSome, OnOk};
 ghost use Rattle.fr_shape.specs.Checked.{IsChecked};
 ghost use Rattle.fr_shape.specs.Fills.{is_empty_struct};
@@ -15,7 +15,6 @@ ghost use Rattle.fr_store.specs.Turns.{root_shape};
 
 use crate::{FrameStore, Stack};
 use fr_frame::{Form, FrameOwner, Piece, Slots};
-use fr_path::PathStep;
 use fr_plan::{NodeId, TypePlanCore};
 use fr_shape::{
     Def, Field, Items, Ledger, NoHooks, PlanError, ReflectErrorKind, ScalarKind, Shape, ShapeId,
@@ -200,7 +199,7 @@ fn number_in_field(
     if (node.0 as usize) >= plan.node_count() {
         return None;
     }
-    let owner = FrameOwner::Child(top, PathStep::Field(0));
+    let owner = FrameOwner::Child(top, 0);
     let Ok(child) = slots.enter(table, plan, node, owner) else {
         return None;
     };
@@ -283,4 +282,54 @@ fn a_value_that_fails_is_refused_at_the_end(rt: HostRuntime) {
     assert_eq!(&rt; before, 1);
     assert_eq!(&rt; after, 0);
     assert!(&rt; number.is_none());
+}
+
+/// What completing all that lies beneath the root answers where this number is stored at the root's field; how many places are stored
+/// then; and the number that the root's field then has, if it is in no slot.
+fn completed_at(
+    rt: &impl Abort,
+    alloc: Global,
+    table: &ShapeTable,
+    plan: &TypePlanCore,
+    value: u128,
+) -> (Result<(), ReflectErrorKind>, usize, Option<u128>)
+    requires checked { IsChecked table.now }
+    requires plan { IsPlanFor table.now plan.now }
+{
+    let Some(field) = shape_of_field(table, plan) else {
+        panic!(rt; "no struct of one field");
+    };
+    if !fits(table, field, &Value::Nat(value)) {
+        panic!(rt; "a number that doesn't fit");
+    }
+    let Ok(mut ledger) = Ledger::new(alloc, 0) else {
+        panic!(rt; "no memory");
+    };
+    let (mut slots, mut stack) = at_root(rt, alloc, table, plan);
+    let mut store = FrameStore::new(alloc);
+    go_to_field(rt, table, plan, &mut slots, &mut stack, &mut store);
+    store_field(
+        rt,
+        plan,
+        &mut slots,
+        &mut stack,
+        &mut store,
+        value,
+        &mut ledger,
+    );
+    let result = store.complete_beneath(&mut slots, &stack, table, plan, &NoHooks, &mut ledger);
+    let number = number_in_field(table, plan, &mut slots, &stack);
+    (result, store.len(), number)
+}
+
+#[test]
+fn what_lies_beneath_is_completed_and_the_top_is_not(rt: HostRuntime) {
+    let table = limited_table(&rt, rt.alloc());
+    let Ok(plan) = plan_of(rt.alloc(), &table) else {
+        panic!(&rt; "no plan");
+    };
+    let (result, after, number) = completed_at(&rt, rt.alloc(), &table, &plan, 6);
+    assert!(&rt; result.is_ok());
+    assert_eq!(&rt; after, 0);
+    assert!(&rt; number == Some(6));
 }

@@ -4,7 +4,7 @@ ghost use Rattle.fr_shape.specs.Checked.{IsChecked};
 ghost use Rattle.fr_shape.specs.Released.{Conserved, Room, RoseBy};
 ghost use Rattle.fr_shape.specs.declared.error.ReflectErrorKind.{ReflectErrorKind as Kind};
 ghost use Rattle.fr_model.specs.Well.{Suits};
-ghost use Rattle.fr_frame.specs.Changes.{IfInUse, IsInUse, SameTokens};
+ghost use Rattle.fr_frame.specs.Changes.{IfInUse, IsInUse};
 ghost use Rattle.fr_frame.specs.Completing.{IsPlanFor};
 ghost use Rattle.fr_frame.specs.Heap.{slots_occur};
 ghost use Rattle.fr_store.specs.Moves.{cursor_in, tokens_in, tree_in_slots};
@@ -20,8 +20,9 @@ use fr_model::{law_closing, law_completes, law_failing};
 use fr_plan::{TypePlanCore, law_plan_lookups};
 use fr_shape::{Hooks, Ledger, OutOfMemory, ReflectErrorKind, ShapeTable};
 
-/// The turn of a stored place that has no child in a slot: it is completed, and its value goes into the place above. Where there is
-/// no memory for the box that a begun option, result or pointer takes, also one to a slice, what was put at the place is released.
+/// The turn of a stored place that has no child in a slot: it is completed, and its value goes into the place above. What a set or a
+/// map has twice is released. Where there is no memory for the box that a begun option, result or pointer takes, also one to a
+/// slice, or for putting a set or a map together, what was put at the place is released.
 pub(crate) fn turn<H: Hooks>(
     slots: &mut Slots,
     stack: &Stack,
@@ -43,10 +44,8 @@ pub(crate) fn turn<H: Hooks>(
         slots.old stack.now slots.new) }
     ensures why { IfErr result (λ kind. (kind ≡ Kind.OutOfMemory)
         ⊎ IsLackingAt (H.means hooks.now) table.now plan.now slots.old stack.now place.0 kind) }
-    ensures tokens { OnOk result (SameTokens slots.old slots.new) }
-    ensures ledger { OnOk result (ledger.new ≡ ledger.old) }
-    ensures conserved { OnErr result (Conserved (slots_occur slots.old) ledger.old
-        (slots_occur slots.new) ledger.new) }
+    ensures conserved { Conserved (slots_occur slots.old) ledger.old
+        (slots_occur slots.new) ledger.new }
 {
     law_closing();
     law_completes();
@@ -81,10 +80,8 @@ fn take_turns<H: Hooks>(
         ⊎ IsHeldUp (H.means hooks.now) table.now plan.now slots.old stack.now kind) }
     ensures stopped { IfErr result (λ kind. (kind ≡ Kind.OutOfMemory)
         ⊎ StoppedByTurns (H.means hooks.now) table.now plan.now slots.old stack.now kind) }
-    ensures tokens { OnOk result (SameTokens slots.old slots.new) }
-    ensures ledger { OnOk result (ledger.new ≡ ledger.old) }
-    ensures conserved { OnErr result (Conserved (slots_occur slots.old) ledger.old
-        (slots_occur slots.new) ledger.new) }
+    ensures conserved { Conserved (slots_occur slots.old) ledger.old
+        (slots_occur slots.new) ledger.new }
 {
     law_completes();
     law_failing();
@@ -117,7 +114,9 @@ fn becomes_whole(slots: &Slots, place: SlotId) -> bool
             | Form::Err
             | Form::Pointer
             | Form::List
-            | Form::Slice,
+            | Form::Slice
+            | Form::Set
+            | Form::Map(_),
             _,
         ) => false,
     }
@@ -131,18 +130,21 @@ fn complete_top<H: Hooks>(
     table: &ShapeTable,
     plan: &TypePlanCore,
     hooks: &H,
+    ledger: &mut Ledger,
 ) -> Result<(), ReflectErrorKind>
     requires checked { IsChecked table.now }
     requires plan { IsPlanFor table.now plan.now }
     requires is_open { IsOpen plan.now slots.old stack.now }
     requires suits { Suits table.now (root_shape plan.now) (tree_in_slots slots.old stack.now) }
     requires strict { NothingStored slots.old }
+    requires room { Room (tokens_in slots.old stack.now) ledger.old }
     ensures finished { OnOk result (FinishedHere (H.means hooks.now) table.now plan.now
         slots.old stack.now slots.new) }
     ensures strict { OnOk result (NothingStored slots.new) }
     ensures why { IfErr result (λ kind. (kind ≡ Kind.OutOfMemory)
         ⊎ LacksHere (H.means hooks.now) table.now plan.now slots.old stack.now kind) }
-    ensures tokens { SameTokens slots.old slots.new }
+    ensures conserved { Conserved (slots_occur slots.old) ledger.old
+        (slots_occur slots.new) ledger.new }
 {
     law_completes();
     law_plan_lookups();
@@ -154,7 +156,7 @@ fn complete_top<H: Hooks>(
     if !whole {
         return Ok(());
     }
-    match top.make_whole(slots) {
+    match top.make_whole(slots, ledger) {
         Ok(()) => Ok(()),
         Err(OutOfMemory) => Err(ReflectErrorKind::OutOfMemory),
     }
@@ -189,10 +191,8 @@ impl FrameStore {
         ensures stopped { IfErr result (λ kind. (kind ≡ Kind.OutOfMemory)
             ⊎ StoppedByTurns (H.means hooks.now) table.now plan.now slots.old stack.now kind) }
         ensures empty { self.new ≡ [] }
-        ensures tokens { OnOk result (SameTokens slots.old slots.new) }
-        ensures ledger { OnOk result (ledger.new ≡ ledger.old) }
-        ensures conserved { OnErr result (Conserved (slots_occur slots.old) ledger.old
-            (slots_occur slots.new) ledger.new) }
+        ensures conserved { Conserved (slots_occur slots.old) ledger.old
+            (slots_occur slots.new) ledger.new }
     {
         law_failing();
         let walk = self.take_walk(slots, stack, plan);
@@ -200,15 +200,16 @@ impl FrameStore {
             Ok(()) => {}
             Err(kind) => return Err(kind),
         }
-        match complete_top(slots, stack, table, plan, hooks) {
+        match complete_top(slots, stack, table, plan, hooks, ledger) {
             Ok(()) => Ok(()),
             Err(kind) => Err(kind),
         }
     }
 
     /// Completes every stored place, the longest path first, then step by step, and then the place on top of the stack, which stays
-    /// begun where it is, but a closed pointer to a slice. The first place that fails gives the refusal; all is released then. Only
-    /// templates, and boxes for what options, results and pointers hold, want memory.
+    /// begun where it is, but a closed pointer to a slice. What a set or a map has twice is released. The first place that fails gives
+    /// the refusal; all is released then. Only templates, boxes for what options, results and pointers hold, and sets and maps that
+    /// are put together want memory.
     pub fn finish<H: Hooks>(
         &mut self,
         slots: &mut Slots,
@@ -230,7 +231,8 @@ impl FrameStore {
             slots.old stack.old slots.new stack.new) }
         ensures strict { NothingStored slots.new }
         ensures empty { self.new ≡ [] }
-        ensures kept { OnOk result (ledger.new ≡ ledger.old) }
+        ensures conserved { OnOk result (Conserved (slots_occur slots.old) ledger.old
+            (slots_occur slots.new) ledger.new) }
         ensures why { IfErr result (λ kind. (kind ≡ Kind.OutOfMemory)
             ⊎ IsHeldUp (H.means hooks.now) table.now plan.now slots.old stack.old kind) }
         ensures stopped { IfErr result (λ kind. (kind ≡ Kind.OutOfMemory)

@@ -1,10 +1,12 @@
 //! The places at which a builder works: the stack of their slots, and the moves from one place to the next.
 #![tactic(auto)]
 
+mod beneath;
 mod ending;
 mod entering;
 mod finishing;
 mod items;
+mod listing;
 mod pruning;
 mod restarting;
 mod setting;

@@ -13,7 +13,7 @@ use fr_frame::{Piece, SlotId, Slots};
 use fr_shape::Ledger;
 
 /// How many children a place has.
-fn count_children(slots: &Slots, place: SlotId) -> usize
+pub(crate) fn count_children(slots: &Slots, place: SlotId) -> usize
     ensures { result ≡ length (cells_found (heap_of slots.now place.0)) }
 {
     let Some(found) = slots.place(place) else {
@@ -26,7 +26,7 @@ fn count_children(slots: &Slots, place: SlotId) -> usize
 }
 
 /// The slot of a child, where it is in one.
-fn slot_of_child(slots: &Slots, place: SlotId, i: usize) -> Option<SlotId>
+pub(crate) fn slot_of_child(slots: &Slots, place: SlotId, i: usize) -> Option<SlotId>
     ensures { option_map (λ (slot : Number). slot.0) result
         ≡ slot_at (cells_found (heap_of slots.now place.0)) i }
 {

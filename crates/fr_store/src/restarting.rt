@@ -1,7 +1,7 @@
 //! Beginning anew at the place at which a builder works.
-ghost use Rattle.std.specs.Prelude.{OnErr, OnOk};
+ghost use Rattle.std.specs.Prelude.{◌≡◌, OnErr, OnOk};
 ghost use Rattle.fr_shape.specs.Released.{Conserved, Room, RoseBy};
-ghost use Rattle.fr_model.specs.Tree.{begun, holes};
+ghost use Rattle.fr_model.specs.Tree.{base_of_form, begun, holes};
 ghost use Rattle.fr_frame.specs.Heap.{as_form, slots_occur};
 ghost use Rattle.fr_frame.specs.Kids.{MayHave};
 ghost use Rattle.fr_store.specs.Moves.{changed_here, cursor_in, tokens_here, IsOpenAt};
@@ -29,6 +29,7 @@ impl Stack {
         requires is_open { IsOpen plan.now slots.old self.now }
         requires kept { IsKept store.old slots.old }
         requires may_have { MayHave (as_form form) count }
+        requires base { base_of_form (as_form form) ≡ 0 }
         requires room { Room (tokens_here slots.old self.now) ledger.old }
         ensures restarted { OnOk result (IsOpenAt plan.now slots.new self.now
             (cursor_in slots.old self.now)

@@ -3,7 +3,7 @@ ghost use Rattle.std.specs.Prelude.{◌≡◌, ◌⊎◌, ℕ, ◌+◌, ◌≤�
 ghost use Rattle.std.specs.List.Sorted.{IsNonDecreasingBy};
 ghost use Rattle.fr_frame.specs.Changes.{IfInUse};
 ghost use Rattle.fr_frame.specs.Heap.{heap_of};
-ghost use Rattle.fr_store.specs.Moves.{OwnerIsNumbered};
+ghost use Rattle.fr_store.specs.Moves.{HasOwner};
 ghost use Rattle.fr_store.specs.Numbers.{numbers};
 ghost use Rattle.fr_store.specs.Places.{is_between, key_of, slots_between, AreAllStored, IsKeyOf, IsSpread};
 ghost use Rattle.fr_store.specs.Stands.{kid_shown, IsOpen};
@@ -46,10 +46,10 @@ fn add_between(
 
 /// The key of open place number `i`; where there is none that many, this one.
 fn key_at(slots: &Slots, on_stack: &[SlotId], i: usize, last: u128) -> u128
-    requires numbered { (n : ℕ) → slice_get (numbers on_stack.now) i ≡ Some n
-        → IfInUse slots.now n (λ at. OwnerIsNumbered at.owner) }
+    requires owned { (n : ℕ) → slice_get (numbers on_stack.now) i ≡ Some n
+        → IfInUse slots.now n (λ at. HasOwner at.owner) }
     ensures key { (n : ℕ) → slice_get (numbers on_stack.now) i ≡ Some n
-        → IfInUse slots.now n (λ at. IsKeyOf result at.owner) }
+        → IfInUse slots.now n (λ at. IsKeyOf (heap_of slots.now) result at.owner) }
     ensures none { length on_stack.now ≤ i → result ≡ last }
 {
     if i >= on_stack.len() {

@@ -11,7 +11,6 @@ use crate::Stack;
 use crate::turning::StoredPlace;
 use crate::walking::order_walk;
 use fr_frame::{SlotId, Slots};
-use fr_path::PathStep;
 use fr_plan::TypePlanCore;
 use fr_shape::OutOfMemory;
 use std::alloc::Global;
@@ -98,7 +97,8 @@ impl FrameStore {
         self.places.push(StoredPlace {
             slot: place,
             parent: 0,
-            step: 0,
+            number: 0,
+            order: 0,
         })?;
         self.positions[place.0 as usize] = at as u32;
         Ok(())
@@ -154,22 +154,22 @@ impl FrameStore {
         Ok(())
     }
 
-    /// Takes the child to which a step leads out of the store, where it is stored. Takes no memory.
-    pub fn take(&mut self, slots: &mut Slots, parent: SlotId, step: &PathStep) -> Option<SlotId>
+    /// Takes child `i` of a place out of the store, where it is stored. Takes no memory.
+    pub fn take(&mut self, slots: &mut Slots, parent: SlotId, i: u32) -> Option<SlotId>
         requires kept { IsKept self.old slots.old }
         ensures taken { IfSome result (λ child.
-            IsStoredChild (heap_of slots.old) parent.0 step.now child.0) }
+            IsStoredChild (heap_of slots.old) parent.0 i child.0) }
         ensures unmarked { IfSome result (λ child.
             Shows slots.new (with_mark (heap_of slots.old) child.0 false)) }
         ensures none { IsNone result → (child : ℕ)
-            → child_slot (heap_of slots.old) parent.0 step.now ≡ Some child
+            → child_slot (heap_of slots.old) parent.0 i ≡ Some child
             → marked (heap_of slots.old) child ≡ false }
         ensures slots_kept { IsNone result → slots.new ≡ slots.old }
         ensures store_kept { IsNone result → self.new ≡ self.old }
         ensures kept { IsKept self.new slots.new }
         ensures tokens { SameTokens slots.old slots.new }
     {
-        let child = parent.child(slots, step)?;
+        let child = parent.child(slots, i)?;
         if !child.is_stored(slots) {
             return None;
         }
@@ -178,12 +178,12 @@ impl FrameStore {
         Some(child)
     }
 
-    /// Whether the child to which a step leads is stored.
-    pub fn contains(&self, slots: &Slots, parent: SlotId, step: &PathStep) -> bool
+    /// Whether child `i` of a place is stored.
+    pub fn contains(&self, slots: &Slots, parent: SlotId, i: u32) -> bool
         ensures stored { IsTrue result ↔ ((child : ℕ)
-            × IsStoredChild (heap_of slots.now) parent.0 step.now child) }
+            × IsStoredChild (heap_of slots.now) parent.0 i child) }
     {
-        match parent.child(slots, step) {
+        match parent.child(slots, i) {
             Some(child) => child.is_stored(slots),
             None => false,
         }

@@ -1,41 +1,65 @@
 //! Where stored places belong, and where they come among the children of the place above.
 ghost use Rattle.std.specs.Prelude.{◌≡◌, All, IfOk, IsPermutation};
 ghost use Rattle.std.specs.List.Sorted.{IsNonDecreasingBy};
-ghost use Rattle.fr_path.specs.Order.{number};
+ghost use Rattle.fr_model.specs.Tree.{as_map};
 ghost use Rattle.fr_frame.specs.Changes.{IfInUse};
-ghost use Rattle.fr_frame.specs.Heap.{heap_of};
-ghost use Rattle.fr_store.specs.Moves.{OwnerIsNumbered};
+ghost use Rattle.fr_frame.specs.Heap.{as_form, heap_of};
+ghost use Rattle.fr_store.specs.Moves.{HasOwner};
 ghost use Rattle.fr_store.specs.Numbers.{slots_of};
-ghost use Rattle.fr_store.specs.Places.{key_of, BelongsTo, IsNarrow, IsNoted};
+ghost use Rattle.fr_store.specs.Places.{key_of, order_as, order_at, BelongsTo, IsNarrow, IsNoted};
 
-use fr_frame::{FrameOwner, SlotId, Slots};
-use fr_path::PathStep;
+use fr_frame::{Form, FrameOwner, Piece, SlotId, Slots};
 
-/// A place that is stored, by its slot. For the walk alone there is beside it the number of the slot of the place above, and that
-/// of the step from there.
+/// A place that is stored, by its slot. For the walk alone there is beside it the number of the slot of the place above, which child
+/// of that it is, and where it comes among the children there: a map's keys come before its values.
 #[derive(Clone, Copy)]
 pub(crate) struct StoredPlace {
     pub slot: SlotId,
     pub parent: u32,
-    pub step: u32,
+    pub number: u32,
+    pub order: u32,
 }
 
-/// A step's number; 0 where it has none.
-fn number_of(step: &PathStep) -> u32
-    ensures { result ≡ number step.now }
+/// Where child `i` of a map comes among its children: all keys before all values.
+fn order_in_map(i: u32) -> u32
+    ensures { result ≡ order_as (as_map 0) i }
 {
-    match step {
-        PathStep::Field(i) | PathStep::Index(i) => *i,
-        PathStep::MapKey(i) | PathStep::MapValue(i) => *i,
-        PathStep::Deref | PathStep::Inner | PathStep::OptionSome | PathStep::Proxy => 0,
-        PathStep::ResultOk | PathStep::ResultErr | PathStep::SetItem | PathStep::Entry(_) => 0,
+    if i % 2 == 0 {
+        i / 2
+    } else {
+        i / 2 + 2147483648
+    }
+}
+
+/// Where child `i` of a place that is begun so comes among its children.
+fn order_of(form: &Form, i: u32) -> u32
+    ensures { result ≡ order_as (as_form form.now) i }
+{
+    match form {
+        Form::Map(_) => order_in_map(i),
+        Form::Struct | Form::Array | Form::Variant(_) | Form::Some | Form::Ok | Form::Err => i,
+        Form::Pointer | Form::List | Form::Slice | Form::ClosedSlice | Form::Set => i,
+    }
+}
+
+/// Where child `i` of the place in a slot comes among its children.
+fn order_below(slots: &Slots, parent: SlotId, i: u32) -> u32
+    ensures { result ≡ order_at (heap_of slots.now parent.0) i }
+{
+    let Some(above) = slots.place(parent) else {
+        return i;
+    };
+    match &above.piece {
+        Piece::Begun(form, _) => order_of(form, i),
+        Piece::Entered | Piece::Whole(_) => i,
     }
 }
 
 /// The place in a slot, with where it belongs.
 pub(crate) fn noted(slots: &Slots, slot: SlotId) -> StoredPlace
-    requires numbered { IfInUse slots.now slot.0 (λ at. OwnerIsNumbered at.owner) }
-    ensures belongs { IfInUse slots.now slot.0 (λ at. BelongsTo result at.owner) }
+    requires owned { IfInUse slots.now slot.0 (λ at. HasOwner at.owner) }
+    ensures belongs { IfInUse slots.now slot.0 (λ at.
+        BelongsTo (heap_of slots.now) result at.owner) }
     ensures slot { result.slot ≡ slot }
     ensures narrow { IsNarrow result }
 {
@@ -43,10 +67,11 @@ pub(crate) fn noted(slots: &Slots, slot: SlotId) -> StoredPlace
         unreachable!()
     };
     match &place.owner {
-        FrameOwner::Child(parent, step) => StoredPlace {
+        FrameOwner::Child(parent, number) => StoredPlace {
             slot,
             parent: parent.0,
-            step: number_of(step),
+            number: *number,
+            order: order_below(slots, *parent, *number),
         },
         FrameOwner::Root => unreachable!(),
     }
@@ -54,7 +79,7 @@ pub(crate) fn noted(slots: &Slots, slot: SlotId) -> StoredPlace
 
 /// Notes where each of these places belongs.
 pub(crate) fn note_all(slots: &Slots, places: &mut [StoredPlace])
-    requires numbered { All (λ place. IfInUse slots.now place.slot.0 (λ at. OwnerIsNumbered at.owner))
+    requires owned { All (λ place. IfInUse slots.now place.slot.0 (λ at. HasOwner at.owner))
         places.old }
     ensures slots { slots_of places.new ≡ slots_of places.old }
     ensures noted { All (IsNoted (heap_of slots.now)) places.new }
@@ -65,14 +90,14 @@ pub(crate) fn note_all(slots: &Slots, places: &mut [StoredPlace])
     }
 }
 
-/// By what stored places are sorted: those of one place above are together, the last child first.
+/// By what stored places are sorted: those of one place above are together, the last child of the walk first.
 pub(crate) fn key(place: &StoredPlace) -> u64
     ensures { result ≡ key_of place.now }
 {
-    place.parent as u64 * 4294967296 + (u32::MAX - place.step) as u64
+    place.parent as u64 * 4294967296 + (u32::MAX - place.order) as u64
 }
 
-/// Sorts stored places by the place above; of one place the last child comes first.
+/// Sorts stored places by the place above; of one place the last child of the walk comes first.
 pub(crate) fn sort(places: &mut [StoredPlace])
     ensures same { IsPermutation places.old places.new }
     ensures sorted { IsNonDecreasingBy key_of places.new }

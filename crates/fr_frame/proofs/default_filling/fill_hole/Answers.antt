@@ -15,13 +15,13 @@ returns-then-is_some-clause-filled c =
     sym
     (nth_there (hole_takes deferred_column c.args.table.now c.args.told.now.field.shape.0 (as_fields c.args.told.now.field.variant) c.args.told.now.field.index) c.args.i
     c.args.children.now
-    (ap is_some (sym c.value.ensures) ∙ copied_some view c.value.result ∙ sym c.if-is_some.ensures))
+    (ap is_some (sym c.value.ensures.value) ∙ copied_some view c.value.result ∙ sym c.if-is_some.ensures))
 
 pub returns-in-Some-clause-filled : goal.returns-in-Some-clause-filled
 returns-in-Some-clause-filled c =
     let none : value_at c.args.children.now c.args.i ≡ None
     = not_some (value_at c.args.children.now c.args.i)
-    (ap is_some (sym c.value.ensures) ∙ copied_some view c.value.result ∙ sym c.if-is_some.ensures) in
+    (ap is_some (sym c.value.ensures.value) ∙ copied_some view c.value.result ∙ sym c.if-is_some.ensures) in
     c.put.ensures
     ∙ nth_fill (hole_takes deferred_column c.args.table.now c.args.told.now.field.shape.0 (as_fields c.args.told.now.field.variant) c.args.told.now.field.index) c.args.i
     c.args.children.now (view c.in-Some.copy) none c.requires.closed

@@ -30,7 +30,7 @@ returns-in_err-test_child_mark-clause-failing c =
     (λ kind unmet.
     c.loop-i.invariant
     ∙ marks_cause c.args.table.now c.args.plan.now (shape_of c.args.plan.now c.args.node) c.args.selected c.loop-i.i c.index-told-i.result is
-    c.args.children.now (option_map view (option_copied c.value.result)) (omega arith) c.value.ensures kind unmet)
+    c.args.children.now (option_map view (option_copied c.value.result)) (omega arith) c.value.ensures.value kind unmet)
     c.test_child_mark.ensures.failing in
     grind (arith, common_steps)
 
@@ -44,5 +44,5 @@ loop-i-preserved c =
     (item_is c.plans_of_fields-told.result.now c.loop-i.i c.index-told-i.result c.loop-i-test.true c.index-told-i.is) in
     c.loop-i.invariant
     ∙ marks_preserved c.args.table.now c.args.plan.now (shape_of c.args.plan.now c.args.node) c.args.selected c.loop-i.i c.index-told-i.result is
-    c.args.children.now (option_map view (option_copied c.value.result)) (omega arith) c.value.ensures
+    c.args.children.now (option_map view (option_copied c.value.result)) (omega arith) c.value.ensures.value
     c.in_ok-test_child_mark.ensures.passing

@@ -11,7 +11,7 @@ use Rattle.fr_frame.specs.Completing.{shape_of}
 use Rattle.fr_frame.specs.Filling.{IsTold, IsLightFill}
 use Rattle.fr_frame.proofs.FormLaws.{field_takes}
 use Rattle.fr_frame.proofs.LackLaws.{told_here, item_is}
-use Rattle.fr_frame.proofs.FillLaws.{Filling, copied_some, not_some, filling_light, filling_set, filling_there, filling_ends}
+use Rattle.fr_frame.proofs.FillLaws.{Filling, copied_some, not_some, filling_begins, filling_light, filling_set, filling_there, filling_ends}
 use Rattle.fr_frame.proofs.filling.fill_holes.Goals as goal
 use Rattle.fr_frame.proofs.filling.fill_holes.Goals.{then-is_none+in_ok-copy, else-is_none}
 
@@ -23,11 +23,17 @@ copy_fill-requires c =
     (item_is c.plans_of_fields-told.result.now c.loop-i.i c.index-told-i.result c.loop-i-test.true c.index-told-i.is) in
     let none : value_at c.loop-i.children c.loop-i.i ≡ None
     = not_some (value_at c.loop-i.children c.loop-i.i)
-    (ap is_some (sym c.value.ensures) ∙ copied_some view c.value.result ∙ c.if-is_none.ensures) in
+    (ap is_some (sym c.value.ensures.value) ∙ copied_some view c.value.result ∙ c.if-is_none.ensures) in
     subst IsLightFill
     (field_takes strict_column c.args.table.now (shape_of c.args.plan.now c.args.node) c.args.selected c.loop-i.i ∙ sym is.fill ∙ ap (λ (one : FieldPlan). fill_told c.args.table.now one.fill_rule) c.index-told-i.is)
     (filling_light c.args.table.now (shape_of c.args.plan.now c.args.node) (as_fields c.args.selected) c.args.children.now c.loop-i.children c.loop-i.i
     c.loop-i.invariant.so_far c.requires.checked (omega (arith, c.loop-i.invariant.count)) c.requires.fills none)
+
+pub loop-i-init : goal.loop-i-init
+loop-i-init c = record {
+  so_far = filling_begins c.args.table.now (shape_of c.args.plan.now c.args.node) (as_fields c.args.selected) c.args.children.now;
+  count = c.plans_of_fields-told.ensures.count (length c.args.children.now) c.requires.full;
+}
 
 pub loop-i-preserved : goal.loop-i-preserved
 loop-i-preserved c =
@@ -39,7 +45,7 @@ loop-i-preserved c =
           (item_is c.plans_of_fields-told.result.now c.loop-i.i w.index-told-i.result c.loop-i-test.true w.index-told-i.is) in
           let none : value_at c.loop-i.children c.loop-i.i ≡ None
           = not_some (value_at c.loop-i.children c.loop-i.i)
-          (ap is_some (sym c.value.ensures) ∙ copied_some view c.value.result ∙ w.if-is_none.ensures) in
+          (ap is_some (sym c.value.ensures.value) ∙ copied_some view c.value.result ∙ w.if-is_none.ensures) in
           let takes : hole_takes strict_column c.args.table.now (shape_of c.args.plan.now c.args.node) (as_fields c.args.selected) c.loop-i.i ≡ Some (view w.in_ok-copy.copy)
           = field_takes strict_column c.args.table.now (shape_of c.args.plan.now c.args.node) c.args.selected c.loop-i.i ∙ sym is.fill
           ∙ ap (λ (one : FieldPlan). fill_told c.args.table.now one.fill_rule) w.index-told-i.is
@@ -68,7 +74,7 @@ loop-i-preserved c =
             (sym w.children-is)
             (filling_there c.args.table.now (shape_of c.args.plan.now c.args.node) (as_fields c.args.selected) c.args.children.now c.loop-i.children
             c.loop-i.i c.loop-i.invariant.so_far
-            (ap is_some (sym c.value.ensures) ∙ copied_some view c.value.result ∙ w.if-is_none.ensures));
+            (ap is_some (sym c.value.ensures.value) ∙ copied_some view c.value.result ∙ w.if-is_none.ensures));
         count = ap length w.children-is ∙ c.loop-i.invariant.count;
       }
     ]

@@ -45,7 +45,7 @@ returns-in_err-test_field-clause-failing g c =
     subst (λ (o : Option ReflectErrorKind). IsCauseOf o kind) (sym c.loop-i.invariant)
     (fields_cause (g.H.Hooks.means c.args.hooks.now) c.args.table.now c.args.plan.now (shape_of c.args.plan.now c.args.node) c.args.selected
     c.loop-i.i c.index-told-i.result is c.args.children.now (option_map view (option_copied c.value.result)) (omega arith)
-    c.value.ensures kind cause))
+    c.value.ensures.value kind cause))
     c.test_field.ensures.failing in
     grind (arith, common_steps)
 
@@ -60,4 +60,4 @@ loop-i-preserved g c =
     c.loop-i.invariant
     ∙ fields_preserved (g.H.Hooks.means c.args.hooks.now) c.args.table.now c.args.plan.now (shape_of c.args.plan.now c.args.node) c.args.selected
     c.loop-i.i c.index-told-i.result is c.args.children.now (option_map view (option_copied c.value.result)) (omega arith)
-    c.value.ensures c.in_ok-test_field.ensures.passing
+    c.value.ensures.value c.in_ok-test_field.ensures.passing

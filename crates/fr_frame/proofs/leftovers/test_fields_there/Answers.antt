@@ -26,7 +26,7 @@ returns-then-is_none-clause-failing c =
     (item_is c.plans_of_fields-told.result.now c.loop-i.i c.index-told-i.result c.loop-i-test.true c.index-told-i.is) in
     let none : value_at c.args.children.now c.loop-i.i ≡ None
     = not_some (value_at c.args.children.now c.loop-i.i)
-    (ap is_some (sym c.value.ensures) ∙ copied_some view c.value.result ∙ c.if-is_none.ensures) in
+    (ap is_some (sym c.value.ensures.value) ∙ copied_some view c.value.result ∙ c.if-is_none.ensures) in
     c.loop-i.invariant
     ∙ absent_cause c.args.table.now c.args.plan.now (shape_of c.args.plan.now c.args.node) c.args.selected c.loop-i.i c.index-told-i.result is
     c.args.children.now (omega arith) c.requires.closed none
@@ -36,4 +36,4 @@ pub loop-i-preserved : goal.loop-i-preserved
 loop-i-preserved c =
     c.loop-i.invariant
     ∙ absent_preserved (shape_of c.args.plan.now c.args.node) (as_fields c.args.selected) c.loop-i.i c.args.children.now
-    (ap is_some (sym c.value.ensures) ∙ copied_some view c.value.result ∙ c.if-is_none.ensures)
+    (ap is_some (sym c.value.ensures.value) ∙ copied_some view c.value.result ∙ c.if-is_none.ensures)

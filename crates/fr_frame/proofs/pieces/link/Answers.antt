@@ -13,7 +13,7 @@ returns-clause-tokens c t =
     = ap (λ (p : Piece). body_occurs (body_of p) t) c.in-Begun.is in
     omega (
       arith,
-      occur_taken c.in-Begun.children c.in_ok-i.i (placed c.args.slot.0) t c.in_ok-i.ensures.inside,
+      occur_taken c.in-Begun.children c.in_ok-at.at (placed c.args.slot.0) t c.in_ok-at.ensures.inside,
       ap (λ (cs : List Cell). cells_occur cs t) c.place.ensures.placed,
       ap (λ (o : Option Val). value_occurs o t) c.place.ensures.taken,
     )

@@ -13,10 +13,10 @@ pub returns-clause-tokens : goal.returns-clause-tokens
 returns-clause-tokens c t =
     let was : body_occurs (body_of c.args.piece.now) t ≡ cells_occur c.in-Begun.children t
     = ap (λ (p : Piece). body_occurs (body_of p) t) c.in-Begun.is in
-    let here : slice_get c.in-Begun.children c.in-Some.i ≡ Some absent
-    = sym c.in-Some.ensures.cell ∙ ap (λ (p : Piece). cell_at (body_of p) c.args.step.now) (sym c.in-Begun.is) ∙ c.requires in
+    let here : slice_get c.in-Begun.children c.in-Some.at ≡ Some absent
+    = sym c.in-Some.ensures.cell ∙ ap (λ (p : Piece). cell_at (body_of p) c.args.i) (sym c.in-Begun.is) ∙ c.requires in
     omega (
       arith,
-      occur_set c.in-Begun.children c.in-Some.i absent (given (view c.args.value)) t here,
+      occur_set c.in-Begun.children c.in-Some.at absent (given (view c.args.value)) t here,
       ap (λ (cs : List Cell). cells_occur cs t) c.put.ensures,
     )

@@ -13,11 +13,11 @@ pub returns-then-held-slot-clause-tokens : goal.returns-then-held-slot-clause-to
 returns-then-held-slot-clause-tokens c t =
     let was : body_occurs (body_of c.args.piece.now) t ≡ cells_occur c.in-Begun.children t
     = ap (λ (p : Piece). body_occurs (body_of p) t) c.in-Begun.is in
-    let held : Some c.in-Some-slot.held.0 ≡ slot_at c.in-Begun.children c.in-Some.i = c.in-Some-slot.ensures.slot in
-    let none : value_at c.in-Begun.children c.in-Some.i ≡ None = slot_no_value c.in-Begun.children c.in-Some.i c.in-Some-slot.held.0 held in
+    let held : Some c.in-Some-slot.held.0 ≡ slot_at c.in-Begun.children c.in-Some.at = c.in-Some-slot.ensures.slot in
+    let none : value_at c.in-Begun.children c.in-Some.at ≡ None = slot_no_value c.in-Begun.children c.in-Some.at c.in-Some-slot.held.0 held in
     omega (
       arith,
-      occur_taken c.in-Begun.children c.in-Some.i absent t c.in-Some.ensures.inside,
+      occur_taken c.in-Begun.children c.in-Some.at absent t c.in-Some.ensures.inside,
       ap (λ (cs : List Cell). cells_occur cs t) c.clear.ensures,
       ap (λ (o : Option Val). value_occurs o t) none,
     )

@@ -40,7 +40,7 @@ returns-in_err-test_value-clause-failing g c =
     = are.count (length c.args.children.now) so.full in
     valid_cause (g.H.Hooks.means c.args.hooks.now) table c.args.plan.now (shape_of c.args.plan.now c.args.node)
     c.args.selected c.fields_told-told.result.now are c.args.children.now count c.requires.there c.loop-i.i (option_copied c.told_at.result)
-    (option_map view (option_copied c.value.result)) (omega arith) c.told_at.ensures c.value.ensures
+    (option_map view (option_copied c.value.result)) (omega arith) c.told_at.ensures c.value.ensures.value
     (c.loop-i.invariant table so) kind cause)
     c.test_value.ensures.failing in
     grind (arith, common_steps)
@@ -54,4 +54,4 @@ loop-i-preserved g c table so =
     c.loop-i.invariant table so
     ∙ valid_preserved (g.H.Hooks.means c.args.hooks.now) table c.args.plan.now (shape_of c.args.plan.now c.args.node)
     c.args.selected c.fields_told-told.result.now are c.args.children.now count c.requires.there c.loop-i.i (option_copied c.told_at.result)
-    (option_map view (option_copied c.value.result)) (omega arith) c.told_at.ensures c.value.ensures c.in_ok-test_value.ensures.passing
+    (option_map view (option_copied c.value.result)) (omega arith) c.told_at.ensures c.value.ensures.value c.in_ok-test_value.ensures.passing

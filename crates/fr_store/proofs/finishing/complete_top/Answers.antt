@@ -1,10 +1,11 @@
-use Rattle.std.proofs.Common.{◌≡◌, ◌⊎◌, ◌∙◌, subst, sym}
+use Rattle.std.proofs.Common.{◌≡◌, ◌⊎◌, refl, subst, sym}
 use Rattle.std.proofs.lemmas.Result.{err_from_is_err_and}
 use Rattle.fr_shape.specs.declared.error.ReflectErrorKind.{ReflectErrorKind}
 use Rattle.fr_store.specs.HereLaws.{finished_begun, finished_whole, nothing_begun, nothing_whole, top_may_complete, top_refused}
 use Rattle.fr_store.specs.MoveLaws.{top_in_use}
 use Rattle.fr_store.specs.Stored.{NothingStored}
 use Rattle.fr_store.specs.Turning.{FinishedHere, LacksHere}
+use Rattle.fr_store.proofs.TakenLaws.{closed_room}
 use Rattle.fr_store.proofs.finishing.complete_top.Goals as goal
 
 pub becomes_whole-whole-requires : goal.becomes_whole-whole-requires
@@ -35,24 +36,22 @@ returns-then-not-whole-clause-finished g c =
     finished_begun c.args.plan.now c.args.slots.now c.args.stack.now c.requires.is_open c.in-Some.top.0 c.in-Some.ensures.last
     c.requires.strict c.law_plan_lookups.ensures.agree c.law_plan_lookups.ensures.paths c.args.table.now c.requires.checked
     c.requires.plan c.requires.suits (g.H.Hooks.means c.args.hooks.now) c.complete_by_defaults.new.slots
-    c.in_ok-complete_by_defaults.ensures.filled c.law_completes.ensures.tokens c.complete_by_defaults.ensures.tokens
-    c.in_ok-complete_by_defaults.ensures.form c.if-not-whole.ensures
+    c.in_ok-complete_by_defaults.ensures.filled c.in_ok-complete_by_defaults.ensures.form c.if-not-whole.ensures
 
 pub returns-then-not-whole-clause-strict : goal.returns-then-not-whole-clause-strict
 returns-then-not-whole-clause-strict g c =
     nothing_begun c.args.plan.now c.args.slots.now c.args.stack.now c.requires.is_open c.in-Some.top.0 c.in-Some.ensures.last
     c.requires.strict c.law_plan_lookups.ensures.agree c.law_plan_lookups.ensures.paths c.args.table.now c.requires.checked
     c.requires.plan c.requires.suits (g.H.Hooks.means c.args.hooks.now) c.complete_by_defaults.new.slots
-    c.in_ok-complete_by_defaults.ensures.filled c.law_completes.ensures.tokens c.complete_by_defaults.ensures.tokens
-    c.in_ok-complete_by_defaults.ensures.form c.if-not-whole.ensures
+    c.in_ok-complete_by_defaults.ensures.filled c.in_ok-complete_by_defaults.ensures.form c.if-not-whole.ensures
 
 pub returns-in-Ok-clause-finished : goal.returns-in-Ok-clause-finished
 returns-in-Ok-clause-finished g c =
     finished_whole c.args.plan.now c.args.slots.now c.args.stack.now c.requires.is_open c.in-Some.top.0 c.in-Some.ensures.last
     c.requires.strict c.law_plan_lookups.ensures.agree c.law_plan_lookups.ensures.paths c.args.table.now c.requires.checked
     c.requires.plan c.requires.suits (g.H.Hooks.means c.args.hooks.now) c.complete_by_defaults.new.slots
-    c.in_ok-complete_by_defaults.ensures.filled c.law_completes.ensures.tokens c.make_whole.new.slots
-    (λ t. c.make_whole.ensures.tokens t ∙ c.complete_by_defaults.ensures.tokens t) c.in-Ok.ensures.whole
+    c.in_ok-complete_by_defaults.ensures.filled c.make_whole.new.slots
+    c.in-Ok.ensures.whole
     c.if-not-whole.ensures
 
 pub returns-in-Ok-clause-strict : goal.returns-in-Ok-clause-strict
@@ -60,6 +59,12 @@ returns-in-Ok-clause-strict g c =
     nothing_whole c.args.plan.now c.args.slots.now c.args.stack.now c.requires.is_open c.in-Some.top.0 c.in-Some.ensures.last
     c.requires.strict c.law_plan_lookups.ensures.agree c.law_plan_lookups.ensures.paths c.args.table.now c.requires.checked
     c.requires.plan c.requires.suits (g.H.Hooks.means c.args.hooks.now) c.complete_by_defaults.new.slots
-    c.in_ok-complete_by_defaults.ensures.filled c.law_completes.ensures.tokens c.make_whole.new.slots
-    (λ t. c.make_whole.ensures.tokens t ∙ c.complete_by_defaults.ensures.tokens t) c.in-Ok.ensures.whole
+    c.in_ok-complete_by_defaults.ensures.filled c.make_whole.new.slots
+    c.in-Ok.ensures.whole
     c.if-not-whole.ensures
+
+pub make_whole-requires-clause-room : goal.make_whole-requires-clause-room
+make_whole-requires-clause-room g c =
+    closed_room c.args.plan.now c.args.slots.now c.complete_by_defaults.new.slots c.args.stack.now c.in-Some.top.0
+    c.args.ledger.now c.args.ledger.now c.requires.is_open c.requires.room c.complete_by_defaults.ensures.tokens refl
+    c.complete_by_defaults.ensures.closed

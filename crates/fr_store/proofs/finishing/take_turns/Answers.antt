@@ -4,10 +4,9 @@ use Rattle.fr_shape.specs.declared.error.ReflectErrorKind.{ReflectErrorKind}
 use Rattle.fr_store.specs.Turning.{Walked, IsLackingAt, StoppedByTurns}
 use Rattle.fr_store.specs.Turns.{IsHeldUp}
 use Rattle.fr_store.specs.WalkedLaws.{head_due, walk_begins, walk_goes_on, walk_held_up, walk_stopped}
-use Rattle.fr_shape.specs.Released.{Conserved}
 use Rattle.fr_frame.specs.Heap.{slots_occur}
 use Rattle.fr_store.proofs.TakenLaws.{room_still}
-use Rattle.fr_store.proofs.ReleasedLaws.{conserved_as}
+use Rattle.fr_store.proofs.ReleasedLaws.{conserved_on, conserved_same}
 use Rattle.fr_store.proofs.finishing.take_turns.Goals as goal
 
 pub loop-place-init : goal.loop-place-init
@@ -15,7 +14,7 @@ loop-place-init g c = record {
   walked =
       walk_begins (g.H.Hooks.means c.args.hooks.now) c.args.table.now c.args.plan.now c.args.slots.now c.args.stack.now
       c.args.walk.now c.requires.is_open c.requires.suits c.requires.walk;
-  ledger = refl;
+  conserved = conserved_same (slots_occur c.args.slots.now) (slots_occur c.args.slots.now) c.args.ledger.now c.args.ledger.now (λ t. refl) refl;
 }
 
 pub turn-requires-clause-due : goal.turn-requires-clause-due
@@ -91,21 +90,18 @@ loop-place-preserved g c =
           c.args.stack.now c.loop-place.slots c.args.walk.now rest)
           (drop_more c.args.walk.now c.loop-place.place-index 0 c.loop-place-test.true)
           c.loop-place.invariant.walked)
-          c.law_completes.ensures.fits c.requires.checked c.turn.new.slots c.in-Ok.ensures.turned c.in-Ok.ensures.rest
-          c.in-Ok.ensures.tokens;
-      ledger = c.in-Ok.ensures.ledger ∙ c.loop-place.invariant.ledger;
+          c.law_completes.ensures.fits c.requires.checked c.turn.new.slots c.in-Ok.ensures.turned c.in-Ok.ensures.rest;
+      conserved =
+          conserved_on (slots_occur c.args.slots.now) (slots_occur c.loop-place.slots) (slots_occur c.turn.new.slots)
+          c.args.ledger.now c.loop-place.ledger c.turn.new.ledger c.loop-place.invariant.conserved c.turn.ensures.conserved;
     }
 
 pub turn-requires-clause-room : goal.turn-requires-clause-room
 turn-requires-clause-room g c =
     room_still c.args.plan.now c.args.slots.now c.loop-place.slots c.args.stack.now c.args.ledger.now c.loop-place.ledger
-    c.requires.is_open c.loop-place.invariant.walked.still c.loop-place.invariant.walked.tokens
-    c.loop-place.invariant.ledger c.requires.room
+    c.requires.is_open c.loop-place.invariant.walked.still c.loop-place.invariant.conserved c.requires.room
 
 pub returns-in-Err-clause-conserved : goal.returns-in-Err-clause-conserved
 returns-in-Err-clause-conserved g c =
-    subst
-    (λ (ledger : List ℕ). Conserved (slots_occur c.args.slots.now) ledger (slots_occur c.turn.new.slots) c.turn.new.ledger)
-    c.loop-place.invariant.ledger
-    (conserved_as (slots_occur c.args.slots.now) (slots_occur c.loop-place.slots) (slots_occur c.turn.new.slots)
-    c.loop-place.ledger c.turn.new.ledger c.loop-place.invariant.walked.tokens c.in-Err.ensures.conserved)
+    conserved_on (slots_occur c.args.slots.now) (slots_occur c.loop-place.slots) (slots_occur c.turn.new.slots)
+    c.args.ledger.now c.loop-place.ledger c.turn.new.ledger c.loop-place.invariant.conserved c.turn.ensures.conserved

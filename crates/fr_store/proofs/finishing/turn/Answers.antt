@@ -34,7 +34,7 @@ pub hand_up-requires-clause-owned : goal.hand_up-requires-clause-owned
 hand_up-requires-clause-owned g c =
     owned_first c.args.plan.now c.args.slots.now c.args.stack.now c.args.place.0 c.requires.is_open c.requires.due
     c.law_plan_lookups.ensures.agree c.law_plan_lookups.ensures.paths c.args.table.now c.requires.checked c.requires.plan
-    c.requires.suits (g.H.Hooks.means c.args.hooks.now) c.law_completes.ensures.tokens c.complete_by_defaults.new.slots
+    c.requires.suits (g.H.Hooks.means c.args.hooks.now) c.complete_by_defaults.new.slots
     c.complete_by_defaults.new.slots c.in_ok-complete_by_defaults.ensures.filled
 
 pub hand_up-requires-clause-room : goal.hand_up-requires-clause-room
@@ -52,15 +52,13 @@ pub returns-in-Ok-clause-turned : goal.returns-in-Ok-clause-turned
 returns-in-Ok-clause-turned g c =
     has_turned c.args.plan.now c.args.slots.now c.args.stack.now c.args.place.0 c.requires.is_open c.requires.due
     c.law_plan_lookups.ensures.agree c.law_plan_lookups.ensures.paths c.args.table.now c.requires.checked c.requires.plan
-    c.requires.suits (g.H.Hooks.means c.args.hooks.now) c.law_completes.ensures.tokens c.complete_by_defaults.new.slots
-    c.hand_up.new.slots c.in_ok-complete_by_defaults.ensures.filled c.complete_by_defaults.ensures.tokens
-    c.in-Ok.ensures.tokens c.in-Ok.ensures.handed
+    c.requires.suits (g.H.Hooks.means c.args.hooks.now) c.complete_by_defaults.new.slots
+    c.hand_up.new.slots c.in_ok-complete_by_defaults.ensures.filled c.in-Ok.ensures.handed
 
 pub returns-in-Ok-clause-rest : goal.returns-in-Ok-clause-rest
 returns-in-Ok-clause-rest g c =
     keeps_the_rest c.args.plan.now c.args.slots.now c.args.stack.now c.args.place.0 c.requires.is_open c.requires.due
     c.law_plan_lookups.ensures.agree c.law_plan_lookups.ensures.paths c.args.table.now c.requires.checked c.requires.plan
-    c.requires.suits (g.H.Hooks.means c.args.hooks.now) c.law_completes.ensures.tokens c.complete_by_defaults.new.slots
-    c.hand_up.new.slots c.in_ok-complete_by_defaults.ensures.filled c.complete_by_defaults.ensures.tokens
-    c.in-Ok.ensures.tokens c.in-Ok.ensures.handed c.law_closing.ensures.completion c.law_closing.ensures.failures
+    c.requires.suits (g.H.Hooks.means c.args.hooks.now) c.complete_by_defaults.new.slots
+    c.hand_up.new.slots c.in_ok-complete_by_defaults.ensures.filled c.in-Ok.ensures.handed c.law_closing.ensures.completion c.law_closing.ensures.failures
     c.law_closing.ensures.finish c.law_closing.ensures.failures_off

@@ -11,7 +11,7 @@ use Rattle.fr_store.proofs.spreading.add_between.Goals as goal
 use Rattle.fr_store.proofs.spreading.add_between.Goals.{After-rest-1}
 
 abbrev first : StoredPlace
-first = record { slot = record { 0 = 0 }; parent = 0; step = 0 }
+first = record { slot = record { 0 = 0 }; parent = 0; number = 0; order = 0 }
 
 -- the places from the range's start on
 abbrev rest_of : List StoredPlace → ℕ → List StoredPlace

@@ -2,7 +2,7 @@ use Rattle.std.proofs.Common.{rules, ◌≡◌, ◌≢◌, ◌⊎◌, ◌+◌, �
 use Rattle.std.specs.Int.{w128}
 use Rattle.std.proofs.lemmas.List.{length-map}
 use Rattle.fr_store.specs.Numbers.{number_of}
-use Rattle.fr_store.proofs.SpreadSteps.{number_read, open_numbered, open_room, open_step, spread_ends, spread_starts, stored_room, stored_step, stored_waits}
+use Rattle.fr_store.proofs.SpreadSteps.{number_read, open_owned, open_room, open_step, spread_ends, spread_starts, stored_room, stored_step, stored_waits}
 use Rattle.fr_store.proofs.spreading.spread.Goals as goal
 use Rattle.fr_store.proofs.spreading.spread.Goals.{then-opened-on_stack, else-opened-on_stack+then-head-count, else-opened-on_stack-2-via-then-opened-on_stack-2+else-head-at, else-opened-on_stack-2-via-else-opened-on_stack-2, Joined-else-opened-on_stack-2, After-row_known-1}
 
@@ -91,8 +91,8 @@ enough_then c = omega (arith, c.requires.room, c.loop-opened.auto.order)
 
 pub key_at-middle-requires : goal.key_at-middle-requires
 key_at-middle-requires c = record {
-  numbered =
-      open_numbered c.args.plan.now c.args.slots.now c.args.stack.now c.requires.is_open c.args.places.now c.requires.stored
+  owned =
+      open_owned c.args.plan.now c.args.slots.now c.args.stack.now c.requires.is_open c.args.places.now c.requires.stored
       c.requires.sorted c.loop-opened.order c.loop-opened.count c.loop-opened.head c.loop-opened.opened c.loop-opened.at
       c.loop-opened.invariant (enough_then c) c.places-on_stack.result.now c.places-on_stack.ensures.places
       c.if-opened-on_stack-2.true c.if-head-at.true;

@@ -1,22 +1,20 @@
 use Rattle.std.proofs.Common.{◌≡◌, ◌∙◌, List, ℕ, length, get_or, take, reverse, sym, ap, subst, arith}
 use Rattle.std.proofs.lemmas.List.{take_at}
-use Rattle.fr_frame.specs.declared.places.FrameOwner.{FrameOwner}
 use Rattle.fr_frame.specs.Heap.{heap_of}
-use Rattle.fr_store.specs.HoldLaws.{numbers_at}
 use Rattle.fr_store.specs.Numbers.{slot_of}
 use Rattle.fr_store.specs.Places.{IsSpread}
 use Rattle.fr_store.specs.Stands.{cursor_shown, kid_shown}
 use Rattle.fr_store.specs.Walks.{IsWalk}
 use Rattle.fr_store.proofs.PairLaws.{in_map}
 use Rattle.std.proofs.lemmas.List.Elements.{Contains-get_or}
-use Rattle.fr_store.proofs.StoredLaws.{are_all_stored, stored_numbered}
+use Rattle.fr_store.proofs.StoredLaws.{are_all_stored, stored_owned}
 use Rattle.fr_store.proofs.WalkLaws.{walk_of}
 use Rattle.fr_store.proofs.walking.order_walk.Goals as goal
 
 pub note_all-requires : goal.note_all-requires
 note_all-requires c = record {
-  numbered = λ i d h.
-      stored_numbered c.args.plan.now (heap_of c.args.slots.now) c.args.stack.now
+  owned = λ i d h.
+      stored_owned c.args.plan.now (heap_of c.args.slots.now) c.args.stack.now
       (cursor_shown (heap_of c.args.slots.now) c.args.stack.now) (kid_shown (heap_of c.args.slots.now) c.args.stack.now)
       c.requires.is_open.stands c.requires.is_open.all (get_or c.args.places.now i d).slot.0
       ((c.requires.kept (get_or c.args.places.now i d).slot.0).1
@@ -44,8 +42,7 @@ returns c =
     record {
       walk =
           subst (IsWalk k) (sym (c.reverse.ensures.items ∙ ap (λ (l : List ℕ). reverse l) items))
-          (walk_of k (take (length c.args.places.now) c.spread.new.order)
-          (λ place reach. numbers_at c.args.plan.now (heap_of c.args.slots.now) c.args.plan.now.root FrameOwner.Root 0 place k
-          c.requires.is_open.stands.holds reach)
-          spread);
+          (walk_of c.args.plan.now (heap_of c.args.slots.now) c.args.stack.now
+          (cursor_shown (heap_of c.args.slots.now) c.args.stack.now) k c.requires.is_open.stands
+          (take (length c.args.places.now) c.spread.new.order) spread);
     }

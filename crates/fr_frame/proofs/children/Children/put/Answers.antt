@@ -5,7 +5,7 @@ use Rattle.fr_frame.proofs.CellLaws.{same_length, has_room, cells_put, bit_set, 
 use Rattle.fr_frame.proofs.children.Children.put.Goals as goal
 
 pub set-requires : goal.set-requires
-set-requires c = record { inside = has_room c.self.inside.given c.self.inside.values.items c.args.self.now c.args.i c.self.invariant c.self.view_is c.requires }
+set-requires c = record { inside = has_room c.self.inside.given c.self.inside.values.items c.args.self.now c.args.i c.self.invariant.room c.self.view_is c.requires }
 
 pub index_mut-requires : goal.index_mut-requires
 index_mut-requires c = omega (arith, same_length c.self.inside.given c.self.inside.values.items c.args.self.now c.self.view_is)

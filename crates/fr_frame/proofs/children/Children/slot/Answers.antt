@@ -5,7 +5,7 @@ use Rattle.fr_frame.proofs.CellLaws.{same_length, has_room, cell_is, slot_here, 
 use Rattle.fr_frame.proofs.children.Children.slot.Goals as goal
 
 pub get-requires : goal.get-requires
-get-requires c = record { inside = has_room c.self.inside.given c.self.inside.values.items c.args.self.now c.args.i c.self.invariant c.self.view_is c.requires.inside }
+get-requires c = record { inside = has_room c.self.inside.given c.self.inside.values.items c.args.self.now c.args.i c.self.invariant.room c.self.view_is c.requires.inside }
 
 pub index-requires : goal.index-requires
 index-requires c = omega (arith, same_length c.self.inside.given c.self.inside.values.items c.args.self.now c.self.view_is)

@@ -7,10 +7,10 @@ use Rattle.fr_frame.proofs.CellLaws.{same_length, has_room, cells_put, cell_is, 
 use Rattle.fr_frame.proofs.children.Children.take.Goals as goal
 
 pub get-was_given-requires : goal.get-was_given-requires
-get-was_given-requires c = record { inside = has_room c.self.inside.given c.self.inside.values.items c.args.self.now c.args.i c.self.invariant c.self.view_is c.requires }
+get-was_given-requires c = record { inside = has_room c.self.inside.given c.self.inside.values.items c.args.self.now c.args.i c.self.invariant.room c.self.view_is c.requires }
 
 pub unset-requires : goal.unset-requires
-unset-requires c = record { inside = has_room c.self.inside.given c.self.inside.values.items c.args.self.now c.args.i c.self.invariant c.self.view_is c.requires }
+unset-requires c = record { inside = has_room c.self.inside.given c.self.inside.values.items c.args.self.now c.args.i c.self.invariant.room c.self.view_is c.requires }
 
 pub index_mut-requires : goal.index_mut-requires
 index_mut-requires c = omega (arith, same_length c.self.inside.given c.self.inside.values.items c.args.self.now c.self.view_is)

@@ -1,7 +1,10 @@
-use Rattle.std.proofs.Common.{is_some, ap}
+use Rattle.std.proofs.Common.{ap}
+use Rattle.std.specs.Prelude.{is_some}
+use Rattle.fr_shape.specs.Tokens.{occurs}
 use Rattle.fr_shape.specs.View.{view}
+use Rattle.fr_frame.specs.Bodies.{body_occurs}
 use Rattle.fr_frame.specs.Heap.{body_of, slots_occur}
-use Rattle.fr_frame.proofs.HandLaws.{gave_up, handed_occurs, handed_up, is_taken, IsTaken}
+use Rattle.fr_frame.proofs.HandLaws.{gave_up, handed_conserved, handed_up, is_taken, IsTaken}
 use Rattle.fr_frame.proofs.places.SlotId.hand_up.Goals as goal
 
 pub give-requires : goal.give-requires
@@ -21,8 +24,8 @@ returns-clause-handed c =
     c.take_out-owner.new.slots c.give.new.self (view c.in_ok-value.value) c.take_out-owner.ensures.left c.in_ok-value.ensures.value
     c.give.ensures.given
 
-pub returns-clause-tokens : goal.returns-clause-tokens
-returns-clause-tokens c t =
-    handed_occurs (body_of c.take_out-owner.result.1) (view c.in_ok-value.value) (slots_occur c.args.slots.now)
-    (slots_occur c.take_out-owner.new.slots) (slots_occur c.give.new.self) t c.in_ok-value.ensures.value
-    (c.take_out-owner.ensures.tokens t) (c.give.ensures.tokens t)
+pub returns-clause-conserved : goal.returns-clause-conserved
+returns-clause-conserved c =
+    handed_conserved (slots_occur c.args.slots.now) (slots_occur c.take_out-owner.new.slots) (slots_occur c.give.new.self)
+    (body_occurs (body_of c.take_out-owner.result.1)) (occurs (view c.in_ok-value.value)) c.args.ledger.now c.value_of.new.ledger
+    c.in_ok-value.ensures.conserved c.take_out-owner.ensures.tokens c.give.ensures.tokens

@@ -1,20 +1,17 @@
-use Rattle.std.proofs.Common.{◌≡◌, ℕ, ap, sym, ◌∙◌}
+use Rattle.std.proofs.Common.{◌+◌, refl}
 use Rattle.std.proofs.lemmas.Result.{IfOk-weaker}
 use Rattle.fr_shape.specs.Tokens.{occurs}
 use Rattle.fr_shape.specs.View.{view}
-use Rattle.fr_frame.specs.Bodies.{Body, body_occurs}
-use Rattle.fr_frame.specs.Heap.{Node, body_of}
-use Rattle.fr_frame.proofs.BodyLaws.{value_occurs_same}
-use Rattle.fr_frame.proofs.PlaceLaws.{in_use_so}
+use Rattle.fr_frame.specs.Bodies.{body_occurs}
+use Rattle.fr_frame.specs.Heap.{body_of, slots_occur}
+use Rattle.fr_frame.proofs.HandLaws.{handed_conserved}
 use Rattle.fr_frame.proofs.places.SlotId.into_value.Goals as goal
 
-pub returns-clause-same_tokens : goal.returns-clause-same_tokens
-returns-clause-same_tokens c =
+pub returns-clause-conserved : goal.returns-clause-conserved
+returns-clause-conserved c =
     IfOk-weaker c.value_of.result _ _
-    (λ v is.
-    in_use_so c.args.slots.now c.args.self.0 (λ (at : Node). at.body ≡ body_of c.leave-piece.result)
-    (λ (at : Node). (t : ℕ) → occurs (view v) t ≡ body_occurs at.body t)
-    (λ at same t.
-    sym (value_occurs_same (body_of c.leave-piece.result) (view v) t is) ∙ ap (λ (body : Body). body_occurs body t) (sym same))
-    c.leave-piece.ensures.body)
-    c.value_of.ensures.value
+    (λ v conserved.
+    handed_conserved (slots_occur c.args.slots.now) (slots_occur c.leave-piece.new.slots)
+    (λ t. slots_occur c.leave-piece.new.slots t + occurs (view v) t) (body_occurs (body_of c.leave-piece.result)) (occurs (view v))
+    c.args.ledger.now c.value_of.new.ledger conserved c.leave-piece.ensures.tokens (λ t. refl))
+    c.value_of.ensures.conserved

@@ -1,10 +1,11 @@
-use Rattle.std.proofs.Common.{◌≡◌, List, Some, set, subst, arith}
+use Rattle.std.proofs.Common.{◌≡◌, List, Some, set, subst}
 use Rattle.std.proofs.lemmas.Result.{on_ok_weaker, IfErr-weaker}
 use Rattle.fr_shape.specs.Val.{Val}
 use Rattle.fr_frame.specs.declared.places.Slot.{Slot}
-use Rattle.fr_frame.specs.Bodies.{Body, value_of, whole_body}
+use Rattle.fr_frame.specs.Bodies.{Body, body_occurs, value_of, whole_body}
 use Rattle.fr_frame.specs.Changes.{Becomes}
-use Rattle.fr_frame.specs.Heap.{Node, node_of}
+use Rattle.fr_frame.specs.Heap.{Node, body_of, node_of, slots_occur}
+use Rattle.fr_frame.proofs.HandLaws.{changed_conserved}
 use Rattle.fr_frame.proofs.PlaceLaws.{repieced, of_place, becomes, shows_same, occur_change}
 use Rattle.fr_frame.proofs.places.SlotId.make_whole.Goals as goal
 
@@ -30,11 +31,10 @@ returns-clause-refused c =
     shows_same c.args.slots.now c.args.self.0 c.place_mut-place.result.now c.place_mut-place.ensures.value c.make_whole.new.piece)
     c.make_whole.ensures.refused
 
-pub returns-clause-tokens : goal.returns-clause-tokens
-returns-clause-tokens c t =
-    omega (
-      arith,
-      occur_change c.args.slots.now c.args.self.0 c.place_mut-place.result.now c.place_mut-place.ensures.value
-          c.make_whole.new.piece t,
-      c.make_whole.ensures.tokens t,
-    )
+pub returns-clause-conserved : goal.returns-clause-conserved
+returns-clause-conserved c =
+    changed_conserved (slots_occur c.args.slots.now)
+    (slots_occur (set c.args.slots.now c.args.self.0 (Slot.Used (repieced c.place_mut-place.result.now c.make_whole.new.piece))))
+    (body_occurs (body_of c.place_mut-place.result.now.piece)) (body_occurs (body_of c.make_whole.new.piece)) c.args.ledger.now
+    c.make_whole.new.ledger c.make_whole.ensures.conserved
+    (occur_change c.args.slots.now c.args.self.0 c.place_mut-place.result.now c.place_mut-place.ensures.value c.make_whole.new.piece)

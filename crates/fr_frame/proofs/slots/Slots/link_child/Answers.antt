@@ -6,7 +6,7 @@ use Rattle.fr_frame.proofs.slots.Slots.link_child.Goals as goal
 pub returns-clause-rest : goal.returns-clause-rest
 returns-clause-rest c =
     shows c.args.self.now c.args.parent.0 c.place_mut-place.result.now c.place_mut-place.ensures.value c.link.new.piece
-    (linked c.args.id.0 c.args.step.now) c.link.ensures.piece
+    (linked c.args.id.0 c.args.i) c.link.ensures.piece
 
 pub returns-clause-tokens : goal.returns-clause-tokens
 returns-clause-tokens c t =

@@ -11,7 +11,7 @@ pub returns-in-Used-clause-rest : goal.returns-in-Used-clause-rest
 returns-in-Used-clause-rest c n =
     let was : slice_get c.args.self.now c.in-Child.parent.0 ≡ Some (Slot.Used c.in-Used.place)
     = c.slot_mut-slot.ensures.value ∙ ap (λ (slot : Slot). Some slot) c.in-Used.is in
-    shows c.args.self.now c.in-Child.parent.0 c.in-Used.place was c.unlink.new.piece (unlinked c.args.id.0 c.in-Child.step)
+    shows c.args.self.now c.in-Child.parent.0 c.in-Used.place was c.unlink.new.piece (unlinked c.args.id.0 c.in-Child.i)
     c.unlink.ensures.piece n
     ∙ ap (λ (owner : FrameOwner). unlinks owner c.args.id.0 (heap_of c.args.self.now) n) (sym c.in-Child.is)
 
@@ -32,7 +32,7 @@ returns-in-Free-clause-rest c n =
     ∙ ap node_in c.in-Free.is in
     ap (λ (slots : List Slot). heap_of slots n)
     (set_as_was c.args.self.now c.in-Child.parent.0 c.slot_mut-slot.result.now c.slot_mut-slot.ensures.value)
-    ∙ with_body_free (heap_of c.args.self.now) c.in-Child.parent.0 (unlinked c.args.id.0 c.in-Child.step) free n
+    ∙ with_body_free (heap_of c.args.self.now) c.in-Child.parent.0 (unlinked c.args.id.0 c.in-Child.i) free n
     ∙ ap (λ (owner : FrameOwner). unlinks owner c.args.id.0 (heap_of c.args.self.now) n) (sym c.in-Child.is)
 
 pub returns-in-Free-clause-tokens : goal.returns-in-Free-clause-tokens

@@ -29,7 +29,7 @@ returns-clause-begun c =
     (change_at (cursor_in c.args.slots.now c.args.self.now) (opened_as (as_form c.args.form) c.args.count)
     (tree_in_slots c.args.slots.now c.args.self.now)))
     (λ shows. open_begun c.args.plan.now c.args.slots.now c.begin.new.slots c.args.self.now c.requires.is_open
-    c.in-Some.place.0 c.in-Some.ensures.last (as_form c.args.form) c.args.count c.requires.many shows c.begin.ensures.tokens)
+    c.in-Some.place.0 c.in-Some.ensures.last (as_form c.args.form) c.args.count c.requires.many c.requires.base shows c.begin.ensures.tokens)
     c.begin.ensures.begun
 
 either_way : {A E : Type 0} (result : Result A E) (So Else Then : Type 0) → (So → Then) → (Else → Then) → OnOk result So
@@ -45,6 +45,6 @@ returns-clause-places c =
     (Shows c.begin.new.slots (heap_of c.args.slots.now))
     (AllStayPut (kid_here c.args.slots.now c.args.self.now) (kid_here c.begin.new.slots c.args.self.now))
     (λ shows. stay_begun c.args.plan.now c.args.slots.now c.begin.new.slots c.args.self.now c.requires.is_open
-    c.in-Some.place.0 c.in-Some.ensures.last (as_form c.args.form) c.args.count c.requires.many shows)
+    c.in-Some.place.0 c.in-Some.ensures.last (as_form c.args.form) c.args.count c.requires.many c.requires.base shows)
     (λ shows. stay_refused c.args.plan.now c.args.slots.now c.begin.new.slots c.args.self.now c.requires.is_open shows)
     c.begin.ensures.begun c.begin.ensures.refused

@@ -1,7 +1,7 @@
 use Rattle.std.specs.Prelude.{◌≡◌, IsSome, Result, Ok, Err, OnErr, OnOk, Some}
 use Rattle.fr_shape.specs.Val.{Val}
 use Rattle.fr_frame.specs.Bodies.{value_of}
-use Rattle.fr_frame.specs.Changes.{IfInUse, SameTokens, Shows}
+use Rattle.fr_frame.specs.Changes.{IfInUse, Shows}
 use Rattle.fr_frame.specs.Heap.{Node, gives, heap_of, without}
 use Rattle.fr_store.specs.EndLaws.{ended_so, owned_now, slot_now, stay_ended, strict_ended, strict_left}
 use Rattle.fr_store.specs.LeaveLaws.{below_root}
@@ -28,11 +28,6 @@ on_ok : {A E : Type 0} (result : Result A E) (So Then : Type 0) → (So → Then
 on_ok (Ok x) So Then step so = step so
 on_ok (Err e) So Then step so = tt
 
-on_ok_both : {A E : Type 0} (result : Result A E) (So And Then : Type 0) → (So → And → Then) → OnOk result So → OnOk result And
-    → OnOk result Then
-on_ok_both (Ok x) So And Then step so other = step so other
-on_ok_both (Err e) So And Then step so other = tt
-
 either_way : {A E : Type 0} (result : Result A E) (So Else Then : Type 0) → (So → Then) → (Else → Then) → OnOk result So
     → OnErr result Else → Then
 either_way (Ok x) So Else Then step back so refused = step so
@@ -41,13 +36,13 @@ either_way (Err e) So Else Then step back so refused = back refused
 pub returns-clause-ended : goal.returns-clause-ended
 returns-clause-ended c =
     let way = below_root (cursor_in c.args.slots.now c.args.self.now) c.requires.below in
-    on_ok_both c.hand_up.result
+    on_ok c.hand_up.result
     (IfInUse c.args.slots.now c.in-Some.place.0 (λ (at : Node). (v : Val) → value_of at.body ≡ Some v
     → Shows c.hand_up.new.slots (gives at.owner v (without (heap_of c.args.slots.now) c.in-Some.place.0 at.owner))))
-    (SameTokens c.args.slots.now c.hand_up.new.slots) _
-    (λ handed tokens. ended_so c.args.plan.now c.args.slots.now c.args.self.now c.requires.is_open c.requires.strict way.0
-    way.1 way.2 c.pop.new.self c.in-Some.place.0 c.in-Some.ensures.last c.hand_up.new.slots handed tokens)
-    c.hand_up.ensures.handed c.hand_up.ensures.tokens
+    _
+    (λ handed. ended_so c.args.plan.now c.args.slots.now c.args.self.now c.requires.is_open c.requires.strict way.0
+    way.1 way.2 c.pop.new.self c.in-Some.place.0 c.in-Some.ensures.last c.hand_up.new.slots handed)
+    c.hand_up.ensures.handed
 
 pub returns-clause-places : goal.returns-clause-places
 returns-clause-places c =

@@ -1,7 +1,5 @@
 use Rattle.std.proofs.Common.{◌≡◌, ◌<◌, ◌∙◌, ◌++◌, ℕ, List, [], ◌∷◌, true, false, Some, refl, sym, ap, subst}
 use Rattle.fr_shape.specs.Look.{def_of}
-use Rattle.fr_path.specs.declared.path_steps.PathStep.{PathStep}
-use Rattle.fr_model.specs.Paths.{step_as}
 use Rattle.fr_model.specs.Step.{enter}
 use Rattle.fr_model.specs.Tree.{change_child}
 use Rattle.fr_frame.specs.declared.places.FrameOwner.{FrameOwner}
@@ -32,27 +30,16 @@ entered_now : (c : goal.After-put_top-in-Ok)
     c.args.slots.now c.args.self.now)
     × AllStayPut (kid_here c.args.slots.now c.args.self.now) (kid_here c.enter.new.self c.put_top-in-Ok.new.self)
 entered_now c =
-    let owner : FrameOwner.Child c.in-Some.above c.step-step.result
-    ≡ child_owner c.in-Some.above.0 (as_form c.args.form) c.args.i
-    = ap (FrameOwner.Child c.in-Some.above) c.step-step.ensures.step in
     let none : (child : ℕ)
-    → IsStoredChild (heap_of c.args.slots.now) c.in-Some.above.0 (step_as (as_form c.args.form) c.args.i) child → ⊥
+    → IsStoredChild (heap_of c.args.slots.now) c.in-Some.above.0 c.args.i child → ⊥
     = λ child so.
-    let same : child_slot (heap_of c.args.slots.now) c.in-Some.above.0 c.step-step.result ≡ Some child
-    = ap (child_slot (heap_of c.args.slots.now) c.in-Some.above.0) c.step-step.ensures.step ∙ so.slot in
-    let both : true ≡ false = sym so.stored ∙ c.in_default-take.ensures.none refl child same in
+    let both : true ≡ false = sym so.stored ∙ c.in_default-take.ensures.none refl child so.slot in
     cc in
     open_entered_from c.args.plan.now c.args.slots.now c.args.self.now c.requires.is_open c.in-Some.above.0
     c.in-Some.ensures.last c.take.new.slots c.enter.new.self c.put_top-in-Ok.new.self (as_form c.args.form) c.args.i
     (def_of c.args.table.now (shape_of c.args.plan.now c.args.node)) c.in-Ok.child.0 c.args.node
-    (c.in_default-take.ensures.slots_kept refl) c.requires.child c.requires.node none c.in-Ok.ensures.vacant
-    (λ m. c.in-Ok.ensures.entered m
-    ∙ ap
-    (λ (o : FrameOwner). with_entered (def_of c.args.table.now (shape_of c.args.plan.now c.args.node))
-    (heap_of c.take.new.slots) c.args.node o c.in-Ok.child.0 m)
-    owner)
-    (subst (λ (o : FrameOwner). depth_below (heap_of c.take.new.slots) o < depth_limit) owner c.in-Ok.ensures.limit)
-    c.in-Ok.ensures.tokens
+    (c.in_default-take.ensures.slots_kept refl) c.requires.child c.requires.map_hole c.requires.node none c.in-Ok.ensures.vacant
+    c.in-Ok.ensures.entered c.in-Ok.ensures.limit c.in-Ok.ensures.tokens
     (c.put_top-in-Ok.ensures c.args.self.now c.in-Some.above.0 c.in_ok-push.ensures.appended)
 
 pub returns-in-Ok-clause-entered : goal.returns-in-Ok-clause-entered
@@ -62,30 +49,25 @@ pub returns-in-Ok-clause-places : goal.returns-in-Ok-clause-places
 returns-in-Ok-clause-places c = (entered_now c).1
 
 -- it was stored
-again_now : (c : goal.Joined-step)
-    → IsOpenAt c.args.plan.now c.take.new.slots c.put_top.new.self
-    (cursor_in c.args.slots.now c.args.self.now ++ c.args.i ∷ [])
-    (changed_here (change_child c.args.i (enter (def_of c.args.table.now (shape_of c.args.plan.now c.args.node))))
-    c.args.slots.now c.args.self.now)
-    × AllStayPut (kid_here c.args.slots.now c.args.self.now) (kid_here c.take.new.slots c.put_top.new.self)
-again_now c =
-    open_again c.args.plan.now c.args.slots.now c.take.new.slots c.args.self.now c.put_top.new.self c.requires.is_open
+pub returns-in-Some-take-clause-entered : goal.returns-in-Some-take-clause-entered
+returns-in-Some-take-clause-entered c =
+    (open_again c.args.plan.now c.args.slots.now c.take.new.slots c.args.self.now c.put_top.new.self c.requires.is_open
     c.in-Some.above.0 c.in-Some.ensures.last (as_form c.args.form) c.args.i
     (def_of c.args.table.now (shape_of c.args.plan.now c.args.node)) c.in-Some-take.child.0 c.requires.child
-    (subst (λ (s : PathStep). IsStoredChild (heap_of c.args.slots.now) c.in-Some.above.0 s c.in-Some-take.child.0)
-    c.step-step.ensures.step c.in-Some-take.ensures.taken)
-    c.in-Some-take.ensures.unmarked c.in-Some-take.ensures.tokens
-    (c.put_top.ensures c.args.self.now c.in-Some.above.0 c.in_ok-push.ensures.appended)
-
-pub returns-in-Some-take-clause-entered : goal.returns-in-Some-take-clause-entered
-returns-in-Some-take-clause-entered c = (again_now c).0
+    c.in-Some-take.ensures.taken c.in-Some-take.ensures.unmarked c.in-Some-take.ensures.tokens
+    (c.put_top.ensures c.args.self.now c.in-Some.above.0 c.in_ok-push.ensures.appended)).0
 
 pub returns-in-Some-take-clause-places : goal.returns-in-Some-take-clause-places
-returns-in-Some-take-clause-places c = (again_now c).1
+returns-in-Some-take-clause-places c =
+    (open_again c.args.plan.now c.args.slots.now c.take.new.slots c.args.self.now c.put_top.new.self c.requires.is_open
+    c.in-Some.above.0 c.in-Some.ensures.last (as_form c.args.form) c.args.i
+    (def_of c.args.table.now (shape_of c.args.plan.now c.args.node)) c.in-Some-take.child.0 c.requires.child
+    c.in-Some-take.ensures.taken c.in-Some-take.ensures.unmarked c.in-Some-take.ensures.tokens
+    (c.put_top.ensures c.args.self.now c.in-Some.above.0 c.in_ok-push.ensures.appended)).1
 
 pub returns-in-Ok-clause-kept : goal.returns-in-Ok-clause-kept
 returns-in-Ok-clause-kept c =
     kept_entered c.take.new.self c.take.new.slots c.enter.new.self
     (def_of c.args.table.now (shape_of c.args.plan.now c.args.node)) c.args.node
-    (FrameOwner.Child c.in-Some.above c.step-step.result) c.in-Ok.child.0 c.take.ensures.kept c.in-Ok.ensures.vacant
+    (FrameOwner.Child c.in-Some.above c.args.i) c.in-Ok.child.0 c.take.ensures.kept c.in-Ok.ensures.vacant
     c.in-Ok.ensures.entered

@@ -13,7 +13,7 @@ insert-requires-clause-unmarked c =
 pub returns-clause-left : goal.returns-clause-left
 returns-clause-left c =
     (open_left c.args.plan.now c.args.slots.now c.insert.new.slots c.args.self.now c.pop.new.self c.requires.is_open
-    c.requires.below c.in-Some.place.0
+    c.requires.below c.requires.not_item c.in-Some.place.0
     (taken_off c.args.self.now c.pop.new.self c.in-Some.place.0 c.pop.result c.in-Some.ensures.last c.pop.ensures.last
     c.pop.ensures.none)
     c.in_ok-insert.ensures.marked c.insert.ensures.tokens).0
@@ -21,7 +21,7 @@ returns-clause-left c =
 pub returns-clause-places : goal.returns-clause-places
 returns-clause-places c =
     (open_left c.args.plan.now c.args.slots.now c.insert.new.slots c.args.self.now c.pop.new.self c.requires.is_open
-    c.requires.below c.in-Some.place.0
+    c.requires.below c.requires.not_item c.in-Some.place.0
     (taken_off c.args.self.now c.pop.new.self c.in-Some.place.0 c.pop.result c.in-Some.ensures.last c.pop.ensures.last
     c.pop.ensures.none)
     c.in_ok-insert.ensures.marked c.insert.ensures.tokens).1

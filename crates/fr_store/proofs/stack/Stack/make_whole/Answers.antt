@@ -4,12 +4,19 @@ use Rattle.fr_shape.specs.Val.{Val}
 use Rattle.fr_frame.specs.Bodies.{value_of, whole_body}
 use Rattle.fr_frame.specs.Changes.{Becomes, IfInUse, Shows}
 use Rattle.fr_frame.specs.Heap.{Node, heap_of, stored_in}
+use Rattle.fr_store.specs.MoveLaws.{closed_open, top_room}
 use Rattle.fr_store.specs.Stands.{kid_here}
 use Rattle.fr_store.specs.StayLaws.{stay_refused}
 use Rattle.fr_store.specs.Staying.{AllStayPut}
 use Rattle.fr_store.specs.Stored.{NothingStored}
 use Rattle.fr_store.proofs.WholeLaws.{whole_now, whole_stay, whole_strict}
 use Rattle.fr_store.proofs.stack.Stack.make_whole.Goals as goal
+
+pub make_whole-requires-clause-room : goal.make_whole-requires-clause-room
+make_whole-requires-clause-room c =
+    top_room c.args.plan.now c.args.slots.now c.args.self.now c.requires.is_open c.in-Some.place.0 c.in-Some.ensures.last
+    (closed_open c.args.plan.now c.args.slots.now c.args.self.now c.requires.is_open c.requires.strict) c.args.ledger.now
+    c.requires.room
 
 on_ok : {A E : Type 0} (result : Result A E) (So Then : Type 0) → (So → Then) → OnOk result So → OnOk result Then
 on_ok (Ok x) So Then step so = step so
@@ -27,7 +34,7 @@ returns-clause-whole c =
     → Becomes c.args.slots.now c.make_whole.new.slots c.in-Some.place.0 at (whole_body v)))
     _
     (λ whole. whole_now c.args.plan.now c.args.slots.now c.make_whole.new.slots c.args.self.now c.requires.is_open
-    c.in-Some.place.0 c.in-Some.ensures.last c.requires.strict whole c.make_whole.ensures.tokens)
+    c.in-Some.place.0 c.in-Some.ensures.last c.requires.strict whole)
     c.make_whole.ensures.whole
 
 pub returns-clause-places : goal.returns-clause-places

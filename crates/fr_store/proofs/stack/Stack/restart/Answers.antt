@@ -62,7 +62,7 @@ returns-clause-restarted c =
     _
     (λ shows tokens. restart_open c.args.plan.now c.args.slots.now c.args.self.now c.requires.is_open c.in-Some.place.0
     c.in-Some.ensures.last c.prune.new.slots c.prune.ensures.pruned (as_form c.args.form) c.args.count c.requires.may_have
-    c.restart.new.slots shows c.prune.ensures.tokens tokens)
+    c.requires.base c.restart.new.slots shows c.prune.ensures.tokens tokens)
     c.restart.ensures.restarted c.restart.ensures.tokens
 
 pub returns-clause-places : goal.returns-clause-places
@@ -73,7 +73,7 @@ returns-clause-places c =
     _
     (λ shows. restart_stay c.args.plan.now c.args.slots.now c.args.self.now c.requires.is_open c.in-Some.place.0
     c.in-Some.ensures.last c.prune.new.slots c.prune.ensures.pruned (as_form c.args.form) c.args.count c.requires.may_have
-    c.restart.new.slots shows)
+    c.requires.base c.restart.new.slots shows)
     c.restart.ensures.restarted
 
 pub returns-clause-released : goal.returns-clause-released
@@ -96,7 +96,7 @@ returns-clause-kept c =
     (IsKept c.prune.new.self c.restart.new.slots)
     (λ shows. restart_kept c.args.plan.now c.args.slots.now c.args.self.now c.requires.is_open c.in-Some.place.0
     c.in-Some.ensures.last c.prune.new.slots c.prune.ensures.pruned (as_form c.args.form) c.args.count c.requires.may_have
-    c.restart.new.slots shows c.prune.new.self c.prune.ensures.kept)
+    c.requires.base c.restart.new.slots shows c.prune.new.self c.prune.ensures.kept)
     (λ same. subst (λ (slots : List Slot). IsKept c.prune.new.self slots) (sym same) c.prune.ensures.kept)
     c.restart.ensures.restarted c.restart.ensures.slots_kept
 
@@ -109,7 +109,7 @@ returns-clause-marks c =
     (StoresNoMore c.args.slots.now c.restart.new.slots)
     (λ shows. restart_marks c.args.plan.now c.args.slots.now c.args.self.now c.requires.is_open c.in-Some.place.0
     c.in-Some.ensures.last c.prune.new.slots c.prune.ensures.pruned (as_form c.args.form) c.args.count c.requires.may_have
-    c.restart.new.slots shows c.prune.ensures.marks)
+    c.requires.base c.restart.new.slots shows c.prune.ensures.marks)
     (λ same. subst (λ (slots : List Slot). StoresNoMore c.args.slots.now slots) (sym same) c.prune.ensures.marks)
     c.restart.ensures.restarted c.restart.ensures.slots_kept
 

@@ -25,13 +25,13 @@ put-requires-clause-room c =
 pub returns-clause-set : goal.returns-clause-set
 returns-clause-set c =
     set_open c.args.plan.now c.args.slots.now c.args.self.now c.requires.is_open c.in-Some.place.0 c.in-Some.ensures.last
-    c.prune.new.slots c.prune.ensures.pruned c.put.new.slots (whole_plot (view c.args.value)) tt tt c.put.ensures.put c.prune.ensures.tokens
+    c.prune.new.slots c.prune.ensures.pruned c.put.new.slots (whole_plot (view c.args.value)) tt tt tt c.put.ensures.put c.prune.ensures.tokens
     c.put.ensures.tokens
 
 pub returns-clause-places : goal.returns-clause-places
 returns-clause-places c =
     set_stay c.args.plan.now c.args.slots.now c.args.self.now c.requires.is_open c.in-Some.place.0 c.in-Some.ensures.last
-    c.prune.new.slots c.prune.ensures.pruned c.put.new.slots (whole_plot (view c.args.value)) tt tt c.put.ensures.put
+    c.prune.new.slots c.prune.ensures.pruned c.put.new.slots (whole_plot (view c.args.value)) tt tt tt c.put.ensures.put
 
 pub returns-clause-released : goal.returns-clause-released
 returns-clause-released c =
@@ -42,10 +42,10 @@ returns-clause-released c =
 pub returns-clause-kept : goal.returns-clause-kept
 returns-clause-kept c =
     set_kept c.args.plan.now c.args.slots.now c.args.self.now c.requires.is_open c.in-Some.place.0 c.in-Some.ensures.last
-    c.prune.new.slots c.prune.ensures.pruned c.put.new.slots (whole_plot (view c.args.value)) tt tt c.put.ensures.put c.prune.new.self
+    c.prune.new.slots c.prune.ensures.pruned c.put.new.slots (whole_plot (view c.args.value)) tt tt tt c.put.ensures.put c.prune.new.self
     c.prune.ensures.kept
 
 pub returns-clause-marks : goal.returns-clause-marks
 returns-clause-marks c =
     set_marks c.args.plan.now c.args.slots.now c.args.self.now c.requires.is_open c.in-Some.place.0 c.in-Some.ensures.last
-    c.prune.new.slots c.prune.ensures.pruned c.put.new.slots (whole_plot (view c.args.value)) tt tt c.put.ensures.put c.prune.ensures.marks
+    c.prune.new.slots c.prune.ensures.pruned c.put.new.slots (whole_plot (view c.args.value)) tt tt tt c.put.ensures.put c.prune.ensures.marks

@@ -5,7 +5,7 @@ use Rattle.fr_store.proofs.store.FrameStore.append.Goals as goal
 
 pub invariant_of-self-2 : goal.invariant_of-self-2
 invariant_of-self-2 c =
-    slots_more c.self.inside.places.items c.push.new.self.items c.reach.new.positions.items (record { slot = c.args.place; parent = 0; step = 0 }) c.len-at.result
+    slots_more c.self.inside.places.items c.push.new.self.items c.reach.new.positions.items (record { slot = c.args.place; parent = 0; number = 0; order = 0 }) c.len-at.result
     c.in_ok-push.ensures.items (omega arith)
     (indexed_still (slots_of c.self.inside.places.items) c.self.inside.positions.items c.reach.new.positions.items
     c.reach.ensures.kept c.self.invariant)

@@ -4,7 +4,8 @@ use Rattle.fr_store.specs.FinishedLaws.{came_by_turns, held_here, is_finished, n
 use Rattle.fr_store.specs.Turning.{LacksHere, StoppedByTurns}
 use Rattle.fr_store.specs.Turns.{IsHeldUp}
 use Rattle.fr_frame.specs.Heap.{slots_occur}
-use Rattle.fr_store.proofs.ReleasedLaws.{conserved_same}
+use Rattle.fr_store.proofs.ReleasedLaws.{conserved_on}
+use Rattle.fr_store.proofs.TakenLaws.{room_still}
 use Rattle.fr_store.proofs.store.FrameStore.complete_all.Goals as goal
 
 pub complete_top-requires-clause-strict : goal.complete_top-requires-clause-strict
@@ -56,10 +57,19 @@ returns-clause-stopped g c = go c.in-Err-complete_top.ensures.why
         c.take_turns.new.slots c.deref.result.now c.in-Ok.ensures.walked c.law_failing.ensures.refuses
         c.law_failing.ensures.nothing c.requires.is_open c.in-Err-complete_top.kind lacks)
 
-pub returns-in-Ok-complete_top-clause-tokens : goal.returns-in-Ok-complete_top-clause-tokens
-returns-in-Ok-complete_top-clause-tokens g c = λ t. c.complete_top.ensures.tokens t ∙ c.in-Ok.ensures.tokens t
+pub complete_top-requires-clause-room : goal.complete_top-requires-clause-room
+complete_top-requires-clause-room g c =
+    room_still c.args.plan.now c.args.slots.now c.take_turns.new.slots c.args.stack.now c.args.ledger.now
+    c.take_turns.new.ledger c.requires.is_open c.in-Ok.ensures.walked.still c.take_turns.ensures.conserved c.requires.room
+
+pub returns-in-Ok-complete_top-clause-conserved : goal.returns-in-Ok-complete_top-clause-conserved
+returns-in-Ok-complete_top-clause-conserved g c =
+    conserved_on (slots_occur c.args.slots.now) (slots_occur c.take_turns.new.slots) (slots_occur c.complete_top.new.slots)
+    c.args.ledger.now c.take_turns.new.ledger c.complete_top.new.ledger c.take_turns.ensures.conserved
+    c.complete_top.ensures.conserved
 
 pub returns-clause-conserved : goal.returns-clause-conserved
 returns-clause-conserved g c =
-    conserved_same (slots_occur c.args.slots.now) (slots_occur c.complete_top.new.slots) c.args.ledger.now
-    c.take_turns.new.ledger (λ t. c.complete_top.ensures.tokens t ∙ c.in-Ok.ensures.tokens t) c.in-Ok.ensures.ledger
+    conserved_on (slots_occur c.args.slots.now) (slots_occur c.take_turns.new.slots) (slots_occur c.complete_top.new.slots)
+    c.args.ledger.now c.take_turns.new.ledger c.complete_top.new.ledger c.take_turns.ensures.conserved
+    c.complete_top.ensures.conserved

@@ -16,7 +16,7 @@ release-requires g c = record {
       c.complete_all-result.new.ledger
       (λ t. ap (λ (slots : List Slot). slots_occur slots t) (sym c.replace-rest.ensures.value))
       (room_left (slots_occur c.args.slots.now) (slots_occur c.complete_all-result.new.slots) c.args.ledger.now
-      c.complete_all-result.new.ledger c.in-Err.ensures.conserved
+      c.complete_all-result.new.ledger c.complete_all-result.ensures.conserved
       (Room_same (tokens_in c.args.slots.now c.args.stack.now) (slots_occur c.args.slots.now) c.args.ledger.now
       (λ t. sym (slots_tokens c.args.plan.now c.args.slots.now c.args.stack.now c.requires.is_open t)) c.requires.room));
 }
@@ -26,7 +26,7 @@ returns-in-Err-clause-released g c =
     RoseBy_same (slots_occur c.args.slots.now) (tokens_in c.args.slots.now c.args.stack.now) c.args.ledger.now
     c.release.new.ledger (slots_tokens c.args.plan.now c.args.slots.now c.args.stack.now c.requires.is_open)
     (rose_by_all (slots_occur c.args.slots.now) (slots_occur c.complete_all-result.new.slots) c.args.ledger.now
-    c.complete_all-result.new.ledger c.release.new.ledger c.in-Err.ensures.conserved
+    c.complete_all-result.new.ledger c.release.new.ledger c.complete_all-result.ensures.conserved
     (RoseBy_same (slots_occur c.replace-rest.result) (slots_occur c.complete_all-result.new.slots)
     c.complete_all-result.new.ledger c.release.new.ledger
     (λ t. ap (λ (slots : List Slot). slots_occur slots t) c.replace-rest.ensures.value) c.release.ensures.released))

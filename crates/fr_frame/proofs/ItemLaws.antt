@@ -1,0 +1,348 @@
+-- A set's children: one that moves behind the others, and the search for a value that is `same`.
+use Rattle.std.proofs.Common.{◌≡◌, ℕ, zero, suc, ◌+◌, ◌-◌, ◌<◌, ◌≤◌, Bool, true, false, List, [], ◌∷◌, ◌++◌, length, drop, take, Option, Some, None, slice_get, set, refl, sym, ◌∙◌, ap, subst, arith}
+use Rattle.std.specs.FinSet as finite
+use Rattle.std.specs.Option.{option_and_then}
+use Rattle.std.specs.Prelude.{◌||◌, if◌then◌else◌}
+use Rattle.fr_arena.specs.BitSets.{BitSet}
+use Rattle.fr_shape.specs.declared.value.Value.{Value}
+use Rattle.fr_shape.specs.Released.{Conserved, RoseBy}
+use Rattle.fr_shape.specs.Same.{same}
+use Rattle.fr_shape.specs.Tokens.{occurs}
+use Rattle.fr_shape.specs.Val.{Val}
+use Rattle.fr_shape.specs.View.{view}
+use Rattle.fr_frame.specs.Bodies.{and_item_cell, has_same_cell, is_same_cell, without_cell}
+use Rattle.fr_frame.specs.Cells.{Cell, absent, given, placed, cell, cells_of, cell_occurs, cells_occur, slot_at, slot_of_cell, swapped, value_at, value_of_cell}
+use Rattle.fr_frame.proofs.CellLaws.{same_length}
+
+-- The child of number i, moved so many steps back.
+
+abbrev pub past : (steps : ℕ) → Cell → List Cell → List Cell
+past zero c cs = c ∷ cs
+past (suc k) c [] = c ∷ []
+past (suc k) c (d ∷ cs) = d ∷ past k c cs
+
+abbrev pub sunk : (i steps : ℕ) → List Cell → List Cell
+sunk i k [] = []
+sunk zero k (c ∷ cs) = past k c cs
+sunk (suc i) k (c ∷ cs) = c ∷ sunk i k cs
+
+past_next : (k : ℕ) (c : Cell) (cs : List Cell) → k < length cs → swapped k (past k c cs) ≡ past (suc k) c cs
+past_next zero c [] h = absurd (omega arith)
+past_next zero c (d ∷ cs) h = refl
+past_next (suc k) c [] h = absurd (omega arith)
+past_next (suc k) c (d ∷ cs) h = ap (λ (l : List Cell). d ∷ l) (past_next k c cs (omega arith))
+
+sunk_next : (i k n : ℕ) (cs : List Cell) → n ≡ i + k → n + 1 < length cs → swapped n (sunk i k cs) ≡ sunk i (suc k) cs
+sunk_next i k n [] e h = absurd (omega arith)
+sunk_next zero k n (c ∷ cs) e h =
+    let same : n ≡ k = omega (arith, e) in
+    ap (λ (m : ℕ). swapped m (past k c cs)) same ∙ past_next k c cs (omega (arith, same))
+sunk_next (suc i) k zero (c ∷ cs) e h = absurd (omega (arith, e))
+sunk_next (suc i) k (suc n) (c ∷ cs) e h = ap (λ (l : List Cell). c ∷ l) (sunk_next i k n cs (omega (arith, e)) (omega arith))
+
+past_length : (k : ℕ) (c : Cell) (cs : List Cell) → length (past k c cs) ≡ suc (length cs)
+past_length zero c cs = refl
+past_length (suc k) c [] = refl
+past_length (suc k) c (d ∷ cs) = ap suc (past_length k c cs)
+
+pub sunk_length : (i k : ℕ) (cs : List Cell) → length (sunk i k cs) ≡ length cs
+sunk_length i k [] = refl
+sunk_length zero k (c ∷ cs) = past_length k c cs
+sunk_length (suc i) k (c ∷ cs) = ap suc (sunk_length i k cs)
+
+past_get : (k : ℕ) (c : Cell) (cs : List Cell) → k ≤ length cs → slice_get (past k c cs) k ≡ Some c
+past_get zero c cs h = refl
+past_get (suc k) c [] h = absurd (omega arith)
+past_get (suc k) c (d ∷ cs) h = past_get k c cs (omega arith)
+
+sunk_get : (i k n : ℕ) (cs : List Cell) (c : Cell) → n ≡ i + k → slice_get cs i ≡ Some c → n < length cs
+    → slice_get (sunk i k cs) n ≡ Some c
+sunk_get i k n [] c s e h = absurd (omega arith)
+sunk_get zero k n (d ∷ cs) c s e h =
+    let is : d ≡ c = cc in
+    let same : n ≡ k = omega (arith, s) in
+    ap (slice_get (past k d cs)) same ∙ past_get k d cs (omega (arith, same)) ∙ ap (λ (x : Cell). Some x) is
+sunk_get (suc i) k zero (d ∷ cs) c s e h = absurd (omega (arith, s))
+sunk_get (suc i) k (suc n) (d ∷ cs) c s e h = sunk_get i k n cs c (omega (arith, s)) e (omega arith)
+
+past_all : (k : ℕ) (c : Cell) (cs : List Cell) → length cs ≤ k → past k c cs ≡ cs ++ c ∷ []
+past_all zero c [] h = refl
+past_all zero c (d ∷ cs) h = absurd (omega arith)
+past_all (suc k) c [] h = refl
+past_all (suc k) c (d ∷ cs) h = ap (λ (l : List Cell). d ∷ l) (past_all k c cs (omega arith))
+
+sunk_all : (i k : ℕ) (cs : List Cell) (c : Cell) → slice_get cs i ≡ Some c → length cs ≤ i + k + 1
+    → sunk i k cs ≡ without_cell i cs ++ c ∷ []
+sunk_all i k [] c e h = cc
+sunk_all zero k (d ∷ cs) c e h =
+    let is : d ≡ c = cc in
+    past_all k d cs (omega arith) ∙ ap (λ (x : Cell). cs ++ x ∷ []) is
+sunk_all (suc i) k (d ∷ cs) c e h = ap (λ (l : List Cell). d ∷ l) (sunk_all i k cs c e (omega arith))
+
+pub get_inside : (cs : List Cell) (i : ℕ) (c : Cell) → slice_get cs i ≡ Some c → i < length cs
+get_inside [] i c e = cc
+get_inside (d ∷ cs) zero c e = omega arith
+get_inside (d ∷ cs) (suc i) c e = let k : i < length cs = get_inside cs i c e in omega arith
+
+pub without_length : (i : ℕ) (cs : List Cell) → i < length cs → suc (length (without_cell i cs)) ≡ length cs
+without_length i [] h = absurd (omega arith)
+without_length zero (c ∷ cs) h = refl
+without_length (suc i) (c ∷ cs) h = ap suc (without_length i cs (omega arith))
+
+-- without the last one
+pub all_but_last : (rest : List Cell) (last : Cell) (n : ℕ) → n ≡ length rest → take n (rest ++ last ∷ []) ≡ rest
+all_but_last [] last zero e = refl
+all_but_last [] last (suc n) e = absurd (omega arith)
+all_but_last (c ∷ rest) last zero e = absurd (omega arith)
+all_but_last (c ∷ rest) last (suc n) e = ap (λ (l : List Cell). c ∷ l) (all_but_last rest last n (omega arith))
+
+cells_taken : (bits : BitSet) (i : ℕ) (vs : List Value) (n : ℕ) → cells_of bits i (take n vs) ≡ take n (cells_of bits i vs)
+cells_taken bits i [] zero = refl
+cells_taken bits i [] (suc n) = refl
+cells_taken bits i (v ∷ vs) zero = refl
+cells_taken bits i (v ∷ vs) (suc n) =
+    ap (λ (l : List Cell). cell (finite.contains bits.members i) (view v) ∷ l) (cells_taken bits (suc i) vs n)
+
+one_longer : (rest : List Cell) (last : Cell) → length (rest ++ last ∷ []) ≡ suc (length rest)
+one_longer [] last = refl
+one_longer (c ∷ rest) last = ap suc (one_longer rest last)
+
+pub cells_popped : (bits : BitSet) (vs fewer : List Value) (cs rest : List Cell) (last : Cell) (n : ℕ) → cells_of bits 0 vs ≡ cs
+    → cs ≡ rest ++ last ∷ [] → n ≡ length vs → fewer ≡ take (n - 1) vs → cells_of bits 0 fewer ≡ rest
+cells_popped bits vs fewer cs rest last n e is count popped =
+    ap (cells_of bits 0) popped ∙ cells_taken bits 0 vs (n - 1)
+    ∙ ap (take (n - 1)) (e ∙ is)
+    ∙ all_but_last rest last (n - 1) (omega (
+      arith,
+      count,
+      same_length bits vs cs e,
+      ap length is,
+      one_longer rest last,
+    ))
+
+-- a child that isn't there and the next one
+
+move_given : (cs : List Cell) (i : ℕ) (c : Cell) → slice_get cs i ≡ Some absent → slice_get cs (suc i) ≡ Some c
+    → set (set cs (suc i) absent) i c ≡ swapped i cs
+move_given [] i c e f = cc
+move_given (d ∷ []) zero c e f = cc
+move_given (d ∷ x ∷ cs) zero c e f =
+    let here : d ≡ absent = cc in
+    let next : x ≡ c = cc in
+    ap (λ (y : Cell). c ∷ y ∷ cs) (sym here) ∙ ap (λ (y : Cell). y ∷ d ∷ cs) (sym next)
+move_given (d ∷ []) (suc i) c e f = cc
+move_given (d ∷ x ∷ cs) (suc i) c e f = ap (λ (l : List Cell). d ∷ l) (move_given (x ∷ cs) i c e f)
+
+set_same : (cs : List Cell) (i : ℕ) (c : Cell) → slice_get cs i ≡ Some c → set cs i c ≡ cs
+set_same [] i c e = refl
+set_same (d ∷ cs) zero c e = let is : c ≡ d = cc in ap (λ (x : Cell). x ∷ cs) is
+set_same (d ∷ cs) (suc i) c e = ap (λ (l : List Cell). d ∷ l) (set_same cs i c e)
+
+get_set_other : (cs : List Cell) (i : ℕ) (c : Cell) → slice_get (set cs (suc i) c) i ≡ slice_get cs i
+get_set_other [] i c = refl
+get_set_other (d ∷ cs) zero c = refl
+get_set_other (d ∷ []) (suc i) c = refl
+get_set_other (d ∷ x ∷ cs) (suc i) c = get_set_other (x ∷ cs) i c
+
+move_nothing : (cs : List Cell) (i : ℕ) → slice_get cs i ≡ Some absent → slice_get cs (suc i) ≡ Some absent
+    → set cs (suc i) absent ≡ swapped i cs
+move_nothing cs i e f =
+    sym (set_same (set cs (suc i) absent) i absent (get_set_other cs i absent ∙ e)) ∙ move_given cs i absent e f
+
+-- the same of the number of the next one
+pub moved_given : (cs : List Cell) (i next : ℕ) (c : Cell) → next ≡ suc i → slice_get cs i ≡ Some absent → slice_get cs next ≡ Some c
+    → set (set cs next absent) i c ≡ swapped i cs
+moved_given cs i next c is e =
+    subst (λ (n : ℕ). slice_get cs n ≡ Some c → set (set cs n absent) i c ≡ swapped i cs) (sym is) (move_given cs i c e)
+
+pub moved_nothing : (cs : List Cell) (i next : ℕ) → next ≡ suc i → slice_get cs i ≡ Some absent → slice_get cs next ≡ Some absent
+    → set cs next absent ≡ swapped i cs
+moved_nothing cs i next is e =
+    subst (λ (n : ℕ). slice_get cs n ≡ Some absent → set cs n absent ≡ swapped i cs) (sym is) (move_nothing cs i e)
+
+-- what a child is whose slot or value is known
+
+pub slot_child : (cs : List Cell) (i n : ℕ) → Some n ≡ slot_at cs i → slice_get cs i ≡ Some (placed n)
+slot_child cs i n e = go (slice_get cs i) refl
+  where
+    go : (found : Option Cell) → slice_get cs i ≡ found → slice_get cs i ≡ Some (placed n)
+    go None h = let no : Some n ≡ None = e ∙ ap (option_and_then slot_of_cell) h in cc
+    go (Some absent) h = let no : Some n ≡ None = e ∙ ap (option_and_then slot_of_cell) h in cc
+    go (Some (given v)) h = let no : Some n ≡ None = e ∙ ap (option_and_then slot_of_cell) h in cc
+    go (Some (placed m)) h =
+        let so : Some n ≡ Some m = e ∙ ap (option_and_then slot_of_cell) h in
+        let is : m ≡ n = cc in
+        h ∙ ap (λ (k : ℕ). Some (placed k)) is
+
+pub value_child : (cs : List Cell) (i : ℕ) (v : Val) → Some v ≡ value_at cs i → slice_get cs i ≡ Some (given v)
+value_child cs i v e = go (slice_get cs i) refl
+  where
+    go : (found : Option Cell) → slice_get cs i ≡ found → slice_get cs i ≡ Some (given v)
+    go None h = let no : Some v ≡ None = e ∙ ap (option_and_then value_of_cell) h in cc
+    go (Some absent) h = let no : Some v ≡ None = e ∙ ap (option_and_then value_of_cell) h in cc
+    go (Some (placed m)) h = let no : Some v ≡ None = e ∙ ap (option_and_then value_of_cell) h in cc
+    go (Some (given u)) h =
+        let so : Some v ≡ Some u = e ∙ ap (option_and_then value_of_cell) h in
+        let is : u ≡ v = cc in
+        h ∙ ap (λ (x : Val). Some (given x)) is
+
+pub no_child : (cs : List Cell) (i : ℕ) → i < length cs → None ≡ slot_at cs i → None ≡ value_at cs i → slice_get cs i ≡ Some absent
+no_child cs i h e f = go (slice_get cs i) refl
+  where
+    outside : (l : List Cell) (k : ℕ) → k < length l → slice_get l k ≡ None → slice_get cs i ≡ Some absent
+    outside [] k h e = absurd (omega arith)
+    outside (c ∷ l) zero h e = cc
+    outside (c ∷ l) (suc k) h e = outside l k (omega arith) e
+
+    go : (found : Option Cell) → slice_get cs i ≡ found → slice_get cs i ≡ Some absent
+    go None g = outside cs i h g
+    go (Some absent) g = g
+    go (Some (placed m)) g = let no : None ≡ Some m = e ∙ ap (option_and_then slot_of_cell) g in cc
+    go (Some (given u)) g = let no : None ≡ Some u = f ∙ ap (option_and_then value_of_cell) g in cc
+
+-- Moving it behind all others.
+
+pub record Sinking (all now : List Cell) (first at : ℕ) : Type 0 where
+  pub steps : ℕ
+  pub number : at ≡ first + steps
+  pub is : now ≡ sunk first steps all
+
+sunk_none : (i : ℕ) (cs : List Cell) → sunk i zero cs ≡ cs
+sunk_none i [] = refl
+sunk_none zero (c ∷ cs) = refl
+sunk_none (suc i) (c ∷ cs) = ap (λ (l : List Cell). c ∷ l) (sunk_none i cs)
+
+pub sinking_begins : (all : List Cell) (first : ℕ) → Sinking all all first first
+sinking_begins all first = record { steps = 0; number = omega arith; is = sym (sunk_none first all) }
+
+module _ (all now : List Cell) (first at : ℕ) (so_far : Sinking all now first at) (gone : slice_get all first ≡ Some absent) where
+  pub sinking_count : length now ≡ length all
+  sinking_count = ap length so_far.is ∙ sunk_length first so_far.steps all
+
+  pub sinking_here : at < length all → slice_get now at ≡ Some absent
+  sinking_here h =
+      ap (λ (cs : List Cell). slice_get cs at) so_far.is ∙ sunk_get first so_far.steps at all absent so_far.number gone h
+
+  pub sinking_step : (next : List Cell) → at + 1 < length all → next ≡ swapped at now → Sinking all next first (at + 1)
+  sinking_step next h is = record {
+    steps = suc so_far.steps;
+    number = omega (arith, so_far.number);
+    is =
+        is ∙ ap (swapped at) so_far.is ∙ sunk_next first so_far.steps at all so_far.number h;
+  }
+
+  pub sinking_ends : length all ≤ at + 1 → now ≡ without_cell first all ++ absent ∷ []
+  sinking_ends h = so_far.is ∙ sunk_all first so_far.steps all absent gone (omega (arith, so_far.number))
+
+-- The search.
+
+pub same_without : (v : Val) (i : ℕ) (cs : List Cell) → slice_get cs i ≡ Some absent
+    → has_same_cell v (without_cell i cs) ≡ has_same_cell v cs
+same_without v i [] e = refl
+same_without v zero (c ∷ cs) e =
+    let is : absent ≡ c = cc in
+    ap (λ (d : Cell). is_same_cell v d || has_same_cell v cs) is
+same_without v (suc i) (c ∷ cs) e = ap (λ (b : Bool). is_same_cell v c || b) (same_without v i cs e)
+
+drop_here : (i : ℕ) (cs : List Cell) (c : Cell) → slice_get cs i ≡ Some c → drop i cs ≡ c ∷ drop (suc i) cs
+drop_here i [] c e = cc
+drop_here zero (d ∷ cs) c e = let is : d ≡ c = cc in ap (λ (x : Cell). x ∷ cs) is
+drop_here (suc i) (d ∷ cs) c e = drop_here i cs c e
+
+next_number : (i : ℕ) → suc i ≡ i + 1
+next_number i = omega arith
+
+element : (cs : List Cell) (i : ℕ) → i < length cs → (c : Cell) × (slice_get cs i ≡ Some c)
+element [] i h = absurd (omega arith)
+element (c ∷ cs) zero h = (c, refl)
+element (c ∷ cs) (suc i) h = element cs i (omega arith)
+
+pub value_same : (v u : Val) (cs : List Cell) (i : ℕ) (c : Cell) → Some u ≡ value_at cs i → slice_get cs i ≡ Some c
+    → same u v ≡ is_same_cell v c
+value_same v u cs i c e g =
+    let so : Some (given u) ≡ Some c = sym (value_child cs i u e) ∙ g in
+    let is : given u ≡ c = cc in
+    ap (is_same_cell v) is
+
+pub none_same : (v : Val) (cs : List Cell) (i : ℕ) (c : Cell) → None ≡ value_at cs i → slice_get cs i ≡ Some c → false ≡ is_same_cell v c
+none_same v cs i absent e g = refl
+none_same v cs i (placed n) e g = refl
+none_same v cs i (given u) e g = let no : None ≡ Some u = e ∙ ap (option_and_then value_of_cell) g in cc
+
+pub same_here : (v : Val) (cs : List Cell) (i : ℕ) (b : Bool) → i < length cs
+    → ((c : Cell) → slice_get cs i ≡ Some c → b ≡ is_same_cell v c) → b ≡ true → has_same_cell v (drop i cs) ≡ true
+same_here v cs i b h is so =
+    let at : (c : Cell) × (slice_get cs i ≡ Some c) = element cs i h in
+    ap (has_same_cell v) (drop_here i cs at.0 at.1)
+    ∙ ap (λ (d : Bool). d || has_same_cell v (drop (suc i) cs)) (sym (is at.0 at.1) ∙ so)
+
+pub same_later : (v : Val) (cs : List Cell) (i : ℕ) (b : Bool) → i < length cs
+    → ((c : Cell) → slice_get cs i ≡ Some c → b ≡ is_same_cell v c) → b ≡ false
+    → has_same_cell v (drop i cs) ≡ has_same_cell v (drop (i + 1) cs)
+same_later v cs i b h is so =
+    let at : (c : Cell) × (slice_get cs i ≡ Some c) = element cs i h in
+    ap (has_same_cell v) (drop_here i cs at.0 at.1)
+    ∙ ap (λ (d : Bool). d || has_same_cell v (drop (suc i) cs)) (sym (is at.0 at.1) ∙ so)
+    ∙ ap (λ (k : ℕ). has_same_cell v (drop k cs)) (next_number i)
+
+-- What comes of it, and its tokens.
+
+pub there_already : (v : Val) (i : ℕ) (cs : List Cell) → slice_get cs i ≡ Some absent → has_same_cell v cs ≡ true
+    → without_cell i cs ≡ and_item_cell (without_cell i cs) v
+there_already v i cs e is =
+    ap (λ (b : Bool). if b then without_cell i cs else without_cell i cs ++ given v ∷ []) (sym (same_without v i cs e ∙ is))
+
+set_last : (cs : List Cell) (c d : Cell) → set (cs ++ c ∷ []) (length cs) d ≡ cs ++ d ∷ []
+set_last [] c d = refl
+set_last (x ∷ cs) c d = ap (λ (l : List Cell). x ∷ l) (set_last cs c d)
+
+pub comes_last : (v : Val) (i : ℕ) (cs moved : List Cell) (last : ℕ) → slice_get cs i ≡ Some absent → has_same_cell v cs ≡ false
+    → moved ≡ without_cell i cs ++ absent ∷ [] → last ≡ length (without_cell i cs)
+    → set moved last (given v) ≡ and_item_cell (without_cell i cs) v
+comes_last v i cs moved last e is moved_is last_is =
+    ap (λ (l : List Cell). set l last (given v)) moved_is
+    ∙ ap (λ (k : ℕ). set (without_cell i cs ++ absent ∷ []) k (given v)) last_is
+    ∙ set_last (without_cell i cs) absent (given v)
+    ∙ ap (λ (b : Bool). if b then without_cell i cs else without_cell i cs ++ given v ∷ []) (sym (same_without v i cs e ∙ is))
+
+without_occurs : (i : ℕ) (cs : List Cell) (t : ℕ) → slice_get cs i ≡ Some absent → cells_occur (without_cell i cs) t ≡ cells_occur cs t
+without_occurs i [] t e = refl
+without_occurs zero (c ∷ cs) t e =
+    let is : absent ≡ c = cc in
+    let none : 0 ≡ cell_occurs c t = ap (λ (d : Cell). cell_occurs d t) is in
+    omega (arith, none)
+without_occurs (suc i) (c ∷ cs) t e = ap (λ (n : ℕ). cell_occurs c t + n) (without_occurs i cs t e)
+
+last_occurs : (cs : List Cell) (v : Val) (t : ℕ) → cells_occur (cs ++ given v ∷ []) t ≡ cells_occur cs t + occurs v t
+last_occurs [] v t = omega arith
+last_occurs (c ∷ cs) v t = omega (arith, last_occurs cs v t)
+
+pub item_released : (v : Val) (i : ℕ) (cs new : List Cell) (before after : List ℕ) → slice_get cs i ≡ Some absent
+    → new ≡ without_cell i cs → RoseBy (occurs v) before after
+    → Conserved (λ t. cells_occur cs t + occurs v t) before (cells_occur new) after
+item_released v i cs new before after e is rose = record {
+  same_length = rose.same_length;
+  kept_or_released = λ t.
+      omega (arith, rose.each t, without_occurs i cs t e, ap (λ (l : List Cell). cells_occur l t) is);
+  none_falls = λ t. omega (arith, rose.each t);
+}
+
+pub item_kept : (v : Val) (i : ℕ) (cs new : List Cell) (ledger : List ℕ) → slice_get cs i ≡ Some absent
+    → new ≡ without_cell i cs ++ given v ∷ [] → Conserved (λ t. cells_occur cs t + occurs v t) ledger (cells_occur new) ledger
+item_kept v i cs new ledger e is = record {
+  same_length = refl;
+  kept_or_released = λ t.
+      omega (
+        arith,
+        without_occurs i cs t e,
+        last_occurs (without_cell i cs) v t,
+        ap (λ (l : List Cell). cells_occur l t) is,
+      );
+  none_falls = λ t. omega arith;
+}
+
+pub comes_behind : (v : Val) (i : ℕ) (cs new : List Cell) → slice_get cs i ≡ Some absent → has_same_cell v cs ≡ false
+    → new ≡ and_item_cell (without_cell i cs) v → new ≡ without_cell i cs ++ given v ∷ []
+comes_behind v i cs new e is new_is =
+    new_is
+    ∙ ap (λ (b : Bool). if b then without_cell i cs else without_cell i cs ++ given v ∷ []) (same_without v i cs e ∙ is)

@@ -1,0 +1,27 @@
+use Rattle.std.proofs.Common.{ap, sym, ◌∙◌, arith}
+use Rattle.fr_shape.specs.View.{view}
+use Rattle.fr_frame.specs.Bodies.{has_same_cell}
+use Rattle.fr_frame.proofs.CellLaws.{past_all}
+use Rattle.fr_frame.proofs.ItemLaws.{same_here, same_later}
+use Rattle.fr_frame.proofs.children.Children.has_same.Goals as goal
+
+pub loop-i-init : goal.loop-i-init
+loop-i-init c = c.in-Some.ensures.past
+
+pub loop-i-preserved : goal.loop-i-preserved
+loop-i-preserved c =
+    c.loop-i.invariant
+    ∙ same_later (view c.args.value.now) c.args.self.now c.loop-i.i c.is_same.result (omega (arith, c.len-i-end.ensures.count))
+    c.is_same.ensures c.if-is_same.false
+
+pub returns-then-is_same : goal.returns-then-is_same
+returns-then-is_same c =
+    sym (c.loop-i.invariant
+    ∙ same_here (view c.args.value.now) c.args.self.now c.loop-i.i c.is_same.result (omega (arith, c.len-i-end.ensures.count))
+    c.is_same.ensures c.if-is_same.true)
+
+pub returns : goal.returns
+returns c =
+    sym (c.loop-i.invariant
+    ∙ ap (has_same_cell (view c.args.value.now))
+    (past_all c.args.self.now c.loop-i.i (omega (arith, c.len-i-end.ensures.count))))

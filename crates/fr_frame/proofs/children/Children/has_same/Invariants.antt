@@ -1,0 +1,7 @@
+use Rattle.std.proofs.Common.{◌≡◌, drop}
+use Rattle.fr_shape.specs.View.{view}
+use Rattle.fr_frame.specs.Bodies.{has_same_cell}
+use Rattle.fr_frame.proofs.children.Children.has_same.Given as goal
+
+abbrev pub invariant-loop-i : goal.invariant-loop-i
+invariant-loop-i l = has_same_cell (view l.value) l.self ≡ has_same_cell (view l.value) (drop l.i l.self)

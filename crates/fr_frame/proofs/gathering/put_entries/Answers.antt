@@ -1,0 +1,32 @@
+use Rattle.std.proofs.Common.{◌≡◌, ◌∷◌, List, length, ap, sym, ◌∙◌, arith}
+use Rattle.std.specs.Vec.Iter.{into_iter_items}
+use Rattle.fr_shape.specs.declared.value.Value.{Value}
+use Rattle.fr_shape.specs.View.{vals_view, entries_view}
+use Rattle.fr_shape.specs.Tokens.{vals_occur, entries_occur}
+use Rattle.fr_model.specs.Gathering.{entries_in}
+use Rattle.fr_frame.proofs.Kept.{room_first, entry_conserved, placed_next}
+use Rattle.fr_frame.proofs.gathering.put_entries.Goals as goal
+
+pub release-requires : goal.release-requires
+release-requires c = record {
+  room = room_first (vals_occur (vals_view c.args.parts.items)) c.args.ledger.now (entries_occur (entries_view c.loop-key.entries.items)) c.loop-key.ledger c.in-Some.key (into_iter_items c.loop-key.rest) _ c.in-Some.ensures.items c.requires.room c.loop-key.invariant.conserved;
+}
+
+pub loop-key-preserved : goal.loop-key-preserved
+loop-key-preserved c =
+    let inv = c.loop-key.invariant in
+    let es = entries_view c.loop-key.entries.items in
+    let new = entries_view c.put_entry.new.entries.items in
+    let rest = into_iter_items c.loop-key.rest in
+    let last = into_iter_items c.next-in-Some.new.self in
+    let k = c.in-Some.key in
+    let v = c.in-Some-next.value in
+    let is : rest ≡ k ∷ (v ∷ last) = c.in-Some.ensures.items ∙ ap (λ (l : List Value). k ∷ l) c.in-Some-next.ensures.items in
+    let long = ap (λ (l : List Value). length l) is in record {
+      merged = ap (λ l. entries_in l (vals_view last)) c.put_entry.ensures.put
+          ∙ ap (λ (l : List Value). entries_in es (vals_view l)) (sym is) ∙ inv.merged;
+      placed = placed_next es new k v rest last c.args.places.now c.loop-key.i is c.put_entry.ensures.put inv.placed;
+      count = omega arith;
+      space = omega arith;
+      conserved = entry_conserved (vals_occur (vals_view c.args.parts.items)) c.args.ledger.now es new c.loop-key.ledger c.put_entry.new.ledger k v rest last is inv.conserved c.put_entry.ensures.conserved;
+    }

@@ -1,0 +1,22 @@
+use Rattle.std.proofs.Common.{◌≡◌, ◌≤◌, ◌+◌, ◌*◌, length, drop, vec_len, vec_capacity}
+use Rattle.std.specs.Vec.Iter.{into_iter_items, into_iter_len}
+use Rattle.fr_shape.specs.Released.{Conserved}
+use Rattle.fr_shape.specs.TokenLaws.{both}
+use Rattle.fr_shape.specs.Tokens.{vals_occur, entries_occur}
+use Rattle.fr_shape.specs.Val.{no_entries}
+use Rattle.fr_shape.specs.View.{vals_view, entries_view}
+use Rattle.fr_model.specs.Gathering.{entries_in}
+use Rattle.fr_frame.specs.KeyPlaces.{entry_places}
+use Rattle.fr_frame.proofs.gathering.put_entries.Given as goal
+
+abbrev pub invariant-loop-key : goal.invariant-loop-key
+invariant-loop-key l = record {
+  merged : entries_in (entries_view l.entries.items) (vals_view (into_iter_items l.rest)) ≡ entries_in no_entries (vals_view l.fn.parts.items);
+  placed : drop l.i l.places ≡ entry_places (entries_view l.entries.items) (vals_view (into_iter_items l.rest));
+  count : into_iter_len l.rest ≡ length (into_iter_items l.rest);
+  space : 2 * vec_len l.entries + into_iter_len l.rest ≤ 2 * vec_capacity l.entries + 1;
+  conserved : Conserved (vals_occur (vals_view l.fn.parts.items)) l.fn.ledger (both (entries_occur (entries_view l.entries.items)) (vals_occur (vals_view (into_iter_items l.rest)))) l.ledger;
+}
+
+abbrev pub decreases-loop-key : goal.decreases-loop-key
+decreases-loop-key l = into_iter_len l.rest

@@ -1,0 +1,11 @@
+use Rattle.std.proofs.Common.{sym, subst}
+use Rattle.fr_shape.specs.Released.{Conserved}
+use Rattle.fr_shape.specs.Tokens.{occurs, vals_occur}
+use Rattle.fr_shape.specs.Val.{Val}
+use Rattle.fr_shape.specs.View.{vals_view}
+use Rattle.fr_frame.proofs.making.map_of.Goals as goal
+
+pub returns-in-Ok-clause-conserved : goal.returns-in-Ok-clause-conserved
+returns-in-Ok-clause-conserved c =
+    subst (λ (v : Val). Conserved (vals_occur (vals_view c.args.values.items)) c.args.ledger.now (occurs v) c.merge_entries.new.ledger)
+    (sym c.of_entries.ensures) c.in-Ok.ensures.conserved

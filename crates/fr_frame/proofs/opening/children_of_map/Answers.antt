@@ -1,0 +1,13 @@
+use Rattle.std.proofs.Common.{ap, sym, ◌∙◌}
+use Rattle.fr_shape.specs.declared.value.Value.{Value}
+use Rattle.fr_shape.specs.View.{view}
+use Rattle.fr_model.specs.Places.{entries_of}
+use Rattle.fr_frame.proofs.EntryLaws.{as_many}
+use Rattle.fr_frame.proofs.opening.children_of_map.Goals as goal
+
+pub put_entries-requires : goal.put_entries-requires
+put_entries-requires c =
+    as_many (entries_of (view c.args.value.now)) c.entries_of-entries.result.items c.count_entries-count.result
+    c.in_ok-children.children
+    (ap (λ (v : Value). entries_of (view v)) (sym c.replace.ensures.value) ∙ c.entries_of-entries.ensures)
+    c.count_entries-count.ensures c.in_ok-children.ensures

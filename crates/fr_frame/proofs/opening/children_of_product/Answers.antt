@@ -1,0 +1,12 @@
+use Rattle.std.proofs.Common.{◌≡◌, Some, option_map, ap, sym, ◌∙◌, rules}
+use Rattle.fr_shape.specs.declared.value.Value.TheFolds.{the_lemmas}
+use Rattle.fr_shape.specs.View.{view, vals_view}
+use Rattle.fr_model.specs.Places.{parts_of}
+use Rattle.fr_frame.specs.Bodies.{cells_of_vals}
+use Rattle.fr_frame.proofs.CellLaws.{cells_of_given}
+use Rattle.fr_frame.proofs.opening.children_of_product.Goals as goal
+
+pub returns-in-Ok-clause-parts : goal.returns-in-Ok-clause-parts
+returns-in-Ok-clause-parts c =
+    let shown : parts_of (view c.args.value.now) ≡ Some (vals_view c.into_vec.result.items) = search (rules, the_lemmas) in
+    ap (option_map cells_of_vals) shown ∙ ap Some (cells_of_given c.into_vec.result.items ∙ sym c.in-Ok.ensures.there)

@@ -1,0 +1,15 @@
+use Rattle.std.proofs.Common.{◌≡◌, ◌+◌, Option, Some, length, sym, subst, rules, arith}
+use Rattle.std.specs.Prelude.{IfSome}
+use Rattle.fr_shape.specs.Val.{Vals}
+use Rattle.fr_shape.specs.declared.value.Value.TheFolds.{the_lemmas}
+use Rattle.fr_shape.specs.View.{view, entries_view}
+use Rattle.fr_model.specs.Places.{entries_of, in_turn}
+use Rattle.fr_frame.specs.Bodies.{cells_of_vals}
+use Rattle.fr_frame.proofs.EntryLaws.{entry_count}
+use Rattle.fr_frame.proofs.opening.count_entries.Goals as goal
+
+pub returns : goal.returns
+returns c =
+    let shown : entries_of (view c.args.value.now) ≡ Some (in_turn (entries_view c.in-Map.entries)) = search (rules, the_lemmas) in
+    subst (λ (o : Option Vals). IfSome o (λ vs. c.len.result + c.len.result ≡ length (cells_of_vals vs))) (sym shown)
+    (omega (arith, c.len.ensures.count, entry_count c.in-Map.entries))

@@ -1,8 +1,0 @@
-use Rattle.fr_frame.specs.Heap.{as_form}
-use Rattle.fr_frame.proofs.BodyLaws.{one_listed}
-use Rattle.fr_frame.proofs.pieces.value_made.Goals as goal
-
-pub value_in_box-requires-clause-one : goal.value_in_box-requires-clause-one
-value_in_box-requires-clause-one c around =
-    one_listed (as_form c.args.form) c.args.children c.into_values-values.result.items around c.requires.there
-    c.into_values-values.ensures

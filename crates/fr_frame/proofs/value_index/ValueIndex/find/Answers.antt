@@ -1,0 +1,43 @@
+use Rattle.std.proofs.Common.{◌≡◌, ℕ, ◌<◌, List, [], length, map, get_or, subst, sym, ap, ◌∙◌, arith}
+use Rattle.std.proofs.lemmas.List.{length-map, take_all}
+use Rattle.fr_shape.specs.View.{view}
+use Rattle.fr_frame.specs.Indexing.{is_held, has_number, runs_of, IsRun}
+use Rattle.fr_frame.proofs.Indexed.{read_map, there_found, there_none, of_none, lacks_more}
+use Rattle.fr_frame.proofs.value_index.ValueIndex.find.Goals as goal
+
+pub find_in-found-requires : goal.find_in-found-requires
+find_in-found-requires c =
+    let runs = c.deref-run-items.result.now in
+    let i = c.loop-run.run-index in
+    let h : i < length runs = omega arith in
+    let same = ap (map (λ run. run.items)) c.deref-run-items.ensures.value in
+    let is : c.as_slice.result.now ≡ get_or (runs_of c.args.self.now) i [] =
+    c.as_slice.ensures.value ∙ read_map (λ run. run.items) runs i c.run-item.result [] h c.run-item.is ∙ ap (λ (l : List (List ℕ)). get_or l i []) same in
+    record { run = subst (IsRun (map view c.args.values.now)) (sym is) (c.requires.indexed.runs.sorted i (omega (arith, h, length-map runs (λ run. run.items), ap length same))) }
+
+pub returns-then-is_some-clause-there : goal.returns-then-is_some-clause-there
+returns-then-is_some-clause-there c =
+    there_found c.args.values.now (view c.args.value.now) c.find_in-found.result (sym c.is_some.ensures ∙ c.if-is_some.true) c.find_in-found.ensures.found c.find_in-found.ensures.same
+
+pub loop-run-preserved : goal.loop-run-preserved
+loop-run-preserved c =
+    let runs = c.deref-run-items.result.now in
+    let i = c.loop-run.run-index in
+    let h : i < length runs = omega arith in
+    let same = ap (map (λ run. run.items)) c.deref-run-items.ensures.value in
+    let is : c.as_slice.result.now ≡ get_or (runs_of c.args.self.now) i [] =
+    c.as_slice.ensures.value ∙ read_map (λ run. run.items) runs i c.run-item.result [] h c.run-item.is ∙ ap (λ (l : List (List ℕ)). get_or l i []) same in
+    let none = of_none c.find_in-found.result (sym c.is_some.ensures ∙ c.if-is_some.false) c.find_in-found.ensures.none in
+    lacks_more (runs_of c.args.self.now) i (omega (arith, h, length-map runs (λ run. run.items), ap length same)) c.loop-run.invariant
+    (λ n has. none n (ap (λ (l : List ℕ). has_number l n) is ∙ has))
+
+pub returns-clause-there : goal.returns-clause-there
+returns-clause-there c =
+    let runs = c.deref-run-items.result.now in
+    let all = runs_of c.args.self.now in
+    let i = c.loop-run.run-index in
+    let same = ap (map (λ run. run.items)) c.deref-run-items.ensures.value in
+    let end : length all ≡ length runs = sym (ap length same) ∙ length-map runs (λ run. run.items) in
+    sym (there_none c.args.values.now (view c.args.value.now) (λ n h.
+    c.loop-run.invariant n (ap (λ (l : List (List ℕ)). is_held l n) (take_all i all (omega arith))
+    ∙ c.requires.indexed.runs.each n (omega (arith, h, length-map c.args.values.now view)))))

@@ -1,0 +1,39 @@
+-- At which place each of a list of keys stands among the distinct ones of them.
+use Rattle.std.specs.Prelude.{ℕ, Bool, cond, List, [], ◌∷◌, length, Option, Some, None, option_map, suc, unwrap_or}
+use Rattle.fr_shape.specs.Val.{Val, Vals, Entries, no_vals, first, no_entries, entry}
+use Rattle.fr_shape.specs.Same.{same}
+use Rattle.fr_model.specs.Gathering.{with_item_in, with_entry_in}
+
+-- the place of the first of these that equals a key
+abbrev pub place : {K : Type 0} → (eq : K → K → Bool) → List K → K → Option ℕ
+place eq [] q = None
+place eq (k ∷ ks) q = cond (eq k q) (Some 0) (option_map suc (place eq ks q))
+
+-- a key comes behind these, unless it equals one of them
+abbrev pub with_key : {K : Type 0} → (eq : K → K → Bool) → List K → K → List K
+with_key eq [] q = q ∷ []
+with_key eq (k ∷ ks) q = cond (eq k q) (k ∷ ks) (k ∷ with_key eq ks q)
+
+-- keys come one after the other: the place of each when it has come
+abbrev pub places_of : {K : Type 0} → (eq : K → K → Bool) → (there : List K) → List K → List ℕ
+places_of eq there [] = []
+places_of eq there (k ∷ ks) = unwrap_or (place eq there k) (length there) ∷ places_of eq (with_key eq there k) ks
+
+-- the place of the first of some values that is `same` as a value, or how many they are
+abbrev pub item_place : Vals → Val → ℕ
+item_place no_vals v = 0
+item_place (first u there) v = cond (same u v) 0 (suc (item_place there v))
+
+-- the places of items, and of the keys of entries, as they come one after the other
+abbrev pub item_places : (there : Vals) → Vals → List ℕ
+item_places there no_vals = []
+item_places there (first v vs) = item_place there v ∷ item_places (with_item_in there v) vs
+
+abbrev pub entry_place : Entries → Val → ℕ
+entry_place no_entries k = 0
+entry_place (entry l w there) k = cond (same l k) 0 (suc (entry_place there k))
+
+abbrev pub entry_places : (there : Entries) → Vals → List ℕ
+entry_places there no_vals = []
+entry_places there (first k no_vals) = []
+entry_places there (first k (first v vs)) = entry_place there k ∷ entry_places (with_entry_in there k v) vs

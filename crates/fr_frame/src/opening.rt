@@ -1,0 +1,165 @@
+//! Taking a value apart into those of the children that it has at a place that is begun.
+ghost use Rattle.std.specs.Prelude.{◌≡◌, ◌+◌, length, Some, IfOk, IfSome, IsSome, OnErr};
+ghost use Rattle.std.specs.Option.{option_map};
+ghost use Rattle.fr_shape.specs.View.{view, entries_view};
+ghost use Rattle.fr_model.specs.Places.{parts_of, items_of, set_items_of, entries_of, in_turn};
+ghost use Rattle.fr_model.specs.Step.{parts_as};
+ghost use Rattle.fr_model.specs.Tree.{over_base};
+ghost use Rattle.fr_frame.specs.Bodies.{cells_of_vals};
+ghost use Rattle.fr_frame.specs.Heap.{as_form};
+
+use crate::children::Children;
+use crate::places::Form;
+use fr_shape::{Items, OutOfMemory, Value};
+use std::alloc::Global;
+
+/// Takes the parts out of a product. It stays as it was where there is no memory for them.
+fn children_of_product(alloc: Global, value: &mut Value) -> Result<Children, OutOfMemory>
+    requires { IsSome (parts_of (view value.old)) }
+    ensures parts { IfOk result (λ children.
+        option_map cells_of_vals (parts_of (view value.old)) ≡ Some children) }
+    ensures refused { OnErr result (view value.new ≡ view value.old) }
+{
+    let Value::Product(items) = std::mem::replace(value, Value::Unit) else {
+        unreachable!()
+    };
+    match Children::all_there(alloc, items.into_vec()) {
+        Ok(children) => Ok(children),
+        Err(values) => {
+            *value = Value::Product(Items::from_vec(values));
+            Err(OutOfMemory)
+        }
+    }
+}
+
+/// Takes the items out of a list. It stays as it was where there is no memory for them.
+fn children_of_list(alloc: Global, value: &mut Value) -> Result<Children, OutOfMemory>
+    requires { IsSome (items_of (view value.old)) }
+    ensures parts { IfOk result (λ children.
+        option_map cells_of_vals (items_of (view value.old)) ≡ Some children) }
+    ensures refused { OnErr result (view value.new ≡ view value.old) }
+{
+    let Value::List(items) = std::mem::replace(value, Value::Unit) else {
+        unreachable!()
+    };
+    match Children::all_there(alloc, items.into_vec()) {
+        Ok(children) => Ok(children),
+        Err(values) => {
+            *value = Value::List(Items::from_vec(values));
+            Err(OutOfMemory)
+        }
+    }
+}
+
+/// Takes the items out of a set. It stays as it was where there is no memory for them.
+fn children_of_set(alloc: Global, value: &mut Value) -> Result<Children, OutOfMemory>
+    requires { IsSome (set_items_of (view value.old)) }
+    ensures parts { IfOk result (λ children.
+        option_map cells_of_vals (set_items_of (view value.old)) ≡ Some children) }
+    ensures refused { OnErr result (view value.new ≡ view value.old) }
+{
+    let Value::Set(items) = std::mem::replace(value, Value::Unit) else {
+        unreachable!()
+    };
+    match Children::all_there(alloc, items.into_vec()) {
+        Ok(children) => Ok(children),
+        Err(values) => {
+            *value = Value::Set(Items::from_vec(values));
+            Err(OutOfMemory)
+        }
+    }
+}
+
+/// How many entries a map has.
+fn count_entries(value: &Value) -> usize
+    requires { IsSome (entries_of (view value.now)) }
+    ensures { IfSome (entries_of (view value.now)) (λ vs.
+        result + result ≡ length (cells_of_vals vs)) }
+{
+    match value {
+        Value::Map(entries) => entries.len(),
+        _ => unreachable!(),
+    }
+}
+
+/// The entries of a map. Takes no memory.
+fn entries_of(value: Value) -> Vec<(Value, Value)>
+    requires { IsSome (entries_of (view value)) }
+    ensures { entries_of (view value) ≡ Some (in_turn (entries_view result.items)) }
+{
+    let Value::Map(entries) = value else {
+        unreachable!()
+    };
+    entries.into_vec()
+}
+
+/// Puts the keys and values of entries, in turn, at children, of which there are as many.
+fn put_entries(children: &mut Children, mut entries: Vec<(Value, Value)>)
+    requires { length entries.items + length entries.items ≡ length children.old }
+    ensures { children.new ≡ cells_of_vals (in_turn (entries_view entries.items)) }
+{
+    let mut end = children.len();
+    for _i in 0..entries.len() {
+        let Some((key, value)) = entries.pop() else {
+            unreachable!()
+        };
+        end -= 2;
+        children.put(end, key);
+        children.put(end + 1, value);
+    }
+}
+
+/// Takes keys and values, in turn, out of a map. It stays as it was where there is no memory for them.
+fn children_of_map(alloc: Global, value: &mut Value) -> Result<Children, OutOfMemory>
+    requires { IsSome (entries_of (view value.old)) }
+    ensures parts { IfOk result (λ children.
+        option_map cells_of_vals (entries_of (view value.old)) ≡ Some children) }
+    ensures refused { OnErr result (view value.new ≡ view value.old) }
+{
+    let count = count_entries(value);
+    if count > usize::MAX / 2 {
+        return Err(OutOfMemory);
+    }
+    let mut children = Children::none_yet(alloc, 2 * count)?;
+    let entries = entries_of(std::mem::replace(value, Value::Unit));
+    put_entries(&mut children, entries);
+    Ok(children)
+}
+
+/// As what a place that holds this is begun: a map over the entries that it has. None where they are too many to be numbered.
+pub(crate) fn over_base(form: Form, value: &Value) -> Option<Form>
+    ensures over { IfSome result (λ over.
+        as_form over ≡ over_base (as_form form) (view value.now)) }
+{
+    match form {
+        Form::Map(_) => match value {
+            Value::Map(entries) => Some(Form::Map(u32::try_from(entries.len()).ok()?)),
+            _ => Some(Form::Map(0)),
+        },
+        Form::Struct | Form::Array | Form::Variant(_) | Form::List | Form::Set => Some(form),
+        Form::Some | Form::Ok | Form::Err | Form::Pointer => Some(form),
+        Form::Slice | Form::ClosedSlice => Some(form),
+    }
+}
+
+/// Takes the values of its children out of a value that has some, as children that are all there. The value stays where there is
+/// no memory for them.
+pub(crate) fn children_of(
+    alloc: Global,
+    form: Form,
+    value: &mut Value,
+) -> Result<Children, OutOfMemory>
+    requires { IsSome (parts_as (as_form form) (view value.old)) }
+    ensures parts { IfOk result (λ children.
+        option_map cells_of_vals (parts_as (as_form form) (view value.old)) ≡ Some children) }
+    ensures refused { OnErr result (view value.new ≡ view value.old) }
+{
+    match form {
+        Form::Struct | Form::Array => children_of_product(alloc, value),
+        Form::List => children_of_list(alloc, value),
+        Form::Set => children_of_set(alloc, value),
+        Form::Map(_) => children_of_map(alloc, value),
+        Form::Variant(_) | Form::Some | Form::Ok | Form::Err | Form::Pointer => unreachable!(),
+        Form::Slice | Form::ClosedSlice => unreachable!(),
+    }
+}

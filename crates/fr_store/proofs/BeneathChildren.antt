@@ -1,0 +1,400 @@
+-- The children of one place that are in slots, as they are written down: from the last in the order of their steps to the first.
+use Rattle.std.proofs.Common.{◌≡◌, ℕ, zero, suc, ◌+◌, ◌<◌, ◌≤◌, Bool, true, false, List, [], ◌∷◌, ◌++◌, length, map, ltb, Option, Some, None, refl, sym, ◌∙◌, ap, subst, arith}
+use Rattle.std.specs.List.{All, Contains}
+use Rattle.std.specs.declared.cmp.Ordering.TheVariants.{Less}
+use Rattle.std.proofs.lemmas.Bool.{ltb-true, ltb-false}
+use Rattle.std.proofs.lemmas.List.Elements.{All-nil, All-cons, All-append, All-weaker, All-map, Contains-append_left, Contains-append_right}
+use Rattle.fr_path.specs.declared.path_steps.PathStep.{PathStep}
+use Rattle.fr_path.specs.Order.{step_order, walk_order}
+use Rattle.fr_model.specs.Paths.{step_as, step_below, steps_in}
+use Rattle.fr_model.specs.Places.{Place, entry_of}
+use Rattle.fr_model.specs.Tree.{Form, as_struct, as_array, as_variant, as_some, as_ok, as_err, as_pointer, as_list, as_slice, as_closed_slice, as_set, as_map, as_dyn_array, as_dyn_object, Tree, child_tree, tree_at}
+use Rattle.fr_model.specs.Collections.{is_map_form}
+use Rattle.fr_plan.specs.declared.nodes.NodeId.{NodeId}
+use Rattle.fr_plan.specs.TypePlan.{Plan}
+use Rattle.fr_frame.specs.declared.places.FrameOwner.{FrameOwner}
+use Rattle.fr_frame.specs.Cells.{Cell, slot_at, slot_of_cell}
+use Rattle.fr_frame.specs.Heap.{Heap}
+use Rattle.fr_frame.specs.Kids.{Kid, gone, there, at, Plot, entered_plot, whole_plot, begun_plot, Kids, no_kids, kid, MayHave, is_stored, tree_of, cell_of, cells_in, body_in, Holds, IsThere, IsLeftRightly, AreLeftRightly, AreLeftAll}
+use Rattle.fr_store.specs.Beneath.{from_last, number_if, slot_if, slotted_numbers, slotted, is_map_body, is_map_found}
+use Rattle.fr_store.specs.HoldLaws.{holds_at, may_have_all}
+use Rattle.fr_store.specs.LeftLaws.{left_at}
+use Rattle.fr_store.specs.Places.{Pairs, IsHere, IsPlaced, slot_here, slot_at as slot_of_place}
+use Rattle.fr_store.specs.Prunes.{kids_below, kids_in_plot, cells_found, cells_in_body}
+use Rattle.fr_store.specs.Walks.{ComesBefore}
+use Rattle.fr_store.specs.Ways.{count_kids, kid_nth, kid_below, kid_at, AllMarked, AllMarkedIn, node_along, owner_along}
+use Rattle.fr_store.specs.WayLaws.{tree_of_at, marked_nth}
+use Rattle.fr_store.proofs.ChildOrder.{HasOwnStep, from_last_within, from_last_onto, listed_order}
+use Rattle.fr_store.proofs.PairLaws.{first_in, in_map, pairs_append, pairs_map}
+use Rattle.fr_store.proofs.PathOrder.{first_last}
+use Rattle.fr_store.proofs.PlaceLaws.{placed_below, placed_child, way_on}
+
+-- Cells and children.
+
+cells_long : (ks : Kids) → length (cells_in ks) ≡ count_kids ks
+cells_long no_kids = refl
+cells_long (kid k ks) = ap suc (cells_long ks)
+
+slot_of_kid : (c : ℕ) (ks : Kids) → slot_at (cells_in ks) c ≡ slot_of_cell (cell_of (kid_nth c ks))
+slot_of_kid c no_kids = refl
+slot_of_kid zero (kid k ks) = refl
+slot_of_kid (suc c) (kid k ks) = slot_of_kid c ks
+
+here_is : (x : Kid) (slot : ℕ) → slot_of_cell (cell_of x) ≡ Some slot → IsHere x
+here_is gone slot e = cc
+here_is (there v) slot e = cc
+here_is (at n stored plot) slot e = tt
+
+here_told : (x : Kid) → IsHere x → slot_of_cell (cell_of x) ≡ Some (slot_here x)
+here_told gone here = absurd here
+here_told (there v) here = absurd here
+here_told (at n stored plot) here = refl
+
+slot_same : (x : Kid) → slot_here x ≡ slot_if (slot_of_cell (cell_of x))
+slot_same gone = refl
+slot_same (there v) = refl
+slot_same (at n stored plot) = refl
+
+-- Their numbers.
+
+-- child c comes as the j-th, child d as a later one
+pub record AreListed (of_map : Bool) (count c d : ℕ) : Type 0 where
+  pub j : ℕ
+  pub i : ℕ
+  pub later : j < i
+  pub within : i < count
+  pub first : c ≡ from_last of_map count j
+  pub second : d ≡ from_last of_map count i
+
+-- the child is in a slot, and comes as one of the first so many
+record IsAmong (of_map : Bool) (ks : Kids) (i c : ℕ) : Type 0 where
+  within : c < count_kids ks
+  here : IsHere (kid_nth c ks)
+  j : ℕ
+  early : j < i
+  is : c ≡ from_last of_map (length (cells_in ks)) j
+
+module _ (of_map : Bool) (ks : Kids) where
+  abbrev numbers : ℕ → List ℕ
+  numbers i = slotted_numbers of_map (cells_in ks) i
+
+  abbrev next : ℕ → ℕ
+  next i = from_last of_map (length (cells_in ks)) i
+
+  one_among : (i : ℕ) → i < length (cells_in ks)
+      → All (IsAmong of_map ks (suc i)) (number_if (slot_at (cells_in ks) (next i)) (next i))
+  one_among i h = go (slot_at (cells_in ks) (next i)) refl
+    where
+      go : (found : Option ℕ) → slot_at (cells_in ks) (next i) ≡ found → All (IsAmong of_map ks (suc i)) (number_if found (next i))
+      go None e = All-nil (IsAmong of_map ks (suc i))
+      go (Some slot) e =
+          All-cons (IsAmong of_map ks (suc i)) (next i) []
+          (record {
+            within = omega (arith, from_last_within of_map (length (cells_in ks)) i h, cells_long ks);
+            here = here_is (kid_nth (next i) ks) slot (sym (slot_of_kid (next i) ks) ∙ e);
+            j = i;
+            early = omega arith;
+            is = refl;
+          })
+          (All-nil (IsAmong of_map ks (suc i)))
+
+  all_among : (i : ℕ) → i ≤ length (cells_in ks) → All (IsAmong of_map ks i) (numbers i)
+  all_among zero h = All-nil (IsAmong of_map ks zero)
+  all_among (suc i) h =
+      All-append (IsAmong of_map ks (suc i)) (numbers i) (number_if (slot_at (cells_in ks) (next i)) (next i))
+      (All-weaker (IsAmong of_map ks i) (IsAmong of_map ks (suc i))
+      (λ c is.
+      record {
+        within = is.within;
+        here = is.here;
+        j = is.j;
+        early = omega (arith, is.early);
+        is = is.is;
+      }) (numbers i) (all_among i (omega arith)))
+      (one_among i (omega arith))
+
+  in_order : (i : ℕ) → i ≤ length (cells_in ks) → Pairs (AreListed of_map (length (cells_in ks))) (numbers i)
+  in_order zero h = tt
+  in_order (suc i) h =
+      pairs_append (AreListed of_map (length (cells_in ks))) (numbers i)
+      (number_if (slot_at (cells_in ks) (next i)) (next i)) (in_order i (omega arith))
+      (one (slot_at (cells_in ks) (next i)))
+      (All-weaker (IsAmong of_map ks i)
+      (λ c. All (AreListed of_map (length (cells_in ks)) c) (number_if (slot_at (cells_in ks) (next i)) (next i)))
+      (λ c is. before c is (slot_at (cells_in ks) (next i))) (numbers i) (all_among i (omega arith)))
+    where
+      one : (found : Option ℕ) → Pairs (AreListed of_map (length (cells_in ks))) (number_if found (next i))
+      one None = tt
+      one (Some slot) = (All-nil (AreListed of_map (length (cells_in ks)) (next i)), tt)
+
+      before : (c : ℕ) → IsAmong of_map ks i c → (found : Option ℕ)
+          → All (AreListed of_map (length (cells_in ks)) c) (number_if found (next i))
+      before c is None = All-nil (AreListed of_map (length (cells_in ks)) c)
+      before c is (Some slot) =
+          All-cons (AreListed of_map (length (cells_in ks)) c) (next i) []
+          (record {
+            j = is.j;
+            i = i;
+            later = is.early;
+            within = omega (arith, h);
+            first = is.is;
+            second = refl;
+          })
+          (All-nil (AreListed of_map (length (cells_in ks)) c))
+
+  listed_by : (i j : ℕ) → j < i → IsHere (kid_nth (next j) ks) → Contains (numbers i) (next j)
+  listed_by zero j h here = absurd (omega arith)
+  listed_by (suc i) j h here = go (ltb j i) refl (λ less. listed_by i j less here)
+    where
+      last : (found : Option ℕ) → found ≡ Some (slot_here (kid_nth (next i) ks)) → Contains (number_if found (next i)) (next i)
+      last (Some slot) e = first_in (next i) []
+      last None e = absurd (cc)
+
+      same : i ≡ j → Contains (number_if (slot_at (cells_in ks) (next i)) (next i)) (next j)
+      same e =
+          subst (λ (m : ℕ). Contains (number_if (slot_at (cells_in ks) (next i)) (next i)) (next m)) e
+          (last (slot_at (cells_in ks) (next i))
+          (slot_of_kid (next i) ks
+          ∙ here_told (kid_nth (next i) ks) (subst (λ (m : ℕ). IsHere (kid_nth (next m) ks)) (sym e) here)))
+
+      go : (b : Bool) → ltb j i ≡ b → (j < i → Contains (numbers i) (next j)) → Contains (numbers (suc i)) (next j)
+      go true e rest =
+          Contains-append_left (numbers i) (number_if (slot_at (cells_in ks) (next i)) (next i)) (next j)
+          (rest (ltb-true j i e))
+      go false e rest =
+          Contains-append_right (numbers i) (number_if (slot_at (cells_in ks) (next i)) (next i)) (next j)
+          (same (omega (arith, ltb-false j i e)))
+
+  listed_all : (c : ℕ) → c < count_kids ks → IsHere (kid_nth c ks) → Contains (numbers (length (cells_in ks))) c
+  listed_all c h here =
+      let onto = from_last_onto of_map (length (cells_in ks)) c (omega (arith, cells_long ks)) in
+      subst (Contains (numbers (length (cells_in ks)))) onto.2
+      (listed_by (length (cells_in ks)) onto.0 onto.1 (subst (λ (m : ℕ). IsHere (kid_nth m ks)) (sym onto.2) here))
+
+-- Steps of their own.
+
+not_both : (x : Kid) → is_stored x ≡ true → is_stored x ≡ false → ⊥
+not_both x e f = let no : true ≡ false = sym e ∙ f in cc
+
+there_unstored : (x : Kid) → IsThere x → is_stored x ≡ false
+there_unstored gone there_now = absurd there_now
+there_unstored (there v) there_now = refl
+there_unstored (at slot stored plot) there_now = absurd there_now
+
+own_step : (form : Form) (c : ℕ) (x : Kid) → is_stored x ≡ true → IsLeftRightly form c x → HasOwnStep form c
+own_step as_struct c x stored left = tt
+own_step as_array c x stored left = tt
+own_step (as_variant k) c x stored left = tt
+own_step as_some c x stored left = tt
+own_step as_ok c x stored left = tt
+own_step as_err c x stored left = tt
+own_step as_pointer c x stored left = tt
+own_step as_list c x stored left = tt
+own_step as_slice c x stored left = tt
+own_step as_closed_slice c x stored left = tt
+own_step as_set c x stored left = not_both x stored left
+own_step (as_map base) c x stored left = go (ltb (entry_of c) base) refl
+  where
+    go : (b : Bool) → ltb (entry_of c) base ≡ b → base ≤ entry_of c
+    go true e = absurd (not_both x stored (there_unstored x (left (ltb-true (entry_of c) base e))))
+    go false e = ltb-false (entry_of c) base e
+own_step as_dyn_array c x stored left = tt
+own_step (as_dyn_object keys) c x stored left = not_both x stored left
+
+left_nth : (form : Form) (first c m : ℕ) (ks : Kids) → m ≡ first + c → c < count_kids ks → AreLeftAll form first ks
+    → IsLeftRightly form m (kid_nth c ks) × AreLeftRightly (kid_nth c ks)
+left_nth form first c m no_kids e h left = absurd (omega arith)
+left_nth form first zero m (kid k ks) e h left =
+    let same : first ≡ m = omega arith in (subst (λ (n : ℕ). IsLeftRightly form n k) same left.0, left.1)
+left_nth form first (suc c) m (kid k ks) e h left = left_nth form (suc first) c m ks (omega arith) (omega arith) left.2
+
+-- What lies beneath is stored.
+
+abbrev pub BeneathIsStored : Kid → Type 0
+BeneathIsStored gone = Unit {0}
+BeneathIsStored (there v) = Unit {0}
+BeneathIsStored (at slot stored plot) = AllMarkedIn true plot
+
+beneath_any : (x : Kid) → AllMarked true x → BeneathIsStored x
+beneath_any gone all = tt
+beneath_any (there v) all = tt
+beneath_any (at slot stored plot) all = all.1
+
+beneath_child : (i : ℕ) (k : Kid) → BeneathIsStored k → AllMarked true (kid_below i k)
+beneath_child i gone all = tt
+beneath_child i (there v) all = tt
+beneath_child i (at slot stored entered_plot) all = tt
+beneath_child i (at slot stored (whole_plot v)) all = tt
+beneath_child i (at slot stored (begun_plot form kids)) all = marked_nth true i kids all
+
+pub beneath_at : (place : Place) (k : Kid) → BeneathIsStored k → BeneathIsStored (kid_at place k)
+beneath_at [] k all = all
+beneath_at (i ∷ place) k all = beneath_at place (kid_below i k) (beneath_any (kid_below i k) (beneath_child i k all))
+
+marked_here : (x : Kid) → IsHere x → AllMarked true x → is_stored x ≡ true
+marked_here gone here all = absurd here
+marked_here (there v) here all = absurd here
+marked_here (at slot stored plot) here all = all.0
+
+-- One place and its children.
+
+abbrev pub is_map_kid : Kid → Bool
+is_map_kid gone = false
+is_map_kid (there v) = false
+is_map_kid (at slot stored plot) = is_map_body (body_in plot)
+
+plot_cells_are : (plot : Plot) → cells_in_body (body_in plot) ≡ cells_in (kids_in_plot plot)
+plot_cells_are entered_plot = refl
+plot_cells_are (whole_plot v) = refl
+plot_cells_are (begun_plot form kids) = refl
+
+-- what is found in its slot
+found_of : (plan : Plan) (heap : Heap) (node : NodeId) (owner : FrameOwner) (depth : ℕ) (x : Kid)
+    → Holds plan heap node owner depth x → IsHere x
+    → (cells_found (heap (slot_here x)) ≡ cells_in (kids_below x)) × (is_map_found (heap (slot_here x)) ≡ is_map_kid x)
+found_of plan heap node owner depth gone holds here = absurd here
+found_of plan heap node owner depth (there v) holds here = absurd here
+found_of plan heap node owner depth (at slot stored plot) holds here =
+    (ap cells_found holds.0 ∙ plot_cells_are plot, ap is_map_found holds.0)
+
+child_reached : (c : ℕ) (x : Kid) → c < count_kids (kids_below x) → IsHere (kid_nth c (kids_below x)) → IsPlaced x (c ∷ [])
+child_reached c gone h here = absurd (omega arith)
+child_reached c (there v) h here = absurd (omega arith)
+child_reached c (at slot stored entered_plot) h here = absurd (omega arith)
+child_reached c (at slot stored (whole_plot v)) h here = absurd (omega arith)
+child_reached c (at slot stored (begun_plot form kids)) h here = record { reaches = (h, tt); here = here }
+
+reached_child : (c : ℕ) (x : Kid) → IsPlaced x (c ∷ []) → (c < count_kids (kids_below x)) × IsHere (kid_nth c (kids_below x))
+reached_child c gone placed = absurd placed.reaches
+reached_child c (there v) placed = absurd placed.reaches
+reached_child c (at slot stored entered_plot) placed = absurd placed.reaches
+reached_child c (at slot stored (whole_plot v)) placed = absurd placed.reaches
+reached_child c (at slot stored (begun_plot form kids)) placed = (placed.reaches.0, placed.here)
+
+kid_of_number : (c : ℕ) (x : Kid) → kid_at (c ∷ []) x ≡ kid_nth c (kids_below x)
+kid_of_number c gone = refl
+kid_of_number c (there v) = refl
+kid_of_number c (at slot stored entered_plot) = refl
+kid_of_number c (at slot stored (whole_plot v)) = refl
+kid_of_number c (at slot stored (begun_plot form kids)) = refl
+
+-- their steps
+steps_differ : (plan : Plan) (heap : Heap) (node : NodeId) (owner : FrameOwner) (depth : ℕ) (x : Kid) (c d : ℕ)
+    → Holds plan heap node owner depth x → AreLeftRightly x → BeneathIsStored x → d < count_kids (kids_below x)
+    → IsHere (kid_nth d (kids_below x)) → AreListed (is_map_kid x) (length (cells_in (kids_below x))) c d
+    → step_order (step_below d (tree_of x)) (step_below c (tree_of x)) ≡ Less
+steps_differ plan heap node owner depth gone c d holds left all h here listed = absurd (omega arith)
+steps_differ plan heap node owner depth (there v) c d holds left all h here listed = absurd (omega arith)
+steps_differ plan heap node owner depth (at slot stored entered_plot) c d holds left all h here listed = absurd (omega arith)
+steps_differ plan heap node owner depth (at slot stored (whole_plot v)) c d holds left all h here listed = absurd (omega arith)
+steps_differ plan heap node owner depth (at slot stored (begun_plot form kids)) c d holds left all h here listed =
+    let may : MayHave form (length (cells_in kids))
+    = subst (MayHave form) (sym (cells_long kids)) (may_have_all plan heap node slot form (suc depth) kids holds.2) in
+    let own : HasOwnStep form d
+    = own_step form d (kid_nth d kids) (marked_here (kid_nth d kids) here (marked_nth true d kids all))
+    (left_nth form 0 d d kids (omega arith) h left).0 in
+    ap (λ (m : ℕ). step_order (step_as form m) (step_as form c)) listed.second
+    ∙ ap (λ (m : ℕ). step_order (step_as form (from_last (is_map_form form) (length (cells_in kids)) listed.i)) (step_as form m)) listed.first
+    ∙ listed_order form (length (cells_in kids)) listed.j listed.i listed.later listed.within may
+    (subst (HasOwnStep form) listed.second own)
+
+steps_of_child : (place : Place) (i : ℕ) (t : Tree) → steps_in (place ++ i ∷ []) t ≡ steps_in place t ++ step_below i (tree_at place t) ∷ []
+steps_of_child [] i t = refl
+steps_of_child (j ∷ place) i t = ap (λ (steps : List PathStep). step_below j t ∷ steps) (steps_of_child place i (child_tree j t))
+
+-- of two places the first comes after the second in the walk
+abbrev pub ComesAfter : Kid → (first second : Place) → Type 0
+ComesAfter k first second = ComesBefore (tree_of k) second first
+
+abbrev pub is_child : (above place : Place) → Type 0
+is_child above place = (i : ℕ) × (place ≡ above ++ i ∷ [])
+
+-- These are all children of a place that lie in slots, from the last to the first.
+pub record AreChildrenHere (k : Kid) (above : Place) (children : List Place) : Type 0 where
+  pub placed : All (IsPlaced k) children
+  pub each : All (is_child above) children
+  pub order : Pairs (ComesAfter k) children
+  pub all : (i : ℕ) → IsPlaced k (above ++ i ∷ []) → Contains children (above ++ i ∷ [])
+
+module _ (plan : Plan) (heap : Heap) (node : NodeId) (owner : FrameOwner) (depth : ℕ) (k : Kid)
+    (holds : Holds plan heap node owner depth k) (left : AreLeftRightly k) (stored : BeneathIsStored k) (p : Place)
+    (placed : IsPlaced k p) where
+  abbrev x : Kid
+  x = kid_at p k
+
+  abbrev ks : Kids
+  ks = kids_below (kid_at p k)
+
+  abbrev below : ℕ → Place
+  below c = p ++ c ∷ []
+
+  abbrev count : ℕ
+  count = length (cells_in (kids_below (kid_at p k)))
+
+  abbrev nums : List ℕ
+  nums = slotted_numbers (is_map_kid (kid_at p k)) (cells_in (kids_below (kid_at p k))) (length (cells_in (kids_below (kid_at p k))))
+
+  abbrev pub children_here : List Place
+  children_here = map (λ c. p ++ c ∷ []) nums
+
+  holds_here : Holds plan heap (node_along plan node p k) (owner_along owner p k) (depth + length p) (kid_at p k)
+  holds_here = holds_at plan heap node owner depth p k holds placed.reaches
+
+  among : All (IsAmong (is_map_kid x) ks count) nums
+  among = all_among (is_map_kid x) ks count (omega arith)
+
+  placed_of : (c : ℕ) → IsAmong (is_map_kid x) ks count c → IsPlaced k (below c)
+  placed_of c is = placed_below p (c ∷ []) k placed (child_reached c x is.within is.here)
+
+  after_of : (c d : ℕ) → IsAmong (is_map_kid x) ks count c → IsAmong (is_map_kid x) ks count d
+      → AreListed (is_map_kid x) count c d → ComesAfter k (below c) (below d)
+  after_of c d one other listed =
+      ap (λ (steps : List PathStep). walk_order steps (steps_in (below c) (tree_of k))) (steps_of_child p d (tree_of k))
+      ∙ ap (walk_order (steps_in p (tree_of k) ++ step_below d (tree_at p (tree_of k)) ∷ [])) (steps_of_child p c (tree_of k))
+      ∙ first_last (steps_in p (tree_of k)) (step_below d (tree_at p (tree_of k))) (step_below c (tree_at p (tree_of k)))
+      (subst (λ (t : Tree). step_order (step_below d t) (step_below c t) ≡ Less) (tree_of_at p k)
+      (steps_differ plan heap (node_along plan node p k) (owner_along owner p k) (depth + length p) x c d holds_here
+      (left_at p k left) (beneath_at p k stored) other.within other.here listed))
+
+  pub are_children_here : AreChildrenHere k p children_here
+  are_children_here = record {
+    placed =
+        All-map (IsPlaced k) below nums
+        (All-weaker (IsAmong (is_map_kid x) ks count) (λ c. IsPlaced k (below c)) placed_of nums among);
+    each =
+        All-map (is_child p) below nums
+        (All-weaker (IsAmong (is_map_kid x) ks count) (λ c. is_child p (below c)) (λ c is. (c, refl)) nums among);
+    order =
+        pairs_map (AreListed (is_map_kid x) count) (ComesAfter k) below (IsAmong (is_map_kid x) ks count) after_of nums among
+        (in_order (is_map_kid x) ks count (omega arith));
+    all = λ i child.
+        let told = reached_child i x (placed_child p i k child) in
+        in_map below nums i (listed_all (is_map_kid x) ks i told.0 told.1);
+  }
+
+  -- their slots
+  pub slots_here : map (slot_of_place k) children_here
+      ≡ slotted (is_map_found (heap (slot_of_place k p))) (cells_found (heap (slot_of_place k p)))
+      (length (cells_found (heap (slot_of_place k p))))
+  slots_here =
+      go nums
+      ∙ sym (ap (λ (cs : List Cell). slotted (is_map_kid x) cs (length cs)) found.0)
+      ∙ sym (ap (λ (b : Bool). slotted b (cells_found (heap (slot_of_place k p))) (length (cells_found (heap (slot_of_place k p))))) found.1)
+    where
+      found : (cells_found (heap (slot_of_place k p)) ≡ cells_in (kids_below (kid_at p k)))
+          × (is_map_found (heap (slot_of_place k p)) ≡ is_map_kid (kid_at p k))
+      found =
+          found_of plan heap (node_along plan node p k) (owner_along owner p k) (depth + length p) (kid_at p k) holds_here
+          placed.here
+
+      one : (c : ℕ) → slot_of_place k (p ++ c ∷ []) ≡ slot_if (slot_at (cells_in (kids_below (kid_at p k))) c)
+      one c =
+          ap slot_here (way_on p (c ∷ []) k ∙ kid_of_number c (kid_at p k)) ∙ slot_same (kid_nth c (kids_below (kid_at p k)))
+          ∙ ap slot_if (sym (slot_of_kid c (kids_below (kid_at p k))))
+
+      go : (cs : List ℕ) → map (slot_of_place k) (map (λ c. p ++ c ∷ []) cs)
+          ≡ map (λ number. slot_if (slot_at (cells_in (kids_below (kid_at p k))) number)) cs
+      go [] = refl
+      go (c ∷ cs) =
+          ap (λ (n : ℕ). n ∷ map (slot_of_place k) (map (λ d. p ++ d ∷ []) cs)) (one c)
+          ∙ ap (λ (l : List ℕ). slot_if (slot_at (cells_in (kids_below (kid_at p k))) c) ∷ l) (go cs)

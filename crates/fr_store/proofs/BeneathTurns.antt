@@ -1,0 +1,414 @@
+-- The turns of the places that lie beneath the one at which a builder works, one after another.
+use Rattle.std.proofs.Common.{◌≡◌, ◌≢◌, ◌↔◌, ℕ, zero, suc, ◌≤◌, Bool, true, false, List, [], ◌∷◌, ◌++◌, append-nil, Option, Some, None, refl, sym, ◌∙◌, ap, subst, arith}
+use Rattle.std.specs.Prelude.{is_some}
+use Rattle.std.specs.List.{Contains}
+use Rattle.fr_shape.specs.declared.error.ReflectErrorKind.{ReflectErrorKind}
+use Rattle.fr_shape.specs.Checked.{IsChecked}
+use Rattle.fr_shape.specs.Hooks.{Meanings}
+use Rattle.fr_shape.specs.Look.{Table}
+use Rattle.fr_path.specs.declared.path_steps.PathStep.{PathStep}
+use Rattle.fr_model.specs.Failing.{Failure, failures, first_by_walk, own_lack}
+use Rattle.fr_model.specs.FailingLaws.{FirstByWalkIs, LackingFails}
+use Rattle.fr_model.specs.FinishLaws.{closed_at}
+use Rattle.fr_model.specs.Laws.{CompletesOrFails, CompletingFits}
+use Rattle.fr_model.specs.Paths.{steps_in}
+use Rattle.fr_model.specs.Places.{Place, deferred_column}
+use Rattle.fr_model.specs.Relation.{HasPlace}
+use Rattle.fr_model.specs.Tree.{Tree, whole, shape_in, tree_at}
+use Rattle.fr_model.specs.Well.{Suits}
+use Rattle.fr_plan.specs.TypePlan.{Plan}
+use Rattle.fr_frame.specs.declared.places.FrameOwner.{FrameOwner}
+use Rattle.fr_frame.specs.declared.places.Slot.{Slot}
+use Rattle.fr_frame.specs.Bodies.{IsClosed}
+use Rattle.fr_frame.specs.Heap.{Node, heap_of, marked, stored_in}
+use Rattle.fr_frame.specs.Kids.{Kid, gone, there, at, Plot, entered_plot, whole_plot, begun_plot, Kids, no_kids, kid, tree_of, body_in}
+use Rattle.fr_store.specs.Beneath.{IsCompleteBeneath, IsHeldUpHere, kid_on_top, shape_here}
+use Rattle.fr_store.specs.BeneathLaws.{cause_is, none_made}
+use Rattle.fr_store.specs.ClosingLaws.{shape_append, suits_at, suits_change, tree_append}
+use Rattle.fr_store.specs.HeadLaws.{Head, head_closed, head_of, one_place, walk_on}
+use Rattle.fr_store.specs.HeldLaws.{no_marks}
+use Rattle.fr_store.specs.LeaveLaws.{kid_at_append, put_append}
+use Rattle.fr_store.specs.MoveLaws.{open_reach, open_top, so_top, top_node}
+use Rattle.fr_store.specs.Moves.{cursor_in, tree_in_slots}
+use Rattle.fr_store.specs.Numbers.{IsLast}
+use Rattle.fr_store.specs.OffLaws.{reach_place, stored_beside, stored_still}
+use Rattle.fr_store.specs.Places.{IsHere, IsPlaced, slot_at, slot_here, stored_here}
+use Rattle.fr_store.specs.StayLaws.{stay_but_beneath}
+use Rattle.fr_store.specs.Stands.{IsOpen, kid_here}
+use Rattle.fr_store.specs.Staying.{StayPutButBeneath}
+use Rattle.fr_store.specs.Stored.{IsKept}
+use Rattle.fr_store.specs.TopLaws.{Top, closed_by_marks}
+use Rattle.fr_store.specs.Turning.{HasTurned, IsLackingAt, KeepsTheRest, MayTurn}
+use Rattle.fr_store.specs.Turns.{CompletesAsBefore, root_shape}
+use Rattle.fr_store.specs.Walks.{AreStoredAt, IsStoredAt, IsWalk}
+use Rattle.fr_store.specs.Ways.{kid_at, kid_nth, put_at, put_nth, uses, AllMarked, Leads, NoneStored, Reaches}
+use Rattle.fr_store.specs.WayLaws.{kid_put_at, leads_at, put_at_twice, tree_of_at, tree_put_at, uses_at}
+use Rattle.fr_store.proofs.BeneathFails.{first_beneath}
+use Rattle.fr_store.proofs.OpenLaws.{open_stay}
+use Rattle.fr_store.proofs.PlaceLaws.{mark_at, place_of, placed_below}
+
+-- What lies at a place, put there, changes nothing.
+
+put_nth_same : (i : ℕ) (ks : Kids) → put_nth i (kid_nth i ks) ks ≡ ks
+put_nth_same i no_kids = refl
+put_nth_same zero (kid k ks) = refl
+put_nth_same (suc i) (kid k ks) = ap (λ (xs : Kids). kid k xs) (put_nth_same i ks)
+
+put_same : (place : Place) (k : Kid) → Reaches place k → put_at place (kid_at place k) k ≡ k
+put_same [] k reach = refl
+put_same (i ∷ place) (at slot stored (begun_plot form kids)) reach =
+    ap (λ (x : Kid). at slot stored (begun_plot form (put_nth i x kids))) (put_same place (kid_nth i kids) reach.1)
+    ∙ ap (λ (ks : Kids). at slot stored (begun_plot form ks)) (put_nth_same i kids)
+put_same (i ∷ place) (at slot stored entered_plot) reach = absurd reach
+put_same (i ∷ place) (at slot stored (whole_plot v)) reach = absurd reach
+put_same (i ∷ place) gone reach = absurd reach
+put_same (i ∷ place) (there v) reach = absurd reach
+
+-- The place on top of an open builder, and what lies beneath it.
+module _ (plan : Plan) (slots : List Slot) (stack : List ℕ) (open_now : IsOpen plan slots stack) where
+  pub leads_on_top : Leads [] (kid_on_top slots stack)
+  leads_on_top =
+      leads_at (cursor_in slots stack) [] (kid_here slots stack)
+      (subst (λ (p : Place). Leads p (kid_here slots stack)) (sym (append-nil (cursor_in slots stack))) open_now.stands.leads)
+
+  pub once_on_top : (n : ℕ) → uses (kid_on_top slots stack) n ≤ 1
+  once_on_top n = omega (arith, uses_at (cursor_in slots stack) (kid_here slots stack) n, open_now.stands.once n)
+
+  top_here : (x : Kid) → Leads [] x → IsHere x
+  top_here gone leads = absurd leads
+  top_here (there v) leads = absurd leads
+  top_here (at slot stored plot) leads = tt
+
+  pub placed_on_top : IsPlaced (kid_here slots stack) (cursor_in slots stack)
+  placed_on_top = record {
+    reaches = open_reach plan slots stack open_now;
+    here = top_here (kid_on_top slots stack) leads_on_top;
+  }
+
+  -- a stored place beneath it
+  pub stored_beneath : (n : ℕ) (rel : Place) → IsStoredAt (kid_on_top slots stack) n rel
+      → IsStoredAt (kid_here slots stack) n (cursor_in slots stack ++ rel)
+  stored_beneath n rel stored = record {
+    plot = stored.plot;
+    reaches =
+        (placed_below (cursor_in slots stack) rel (kid_here slots stack) placed_on_top
+        (record { reaches = stored.reaches; here = subst IsHere (sym stored.is) tt })).reaches;
+    is = kid_at_append (cursor_in slots stack) rel (kid_here slots stack) ∙ stored.is;
+  }
+
+-- What became of it so far: the places of a walk over what lies beneath are left, and all else is as it was.
+pub record WalkedBeneath (means : Meanings) (table : Table) (plan : Plan) (before : List Slot) (stack : List ℕ) (now : List Slot) (rest : List ℕ) : Type 0 where
+  pub still : IsOpen plan now stack
+  pub cursor : cursor_in now stack ≡ cursor_in before stack
+  pub suits : Suits table (root_shape plan) (tree_in_slots now stack)
+  pub left : IsWalk (kid_on_top now stack) rest
+  pub beside : kid_here now stack ≡ put_at (cursor_in before stack) (kid_on_top now stack) (kid_here before stack)
+  pub here :
+      CompletesAsBefore means table (root_shape plan) (tree_in_slots before stack) (tree_in_slots now stack)
+      (cursor_in before stack)
+
+module _ (means : Meanings) (table : Table) (plan : Plan) (before : List Slot) (stack : List ℕ) (open_first : IsOpen plan before stack) where
+  pub beneath_begins : (walk : List ℕ) → Suits table (root_shape plan) (tree_in_slots before stack)
+      → IsWalk (kid_on_top before stack) walk → WalkedBeneath means table plan before stack before walk
+  beneath_begins walk suits left = record {
+    still = open_first;
+    cursor = refl;
+    suits = suits;
+    left = left;
+    beside = sym (put_same (cursor_in before stack) (kid_here before stack) (open_reach plan before stack open_first));
+    here = record { value = refl; failing = λ path. refl };
+  }
+
+  module _ (now : List Slot) (rest : List ℕ) (n : ℕ) (walked : WalkedBeneath means table plan before stack now (n ∷ rest)) where
+    abbrev k : Kid
+    k = kid_here now stack
+
+    abbrev x : Kid
+    x = kid_on_top now stack
+
+    head : Head (kid_on_top now stack) n rest walked.left.places
+    head = head_of (kid_on_top now stack) n rest walked.left
+
+    -- where it lies
+    abbrev here : Place
+    here = cursor_in now stack ++ head.place
+
+    leads : Leads [] (kid_on_top now stack)
+    leads = leads_on_top plan now stack walked.still
+
+    stored : IsStoredAt (kid_here now stack) n here
+    stored = stored_beneath plan now stack walked.still n head.place head.stored
+
+    closed : IsClosed (body_in head.stored.plot)
+    closed = head_closed (kid_on_top now stack) n rest walked.left head [] leads
+
+    is_there : kid_at here (kid_here now stack) ≡ at n true head.stored.plot
+    is_there = kid_at_append (cursor_in now stack) head.place (kid_here now stack) ∙ head.stored.is
+
+    reach : Reaches here (kid_here now stack)
+    reach =
+        (placed_below (cursor_in now stack) head.place (kid_here now stack) (placed_on_top plan now stack walked.still)
+        (record { reaches = head.stored.reaches; here = subst IsHere (sym head.stored.is) tt })).reaches
+
+    -- it may have its turn
+    pub beneath_due : MayTurn now stack n
+    beneath_due = record {
+      place = here;
+      plot = head.stored.plot;
+      reaches = reach;
+      is = is_there;
+      closed = closed;
+    }
+
+    -- there is no other place in its slot
+    only_here : (place : Place) → IsStoredAt (kid_here now stack) n place → place ≡ here
+    only_here place other =
+        one_place place here (kid_here now stack) n true true other.plot head.stored.plot (walked.still.stands.once n)
+        other.reaches reach other.is is_there
+
+    -- it is stored
+    pub beneath_marked : marked (heap_of now) n ≡ true
+    beneath_marked =
+        let placed : IsPlaced (kid_here now stack) here
+        = record { reaches = reach; here = subst IsHere (sym is_there) tt } in
+        let slot : slot_at (kid_here now stack) here ≡ n = ap slot_here is_there in
+        ap (marked (heap_of now)) (sym slot)
+        ∙ mark_at plan (heap_of now) plan.root FrameOwner.Root 0 here (kid_here now stack) walked.still.stands.holds placed
+        ∙ ap stored_here is_there
+
+    -- it had its turn
+    module _ (next : List Slot) (turned : HasTurned means table plan now stack next n) where
+      same : turned.place ≡ here
+      same = only_here turned.place turned.stored
+
+      new : Kid
+      new = put_at head.place (there turned.value) (kid_on_top now stack)
+
+      kid_next : kid_here next stack ≡ put_at (cursor_in now stack) new (kid_here now stack)
+      unfolding new
+      kid_next =
+          turned.here ∙ ap (λ (p : Place). put_at p (there turned.value) (kid_here now stack)) same
+          ∙ put_append (cursor_in now stack) head.place (there turned.value) (kid_here now stack)
+
+      top_next : kid_on_top next stack ≡ new
+      top_next =
+          ap (λ (p : Place). kid_at p (kid_here next stack)) turned.stands.cursor
+          ∙ ap (kid_at (cursor_in now stack)) kid_next
+          ∙ kid_put_at (cursor_in now stack) new (kid_here now stack) (open_reach plan now stack walked.still)
+
+      left_next : IsWalk (kid_on_top next stack) rest
+      unfolding new
+      left_next =
+          subst (λ (y : Kid). IsWalk y rest) (sym top_next)
+          (walk_on (kid_on_top now stack) n rest walked.left head [] leads (once_on_top plan now stack walked.still) turned.value).0
+
+      beside_next : kid_here next stack ≡ put_at (cursor_in before stack) (kid_on_top next stack) (kid_here before stack)
+      beside_next =
+          kid_next ∙ ap (λ (p : Place). put_at p new (kid_here now stack)) walked.cursor
+          ∙ ap (put_at (cursor_in before stack) new) walked.beside
+          ∙ put_at_twice (cursor_in before stack) (kid_on_top now stack) new (kid_here before stack)
+          (open_reach plan before stack open_first)
+          ∙ ap (λ (y : Kid). put_at (cursor_in before stack) y (kid_here before stack)) (sym top_next)
+
+      has : HasPlace turned.place (tree_in_slots now stack)
+      has = reach_place turned.place (kid_here now stack) turned.stored.reaches
+
+      suits_on : CompletingFits → IsChecked table
+          → Suits table (root_shape plan) (closed_at turned.place turned.value (tree_in_slots now stack))
+      suits_on fitting checked =
+          suits_change table (root_shape plan) turned.place (whole turned.value) (tree_in_slots now stack) has walked.suits tt
+          (fitting deferred_column means table (shape_in table (root_shape plan) turned.place (tree_in_slots now stack))
+          (tree_at turned.place (tree_in_slots now stack)) turned.value checked
+          (suits_at table (root_shape plan) turned.place (tree_in_slots now stack) has walked.suits) turned.meant)
+
+      pub beneath_goes_on : CompletingFits → IsChecked table → KeepsTheRest means table plan now stack next
+          → WalkedBeneath means table plan before stack next rest
+      beneath_goes_on fitting checked keeps = record {
+        still = turned.stands.open_still;
+        cursor = turned.stands.cursor ∙ walked.cursor;
+        suits = subst (Suits table (root_shape plan)) (sym turned.stands.built) (suits_on fitting checked);
+        left = left_next;
+        beside = beside_next;
+        here =
+            let one : CompletesAsBefore means table (root_shape plan) (tree_in_slots now stack) (tree_in_slots next stack)
+            (cursor_in before stack)
+            = subst
+            (λ (p : Place). CompletesAsBefore means table (root_shape plan) (tree_in_slots now stack) (tree_in_slots next stack) p)
+            walked.cursor keeps.cursor in
+            record {
+              value = one.value ∙ walked.here.value;
+              failing = λ path. one.failing path ∙ walked.here.failing path;
+            };
+      }
+
+      -- it is taken out of the store, and all others that are stored are in it
+      pub beneath_kept : (store store_next : List ℕ) → IsKept store now
+          → ((m : ℕ) → Contains store_next m ↔ (Contains store m × (m ≢ n))) → IsKept store_next next
+      beneath_kept store store_next kept less m = (
+        λ is. (less m).1 ((kept m).0 (turned.marks m is), λ e. freed (subst (λ (y : ℕ). marked (heap_of next) y ≡ true) e is)),
+        λ found. still_marked ((less m).0 found).1 ((kept m).1 ((less m).0 found).0),
+      )
+        where
+          freed : marked (heap_of next) n ≡ true → ⊥
+          freed is = let no : false ≡ true = sym (ap stored_in turned.free) ∙ is in cc
+
+          used : (found : Option Node) → stored_in found ≡ true → is_some found ≡ true
+          used (Some node) is = refl
+          used None is = absurd (cc)
+
+          plot_of : (y : Kid) → IsHere y → stored_here y ≡ true → (plot : Plot) × (y ≡ at (slot_here y) true plot)
+          plot_of gone lies is = absurd lies
+          plot_of (there v) lies is = absurd lies
+          plot_of (at slot mark plot) lies is = (plot, ap (λ (b : Bool). at slot b plot) is)
+
+          still_marked : m ≢ n → marked (heap_of now) m ≡ true → marked (heap_of next) m ≡ true
+          still_marked ne is =
+              let lies = place_of (kid_here now stack) m (walked.still.all m (used (heap_of now m) is)) in
+              let mark : stored_here (kid_at lies.0 (kid_here now stack)) ≡ true
+              = sym (mark_at plan (heap_of now) plan.root FrameOwner.Root 0 lies.0 (kid_here now stack)
+              walked.still.stands.holds lies.1)
+              ∙ ap (marked (heap_of now)) lies.2 ∙ is in
+              let plot = plot_of (kid_at lies.0 (kid_here now stack)) lies.1.here mark in
+              let stored_m : IsStoredAt (kid_here now stack) m lies.0
+              = record {
+                plot = plot.0;
+                reaches = lies.1.reaches;
+                is = plot.1 ∙ ap (λ (s : ℕ). at s true plot.0) lies.2;
+              } in
+              let apart : lies.0 ≢ here
+              = λ e. ne (sym lies.2 ∙ ap (slot_at (kid_here now stack)) e ∙ ap slot_here is_there) in
+              let after : IsStoredAt (put_at here (there turned.value) (kid_here now stack)) m lies.0
+              = stored_still here lies.0 (kid_here now stack) turned.value m reach
+              (stored_beside here lies.0 (kid_here now stack) n m head.stored.plot is_there closed stored_m apart) stored_m in
+              let stored_next : IsStoredAt (kid_here next stack) m lies.0
+              = subst (λ (y : Kid). IsStoredAt y m lies.0)
+              (sym (turned.here ∙ ap (λ (p : Place). put_at p (there turned.value) (kid_here now stack)) same)) after in
+              let placed : IsPlaced (kid_here next stack) lies.0
+              = record { reaches = stored_next.reaches; here = subst IsHere (sym stored_next.is) tt } in
+              ap (marked (heap_of next)) (sym (ap slot_here stored_next.is))
+              ∙ mark_at plan (heap_of next) plan.root FrameOwner.Root 0 lies.0 (kid_here next stack)
+              turned.stands.open_still.stands.holds placed
+              ∙ ap stored_here stored_next.is
+
+    -- it makes no value: it is the first place that fails
+    pub beneath_held_up : LackingFails → FirstByWalkIs → CompletesOrFails → (kind : ReflectErrorKind)
+        → IsLackingAt means table plan now stack n kind → IsHeldUpHere means table plan before stack kind
+    beneath_held_up lacking first fails kind lacks = record {
+      incomplete =
+          none_made fails means table (shape_here table plan before stack) []
+          (tree_at (cursor_in before stack) (tree_in_slots before stack)) (failure_of []) (first_before []);
+      cause = λ path.
+          cause_is means table (shape_here table plan before stack) path
+          (tree_at (cursor_in before stack) (tree_in_slots before stack)) (failure_of path) (first_before path);
+    }
+      where
+        failure_of : List PathStep → Failure
+        failure_of path = record { path = path ++ steps_in head.place (tree_of (kid_on_top now stack)); kind = kind }
+
+        tree_on_top : tree_of (kid_on_top now stack) ≡ tree_at (cursor_in now stack) (tree_in_slots now stack)
+        tree_on_top = tree_of_at (cursor_in now stack) (kid_here now stack)
+
+        lacks_here : own_lack means table (shape_in table (root_shape plan) here (tree_in_slots now stack))
+            (tree_at here (tree_in_slots now stack))
+            ≡ Some kind
+        lacks_here =
+            subst
+            (λ (p : Place). own_lack means table (shape_in table (root_shape plan) p (tree_in_slots now stack))
+            (tree_at p (tree_in_slots now stack)) ≡ Some kind)
+            (only_here lacks.place lacks.stored) lacks.lacks
+
+        lacks_beneath : own_lack means table
+            (shape_in table (shape_here table plan now stack) head.place (tree_of (kid_on_top now stack)))
+            (tree_at head.place (tree_of (kid_on_top now stack)))
+            ≡ Some kind
+        lacks_beneath =
+            ap
+            (λ (t : Tree). own_lack means table (shape_in table (shape_here table plan now stack) head.place t)
+            (tree_at head.place t))
+            tree_on_top
+            ∙ ap
+            (λ (s : ℕ). own_lack means table s (tree_at head.place (tree_at (cursor_in now stack) (tree_in_slots now stack))))
+            (sym (shape_append table (root_shape plan) (cursor_in now stack) head.place (tree_in_slots now stack)))
+            ∙ ap (own_lack means table (shape_in table (root_shape plan) here (tree_in_slots now stack)))
+            (sym (tree_append (cursor_in now stack) head.place (tree_in_slots now stack)))
+            ∙ lacks_here
+
+        first_now : (path : List PathStep)
+            → first_by_walk
+            (failures means table (shape_here table plan now stack) path (tree_at (cursor_in now stack) (tree_in_slots now stack)))
+            ≡ Some (failure_of path)
+        first_now path =
+            ap (λ (t : Tree). first_by_walk (failures means table (shape_here table plan now stack) path t)) (sym tree_on_top)
+            ∙ first_beneath means table (shape_here table plan now stack) path (kid_on_top now stack) leads n rest walked.left
+            head kind lacks_beneath lacking first
+
+        first_before : (path : List PathStep)
+            → first_by_walk
+            (failures means table (shape_here table plan before stack) path
+            (tree_at (cursor_in before stack) (tree_in_slots before stack)))
+            ≡ Some (failure_of path)
+        first_before path =
+            ap first_by_walk (sym (walked.here.failing path))
+            ∙ ap
+            (λ (p : Place). first_by_walk
+            (failures means table (shape_in table (root_shape plan) p (tree_in_slots now stack)) path
+            (tree_at p (tree_in_slots now stack))))
+            (sym walked.cursor)
+            ∙ first_now path
+
+  -- What isn't beneath stays in its slot.
+  pub beneath_stays : (now : List Slot) (rest : List ℕ) → WalkedBeneath means table plan before stack now rest
+      → StayPutButBeneath (cursor_in before stack) (kid_here before stack) (kid_here now stack)
+  beneath_stays now rest walked =
+      subst (λ (y : Kid). StayPutButBeneath (cursor_in before stack) (kid_here before stack) y) (sym walked.beside)
+      (stay_but_beneath (cursor_in before stack) (kid_on_top now stack) (kid_here before stack) old.slot false false old.plot
+      top.plot (open_reach plan before stack open_first) old.is (top.is ∙ ap (λ (s : ℕ). at s false top.plot) same_slot))
+    where
+      old : Top plan (heap_of before) stack (cursor_in before stack) (kid_here before stack)
+      old = open_top plan before stack open_first
+
+      top : Top plan (heap_of now) stack (cursor_in now stack) (kid_here now stack)
+      top = open_top plan now stack walked.still
+
+      same_slot : top.slot ≡ old.slot
+      same_slot =
+          let stays = open_stay plan before stack open_first now (cursor_in before stack) refl walked.still walked.cursor
+          (cursor_in before stack) [] (sym (append-nil (cursor_in before stack))) (placed_on_top plan before stack open_first) in
+          sym (ap slot_here top.is)
+          ∙ ap (λ (p : Place). slot_at (kid_here now stack) p) walked.cursor ∙ stays.1 ∙ ap slot_here old.is
+
+  -- Nothing is left.
+  module _ (now : List Slot) (walked : WalkedBeneath means table plan before stack now []) where
+    none_there : (slot : ℕ) (place : Place) → IsStoredAt (kid_on_top now stack) slot place → ⊥
+    none_there slot place stored = go walked.left.places walked.left.stored (walked.left.all slot place stored)
+      where
+        go : (places : List Place) → AreStoredAt (kid_on_top now stack) [] places → Contains places place → ⊥
+        go [] are found = omega (arith, found.1)
+        go (p ∷ places) are found = are
+
+    nothing_stored : NoneStored (kid_on_top now stack)
+    nothing_stored = no_marks (kid_on_top now stack) none_there
+
+    closed_now : IsClosed (body_in (open_top plan now stack walked.still).plot)
+    closed_now =
+        let top = open_top plan now stack walked.still in
+        closed_by_marks top.plot top.stored (subst (AllMarked false) top.is nothing_stored).1
+
+    pub beneath_complete : IsCompleteBeneath means table plan before stack now
+    unfolding top_node
+    beneath_complete = record {
+      tree = tree_of (kid_on_top now stack);
+      stands = record {
+        open_still = walked.still;
+        cursor = walked.cursor;
+        built =
+            ap tree_of walked.beside
+            ∙ tree_put_at (cursor_in before stack) (kid_on_top now stack) (kid_here before stack);
+      };
+      as_before = walked.here;
+      closed = λ m last. so_top plan now stack walked.still m last (λ (it : Node). IsClosed it.body) (closed_top_node m last);
+      suits = walked.suits;
+    }
+      where
+        closed_top_node : (m : ℕ) (last : IsLast stack m) → IsClosed (top_node plan now stack walked.still m last).body
+        closed_top_node m last = closed_now

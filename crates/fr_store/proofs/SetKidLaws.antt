@@ -1,0 +1,148 @@
+-- Laws of the children of a set, for proofs: one of them goes, and a value comes behind the others unless it is there.
+use Rattle.std.proofs.Common.{◌≡◌, ◌≢◌, ℕ, zero, suc, ◌≤◌, Bool, true, false, ◌||◌, List, [], ◌∷◌, ◌++◌, refl, sym, ◌∙◌, ap, arith}
+use Rattle.std.specs.Prelude.{if◌then◌else◌}
+use Rattle.fr_shape.specs.Same.{same}
+use Rattle.fr_shape.specs.Val.{Val}
+use Rattle.fr_model.specs.Collections.{and_item, has_same, is_set_form, without_nth}
+use Rattle.fr_model.specs.Places.{Place, entry_of}
+use Rattle.fr_model.specs.Tree.{Form, as_struct, as_array, as_variant, as_some, as_ok, as_err, as_pointer, as_list, as_slice, as_closed_slice, as_set, as_map, as_dyn_array, as_dyn_object, whole, Trees, branch, and_last}
+use Rattle.fr_frame.specs.Bodies.{and_item_cell, has_same_cell, without_cell, AreUnplaced}
+use Rattle.fr_frame.specs.Cells.{Cell, given}
+use Rattle.fr_frame.specs.Kids.{Kid, gone, there, at, Kids, no_kids, kid, tree_of, trees_in, cell_of, cells_in, AreLeftAll}
+use Rattle.fr_store.specs.Places.{IsPlaced}
+use Rattle.fr_store.specs.Ways.{kid_nth, put_nth, AllMarkedAmong, StoredBut}
+use Rattle.fr_store.proofs.ItemLaws.{kids_and_last}
+
+-- Children: one goes, and a value comes unless it is there.
+
+pub kids_without : ℕ → Kids → Kids
+kids_without i no_kids = no_kids
+kids_without zero (kid k ks) = ks
+kids_without (suc i) (kid k ks) = kid k (kids_without i ks)
+
+abbrev pub kids_and_item : Kids → Val → Kids
+kids_and_item ks v = if has_same_cell v (cells_in ks) then ks else kids_and_last ks (there v)
+
+pub cells_without : (i : ℕ) (ks : Kids) → cells_in (kids_without i ks) ≡ without_cell i (cells_in ks)
+unfolding kids_without
+cells_without i no_kids = refl
+cells_without zero (kid k ks) = refl
+cells_without (suc i) (kid k ks) = ap (λ (cs : List Cell). cell_of k ∷ cs) (cells_without i ks)
+
+pub trees_without : (i : ℕ) (ks : Kids) → trees_in (kids_without i ks) ≡ without_nth i (trees_in ks)
+unfolding kids_without
+trees_without i no_kids = refl
+trees_without zero (kid k ks) = refl
+trees_without (suc i) (kid k ks) = ap (λ (ts : Trees). branch (tree_of k) ts) (trees_without i ks)
+
+cells_and_value : (ks : Kids) (v : Val) → cells_in (kids_and_last ks (there v)) ≡ cells_in ks ++ given v ∷ []
+cells_and_value no_kids v = refl
+cells_and_value (kid k ks) v = ap (λ (cs : List Cell). cell_of k ∷ cs) (cells_and_value ks v)
+
+trees_and_value : (ks : Kids) (v : Val) → trees_in (kids_and_last ks (there v)) ≡ and_last (trees_in ks) (whole v)
+trees_and_value no_kids v = refl
+trees_and_value (kid k ks) v = ap (λ (ts : Trees). branch (tree_of k) ts) (trees_and_value ks v)
+
+pub cells_item : (ks : Kids) (v : Val) → cells_in (kids_and_item ks v) ≡ and_item_cell (cells_in ks) v
+cells_item ks v = go (has_same_cell v (cells_in ks))
+  where
+    go : (is : Bool) → cells_in (if is then ks else kids_and_last ks (there v))
+        ≡ (if is then cells_in ks else cells_in ks ++ given v ∷ [])
+    go true = refl
+    go false = cells_and_value ks v
+
+same_trees : (ks : Kids) (v : Val) → AreUnplaced (cells_in ks) → has_same_cell v (cells_in ks) ≡ has_same v (trees_in ks)
+same_trees no_kids v closed = refl
+same_trees (kid gone ks) v closed = ap (λ (b : Bool). false || b) (same_trees ks v closed.1)
+same_trees (kid (there u) ks) v closed = ap (λ (b : Bool). same u v || b) (same_trees ks v closed.1)
+same_trees (kid (at slot stored plot) ks) v closed = absurd closed.0
+
+pub trees_item : (ks : Kids) (v : Val) → AreUnplaced (cells_in ks) → trees_in (kids_and_item ks v) ≡ and_item (trees_in ks) v
+trees_item ks v closed =
+    go (has_same_cell v (cells_in ks))
+    ∙ ap (λ (is : Bool). if is then trees_in ks else and_last (trees_in ks) (whole v)) (same_trees ks v closed)
+  where
+    go : (is : Bool) → trees_in (if is then ks else kids_and_last ks (there v))
+        ≡ (if is then trees_in ks else and_last (trees_in ks) (whole v))
+    go true = refl
+    go false = trees_and_value ks v
+
+-- none of them is in a slot
+pub unplaced_without : (i : ℕ) (ks : Kids) → AreUnplaced (cells_in (put_nth i gone ks)) → AreUnplaced (cells_in (kids_without i ks))
+unfolding kids_without
+unplaced_without i no_kids closed = tt
+unplaced_without zero (kid k ks) closed = closed.1
+unplaced_without (suc i) (kid k ks) closed = (closed.0, unplaced_without i ks closed.1)
+
+unplaced_value : (ks : Kids) (v : Val) → AreUnplaced (cells_in ks) → AreUnplaced (cells_in (kids_and_last ks (there v)))
+unplaced_value no_kids v closed = (tt, tt)
+unplaced_value (kid k ks) v closed = (closed.0, unplaced_value ks v closed.1)
+
+pub unplaced_item : (ks : Kids) (v : Val) → AreUnplaced (cells_in ks) → AreUnplaced (cells_in (kids_and_item ks v))
+unplaced_item ks v closed = go (has_same_cell v (cells_in ks))
+  where
+    go : (is : Bool) → AreUnplaced (cells_in (if is then ks else kids_and_last ks (there v)))
+    go true = closed
+    go false = unplaced_value ks v closed
+
+pub set_left : (i : ℕ) (ks : Kids) → AreUnplaced (cells_in ks) → AreLeftAll as_set i ks
+set_left i no_kids closed = omega arith
+set_left i (kid gone ks) closed = (refl, tt, set_left (suc i) ks closed.1)
+set_left i (kid (there v) ks) closed = (refl, tt, set_left (suc i) ks closed.1)
+set_left i (kid (at slot stored plot) ks) closed = absurd closed.0
+
+-- Of a set's items but the one on the way none is in a slot.
+
+among_unplaced : (i : ℕ) (ks : Kids) → AllMarkedAmong true ks → AreLeftAll as_set i ks → AreUnplaced (cells_in ks)
+among_unplaced i no_kids marks left = tt
+among_unplaced i (kid gone ks) marks left = (tt, among_unplaced (suc i) ks marks.1 left.2)
+among_unplaced i (kid (there v) ks) marks left = (tt, among_unplaced (suc i) ks marks.1 left.2)
+among_unplaced i (kid (at slot stored plot) ks) marks left =
+    let apart : true ≡ false = sym marks.0.0 ∙ left.0 in
+    absurd (cc)
+
+pub others_unplaced : (i first : ℕ) (Below : Kid → Type 0) (ks : Kids) → StoredBut i Below ks → AreLeftAll as_set first ks
+    → AreUnplaced (cells_in (put_nth i gone ks))
+others_unplaced i first Below no_kids but left = absurd but
+others_unplaced zero first Below (kid k ks) but left = (tt, among_unplaced (suc first) ks but.1 left.2)
+others_unplaced (suc i) first Below (kid gone ks) but left = (tt, others_unplaced i (suc first) Below ks but.1 left.2)
+others_unplaced (suc i) first Below (kid (there v) ks) but left = (tt, others_unplaced i (suc first) Below ks but.1 left.2)
+others_unplaced (suc i) first Below (kid (at slot stored plot) ks) but left =
+    let apart : true ≡ false = sym but.0.0 ∙ left.0 in
+    absurd (cc)
+
+none_placed : (j : ℕ) (ks : Kids) (way : Place) → AreUnplaced (cells_in ks) → IsPlaced (kid_nth j ks) way → ⊥
+none_placed j no_kids [] closed lies = lies.here
+none_placed j no_kids (m ∷ way) closed lies = lies.reaches
+none_placed zero (kid gone ks) [] closed lies = lies.here
+none_placed zero (kid gone ks) (m ∷ way) closed lies = lies.reaches
+none_placed zero (kid (there v) ks) [] closed lies = lies.here
+none_placed zero (kid (there v) ks) (m ∷ way) closed lies = lies.reaches
+none_placed zero (kid (at slot stored plot) ks) way closed lies = closed.0
+none_placed (suc j) (kid k ks) way closed lies = none_placed j ks way closed.1 lies
+
+pub set_form : (form : Form) → is_set_form form ≡ true → form ≡ as_set
+set_form as_set of_set = refl
+set_form as_struct of_set = absurd (cc)
+set_form as_array of_set = absurd (cc)
+set_form (as_variant k) of_set = absurd (cc)
+set_form as_some of_set = absurd (cc)
+set_form as_ok of_set = absurd (cc)
+set_form as_err of_set = absurd (cc)
+set_form as_pointer of_set = absurd (cc)
+set_form as_list of_set = absurd (cc)
+set_form as_slice of_set = absurd (cc)
+set_form as_closed_slice of_set = absurd (cc)
+set_form (as_map base) of_set = absurd (cc)
+set_form as_dyn_array of_set = absurd (cc)
+set_form (as_dyn_object keys) of_set = absurd (cc)
+
+pub beside_unplaced : (i j : ℕ) (ks : Kids) (way : Place) → i ≢ j → AreUnplaced (cells_in (put_nth i gone ks))
+    → IsPlaced (kid_nth j ks) way → ⊥
+beside_unplaced i j no_kids [] unlike closed lies = lies.here
+beside_unplaced i j no_kids (m ∷ way) unlike closed lies = lies.reaches
+beside_unplaced zero zero (kid k ks) way unlike closed lies = unlike refl
+beside_unplaced zero (suc j) (kid k ks) way unlike closed lies = none_placed j ks way closed.1 lies
+beside_unplaced (suc i) zero (kid k ks) way unlike closed lies = none_placed zero (kid k no_kids) way (closed.0, tt) lies
+beside_unplaced (suc i) (suc j) (kid k ks) way unlike closed lies =
+    beside_unplaced i j ks way (λ e. unlike (ap suc e)) closed.1 lies

@@ -1,0 +1,104 @@
+//! Completing what lies beneath the place on top of the stack.
+ghost use Rattle.std.specs.Prelude.{◌≡◌, ◌⊎◌, IfErr, OnOk};
+ghost use Rattle.fr_shape.specs.Checked.{IsChecked};
+ghost use Rattle.fr_shape.specs.Released.{Conserved, Room};
+ghost use Rattle.fr_shape.specs.declared.error.ReflectErrorKind.{ReflectErrorKind as Kind};
+ghost use Rattle.fr_model.specs.Well.{Suits};
+ghost use Rattle.fr_frame.specs.Completing.{IsPlanFor};
+ghost use Rattle.fr_frame.specs.Heap.{slots_occur};
+ghost use Rattle.fr_store.specs.Beneath.{kid_on_top, IsCompleteBeneath, IsHeldUpHere};
+ghost use Rattle.fr_store.specs.Moves.{cursor_in, tokens_in, tree_in_slots};
+ghost use Rattle.fr_store.specs.Stands.{kid_here, IsOpen};
+ghost use Rattle.fr_store.specs.Staying.{StayPutButBeneath};
+ghost use Rattle.fr_store.specs.Stored.{IsKept};
+ghost use Rattle.fr_store.specs.Turns.{root_shape};
+ghost use Rattle.fr_store.specs.Walks.{IsWalk};
+
+use crate::finishing::turn;
+use crate::listing::walk_beneath;
+use crate::{FrameStore, Stack};
+use fr_frame::{SlotId, Slots};
+use fr_model::{law_completes, law_failing};
+use fr_plan::TypePlanCore;
+use fr_shape::{Hooks, Ledger, OutOfMemory, ReflectErrorKind, ShapeTable};
+
+impl FrameStore {
+    /// The turns of all places of a walk over what lies beneath the place on top of the stack. Each is taken out of the store.
+    fn take_turns_beneath<H: Hooks>(
+        &mut self,
+        slots: &mut Slots,
+        stack: &Stack,
+        walk: &[u32],
+        table: &ShapeTable,
+        plan: &TypePlanCore,
+        hooks: &H,
+        ledger: &mut Ledger,
+    ) -> Result<(), ReflectErrorKind>
+        requires checked { IsChecked table.now }
+        requires plan { IsPlanFor table.now plan.now }
+        requires is_open { IsOpen plan.now slots.old stack.now }
+        requires kept { IsKept self.old slots.old }
+        requires suits { Suits table.now (root_shape plan.now)
+            (tree_in_slots slots.old stack.now) }
+        requires room { Room (tokens_in slots.old stack.now) ledger.old }
+        requires walk { IsWalk (kid_on_top slots.old stack.now) walk.now }
+        ensures completed { OnOk result (IsCompleteBeneath (H.means hooks.now) table.now plan.now
+            slots.old stack.now slots.new) }
+        ensures others { OnOk result (StayPutButBeneath (cursor_in slots.old stack.now)
+            (kid_here slots.old stack.now) (kid_here slots.new stack.now)) }
+        ensures kept { OnOk result (IsKept self.new slots.new) }
+        ensures why { IfErr result (λ kind. (kind ≡ Kind.OutOfMemory)
+            ⊎ IsHeldUpHere (H.means hooks.now) table.now plan.now slots.old stack.now kind) }
+        ensures conserved { Conserved (slots_occur slots.old) ledger.old
+            (slots_occur slots.new) ledger.new }
+    {
+        law_completes();
+        law_failing();
+        for place in walk {
+            match turn(slots, stack, SlotId(*place), table, plan, hooks, ledger) {
+                Ok(()) => self.remove(SlotId(*place)),
+                Err(kind) => return Err(kind),
+            }
+        }
+        Ok(())
+    }
+
+    /// Completes all places that lie strictly beneath the one on top of the stack, the longest path first, then step by step, and
+    /// nothing else: the place on top stays as it is, with its children there, or not there. What a set or a map has twice is
+    /// released. The first place that fails gives the refusal. It takes as much time as there are children beneath the top, and the
+    /// memory of a list of those in slots.
+    pub fn complete_beneath<H: Hooks>(
+        &mut self,
+        slots: &mut Slots,
+        stack: &Stack,
+        table: &ShapeTable,
+        plan: &TypePlanCore,
+        hooks: &H,
+        ledger: &mut Ledger,
+    ) -> Result<(), ReflectErrorKind>
+        requires checked { IsChecked table.now }
+        requires plan { IsPlanFor table.now plan.now }
+        requires is_open { IsOpen plan.now slots.old stack.now }
+        requires kept { IsKept self.old slots.old }
+        requires suits { Suits table.now (root_shape plan.now)
+            (tree_in_slots slots.old stack.now) }
+        requires room { Room (tokens_in slots.old stack.now) ledger.old }
+        ensures completed { OnOk result (IsCompleteBeneath (H.means hooks.now) table.now plan.now
+            slots.old stack.now slots.new) }
+        ensures others { OnOk result (StayPutButBeneath (cursor_in slots.old stack.now)
+            (kid_here slots.old stack.now) (kid_here slots.new stack.now)) }
+        ensures kept { OnOk result (IsKept self.new slots.new) }
+        ensures why { IfErr result (λ kind. (kind ≡ Kind.OutOfMemory)
+            ⊎ IsHeldUpHere (H.means hooks.now) table.now plan.now slots.old stack.now kind) }
+        ensures conserved { Conserved (slots_occur slots.old) ledger.old
+            (slots_occur slots.new) ledger.new }
+    {
+        let Some(top) = stack.top() else {
+            unreachable!()
+        };
+        let Ok(walk) = walk_beneath(slots, stack, plan, top, self.alloc()) else {
+            return Err(ReflectErrorKind::OutOfMemory);
+        };
+        self.take_turns_beneath(slots, stack, &walk, table, plan, hooks, ledger)
+    }
+}

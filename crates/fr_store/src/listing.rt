@@ -1,0 +1,114 @@
+//! All places that lie in slots beneath one.
+ghost use Rattle.std.specs.Prelude.{◌≡◌, ◌<◌, ◌++◌, length, IfOk, OnOk};
+ghost use Rattle.fr_model.specs.Places.{entry_of};
+ghost use Rattle.fr_frame.specs.Heap.{heap_of};
+ghost use Rattle.fr_store.specs.Beneath.{from_last, is_map_found, kid_on_top, slotted};
+ghost use Rattle.fr_store.specs.Numbers.{IsLast};
+ghost use Rattle.fr_store.specs.Prunes.{cells_found};
+ghost use Rattle.fr_store.specs.Stands.{IsOpen};
+ghost use Rattle.fr_store.specs.Walks.{IsWalk};
+
+use crate::Stack;
+use crate::pruning::{count_children, slot_of_child};
+use fr_frame::{Form, Piece, SlotId, Slots};
+use fr_plan::TypePlanCore;
+use fr_shape::OutOfMemory;
+use std::alloc::Global;
+
+/// How many entries so many children of a map are, a key without a child for its value not counted.
+fn count_entries(count: usize) -> usize
+    ensures { result ≡ entry_of count }
+{
+    count / 2
+}
+
+/// The number of the child that comes as the `i`-th where one goes from the last to the first in the order of their steps: of a map,
+/// whose keys and values take turns, all values come before all keys then.
+fn child_from_last(of_map: bool, count: usize, i: usize) -> usize
+    requires { i < count }
+    ensures { result ≡ from_last of_map count i }
+{
+    if !of_map {
+        return count - 1 - i;
+    }
+    let values = count_entries(count);
+    if i < values {
+        2 * (values - 1 - i) + 1
+    } else {
+        2 * (count - 1 - i)
+    }
+}
+
+/// Whether a place is begun as a map.
+fn is_map(slots: &Slots, place: SlotId) -> bool
+    ensures { result ≡ is_map_found (heap_of slots.now place.0) }
+{
+    let Some(found) = slots.place(place) else {
+        return false;
+    };
+    match &found.piece {
+        Piece::Entered | Piece::Whole(_) => false,
+        Piece::Begun(Form::Map(_), _) => true,
+        Piece::Begun(
+            Form::Struct
+            | Form::Array
+            | Form::Variant(_)
+            | Form::Some
+            | Form::Ok
+            | Form::Err
+            | Form::Pointer
+            | Form::List
+            | Form::Slice
+            | Form::ClosedSlice
+            | Form::Set,
+            _,
+        ) => false,
+    }
+}
+
+/// Writes down the slots of a place's children, as far as they are in slots, behind the others: from the last to the first in the
+/// order of their steps.
+fn add_children(slots: &Slots, place: SlotId, queue: &mut Vec<u32>) -> Result<(), OutOfMemory>
+    ensures added { OnOk result (queue.new.items ≡ queue.old.items
+        ++ slotted (is_map_found (heap_of slots.now place.0))
+        (cells_found (heap_of slots.now place.0))
+        (length (cells_found (heap_of slots.now place.0)))) }
+{
+    let of_map = is_map(slots, place);
+    let count = count_children(slots, place);
+    for i in 0..count {
+        let child = child_from_last(of_map, count, i);
+        if let Some(slot) = slot_of_child(slots, place, child) {
+            queue.push(slot.0)?;
+        }
+    }
+    Ok(())
+}
+
+/// The slots of all places that lie strictly beneath the one on top of the stack, in the order of the walk. Of what lies elsewhere
+/// it looks at nothing, and it looks once at each child of what lies beneath.
+pub(crate) fn walk_beneath(
+    slots: &Slots,
+    stack: &Stack,
+    plan: &TypePlanCore,
+    top: SlotId,
+    alloc: Global,
+) -> Result<Vec<u32>, OutOfMemory>
+    requires is_open { IsOpen plan.now slots.now stack.now }
+    requires last { IsLast stack.now top.0 }
+    ensures walk { IfOk result (λ walk. IsWalk (kid_on_top slots.now stack.now) walk.items) }
+{
+    let _plan = plan;
+    let _stack = stack;
+    let mut queue = Vec::new(alloc);
+    queue.push(top.0)?;
+    let mut head = 0;
+    while head < queue.len() {
+        let place = SlotId(queue[head]);
+        add_children(slots, place, &mut queue)?;
+        head += 1;
+    }
+    queue.reverse();
+    queue.pop();
+    Ok(queue)
+}
