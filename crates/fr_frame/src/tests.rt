@@ -5,6 +5,7 @@ ghost use Rattle.fr_shape.specs.Fills.{is_empty_struct};
 ghost use Rattle.fr_shape.specs.Look.{def_of};
 ghost use Rattle.fr_frame.specs.Completing.{shape_of, IsPlanFor};
 
+use crate::making::value_of;
 use crate::*;
 use fr_plan::{NodeId, TypePlanCore};
 use fr_shape::{
@@ -322,40 +323,16 @@ fn a_refusal_names_the_variant(rt: HostRuntime) {
     assert_eq!(&rt; field.index, 0);
 }
 
-/// The table of u64 and a map from it to it.
-fn map_table(rt: &impl Abort, alloc: Global) -> ShapeTable {
-    let mut shapes = Items::new(alloc);
-    let number = Text::new(alloc, "u64").ok().expect(rt, "no memory");
-    let many = Text::new(alloc, "Many").ok().expect(rt, "no memory");
-    let scalar = Shape::new(alloc, number, Def::Scalar(ScalarKind::U64));
-    shapes.push(scalar).ok().expect(rt, "no memory");
-    let map = Shape::new(alloc, many, Def::Map(ShapeId(0), ShapeId(0)));
-    shapes.push(map).ok().expect(rt, "no memory");
-    ShapeTable::new(alloc, shapes)
-}
-
 /// The value of a map that is begun with two entries of the same key, with these values.
 fn map_of_one_key(rt: &impl Abort, alloc: Global, first: u128, second: u128) -> Value {
-    let table = map_table(rt, alloc);
-    let Ok(plan) = plan_of(alloc, &table) else {
-        panic!(rt; "no plan");
-    };
-    let mut slots = Slots::new(alloc);
-    let Ok(id) = slots.enter(&table, &plan, plan.root_id(), FrameOwner::Root) else {
-        panic!(rt; "no memory");
-    };
-    if is_empty(&table, &plan, plan.root_id()) {
-        panic!(rt; "a struct");
-    }
-    if id.begin(&mut slots, Form::Map(0), 4).is_err() {
-        panic!(rt; "no memory");
-    }
-    id.put_child(&mut slots, 0, Value::Nat(1));
-    id.put_child(&mut slots, 1, Value::Nat(first));
-    id.put_child(&mut slots, 2, Value::Nat(1));
-    id.put_child(&mut slots, 3, Value::Nat(second));
+    let mut children = Children::none_yet(alloc, 4).ok().expect(rt, "no memory");
+    children.put(0, Value::Nat(1));
+    children.put(1, Value::Nat(first));
+    children.put(2, Value::Nat(1));
+    children.put(3, Value::Nat(second));
     let mut ledger = Ledger::new(alloc, 0).ok().expect(rt, "no memory");
-    let value = id.into_value(&mut slots, &mut ledger);
+    let map = Piece::Begun(Form::Map(0), children);
+    let value = value_of(alloc, map, &mut ledger);
     value.ok().expect(rt, "no memory")
 }
 
