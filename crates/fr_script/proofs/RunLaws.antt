@@ -9,15 +9,16 @@ use Rattle.fr_shape.specs.Fills.{preset_of, is_option}
 use Rattle.fr_shape.specs.Hooks.{Meanings}
 use Rattle.fr_shape.specs.Look.{Table, def_of, field_in, variants_of}
 use Rattle.fr_shape.specs.Val.{Val, list_of, ptr, no_vals}
+use Rattle.fr_model.specs.Collections.{key_refusal, value_refusal, last_of, set_item_refusal}
 use Rattle.fr_model.specs.Commands.{Call}
 use Rattle.fr_model.specs.Complete.{complete}
 use Rattle.fr_model.specs.Contents.{is_result, pointer_refusal, points_to_slice}
 use Rattle.fr_model.specs.Finish.{finished}
 use Rattle.fr_model.specs.Items.{init_array_refusal, item_refusal, is_open_slice, shared_slice_refusal}
-use Rattle.fr_model.specs.Places.{strict_column, is_root}
+use Rattle.fr_model.specs.Places.{Column, strict_column, deferred_column, is_root}
 use Rattle.fr_model.specs.Run.{run_from, and_then}
-use Rattle.fr_model.specs.Step.{unless_refused, at_shape, was_not_a, field_refusal, named_refusal, set_refusal, enters, begins_named, puts, puts_default, field_default, puts_child_default, defaults_field, option_kept, content_kept, enters_content, begins_pointer, opens, init_list_refusal, enters_item, selects, select_found, ended, leaves, end_in, leaves_place, puts_made, closes_slice, begins_deferred, finishes, finish_in, violates, step_at, step}
-use Rattle.fr_model.specs.Tree.{as_some, as_ok, as_err, selected, Tree, Mode, strict, deferred, State, cursor_shape, cursor_tree, one_more_call}
+use Rattle.fr_model.specs.Step.{unless_refused, at_shape, was_not_a, field_refusal, named_refusal, set_refusal, enters, begins_named, puts, puts_default, field_default, puts_child_default, defaults_field, option_kept, content_kept, enters_content, begins_pointer, opens, init_list_refusal, init_map_refusal, init_set_refusal, enters_item, enters_key, is_set_item, item_ended, ends_item, is_dynamic_part, part_ended, leaves_deferred, selects, select_found, ended, leaves, end_in, leaves_place, puts_made, closes_slice, begins_deferred, finishes, finish_in, violates, step_at, step}
+use Rattle.fr_model.specs.Tree.{as_some, as_ok, as_err, selected, Tree, Mode, strict, deferred, State, count_below, cursor_shape, cursor_tree, one_more_call}
 use Rattle.fr_model.specs.Variants.{is_enum, field_found, variant_numbered, variant_named, variant_told_by, selection_refusal}
 
 -- the same command over the same hooks, table and root
@@ -111,14 +112,48 @@ module _ (hooks : Meanings) (table : Table) (root s : ℕ) (state : State) where
   ended_counts (Some v) = refl
   ended_counts None = tt
 
-  left_counts : (deeper : Bool)
-      → Counts (one_more_call state.calls) (if deeper then Ok (leaves state) else Err (violates Invariant.EndAtStart))
+  item_counts : (column : Column) (value : Option Val)
+      → Counts (one_more_call state.calls) (item_ended column hooks table s state value)
   unfolding Counts
-  left_counts true = refl
+  item_counts column (Some v) = refl
+  item_counts column None = tt
+
+  part_counts : (value : Option Val) → Counts (one_more_call state.calls) (part_ended hooks table s state value)
+  unfolding Counts
+  part_counts (Some v) = refl
+  part_counts None = tt
+
+  leaves_counts : (of_dynamic : Bool) → Counts (one_more_call state.calls) (leaves_deferred hooks table s state of_dynamic)
+  unfolding Counts
+  leaves_counts true = part_counts (complete deferred_column hooks table s (cursor_tree state))
+  leaves_counts false = refl
+
+  strict_counts : (of_set : Bool)
+      → Counts (one_more_call state.calls)
+      (if of_set then ends_item strict_column hooks table s state
+      else ended hooks table s state (complete strict_column hooks table s (cursor_tree state)))
+  strict_counts true = item_counts strict_column (complete strict_column hooks table s (cursor_tree state))
+  strict_counts false = ended_counts (complete strict_column hooks table s (cursor_tree state))
+
+  deferred_counts : (of_set : Bool)
+      → Counts (one_more_call state.calls)
+      (if of_set then ends_item deferred_column hooks table s state
+      else leaves_deferred hooks table s state (is_dynamic_part state))
+  deferred_counts true = item_counts deferred_column (complete deferred_column hooks table s (cursor_tree state))
+  deferred_counts false = leaves_counts (is_dynamic_part state)
+
+  left_counts : (deeper : Bool)
+      → Counts (one_more_call state.calls)
+      (if deeper then
+      (if is_set_item state then ends_item deferred_column hooks table s state
+      else leaves_deferred hooks table s state (is_dynamic_part state))
+      else Err (violates Invariant.EndAtStart))
+  unfolding Counts
+  left_counts true = deferred_counts (is_set_item state)
   left_counts false = tt
 
   end_in_counts : (mode : Mode) → Counts (one_more_call state.calls) (end_in hooks table s state mode)
-  end_in_counts strict = ended_counts (complete strict_column hooks table s (cursor_tree state))
+  end_in_counts strict = strict_counts (is_set_item state)
   end_in_counts (deferred start) = left_counts (nat_lt start (length state.cursor))
 
   leave_counts : (at_root : Bool)
@@ -178,6 +213,17 @@ module _ (hooks : Meanings) (table : Table) (root s : ℕ) (state : State) where
       unless_counts (at_shape s (init_array_refusal (def_of table s) (cursor_tree state))) (opens table s state) refl
   step_counts Call.BeginListItem =
       unless_counts (at_shape s (item_refusal (def_of table s) (cursor_tree state))) (enters_item table s state) refl
+  step_counts Call.InitMap =
+      unless_counts (init_map_refusal s (def_of table s) (cursor_tree state)) (opens table s state) refl
+  step_counts Call.BeginKey =
+      unless_counts (at_shape s (key_refusal (cursor_tree state))) (enters_key table s state) refl
+  step_counts Call.BeginValue =
+      unless_counts (at_shape s (value_refusal (cursor_tree state)))
+      (enters table s state (last_of (count_below (cursor_tree state)))) refl
+  step_counts Call.InitSet =
+      unless_counts (init_set_refusal s (def_of table s) (cursor_tree state)) (opens table s state) refl
+  step_counts Call.BeginSetItem =
+      unless_counts (at_shape s (set_item_refusal (def_of table s) (cursor_tree state))) (enters_item table s state) refl
   step_counts Call.BeginSome =
       where_counts (is_option (def_of table s)) (enters_content table s state as_some (option_kept table s state))
       (was_not_a Expected.Option s) refl

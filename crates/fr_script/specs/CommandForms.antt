@@ -18,6 +18,11 @@ call_of_none word =
     if bytes_eq word (codes "init_list") then Some Call.InitList else
     if bytes_eq word (codes "init_array") then Some Call.InitArray else
     if bytes_eq word (codes "begin_list_item") then Some Call.BeginListItem else
+    if bytes_eq word (codes "init_map") then Some Call.InitMap else
+    if bytes_eq word (codes "begin_key") then Some Call.BeginKey else
+    if bytes_eq word (codes "begin_value") then Some Call.BeginValue else
+    if bytes_eq word (codes "init_set") then Some Call.InitSet else
+    if bytes_eq word (codes "begin_set_item") then Some Call.BeginSetItem else
     if bytes_eq word (codes "begin_some") then Some Call.BeginSome else
     if bytes_eq word (codes "begin_ok") then Some Call.BeginOk else
     if bytes_eq word (codes "begin_err") then Some Call.BeginErr else

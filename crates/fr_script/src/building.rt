@@ -124,6 +124,11 @@ fn call<'t, H: Hooks>(
         Command::InitListWithCapacity(n) => partial.init_list_with_capacity(n as usize, ledger),
         Command::InitArray => partial.init_array(ledger),
         Command::BeginListItem => partial.begin_list_item(ledger),
+        Command::InitMap => partial.init_map(ledger),
+        Command::BeginKey => partial.begin_key(ledger),
+        Command::BeginValue => partial.begin_value(ledger),
+        Command::InitSet => partial.init_set(ledger),
+        Command::BeginSetItem => partial.begin_set_item(ledger),
         Command::BeginSome => partial.begin_some(ledger),
         Command::BeginOk => partial.begin_ok(ledger),
         Command::BeginErr => partial.begin_err(ledger),
@@ -157,6 +162,8 @@ fn release_command(command: Command, ledger: &mut Ledger)
         Command::SetNthFieldToDefault(_) | Command::SetDefault => {}
         Command::SetEmptySharedSlice | Command::InitList | Command::InitListWithCapacity(_) => {}
         Command::InitArray | Command::BeginListItem => {}
+        Command::InitMap | Command::BeginKey | Command::BeginValue => {}
+        Command::InitSet | Command::BeginSetItem => {}
         Command::BeginSome | Command::BeginOk | Command::BeginErr | Command::BeginSmartPtr => {}
         Command::SelectNthVariant(_) | Command::SelectVariantNamed(_) => {}
         Command::SelectVariant(_) | Command::End => {}

@@ -3,6 +3,8 @@
 
 mod answering;
 mod building;
+#[cfg(test)]
+mod collection_tests;
 mod command_form;
 #[cfg(test)]
 mod content_tests;

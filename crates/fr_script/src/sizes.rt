@@ -111,6 +111,9 @@ fn levels(command: &Command) -> (usize, usize)
         Command::BeginField(_)
         | Command::BeginNthField(_)
         | Command::BeginListItem
+        | Command::BeginKey
+        | Command::BeginValue
+        | Command::BeginSetItem
         | Command::BeginSome
         | Command::BeginOk
         | Command::BeginErr
@@ -123,6 +126,8 @@ fn levels(command: &Command) -> (usize, usize)
         | Command::InitList
         | Command::InitListWithCapacity(_)
         | Command::InitArray
+        | Command::InitMap
+        | Command::InitSet
         | Command::SelectNthVariant(_)
         | Command::SelectVariantNamed(_)
         | Command::SelectVariant(_)
