@@ -11,15 +11,15 @@ use Rattle.fr_path.specs.declared.path_steps.PathStep.{PathStep}
 use Rattle.fr_model.specs.Complete.{complete}
 use Rattle.fr_model.specs.PathLaws.{LeavingAsItIs, PathIsAsDeep}
 use Rattle.fr_model.specs.Paths.{path_of}
-use Rattle.fr_model.specs.Places.{strict_column, Place, is_root}
+use Rattle.fr_model.specs.Places.{strict_column, Place, is_root, up}
 use Rattle.fr_model.specs.Items.{is_open_slice}
-use Rattle.fr_model.specs.Step.{end, build, closes, leaves, leaves_place, puts, puts_and_leaves, violates}
-use Rattle.fr_model.specs.Tree.{Mode, strict, deferred, State, cursor_tree}
+use Rattle.fr_model.specs.Step.{end, build, closes, is_dynamic_part, is_set_item, leaves, leaves_place, puts, puts_and_leaves, violates}
+use Rattle.fr_model.specs.Tree.{Mode, strict, deferred, State, cursor_tree, tree_at}
 use Rattle.fr_model.specs.Well.{Leads}
 use Rattle.fr_plan.specs.TypePlan.{Plan}
 use Rattle.fr_frame.specs.declared.places.Slot.{Slot}
 use Rattle.fr_frame.specs.Heap.{heap_of, marked}
-use Rattle.fr_store.specs.Moves.{cursor_in}
+use Rattle.fr_store.specs.Moves.{cursor_in, takes_at_end}
 use Rattle.fr_store.specs.Stands.{IsOpen}
 use Rattle.fr_store.specs.Stored.{IsKept, NothingStored}
 use Rattle.fr_partial.specs.Builder.{Builder}
@@ -27,6 +27,7 @@ use Rattle.fr_partial.specs.Ending.{IsLacking}
 use Rattle.fr_partial.specs.declared.mode.Mode.{Mode as BuilderMode}
 use Rattle.fr_partial.specs.Modes.{mode_of, IsBelowStart}
 use Rattle.fr_partial.specs.Underway.{StoresNothing}
+use Rattle.fr_partial.proofs.AboveLaws.{no_item, no_part}
 use Rattle.fr_partial.proofs.StateLaws.{builder_of, stack_length, at_root, below_root, last_of}
 use Rattle.fr_partial.proofs.WayLaws.{Ends, below_root as path_below}
 
@@ -96,24 +97,27 @@ ends_at_root hooks table s state left e = leaves_it hooks table s state left ∙
     go = rw e refl
 
 pub ends : (hooks : Meanings) (table : Table) (s : ℕ) (state : State) (v : Val) → is_open_slice (cursor_tree state) ≡ false
-    → state.mode ≡ strict → is_root state.cursor ≡ false → complete strict_column hooks table s (cursor_tree state) ≡ Some v
+    → state.mode ≡ strict → is_root state.cursor ≡ false → is_set_item state ≡ false
+    → complete strict_column hooks table s (cursor_tree state) ≡ Some v
     → end hooks table s state ≡ Ok (puts_and_leaves state v)
-ends hooks table s state v left mode e made = rw (left, e, mode, made) refl
+ends hooks table s state v left mode e item made = rw (left, e, mode, item, made) refl
 
 pub ends_not : (hooks : Meanings) (table : Table) (s : ℕ) (state : State) (kind : ReflectErrorKind)
-    → is_open_slice (cursor_tree state) ≡ false → state.mode ≡ strict → is_root state.cursor ≡ false → IsLacking hooks table s (cursor_tree state) kind
+    → is_open_slice (cursor_tree state) ≡ false → state.mode ≡ strict → is_root state.cursor ≡ false
+    → is_set_item state ≡ false → IsLacking hooks table s (cursor_tree state) kind
     → end hooks table s state ≡ Err kind
-ends_not hooks table s state kind left mode e lacking =
-    rw (left, e, mode, lacking.incomplete) (ap (λ (k : ReflectErrorKind). Err k) (sym lacking.lacks))
+ends_not hooks table s state kind left mode e item lacking =
+    rw (left, e, mode, item, lacking.incomplete) (ap (λ (k : ReflectErrorKind). Err k) (sym lacking.lacks))
 
 pub never_refused : (hooks : Meanings) (table : Table) (s : ℕ) (state : State) → is_open_slice (cursor_tree state) ≡ false
-    → state.mode ≡ strict → is_root state.cursor ≡ false → IsSome (complete strict_column hooks table s (cursor_tree state))
+    → state.mode ≡ strict → is_root state.cursor ≡ false → is_set_item state ≡ false
+    → IsSome (complete strict_column hooks table s (cursor_tree state))
     → IsErr (end hooks table s state) → ⊥
-never_refused hooks table s state left mode e some refused =
+never_refused hooks table s state left mode e item some refused =
     go (complete strict_column hooks table s (cursor_tree state)) refl some
   where
     go : (made : Option Val) → complete strict_column hooks table s (cursor_tree state) ≡ made → IsSome made → ⊥
-    go (Some v) is h = let no : false ≡ true = rw (ends hooks table s state v left mode e is) at refused in cc
+    go (Some v) is h = let no : false ≡ true = rw (ends hooks table s state v left mode e item is) at refused in cc
     go None is h = cc
 
 pub builds : (hooks : Meanings) (table : Table) (root : ℕ) (state : State) (v : Val) → state.mode ≡ strict → state.cursor ≡ []
@@ -180,10 +184,13 @@ ends_at_start hooks table s state start left mode e high =
 
 pub ends_left : (hooks : Meanings) (table : Table) (s : ℕ) (state : State) (start : ℕ)
     → is_open_slice (cursor_tree state) ≡ false → state.mode ≡ deferred start → is_root state.cursor ≡ false
-    → start < length state.cursor → end hooks table s state ≡ Ok (leaves state)
-ends_left hooks table s state start left mode e deep =
+    → start < length state.cursor → takes_at_end (tree_at (up state.cursor) state.tree) ≡ false
+    → end hooks table s state ≡ Ok (leaves state)
+ends_left hooks table s state start left mode e deep not_item =
+    let no_set : is_set_item state ≡ false = no_item (tree_at (up state.cursor) state.tree) not_item in
+    let no_dynamic : is_dynamic_part state ≡ false = no_part (tree_at (up state.cursor) state.tree) not_item in
     let below_start : nat_lt start (length state.cursor) ≡ true = lt-ltb start (length state.cursor) deep in
-    rw (left, e, mode, below_start) refl
+    rw (left, e, mode, below_start, no_set, no_dynamic) refl
 
 -- an open pointer to a slice is closed
 pub closes_it : (hooks : Meanings) (table : Table) (s : ℕ) (state : State) → is_open_slice (cursor_tree state) ≡ true
@@ -200,12 +207,13 @@ not_root strict cursor deep = absurd deep
 not_root (deferred start) cursor deep = below_root cursor (λ none. omega (arith, deep, none))
 
 pub ends_below : (hooks : Meanings) (table : Table) (s : ℕ) (state : State) → is_open_slice (cursor_tree state) ≡ false
-    → IsBelowStart state.mode state.cursor → end hooks table s state ≡ Ok (leaves state)
-ends_below hooks table s state left deep = go state.mode refl deep
+    → IsBelowStart state.mode state.cursor → takes_at_end (tree_at (up state.cursor) state.tree) ≡ false
+    → end hooks table s state ≡ Ok (leaves state)
+ends_below hooks table s state left deep not_item = go state.mode refl deep
   where
     go : (mode : Mode) → state.mode ≡ mode → IsBelowStart mode state.cursor → end hooks table s state ≡ Ok (leaves state)
     go strict is far = absurd far
-    go (deferred start) is far = ends_left hooks table s state start left is (not_root state.mode state.cursor deep) far
+    go (deferred start) is far = ends_left hooks table s state start left is (not_root state.mode state.cursor deep) far not_item
 
 -- in deferred mode anything may be stored
 pub may_store : (mode : Mode) (cursor : Place) (store : List ℕ) → IsBelowStart mode cursor → StoresNothing mode store

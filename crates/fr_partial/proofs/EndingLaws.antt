@@ -1,5 +1,5 @@
 -- Completing the place on top of the stack: whether it may be, the value that it makes, and where the builder is then.
-use Rattle.std.proofs.Common.{◌≡◌, ◌⊎◌, ℕ, zero, suc, Bool, true, false, List, [], ◌∷◌, length, Option, Some, None, Result, Err, ◌+◌, option_map, unwrap_or, inl, inr, refl, sym, ◌∙◌, ap, subst, arith}
+use Rattle.std.proofs.Common.{◌≡◌, ◌≢◌, ◌⊎◌, ℕ, zero, suc, Bool, true, false, ◌||◌, List, [], ◌∷◌, length, Option, Some, None, Result, Err, ◌+◌, option_map, unwrap_or, inl, inr, refl, sym, ◌∙◌, ap, subst, arith}
 use Rattle.std.specs.Prelude.{IsOk, IsSome, IsSomeAnd, is_none, is_some}
 use Rattle.fr_shape.specs.declared.error.ReflectErrorKind.{ReflectErrorKind}
 use Rattle.fr_shape.specs.declared.shape.ShapeId.{ShapeId}
@@ -7,42 +7,47 @@ use Rattle.fr_shape.specs.Hooks.{Meanings}
 use Rattle.fr_shape.specs.Look.{Table, def_of}
 use Rattle.fr_shape.specs.Released.{Conserved, Room, RoseBy}
 use Rattle.fr_shape.specs.TokenLaws.{Room_same, RoseBy_same}
+use Rattle.fr_shape.specs.Tokens.{occurs}
 use Rattle.fr_shape.specs.Val.{Val, Vals}
 use Rattle.fr_model.specs.Complete.{complete}
-use Rattle.fr_model.specs.Places.{strict_column, Place, one_more, up}
+use Rattle.fr_model.specs.Collections.{is_set, number_in, with_ended_item}
+use Rattle.fr_model.specs.Places.{Column, strict_column, Place, is_root, one_more, up}
 use Rattle.fr_model.specs.Step.{cause}
-use Rattle.fr_model.specs.Tree.{Form, as_struct, as_array, as_variant, as_some, as_ok, as_err, as_pointer, as_list, as_slice, as_closed_slice, Tree, hole, entered, whole, begun, Trees, no_trees, branch, change_at, change_nth, count_trees, shape_in, tree_at, tree_occurs, trees_occur, deferred}
+use Rattle.fr_model.specs.Tree.{Form, as_struct, as_array, as_variant, as_some, as_ok, as_err, as_pointer, as_list, as_slice, as_closed_slice, as_set, as_map, as_dyn_array, as_dyn_object, Tree, hole, entered, whole, begun, Trees, no_trees, branch, change_at, change_nth, count_trees, shape_in, tree_at, tree_occurs, trees_occur, deferred}
 use Rattle.fr_model.specs.Well.{IsFullAs, Suits}
 use Rattle.fr_plan.specs.declared.nodes.NodeId.{NodeId}
 use Rattle.fr_plan.specs.declared.nodes.TypePlanNode.{TypePlanNode}
 use Rattle.fr_plan.specs.LookupLaws.{LookupsAgree, LookupPathsAgree}
 use Rattle.fr_plan.specs.TypePlan.{Plan}
 use Rattle.fr_frame.specs.declared.places.Slot.{Slot}
-use Rattle.fr_frame.specs.Bodies.{Body, entered_body, whole_body, begun_body, body_occurs, boxes, own_tree, takes_box, trees_of, value_of, IsClosed}
+use Rattle.fr_frame.specs.Bodies.{Body, entered_body, whole_body, begun_body, body_occurs, boxes, gathers, own_tree, takes_memory, trees_of, value_of, IsClosed}
 use Rattle.fr_frame.specs.Defaults.{KeepsForm}
 use Rattle.fr_frame.specs.Cells.{Cell, absent, given, placed, cells_occur, values_of}
-use Rattle.fr_frame.specs.Changes.{IfInUse, SameTokens}
+use Rattle.fr_frame.specs.Changes.{IfInUse, SameMarks, SameTokens}
 use Rattle.fr_frame.specs.Closed.{IsClosedAt}
 use Rattle.fr_frame.specs.Completing.{shape_of, takes_template, FillsAt, IsFull, IsOfValidator, IsPlanFor, MayComplete, WhyNot as WhyNotAt}
-use Rattle.fr_frame.specs.Heap.{Node, heap_of, slots_occur, with_slot}
+use Rattle.fr_frame.specs.Heap.{Node, heap_of, marked, slots_occur, stored_in, with_slot}
 use Rattle.fr_frame.specs.Kids.{MayHave, Plot, tree_of, body_in, plot_occurs}
 use Rattle.fr_store.specs.HereLaws.{body_back, closed_plot, tree_back}
-use Rattle.fr_store.specs.MoveLaws.{open_top, closed_open, same_last, top_changed}
+use Rattle.fr_store.specs.MoveLaws.{open_top, same_last, top_changed}
 use Rattle.fr_store.specs.Moves.{cursor_in, tokens_here, tree_here, tree_in_slots, AtTop, IsOpenAt}
 use Rattle.fr_store.specs.Numbers.{IsLast}
 use Rattle.fr_store.specs.Stands.{IsOpen, kid_shown}
 use Rattle.fr_store.specs.Stored.{NothingStored}
-use Rattle.fr_store.specs.TopLaws.{closed_occur, closed_tree, held_may_have, keeps_closed, loses_none, slot_here, MayHaveIts}
-use Rattle.fr_store.specs.WayLaws.{tree_of_at}
-use Rattle.fr_partial.specs.Ending.{IsEnded, IsMadeWhole, WhyNot}
+use Rattle.fr_store.specs.TopLaws.{closed_occur, closed_tree, held_may_have, keeps_closed, loses_none, slot_here, slot_other, MayHaveIts}
+use Rattle.fr_store.specs.WayLaws.{same_or_other, tree_of_at}
+use Rattle.fr_partial.specs.Ending.{IsEnded, IsItemEnded, IsMadeWhole, WhyNot}
 use Rattle.fr_partial.specs.Filling.{takes_no_memory, has_no_hole}
 use Rattle.fr_partial.specs.Underway.{shape_here, IsReady}
 use Rattle.fr_partial.proofs.EnterLaws.{changed_at}
 use Rattle.fr_partial.proofs.FitLaws.{is_there}
+use Rattle.fr_store.specs.Ways.{node_along}
 use Rattle.fr_partial.proofs.KeepLaws.{room_here}
+use Rattle.fr_partial.proofs.LeftLaws.{keep_left}
 use Rattle.fr_partial.proofs.ReachLaws.{tree_leads}
 use Rattle.fr_partial.proofs.ReleaseLaws.{room_still}
 use Rattle.fr_partial.proofs.PlaceLaws.{node_here, here_found, here_along, held_is}
+use Rattle.fr_partial.proofs.TreeLaws.{item_over, set_stays}
 use Rattle.fr_store.specs.ShapeLaws.{IsOfShape}
 
 -- A place none of whose children is in a slot.
@@ -73,23 +78,30 @@ has_hole (placed n ∷ cells) h = refl
 takes : (body : Body) → takes_template body ≡ true → takes_no_memory (own_tree body) ≡ false
 takes entered_body h = refl
 takes (whole_body v) h = cc
-takes (begun_body form cells) h = go (boxes form) refl
+takes (begun_body form cells) h = go (boxes form || gathers form) refl
   where
-    go : (b : Bool) → boxes form ≡ b → takes_no_memory (begun form (trees_of cells)) ≡ false
+    go : (b : Bool) → (boxes form || gathers form) ≡ b → takes_no_memory (begun form (trees_of cells)) ≡ false
     go true e = rw e refl
     go false e = rw e (has_hole cells h)
 
 -- What becomes of a place that keeps its form.
 
 -- one that comes to take a box took it before
-pub boxed : (was now : Body) → KeepsForm was now → takes_box now ≡ true → takes_no_memory (own_tree was) ≡ false
+pub boxed : (was now : Body) → KeepsForm was now → takes_memory now ≡ true → takes_no_memory (own_tree was) ≡ false
 boxed entered_body now keeps h = refl
-boxed (whole_body v) now keeps h = let no : false ≡ true = sym (ap takes_box keeps) ∙ h in cc
+boxed (whole_body v) now keeps h = let no : false ≡ true = sym (ap takes_memory keeps) ∙ h in cc
 boxed (begun_body form cells) entered_body keeps h = absurd keeps
 boxed (begun_body form cells) (whole_body v) keeps h = absurd keeps
 boxed (begun_body form cells) (begun_body other others) keeps h =
-    let box : boxes form ≡ true = ap boxes (sym keeps.0) ∙ h in
-    rw box refl
+    let anew : (boxes form || gathers form) ≡ true = ap (λ (f : Form). boxes f || gathers f) (sym keeps.0) ∙ h in
+    rw anew refl
+
+no_box_of : (form : Form) → (boxes form || gathers form) ≡ false → boxes form ≡ false
+no_box_of form h = go (boxes form) refl
+  where
+    go : (b : Bool) → boxes form ≡ b → boxes form ≡ false
+    go false e = e
+    go true e = let no : true ≡ false = rw e at h in cc
 
 -- it has no more children than it may
 many_may : (form : Form) (count : ℕ) → boxes form ≡ false → MayHave form count
@@ -103,11 +115,15 @@ many_may as_pointer count h = cc
 many_may as_list count h = tt
 many_may as_slice count h = cc
 many_may as_closed_slice count h = cc
+many_may as_set count h = tt
+many_may (as_map base) count h = tt
+many_may as_dyn_array count h = tt
+many_may (as_dyn_object keys) count h = tt
 
 keeps_may : (was now : Body) → KeepsForm was now → MayHaveIts was → MayHaveIts now
 keeps_may entered_body entered_body keeps may = tt
 keeps_may entered_body (whole_body v) keeps may = tt
-keeps_may entered_body (begun_body form cells) keeps may = many_may form (length cells) keeps
+keeps_may entered_body (begun_body form cells) keeps may = many_may form (length cells) (no_box_of form keeps)
 keeps_may (whole_body v) now keeps may = subst MayHaveIts (sym keeps) tt
 keeps_may (begun_body form cells) entered_body keeps may = absurd keeps
 keeps_may (begun_body form cells) (whole_body v) keeps may = absurd keeps
@@ -162,15 +178,15 @@ own_occurs (begun_body form cells) t = cells_own cells t
 
 -- where there was an error, a box was wanted
 pub no_box : {A E : Type 0} (slots : List Slot) (n : ℕ) (result : Result A E) (e : E) → result ≡ Err e
-    → IfInUse slots n (λ (at : Node). takes_box at.body ≡ false → IsOk result)
-    → IfInUse slots n (λ (at : Node). takes_box at.body ≡ false → ⊥)
+    → IfInUse slots n (λ (at : Node). takes_memory at.body ≡ false → IsOk result)
+    → IfInUse slots n (λ (at : Node). takes_memory at.body ≡ false → ⊥)
 no_box slots n result e is there = go (heap_of slots n) there
   where
     never : IsOk result → ⊥
     never ok = let no = rw is at ok in cc
 
-    go : (found : Option Node) → IsSomeAnd found (λ (at : Node). takes_box at.body ≡ false → IsOk result)
-        → IsSomeAnd found (λ (at : Node). takes_box at.body ≡ false → ⊥)
+    go : (found : Option Node) → IsSomeAnd found (λ (at : Node). takes_memory at.body ≡ false → IsOk result)
+        → IsSomeAnd found (λ (at : Node). takes_memory at.body ≡ false → ⊥)
     go (Some node) h = λ unboxed. never (h unboxed)
     go None h = h
 
@@ -187,27 +203,32 @@ shape_found plan node s is =
 -- The top, before it is filled.
 module _ (plan : Plan) (slots : List Slot) (stack : List ℕ) (shown : IsOpen plan slots stack) (n : ℕ)
     (last : IsLast stack n) where
-  here_so : (So : Node → Type 0) → IfInUse slots n So → So (node_here plan slots stack shown)
+  pub here_so : (So : Node → Type 0) → IfInUse slots n So → So (node_here plan slots stack shown)
   here_so So so = subst (λ (found : Option Node). IsSomeAnd found So) (here_found plan slots stack shown n last) so
 
   so_here : (So : Node → Type 0) → So (node_here plan slots stack shown) → IfInUse slots n So
   so_here So so = subst (λ (found : Option Node). IsSomeAnd found So) (sym (here_found plan slots stack shown n last)) so
 
-own_here : (plan : Plan) (slots : List Slot) (stack : List ℕ) (shown : IsOpen plan slots stack) → NothingStored slots
+pub own_here : (plan : Plan) (slots : List Slot) (stack : List ℕ) (shown : IsOpen plan slots stack)
+    → IsClosed (body_in (open_top plan slots stack shown).plot)
     → own_tree (node_here plan slots stack shown).body ≡ tree_here slots stack
-own_here plan slots stack shown nothing =
+own_here plan slots stack shown shut =
     let top = open_top plan slots stack shown in
-    sym (closed_tree top.plot (closed_open plan slots stack shown nothing))
+    sym (closed_tree top.plot shut)
     ∙ ap tree_of (sym top.is)
     ∙ tree_of_at (cursor_in slots stack) (kid_shown (heap_of slots) stack)
 
-module _ (agree : LookupsAgree) (paths : LookupPathsAgree) (table : Table) (root : ShapeId) (plan : Plan) (slots : List Slot)
-    (stack : List ℕ) (ready : IsReady table root plan slots stack) (nothing : NothingStored slots) where
-  shape_is : shape_of plan (node_here plan slots stack ready.shown).node ≡ shape_here table root.0 slots stack
-  shape_is =
-      shape_found plan (node_here plan slots stack ready.shown).node (shape_here table root.0 slots stack)
-      (here_along agree paths table root plan slots stack ready).node_is
+pub shape_is : (agree : LookupsAgree) (paths : LookupPathsAgree) (table : Table) (root : ShapeId) (plan : Plan) (slots : List Slot)
+    (stack : List ℕ) (ready : IsReady table root plan slots stack)
+    → shape_of plan (node_along plan plan.root (cursor_in slots stack) (kid_shown (heap_of slots) stack))
+    ≡ shape_here table root.0 slots stack
+shape_is agree paths table root plan slots stack ready =
+    shape_found plan (node_along plan plan.root (cursor_in slots stack) (kid_shown (heap_of slots) stack))
+    (shape_here table root.0 slots stack) (here_along agree paths table root plan slots stack ready).node_is
 
+module _ (agree : LookupsAgree) (paths : LookupPathsAgree) (table : Table) (root : ShapeId) (plan : Plan) (slots : List Slot)
+    (stack : List ℕ) (ready : IsReady table root plan slots stack)
+    (shut : IsClosed (body_in (open_top plan slots stack ready.shown).plot)) where
   -- it may be completed
   pub may_complete : (n : ℕ) → IsLast stack n → IfInUse slots n (MayComplete table plan)
   may_complete n last =
@@ -217,11 +238,11 @@ module _ (agree : LookupsAgree) (paths : LookupPathsAgree) (table : Table) (root
       (record {
         planned = is_there plan.nodes at.node.0 along.node_is.found along.node_is.there;
         full =
-            subst (λ (s : ℕ). IsFull table s at.body) (sym shape_is)
+            subst (λ (s : ℕ). IsFull table s at.body) (sym (shape_is agree paths table root plan slots stack ready))
             (full_by table (shape_here table root.0 slots stack) at.body
             (subst (λ (t : Tree). Suits table (shape_here table root.0 slots stack) t)
-            (sym (own_here plan slots stack ready.shown nothing)) along.suits));
-        closed = closed_open plan slots stack ready.shown nothing;
+            (sym (own_here plan slots stack ready.shown shut)) along.suits));
+        closed = shut;
       })
 
   -- why it makes no value, said of its slot, is said of the place
@@ -231,8 +252,8 @@ module _ (agree : LookupsAgree) (paths : LookupPathsAgree) (table : Table) (root
   why_here means n last kind why =
       let at = node_here plan slots stack ready.shown in
       subst (λ (t : Tree). WhyNot means table (shape_here table root.0 slots stack) t kind)
-      (own_here plan slots stack ready.shown nothing)
-      (subst (λ (s : ℕ). WhyNot means table s (own_tree at.body) kind) shape_is
+      (own_here plan slots stack ready.shown shut)
+      (subst (λ (s : ℕ). WhyNot means table s (own_tree at.body) kind) (shape_is agree paths table root plan slots stack ready)
       (why_of means table (shape_of plan at.node) at.body kind
       (here_so plan slots stack ready.shown n last
       (λ (found : Node). WhyNotAt means table (shape_of plan found.node) found.body kind) why)))
@@ -244,7 +265,7 @@ plan_for table root plan slots stack ready = record { root = root; inside = read
 
 -- The top, after it was filled.
 module _ (plan : Plan) (before after : List Slot) (stack : List ℕ) (shown : IsOpen plan before stack)
-    (nothing : NothingStored before) (n : ℕ) (last : IsLast stack n) (closed_in : IfInUse before n (IsClosedAt before after n))
+    (shut : IsClosed (body_in (open_top plan before stack shown).plot)) (n : ℕ) (last : IsLast stack n) (closed_in : IfInUse before n (IsClosedAt before after n))
     (tokens : SameTokens before after)
     (form : IfInUse before n (λ (at : Node). IfInUse after n (λ (now : Node). KeepsForm at.body now.body))) where
   unfoldable kept : IsClosedAt before after n (node_here plan before stack shown)
@@ -285,8 +306,9 @@ module _ (plan : Plan) (before after : List Slot) (stack : List ℕ) (shown : Is
       (change_at (cursor_in before stack) (λ old. t) (tree_in_slots before stack)))
       (tree_back kept.body)
       (top_changed plan before after stack shown n last (λ old. kept.body) new is
-      (keeps_closed top.plot new (subst MayHaveIts (sym is) may_its) closed)
-      (loses_none top.plot new (closed_open plan before stack shown nothing))
+      (keeps_closed top.plot new (subst MayHaveIts (sym is) may_its) closed
+      (keep_left top.plot kept.body keeps))
+      (loses_none top.plot new shut)
       (λ m. kept.becomes m
       ∙ ap
       (λ (found : Option Node). with_slot (heap_of before) n
@@ -294,7 +316,7 @@ module _ (plan : Plan) (before after : List Slot) (stack : List ℕ) (shown : Is
       (sym (here_found plan before stack shown n last)))
       (λ t.
       let was : plot_occurs top.plot t ≡ body_occurs (body_in top.plot) t
-      = closed_occur top.plot t (closed_open plan before stack shown nothing) in
+      = closed_occur top.plot t shut in
       let now : plot_occurs new t ≡ body_occurs kept.body t
       = closed_occur new t closed ∙ ap (λ (b : Body). body_occurs b t) is in
       let same : body_occurs kept.body t ≡ body_occurs (body_in top.plot) t = kept.tokens t in
@@ -306,6 +328,27 @@ module _ (plan : Plan) (before after : List Slot) (stack : List ℕ) (shown : Is
 
   pub cursor_after : cursor_in after stack ≡ cursor_in before stack
   cursor_after = filled_at.cursor
+
+  -- what stands above is a set as before
+  pub set_after : is_root (cursor_in before stack) ≡ false
+      → is_set (tree_at (up (cursor_in after stack)) (tree_in_slots after stack))
+      ≡ is_set (tree_at (up (cursor_in before stack)) (tree_in_slots before stack))
+  set_after below =
+      ap (λ (p : Place). is_set (tree_at (up p) (tree_in_slots after stack))) cursor_after
+      ∙ ap (λ (t : Tree). is_set (tree_at (up (cursor_in before stack)) t)) filled_at.built
+      ∙ set_stays (cursor_in before stack) (λ old. own_tree kept.body) (tree_in_slots before stack) below
+
+  -- and nothing else is stored
+  pub marks_after : SameMarks before after
+  marks_after m = go (same_or_other m n)
+    where
+      go : (m ≡ n) ⊎ (m ≢ n) → marked (heap_of after) m ≡ marked (heap_of before) m
+      go (inl e) =
+          ap (marked (heap_of after)) e
+          ∙ ap stored_in found_after
+          ∙ sym (ap stored_in (here_found plan before stack shown n last))
+          ∙ sym (ap (marked (heap_of before)) e)
+      go (inr ne) = ap stored_in (kept.becomes m ∙ slot_other (heap_of before) n _ m ne)
 
   tokens_after : (t : ℕ) → tree_occurs (tree_in_slots before stack) t ≡ tree_occurs (tree_in_slots after stack) t
   tokens_after t =
@@ -353,12 +396,107 @@ module _ (plan : Plan) (before after : List Slot) (stack : List ℕ) (shown : Is
         none_falls = λ t. omega (arith, risen.each t);
       }
 
+  -- what was taken out of the slots of the root leaves nothing there
+  root_emptied : cursor_in before stack ≡ [] → (slots : List Slot)
+      → IfInUse after n (λ (at : Node). (t : ℕ) → slots_occur after t ≡ slots_occur slots t + body_occurs at.body t) → (t : ℕ)
+      → slots_occur slots t ≡ 0
+  root_emptied at_root slots taken t =
+      let out = after_so
+      (λ (at : Node). (t : ℕ) → slots_occur after t ≡ slots_occur slots t + body_occurs at.body t) taken in
+      let all : slots_occur after t ≡ tree_occurs (tree_in_slots after stack) t = held_is plan after stack open_after t in
+      let here : tree_in_slots after stack ≡ own_tree kept.body
+      = sym (ap (λ (p : Place). tree_at p (tree_in_slots after stack)) (cursor_after ∙ at_root)) ∙ here_after in
+      let same : tree_occurs (tree_in_slots after stack) t ≡ tree_occurs (own_tree kept.body) t
+      = ap (λ (tree : Tree). tree_occurs tree t) here in
+      let own : tree_occurs (own_tree kept.body) t ≡ body_occurs kept.body t = own_occurs kept.body t in
+      omega (arith, out t, all, same, own)
+
+  -- and what was released is what the value leaves out
+  pub root_conserved : cursor_in before stack ≡ [] → (slots : List Slot) (v : Val) (old new : List ℕ)
+      → IfInUse after n (λ (at : Node). (t : ℕ) → slots_occur after t ≡ slots_occur slots t + body_occurs at.body t)
+      → Conserved (slots_occur after) old (λ t. slots_occur slots t + occurs v t) new
+      → Conserved (tree_occurs (tree_in_slots before stack)) old (occurs v) new
+  root_conserved at_root slots v old new taken kept_so = record {
+    same_length = kept_so.same_length;
+    kept_or_released = λ t.
+        omega
+        (arith, kept_so.kept_or_released t, root_emptied at_root slots taken t, tokens t, held_is plan before stack shown t);
+    none_falls = kept_so.none_falls;
+  }
+
   -- where it comes to take a box it takes memory
-  takes_memory : (table : Table) (root : ShapeId) → takes_box kept.body ≡ true
+  wants_memory : (table : Table) (root : ShapeId) → takes_memory kept.body ≡ true
       → takes_no_memory (tree_here before stack) ≡ false
-  takes_memory table root h =
-      ap takes_no_memory (sym (own_here plan before stack shown nothing))
+  wants_memory table root h =
+      ap takes_no_memory (sym (own_here plan before stack shown shut))
       ∙ boxed (node_here plan before stack shown).body kept.body keeps h
+
+  -- Filled by the rules of either column, as an item of a set.
+  module _ (column : Column) (means : Meanings) (table : Table) (root : ShapeId) (agree : LookupsAgree)
+      (paths : LookupPathsAgree) (ready : IsReady table root plan before stack)
+      (filled : IfInUse before n (FillsAt column means table plan before after n)) where
+    item_fills : FillsAt column means table plan before after n (node_here plan before stack shown)
+    item_fills = here_so plan before stack shown n last (λ (at : Node). FillsAt column means table plan before after n at) filled
+
+    item_body : item_fills.body ≡ kept.body
+    unfolding body_found
+    item_body =
+        ap body_found
+        (sym (item_fills.becomes n
+        ∙ slot_here (heap_of before) n (Some (record (node_here plan before stack shown) { body = item_fills.body })))
+        ∙ found_after)
+
+    item_held : value_of kept.body ≡ Some item_fills.filled.value
+    item_held = ap value_of (sym item_body) ∙ item_fills.filled.held
+
+    item_meant : complete column means table (shape_here table root.0 before stack) (tree_here before stack)
+        ≡ Some item_fills.filled.value
+    item_meant =
+        ap (λ (s : ℕ). complete column means table s (tree_here before stack))
+        (sym (shape_is agree paths table root plan before stack ready))
+        ∙ ap (λ (t : Tree). complete column means table (shape_of plan (node_here plan before stack shown).node) t)
+        (sym (own_here plan before stack shown shut))
+        ∙ item_fills.filled.meant
+
+    pub item_value : AtTop after stack (λ (at : Node). IsSome (value_of at.body))
+    item_value m is =
+        let same : n ≡ m = same_last last.0 is.0 n m (sym last.1 ∙ is.1) in
+        subst (λ (x : ℕ). IfInUse after x (λ (at : Node). IsSome (value_of at.body))) same
+        (so_after (λ (at : Node). IsSome (value_of at.body)) (ap (λ (v : Option Val). is_some v) item_held))
+
+    -- the set takes the value
+    pub item_ended : is_root (cursor_in before stack) ≡ false → (slots : List Slot) (next : List ℕ)
+        → AtTop after stack (λ (at : Node). (v : Val) → value_of at.body ≡ Some v
+        → IsOpenAt plan slots next (up (cursor_in after stack))
+        (change_at (up (cursor_in after stack)) (with_ended_item (number_in (cursor_in after stack)) v)
+        (tree_in_slots after stack)))
+        → IsItemEnded column means table (shape_here table root.0 before stack) plan slots next (tree_in_slots before stack)
+        (cursor_in before stack)
+    item_ended below slots next left =
+        let v : Val = item_fills.filled.value in
+        let now : IsOpenAt plan slots next (up (cursor_in after stack))
+        (change_at (up (cursor_in after stack)) (with_ended_item (number_in (cursor_in after stack)) v)
+        (tree_in_slots after stack))
+        = after_so
+        (λ (at : Node). (v : Val) → value_of at.body ≡ Some v
+        → IsOpenAt plan slots next (up (cursor_in after stack))
+        (change_at (up (cursor_in after stack)) (with_ended_item (number_in (cursor_in after stack)) v)
+        (tree_in_slots after stack)))
+        (left n last) v item_held in
+        record {
+          value = v;
+          meant = item_meant;
+          after =
+              subst (λ (t : Tree). IsOpenAt plan slots next (up (cursor_in before stack)) t)
+              (ap
+              (λ (t : Tree). change_at (up (cursor_in before stack)) (with_ended_item (number_in (cursor_in before stack)) v) t)
+              filled_at.built
+              ∙ item_over (cursor_in before stack) v (λ old. own_tree kept.body) (tree_in_slots before stack) below)
+              (subst
+              (λ (p : Place). IsOpenAt plan slots next (up p)
+              (change_at (up p) (with_ended_item (number_in p) v) (tree_in_slots after stack)))
+              cursor_after now);
+        }
 
   -- Filled.
   module _ (means : Meanings) (table : Table) (root : ShapeId) (agree : LookupsAgree) (paths : LookupPathsAgree)
@@ -384,9 +522,9 @@ module _ (plan : Plan) (before after : List Slot) (stack : List ℕ) (shown : Is
         ≡ Some fills.filled.value
     meant =
         ap (λ (s : ℕ). complete strict_column means table s (tree_here before stack))
-        (sym (shape_is agree paths table root plan before stack ready nothing))
+        (sym (shape_is agree paths table root plan before stack ready))
         ∙ ap (λ (t : Tree). complete strict_column means table (shape_of plan (node_here plan before stack shown).node) t)
-        (sym (own_here plan before stack shown nothing))
+        (sym (own_here plan before stack shown shut))
         ∙ fills.filled.meant
 
     held_so : IsSome (value_of kept.body)
@@ -402,18 +540,18 @@ module _ (plan : Plan) (before after : List Slot) (stack : List ℕ) (shown : Is
 
     -- where there is no memory for a box of it
     pub box_wanted : (kind : ReflectErrorKind) → kind ≡ ReflectErrorKind.OutOfMemory
-        → IfInUse after n (λ (at : Node). takes_box at.body ≡ false → ⊥)
+        → IfInUse after n (λ (at : Node). takes_memory at.body ≡ false → ⊥)
         → WhyNot means table (shape_here table root.0 before stack) (tree_here before stack) kind
     box_wanted kind memory wants =
         inr
         (record {
           memory = memory;
-          needed = inl (ap (λ (v : Option Val). is_some v) meant, takes_memory table root (by_box (takes_box kept.body) refl));
+          needed = inl (ap (λ (v : Option Val). is_some v) meant, wants_memory table root (by_box (takes_memory kept.body) refl));
         })
       where
-        by_box : (b : Bool) → takes_box kept.body ≡ b → takes_box kept.body ≡ true
+        by_box : (b : Bool) → takes_memory kept.body ≡ b → takes_memory kept.body ≡ true
         by_box true e = e
-        by_box false e = absurd (after_so (λ (at : Node). takes_box at.body ≡ false → ⊥) wants e)
+        by_box false e = absurd (after_so (λ (at : Node). takes_memory at.body ≡ false → ⊥) wants e)
 
     -- and is left with it
     pub ended : (slots : List Slot) (next : List ℕ) → NothingStored slots

@@ -23,7 +23,7 @@ use Rattle.fr_store.specs.WayLaws.{tree_of_below}
 use Rattle.fr_plan.specs.declared.nodes.TypePlanNode.{TypePlanNode}
 use Rattle.fr_frame.specs.Completing.{shape_of}
 use Rattle.fr_partial.proofs.FitLaws.{both_true}
-use Rattle.fr_partial.proofs.FormLaws.{struct_form, begun_as}
+use Rattle.fr_partial.proofs.FormLaws.{struct_form, begun_as, over_so}
 use Rattle.fr_partial.proofs.TreeLaws.{alike_here}
 use Rattle.fr_store.specs.ShapeLaws.{IsOfShape}
 
@@ -158,7 +158,7 @@ has_child table s i form count (begun_plot made kids) full variant below suits m
 has_child table s i form count (whole_plot v) full variant below suits may =
     let parts = whole_parts table s i v form count full suits may in
     subst (λ (found : Option Vals). HasChild form i (opened_value form v found)) (sym parts.are)
-    (refl, omega (arith, count_wholes parts.parts, parts.counts))
+    (over_so (def_of table s) (whole v) form count i full may v, omega (arith, count_wholes parts.parts, parts.counts))
 
 -- The plan's node at a place, by the tree.
 

@@ -43,7 +43,7 @@ deferred_from strict other = absurd (other refl)
 deferred_from (deferred start) other = (start, refl)
 
 -- the root's shape is the plan's
-root_is : LookupsAgree → LookupPathsAgree → (table : Table) (root : ShapeId) (plan : Plan) (slots : List Slot) (stack : List ℕ)
+pub root_is : LookupsAgree → LookupPathsAgree → (table : Table) (root : ShapeId) (plan : Plan) (slots : List Slot) (stack : List ℕ)
     → IsReady table root plan slots stack → root_shape plan ≡ root.0
 root_is agree paths table root plan slots stack ready =
     shape_found plan plan.root root.0 (root_shaped agree table root plan ready.checked ready.inside ready.planned paths)

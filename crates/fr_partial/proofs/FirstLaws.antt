@@ -22,7 +22,7 @@ use Rattle.fr_frame.specs.Bodies.{Body, IsClosed}
 use Rattle.fr_frame.specs.Changes.{SameTokens, Shows}
 use Rattle.fr_frame.specs.Completing.{shape_of}
 use Rattle.fr_frame.specs.Heap.{heap_of, slots_occur, entered_node, with_entered, depth_limit, stored_in}
-use Rattle.fr_frame.specs.Kids.{at, Plot, tree_in, body_in, plot_occurs}
+use Rattle.fr_frame.specs.Kids.{at, Plot, tree_in, body_in, plot_occurs, AreLeftIn}
 use Rattle.fr_store.specs.EnterLaws.{fresh_closed, fresh_plot, fresh_same, fresh_tokens, fresh_tree}
 use Rattle.fr_store.specs.MoveLaws.{open_at_from}
 use Rattle.fr_store.specs.Moves.{IsOpenAt}
@@ -46,12 +46,12 @@ at_most_once false = omega arith
 
 -- a slot of the root's place, and the stack of it alone
 alone : (plan : Plan) (slots : List Slot) (stack : List ℕ) (n : ℕ) (plot : Plot) (tree : Tree) → MayHaveIts (body_in plot)
-    → IsClosed (body_in plot)
+    → IsClosed (body_in plot) → AreLeftIn plot
     → heap_of slots n
     ≡ Some (record { node = plan.root; owner = FrameOwner.Root; stored = false; depth = 0; body = body_in plot })
     → 0 < depth_limit → ((t : ℕ) → slots_occur slots t ≡ plot_occurs plot t) → ((m : ℕ) → IsSome (heap_of slots m) → m ≡ n)
     → stack ≡ n ∷ [] → tree_in plot ≡ tree → IsOpenAt plan slots stack [] tree
-alone plan slots stack n plot tree may closed found limit tokens only along is =
+alone plan slots stack n plot tree may closed left found limit tokens only along is =
     open_at_from plan slots stack [] (at n false plot) tree
     (record {
       holds = (found, limit, closed_holds plan (heap_of slots) plan.root n 1 plot may closed);
@@ -60,6 +60,7 @@ alone plan slots stack n plot tree may closed found limit tokens only along is =
           omega (arith, at_most_once (nat_eq n m));
       leads = (refl, closed_marked true plot closed);
       along = along;
+      left = left;
     })
     tokens
     (λ m used.
@@ -71,6 +72,13 @@ fresh_may : (def : Def) → MayHaveIts (body_in (fresh_plot def))
 fresh_may def = go (is_empty_struct def) refl
   where
     go : (b : Bool) → is_empty_struct def ≡ b → MayHaveIts (body_in (fresh_plot def))
+    go true e = rw e tt
+    go false e = rw e tt
+
+fresh_left : (def : Def) → AreLeftIn (fresh_plot def)
+fresh_left def = go (is_empty_struct def) refl
+  where
+    go : (b : Bool) → is_empty_struct def ≡ b → AreLeftIn (fresh_plot def)
     go true e = rw e tt
     go false e = rw e tt
 
@@ -98,7 +106,7 @@ first_open paths table root plan checked inside planned before after node n old 
     along =
     let def : Def = def_of table root.0 in
     let shape : shape_of plan plan.root ≡ root.0 = shape_is paths table root plan checked inside planned in
-    alone plan after stack n (fresh_plot def) (fresh def) (fresh_may def) (fresh_closed def)
+    alone plan after stack n (fresh_plot def) (fresh def) (fresh_may def) (fresh_closed def) (fresh_left def)
     (shows n
     ∙ slot_here (heap_of before) n
     (Some (entered_node (def_of table (shape_of plan node)) (heap_of before) node FrameOwner.Root))

@@ -11,7 +11,7 @@ use Rattle.fr_shape.specs.Look.{Table, def_of}
 use Rattle.fr_shape.specs.Val.{Val}
 use Rattle.fr_model.specs.Places.{count_children}
 use Rattle.fr_model.specs.Step.{field_refusal, opened, opened_as, variant_field_refusal}
-use Rattle.fr_model.specs.Tree.{Form, as_struct, as_array, as_variant, as_some, as_ok, as_err, as_pointer, as_list, as_slice, as_closed_slice, form_at, form_of, selected, variant_of, Tree, hole, entered, whole, begun, Trees, count_trees}
+use Rattle.fr_model.specs.Tree.{Form, as_struct, as_array, as_variant, as_some, as_ok, as_err, as_pointer, as_list, as_slice, as_closed_slice, as_set, as_map, as_dyn_array, as_dyn_object, form_at, form_of, over_base, selected, variant_of, Tree, hole, entered, whole, begun, Trees, count_trees}
 use Rattle.fr_model.specs.Variants.{fields_or_none, variant_fields}
 use Rattle.fr_model.specs.Well.{HasFieldsOf, IsFullAs, Suits}
 use Rattle.fr_store.specs.Moves.{TakesMany}
@@ -29,6 +29,10 @@ struct_form struct as_pointer n full = absurd full
 struct_form struct as_list n full = absurd full
 struct_form struct as_slice n full = absurd full
 struct_form struct as_closed_slice n full = absurd full
+struct_form struct as_set n full = absurd full
+struct_form struct (as_map base) n full = absurd full
+struct_form struct as_dyn_array n full = absurd full
+struct_form struct (as_dyn_object keys) n full = absurd full
 
 pub array_form : (item : ShapeId) (m : ℕ) (form : Form) (n : ℕ) → IsFullAs (Def.Array item m) form n
     → (form ≡ as_array) × (n ≡ m)
@@ -42,6 +46,10 @@ array_form item m as_pointer n full = absurd full
 array_form item m as_list n full = absurd full
 array_form item m as_slice n full = absurd full
 array_form item m as_closed_slice n full = absurd full
+array_form item m as_set n full = absurd full
+array_form item m (as_map base) n full = absurd full
+array_form item m as_dyn_array n full = absurd full
+array_form item m (as_dyn_object keys) n full = absurd full
 
 fields_of : (found : Option VariantDef) (n : ℕ) → HasFieldsOf found n → n ≡ length (fields_or_none found)
 fields_of (Some variant) n full = full
@@ -65,6 +73,10 @@ enum_form enumeration as_pointer n full = absurd full
 enum_form enumeration as_list n full = absurd full
 enum_form enumeration as_slice n full = absurd full
 enum_form enumeration as_closed_slice n full = absurd full
+enum_form enumeration as_set n full = absurd full
+enum_form enumeration (as_map base) n full = absurd full
+enum_form enumeration as_dyn_array n full = absurd full
+enum_form enumeration (as_dyn_object keys) n full = absurd full
 
 -- so many children as a variant has fields
 pub variant_count : (enumeration : EnumDef) (k n : ℕ) → IsFullAs (Def.Enum enumeration) (as_variant k) n
@@ -95,6 +107,10 @@ same_variant as_pointer k e = cc
 same_variant as_list k e = cc
 same_variant as_slice k e = cc
 same_variant as_closed_slice k e = cc
+same_variant as_set k e = cc
+same_variant (as_map base) k e = cc
+same_variant as_dyn_array k e = cc
+same_variant (as_dyn_object keys) k e = cc
 
 -- the place may be begun as any of its kind, with as many children
 pub takes_many : (def : Def) (tree : Tree) (form : Form) (n i : ℕ) → IsFullAs def form n → field_refusal def tree i ≡ None
@@ -106,6 +122,19 @@ takes_many (Def.Enum enumeration) tree form n i full may =
 takes_many (Def.Slice item) tree form n i full may = cc
 takes_many Def.Opaque tree form n i full may = cc
 takes_many _ tree form n i full may = cc
+
+-- begun around a value it is no map over that
+pub over_so : (def : Def) (tree : Tree) (form : Form) (n i : ℕ) → IsFullAs def form n → field_refusal def tree i ≡ None
+    → (v : Val) → over_base form v ≡ form
+over_so (Def.Struct struct) tree form n i full may v =
+    subst (λ (f : Form). over_base f v ≡ f) (sym (struct_form struct form n full).0) refl
+over_so (Def.Array item m) tree form n i full may v =
+    subst (λ (f : Form). over_base f v ≡ f) (sym (array_form item m form n full).0) refl
+over_so (Def.Enum enumeration) tree form n i full may v =
+    subst (λ (f : Form). over_base f v ≡ f) (sym (enum_form enumeration form n full).form_is) refl
+over_so (Def.Slice item) tree form n i full may v = cc
+over_so Def.Opaque tree form n i full may v = cc
+over_so _ tree form n i full may v = cc
 
 -- its children are one lookup away
 pub points_so : (table : Table) (s : ℕ) (def : Def) (tree : Tree) (form : Form) (n i : ℕ) → IsFullAs def form n
@@ -194,5 +223,7 @@ pub form_is_at : (def : Def) (tree : Tree) (form : Form) (n i : ℕ) → IsFullA
     → form ≡ form_at def tree
 form_is_at def hole form n i full variant was may = (not_begun def hole form n i full refl may).0
 form_is_at def entered form n i full variant was may = (not_begun def entered form n i full refl may).0
-form_is_at def (whole v) form n i full variant was may = (not_begun def (whole v) form n i full refl may).0
+form_is_at def (whole v) form n i full variant was may =
+    sym (over_so def (whole v) form n i full may v)
+    ∙ ap (λ (f : Form). over_base f v) (not_begun def (whole v) form n i full refl may).0
 form_is_at def (begun made ts) form n i full variant was may = (begun_so def made ts form n i full variant was may).0

@@ -6,7 +6,7 @@ use Rattle.fr_shape.specs.Val.{Val}
 use Rattle.fr_model.specs.Tree.{Form, Tree, whole}
 use Rattle.fr_plan.specs.TypePlan.{Plan}
 use Rattle.fr_frame.specs.declared.places.Slot.{Slot}
-use Rattle.fr_frame.specs.Bodies.{Body, takes_box, value_of, HoldsSome, MayOpen}
+use Rattle.fr_frame.specs.Bodies.{Body, takes_memory, value_of, HoldsSome, MayOpen}
 use Rattle.fr_frame.specs.Changes.{IfInUse}
 use Rattle.fr_frame.specs.Heap.{Node, heap_of}
 use Rattle.fr_frame.specs.Kids.{Plot, entered_plot, whole_plot, begun_plot, tree_in, body_in}
@@ -28,7 +28,7 @@ value_plot entered_plot v e = cc
 value_plot (whole_plot w) v e = let same : w ≡ v = cc in ap (λ (x : Val). Some x) same
 value_plot (begun_plot form kids) v e = cc
 
-unboxed_plot : (plot : Plot) (v : Val) → tree_in plot ≡ whole v → takes_box (body_in plot) ≡ false
+unboxed_plot : (plot : Plot) (v : Val) → tree_in plot ≡ whole v → takes_memory (body_in plot) ≡ false
 unboxed_plot entered_plot v e = cc
 unboxed_plot (whole_plot w) v e = refl
 unboxed_plot (begun_plot form kids) v e = cc
@@ -74,5 +74,5 @@ module _ (plan : Plan) (slots : List Slot) (stack : List ℕ) (shown : IsOpen pl
     pub holds_value : (n : ℕ) → IsLast stack n → IfInUse slots n (λ (at : Node). IsSome (value_of at.body))
     holds_value = here_body (λ (body : Body). IsSome (value_of body)) (ap (λ (o : Option Val). is_some o) value_here)
 
-    pub unboxed_here : takes_box (body_in (open_top plan slots stack shown).plot) ≡ false
+    pub unboxed_here : takes_memory (body_in (open_top plan slots stack shown).plot) ≡ false
     unboxed_here = unboxed_plot (open_top plan slots stack shown).plot v (plot_here plan slots stack shown ∙ is)

@@ -1,12 +1,12 @@
 -- What is kept of a place where it is begun, and what it is then.
-use Rattle.std.proofs.Common.{◌≡◌, ℕ, zero, suc, ◌<◌, ◌≤◌, Bool, true, false, length, nat_eq, Option, Some, None, Result, Ok, Err, OnOk, is_some, IsSome, unwrap_or, refl, sym, ◌∙◌, ap, subst, arith}
+use Rattle.std.proofs.Common.{◌≡◌, ℕ, zero, suc, ◌<◌, ◌≤◌, Bool, true, false, ◌&&◌, length, nat_eq, Option, Some, None, Result, Ok, Err, OnOk, is_some, IsSome, unwrap_or, refl, sym, ◌∙◌, ap, subst, arith}
 use Rattle.std.proofs.lemmas.Bool.{eqb-true}
 use Rattle.fr_shape.specs.declared.shape.Def.{Def}
 use Rattle.fr_shape.specs.Look.{Table, def_of}
 use Rattle.fr_shape.specs.Val.{Val}
 use Rattle.fr_model.specs.Contents.{around, content_anew, content_of, is_entered_in_place, kept_in, kept_option, kept_so, variant_anew}
 use Rattle.fr_model.specs.Step.{enter}
-use Rattle.fr_model.specs.Tree.{Form, as_struct, as_array, as_variant, as_some, as_ok, as_err, as_pointer, as_list, as_slice, as_closed_slice, form_number, same_form, child_as, fresh, Tree, hole, entered, whole, begun, Trees, no_trees, branch, change_child, count_trees, holes, Mode, strict, deferred}
+use Rattle.fr_model.specs.Tree.{Form, as_struct, as_array, as_variant, as_some, as_ok, as_err, as_pointer, as_list, as_slice, as_closed_slice, as_set, as_map, as_dyn_array, as_dyn_object, form_number, same_form, keys_of_form, same_keys, base_of_form, child_as, fresh, Tree, hole, entered, whole, begun, Trees, no_trees, branch, change_child, count_trees, holes, Mode, strict, deferred}
 use Rattle.fr_model.specs.Variants.{variant_fields}
 use Rattle.fr_model.specs.Well.{HasContent, HasSide, HasPointee, IsFullAs, IsBegunRightly, IsContent, PointsTo, Suits}
 use Rattle.fr_frame.specs.Bodies.{is_around}
@@ -17,23 +17,36 @@ use Rattle.fr_partial.specs.Beginnings.{kept_by, begun_by, beginning_so, beginni
 use Rattle.fr_partial.specs.declared.beginning.Beginning.{Beginning}
 use Rattle.fr_partial.proofs.FormLaws.{IsFullTree}
 
--- One number is one form.
+-- Around one child a number is one form.
 
-number_form : (one other : Form) → form_number one ≡ form_number other → one ≡ other
-number_form as_struct as_struct e = refl
-number_form as_array as_array e = refl
-number_form as_some as_some e = refl
-number_form as_ok as_ok e = refl
-number_form as_err as_err e = refl
-number_form as_pointer as_pointer e = refl
-number_form as_list as_list e = refl
-number_form as_slice as_slice e = refl
-number_form as_closed_slice as_closed_slice e = refl
-number_form (as_variant k) (as_variant j) e = let same : k ≡ j = omega arith in ap (λ (n : ℕ). as_variant n) same
-number_form _ _ e = absurd (omega arith)
+around_form : (one other : Form) → is_around other ≡ true → form_number one ≡ form_number other → one ≡ other
+around_form as_some as_some h e = refl
+around_form as_ok as_ok h e = refl
+around_form as_err as_err h e = refl
+around_form as_pointer as_pointer h e = refl
+around_form one as_struct h e = cc
+around_form one as_array h e = cc
+around_form one (as_variant k) h e = cc
+around_form one as_list h e = cc
+around_form one as_slice h e = cc
+around_form one as_closed_slice h e = cc
+around_form one as_set h e = cc
+around_form one (as_map base) h e = cc
+around_form one as_dyn_array h e = cc
+around_form one (as_dyn_object keys) h e = cc
+around_form _ _ h e = absurd (omega arith)
 
-pub same_is : (one other : Form) → same_form one other ≡ true → one ≡ other
-same_is one other h = number_form one other (eqb-true (form_number one) (form_number other) h)
+last_true : (a b : Bool) → (a && b) ≡ true → b ≡ true
+last_true true b h = h
+last_true false b h = cc
+
+pub same_is : (one other : Form) → is_around other ≡ true → same_form one other ≡ true → one ≡ other
+same_is one other h same =
+    around_form one other h
+    (eqb-true (form_number one) (form_number other)
+    (last_true
+    (same_keys (keys_of_form one) (keys_of_form other) && nat_eq (base_of_form one) (base_of_form other))
+    (nat_eq (form_number one) (form_number other)) same))
 
 -- What is kept.
 
@@ -94,6 +107,10 @@ one_child as_array h def n full = cc
 one_child as_list h def n full = cc
 one_child as_slice h def n full = cc
 one_child as_closed_slice h def n full = cc
+one_child as_set h def n full = cc
+one_child (as_map base) h def n full = cc
+one_child as_dyn_array h def n full = cc
+one_child (as_dyn_object keys) h def n full = cc
 one_child (as_variant k) h def n full = cc
 
 pub points_around : (table : Table) (s : ℕ) (form : Form) → is_around form ≡ true → PointsRightly table s form
@@ -107,6 +124,10 @@ points_around table s (as_variant k) h = tt
 points_around table s as_list h = tt
 points_around table s as_slice h = cc
 points_around table s as_closed_slice h = cc
+points_around table s as_set h = cc
+points_around table s (as_map base) h = cc
+points_around table s as_dyn_array h = cc
+points_around table s (as_dyn_object keys) h = cc
 
 pub may_have_one : (form : Form) → MayHave form 1
 may_have_one as_some = omega arith
@@ -119,6 +140,10 @@ may_have_one (as_variant k) = tt
 may_have_one as_list = tt
 may_have_one as_slice = tt
 may_have_one as_closed_slice = tt
+may_have_one as_set = tt
+may_have_one (as_map base) = tt
+may_have_one as_dyn_array = tt
+may_have_one (as_dyn_object keys) = tt
 
 pub may_begin_so : (form : Form) → is_around form ≡ true → (def : Def) (tree : Tree) → IsFullTree def tree
     → MayBegin (beginning_so form tree) form tree
@@ -130,7 +155,7 @@ may_begin_so form h def (begun made ts) full = go (same_form made form) refl
     go : (b : Bool) → same_form made form ≡ b → MayBegin (beginning_so form (begun made ts)) form (begun made ts)
     go false e = rw e tt
     go true e =
-        let same : made ≡ form = same_is made form e in
+        let same : made ≡ form = same_is made form h e in
         let one : count_trees ts ≡ 1
         = one_child form h def (count_trees ts) (subst (λ (f : Form). IsFullAs def f (count_trees ts)) same full) in
         rw e (same, omega (arith, one))
@@ -207,6 +232,10 @@ content_stays table s form h t ts right def = go t (touched form h right)
     touched as_list h right = cc
     touched as_slice h right = cc
     touched as_closed_slice h right = cc
+    touched as_set h right = cc
+    touched (as_map base) h right = cc
+    touched as_dyn_array h right = cc
+    touched (as_dyn_object keys) h right = cc
 
     go : (t : Tree) → IsContent (branch t ts) → enter def t ≡ t
     go hole touch = absurd touch

@@ -11,7 +11,7 @@ use Rattle.fr_shape.specs.Val.{Val}
 use Rattle.fr_model.specs.Complete.{complete, lack, lack_among, lack_of_hole, lack_of_holes, lack_of_entered, lack_by, unless_there, missing_child, missing_value, hole_takes, failing_child}
 use Rattle.fr_model.specs.Places.{strict_column, child_count}
 use Rattle.fr_model.specs.Step.{cause}
-use Rattle.fr_model.specs.Tree.{Form, as_struct, as_array, as_variant, as_some, as_ok, as_err, as_pointer, as_list, as_slice, as_closed_slice, Tree, hole, entered, whole, begun, Trees, no_trees, branch, child_as}
+use Rattle.fr_model.specs.Tree.{Form, as_struct, as_array, as_variant, as_some, as_ok, as_err, as_pointer, as_list, as_slice, as_closed_slice, as_set, as_map, as_dyn_array, as_dyn_object, Tree, hole, entered, whole, begun, Trees, no_trees, branch, child_as}
 use Rattle.fr_frame.specs.Completing.{IsOfValidator}
 use Rattle.fr_partial.specs.Filling.{takes_no_memory}
 use Rattle.fr_partial.specs.Ending.{WhyNot}
@@ -49,6 +49,10 @@ child_missing s as_pointer i = refl
 child_missing s as_list i = refl
 child_missing s as_slice i = refl
 child_missing s as_closed_slice i = refl
+child_missing s as_set i = refl
+child_missing s (as_map base) i = refl
+child_missing s as_dyn_array i = refl
+child_missing s (as_dyn_object keys) i = refl
 
 value_missing : (s : ℕ) → is_missing (missing_value s) ≡ true
 value_missing s = refl

@@ -1,4 +1,7 @@
+pub mod AboveLaws
 pub mod BeginLaws
+pub mod BelowLaws
+pub mod BeneathLaws
 pub mod ChoiceLaws
 pub mod ContentLaws
 pub mod DefaultLaws
@@ -13,14 +16,17 @@ pub mod HereLaws
 pub mod KeepLaws
 pub mod KeptLaws
 pub mod LackLaws
+pub mod LeftLaws
 pub mod ListLaws
 pub mod LookLaws
+pub mod MapLaws
 pub mod PlaceLaws
 pub mod PutLaws
 pub mod ReachLaws
 pub mod ReleaseLaws
 pub mod RemovedLaws
 pub mod SeenLaws
+pub mod SetItemLaws
 pub mod SliceLaws
 pub mod StartLaws
 pub mod StateLaws

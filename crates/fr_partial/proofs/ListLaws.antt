@@ -13,7 +13,7 @@ use Rattle.fr_model.specs.PathLaws.{EnteringAnItemAddsAStep}
 use Rattle.fr_model.specs.Paths.{path_of, step_as}
 use Rattle.fr_model.specs.Places.{array_limit, count_children, items_of, Place}
 use Rattle.fr_model.specs.Step.{at_shape, begin_list_item, enters_item, init_array, init_list, init_list_refusal, opened, opened_as, opened_value, opens, parts_as}
-use Rattle.fr_model.specs.Tree.{Form, as_struct, as_array, as_variant, as_some, as_ok, as_err, as_pointer, as_list, as_slice, as_closed_slice, child_as, form_of, fresh, Tree, hole, entered, whole, begun, Trees, and_last, count_below, count_trees, holes, change_at, tree_at, State, cursor_tree}
+use Rattle.fr_model.specs.Tree.{Form, as_struct, as_array, as_variant, as_some, as_ok, as_err, as_pointer, as_list, as_slice, as_closed_slice, as_set, as_map, as_dyn_array, as_dyn_object, child_as, form_of, fresh, Tree, hole, entered, whole, begun, Trees, and_last, count_below, count_trees, holes, change_at, tree_at, State, cursor_tree}
 use Rattle.fr_model.specs.Well.{HasElements, IsFullAs, Leads, Suits}
 use Rattle.fr_frame.specs.Bodies.{TakesItems}
 use Rattle.fr_store.specs.Moves.{with_item_of, HasForm}
@@ -126,6 +126,10 @@ takes_items : (def : Def) (form : Form) → begun_item_refusal def form ≡ None
 takes_items def as_list may = tt
 takes_items def as_slice may = tt
 takes_items def as_closed_slice may = cc
+takes_items def as_set may = cc
+takes_items def (as_map base) may = cc
+takes_items def as_dyn_array may = tt
+takes_items def (as_dyn_object keys) may = cc
 takes_items def as_struct may = cc
 takes_items def as_array may = cc
 takes_items def (as_variant k) may = cc
@@ -146,6 +150,10 @@ any_count : (def : Def) (form : Form) (n m : ℕ) → TakesItems form → IsFull
 any_count def as_list n m takes full = full
 any_count def as_slice n m takes full = full
 any_count def as_closed_slice n m takes full = absurd takes
+any_count def as_set n m takes full = full
+any_count def (as_map base) n m takes full = absurd takes
+any_count def as_dyn_array n m takes full = full
+any_count def (as_dyn_object keys) n m takes full = absurd takes
 any_count def as_struct n m takes full = absurd takes
 any_count def as_array n m takes full = absurd takes
 any_count def (as_variant k) n m takes full = absurd takes

@@ -1,14 +1,16 @@
 -- What is known of a place by its looks: which of its children may be entered, how many it has, and what of it is kept.
-use Rattle.std.proofs.Common.{◌≡◌, ℕ, zero, suc, nat_le, Option, Some, None, is_some, if◌then◌else◌, refl, sym, ◌∙◌, ap, subst}
+use Rattle.std.proofs.Common.{◌≡◌, ℕ, zero, suc, Bool, true, false, nat_le, Option, Some, None, is_some, if◌then◌else◌, refl, sym, ◌∙◌, ap, subst}
 use Rattle.std.specs.Option.{option_or}
 use Rattle.fr_shape.specs.declared.error.Operation.{Operation}
 use Rattle.fr_shape.specs.declared.shape.Def.{Def}
+use Rattle.fr_model.specs.Collections.{is_map, is_set, set_item_refusal}
 use Rattle.fr_model.specs.Contents.{kept_slice}
 use Rattle.fr_model.specs.Items.{init_array_refusal, is_open_slice, item_refusal, whole_array_refusal}
 use Rattle.fr_model.specs.Places.{array_limit}
-use Rattle.fr_model.specs.Step.{field_refusal, init_list_refusal, named_refusal}
-use Rattle.fr_model.specs.Tree.{Form, as_struct, as_array, as_variant, as_some, as_ok, as_err, as_pointer, as_list, as_slice, as_closed_slice, Mode, strict, deferred, selected, Tree, hole, entered, whole, begun, holes, count_trees}
+use Rattle.fr_model.specs.Step.{field_refusal, init_list_refusal, init_map_refusal, init_set_refusal, named_refusal}
+use Rattle.fr_model.specs.Tree.{Form, as_struct, as_array, as_variant, as_some, as_ok, as_err, as_pointer, as_list, as_slice, as_closed_slice, as_set, as_map, as_dyn_array, as_dyn_object, Mode, strict, deferred, selected, Tree, hole, entered, whole, begun, holes, count_trees}
 use Rattle.fr_partial.specs.Beginnings.{beginning_so, beginning_in, beginning_of_some}
+use Rattle.fr_partial.specs.Entries.{key_refusal_by, value_refusal_by}
 use Rattle.fr_partial.specs.Looks.{bare, LooksLike}
 use Rattle.fr_partial.specs.Openings.{is_begun, HasItems}
 
@@ -76,6 +78,10 @@ bare_open entered = refl
 bare_open (whole v) = refl
 bare_open (begun as_slice ts) = refl
 bare_open (begun as_closed_slice ts) = refl
+bare_open (begun as_set ts) = refl
+bare_open (begun (as_map base) ts) = refl
+bare_open (begun as_dyn_array ts) = refl
+bare_open (begun (as_dyn_object keys) ts) = refl
 bare_open (begun as_list ts) = refl
 bare_open (begun as_struct ts) = refl
 bare_open (begun as_array ts) = refl
@@ -92,6 +98,10 @@ bare_slice (deferred start) entered = refl
 bare_slice (deferred start) (whole v) = refl
 bare_slice (deferred start) (begun as_slice ts) = refl
 bare_slice (deferred start) (begun as_closed_slice ts) = refl
+bare_slice (deferred start) (begun as_set ts) = refl
+bare_slice (deferred start) (begun (as_map base) ts) = refl
+bare_slice (deferred start) (begun as_dyn_array ts) = refl
+bare_slice (deferred start) (begun (as_dyn_object keys) ts) = refl
 bare_slice (deferred start) (begun as_struct ts) = refl
 bare_slice (deferred start) (begun as_array ts) = refl
 bare_slice (deferred start) (begun (as_variant k) ts) = refl
@@ -124,6 +134,49 @@ bare_item def hole = refl
 bare_item def entered = refl
 bare_item def (whole v) = refl
 bare_item def (begun form ts) = refl
+
+-- maps and sets
+
+bare_is_map : (tree : Tree) → is_map tree ≡ is_map (bare tree)
+bare_is_map hole = refl
+bare_is_map entered = refl
+bare_is_map (whole v) = refl
+bare_is_map (begun form ts) = refl
+
+bare_is_set : (tree : Tree) → is_set tree ≡ is_set (bare tree)
+bare_is_set hole = refl
+bare_is_set entered = refl
+bare_is_set (whole v) = refl
+bare_is_set (begun form ts) = refl
+
+bare_map : (s : ℕ) (def : Def) (tree : Tree) → init_map_refusal s def tree ≡ init_map_refusal s def (bare tree)
+bare_map s def hole = refl
+bare_map s def entered = refl
+bare_map s def (whole v) = refl
+bare_map s def (begun form ts) = refl
+
+bare_set : (s : ℕ) (def : Def) (tree : Tree) → init_set_refusal s def tree ≡ init_set_refusal s def (bare tree)
+bare_set s def hole = refl
+bare_set s def entered = refl
+bare_set s def (whole v) = refl
+bare_set s def (begun form ts) = refl
+
+bare_set_item : (def : Def) (tree : Tree) → set_item_refusal def tree ≡ set_item_refusal def (bare tree)
+bare_set_item (Def.Set t) tree =
+    ap (λ (b : Bool). if b then None else Some Operation.SetItemBeforeInitSet) (bare_is_set tree)
+bare_set_item _ tree = refl
+
+bare_key : (tree : Tree) (lacks : Bool) → key_refusal_by tree lacks ≡ key_refusal_by (bare tree) lacks
+bare_key tree lacks =
+    ap
+    (λ (b : Bool). if b then (if lacks then Some Operation.KeyBeforeValue else None) else Some Operation.KeyBeforeInitMap)
+    (bare_is_map tree)
+
+bare_value : (tree : Tree) (lacks : Bool) → value_refusal_by tree lacks ≡ value_refusal_by (bare tree) lacks
+bare_value tree lacks =
+    ap
+    (λ (b : Bool). if b then (if lacks then None else Some Operation.ValueBeforeKey) else Some Operation.ValueBeforeKey)
+    (bare_is_map tree)
 
 count_holes : (n : ℕ) → count_trees (holes n) ≡ n
 count_holes zero = refl
@@ -180,6 +233,23 @@ module _ (one other : Tree) (alike : LooksLike one other) where
 
   pub item_alike : (def : Def) → item_refusal def one ≡ item_refusal def other
   item_alike def = bare_item def one ∙ ap (item_refusal def) alike ∙ sym (bare_item def other)
+
+  pub map_alike : (s : ℕ) (def : Def) → init_map_refusal s def one ≡ init_map_refusal s def other
+  map_alike s def = bare_map s def one ∙ ap (init_map_refusal s def) alike ∙ sym (bare_map s def other)
+
+  pub set_alike : (s : ℕ) (def : Def) → init_set_refusal s def one ≡ init_set_refusal s def other
+  set_alike s def = bare_set s def one ∙ ap (init_set_refusal s def) alike ∙ sym (bare_set s def other)
+
+  pub set_item_alike : (def : Def) → set_item_refusal def one ≡ set_item_refusal def other
+  set_item_alike def = bare_set_item def one ∙ ap (set_item_refusal def) alike ∙ sym (bare_set_item def other)
+
+  pub key_alike : (lacks : Bool) → key_refusal_by one lacks ≡ key_refusal_by other lacks
+  key_alike lacks =
+      bare_key one lacks ∙ ap (λ (t : Tree). key_refusal_by t lacks) alike ∙ sym (bare_key other lacks)
+
+  pub value_alike : (lacks : Bool) → value_refusal_by one lacks ≡ value_refusal_by other lacks
+  value_alike lacks =
+      bare_value one lacks ∙ ap (λ (t : Tree). value_refusal_by t lacks) alike ∙ sym (bare_value other lacks)
 
   pub items_alike : (form : Form) (count : ℕ) → HasItems form count one → HasItems form count other
   items_alike form count has =

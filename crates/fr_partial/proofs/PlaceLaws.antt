@@ -3,6 +3,7 @@ use Rattle.std.proofs.Common.{◌≡◌, ℕ, suc, ◌<◌, false, List, [], len
 use Rattle.std.specs.Prelude.{IsSome}
 use Rattle.fr_shape.specs.declared.shape.ShapeId.{ShapeId}
 use Rattle.fr_shape.specs.Look.{Table}
+use Rattle.fr_model.specs.Collections.{ends_in_hole, is_hole, lacks_value}
 use Rattle.fr_model.specs.Places.{Place}
 use Rattle.fr_model.specs.Tree.{Tree, begun, holes, count_trees, tree_occurs}
 use Rattle.fr_plan.specs.declared.nodes.TypePlanNode.{TypePlanNode}
@@ -15,7 +16,7 @@ use Rattle.fr_frame.specs.Bodies.{own_tree, trees_of}
 use Rattle.fr_frame.specs.Heap.{Node, body_of, node_of, heap_of, slots_occur}
 use Rattle.fr_frame.specs.declared.places.FrameOwner.{FrameOwner}
 use Rattle.fr_frame.specs.Changes.{SameTokens, Shows}
-use Rattle.fr_frame.specs.Kids.{Plot, entered_plot, whole_plot, begun_plot, Kids, no_kids, kid, tree_of, tree_in, trees_in, body_in, cells_in}
+use Rattle.fr_frame.specs.Kids.{Kid, gone, there, at, Plot, entered_plot, whole_plot, begun_plot, Kids, no_kids, kid, cell_of, tree_of, tree_in, trees_in, body_in, cells_in}
 use Rattle.fr_store.specs.HoldLaws.{holds_frame}
 use Rattle.fr_store.specs.StandLaws.{open_from}
 use Rattle.fr_store.specs.MoveLaws.{open_top, top_slot}
@@ -24,7 +25,7 @@ use Rattle.fr_store.specs.Numbers.{IsLast}
 use Rattle.fr_store.specs.Stands.{IsOpen, kid_shown}
 use Rattle.fr_store.specs.Ways.{Leads, node_along, owner_along}
 use Rattle.fr_store.specs.WayLaws.{leads_reach, tree_of_at, tree_tokens}
-use Rattle.fr_partial.specs.Looks.{bare, LooksLike}
+use Rattle.fr_partial.specs.Looks.{bare, ends_absent, is_absent, lacks_last, LooksLike}
 use Rattle.fr_partial.specs.Underway.{shape_here, IsReady}
 use Rattle.fr_partial.proofs.FitLaws.{is_there}
 use Rattle.fr_store.specs.ShapeLaws.{IsOfShape, Along, along, root_shaped}
@@ -77,6 +78,34 @@ looks_found plan slots stack shown n last place is =
     ∙ own_looks top.plot
     ∙ ap bare (ap tree_of (sym top.is) ∙ tree_of_at (cursor_in slots stack) (kid_shown (heap_of slots) stack))
 
+-- and its last child is there, or isn't, as in the tree
+
+hole_told : (k : Kid) → is_absent (cell_of k) ≡ is_hole (tree_of k)
+hole_told gone = refl
+hole_told (there v) = refl
+hole_told (at slot stored entered_plot) = refl
+hole_told (at slot stored (whole_plot v)) = refl
+hole_told (at slot stored (begun_plot form kids)) = refl
+
+last_told : (kids : Kids) → ends_absent (cells_in kids) ≡ ends_in_hole (trees_in kids)
+last_told no_kids = refl
+last_told (kid k no_kids) = hole_told k
+last_told (kid k (kid j ks)) = last_told (kid j ks)
+
+plot_told : (plot : Plot) → lacks_last (body_in plot) ≡ lacks_value (tree_in plot)
+plot_told entered_plot = refl
+plot_told (whole_plot v) = refl
+plot_told (begun_plot form kids) = last_told kids
+
+pub lacks_found : (plan : Plan) (slots : List Slot) (stack : List ℕ) (shown : IsOpen plan slots stack) (n : ℕ)
+    (last : IsLast stack n) → (place : Entry) → Some (node_of place) ≡ heap_of slots n
+    → lacks_last (body_of place.piece) ≡ lacks_value (tree_here slots stack)
+lacks_found plan slots stack shown n last place is =
+    let top = open_top plan slots stack shown in
+    ap (λ (found : Node). lacks_last found.body) (found_is plan slots stack shown n last place is)
+    ∙ plot_told top.plot
+    ∙ ap lacks_value (ap tree_of (sym top.is) ∙ tree_of_at (cursor_in slots stack) (kid_shown (heap_of slots) stack))
+
 module _ (agree : LookupsAgree) (paths : LookupPathsAgree) (table : Table) (root : ShapeId) (plan : Plan) (slots : List Slot)
     (stack : List ℕ) (ready : IsReady table root plan slots stack) where
   -- the plan's node of the place at which the builder works, and the tree there
@@ -104,9 +133,9 @@ module _ (agree : LookupsAgree) (paths : LookupPathsAgree) (table : Table) (root
 
   pub found_shape : (n : ℕ) (last : IsLast stack n) (place : Entry) → Some (node_of place) ≡ heap_of slots n
       → (found : TypePlanNode) → node_at plan place.node ≡ Some found → found.shape.0 ≡ shape_here table root.0 slots stack
-  found_shape n last place is found at =
+  found_shape n last place is found met =
       let shaped = found_shaped n last place is in
-      let both : Some found ≡ Some shaped.found = sym at ∙ shaped.there in
+      let both : Some found ≡ Some shaped.found = sym met ∙ shaped.there in
       let same : found ≡ shaped.found = cc in
       ap (λ (x : TypePlanNode). x.shape.0) same ∙ shaped.shape
 
@@ -127,6 +156,7 @@ open_shown plan slots after stack shown same tokens =
       once = shown.stands.once;
       leads = shown.stands.leads;
       along = shown.stands.along;
+      left = shown.stands.left;
     })
     (λ t. tokens t ∙ shown.tokens t)
     (λ n used. shown.all n (subst (λ (o : Option Node). IsSome o) (same n) used))

@@ -1,19 +1,21 @@
 -- What a builder sees of the place at which it works, as its table and its slots tell it.
-use Rattle.std.proofs.Common.{◌≡◌, ℕ, List, refl, sym, ◌∙◌, ap}
+use Rattle.std.proofs.Common.{◌≡◌, ℕ, Bool, List, refl, sym, ◌∙◌, ap}
 use Rattle.fr_shape.specs.declared.shape.Def.{Def}
 use Rattle.fr_shape.specs.declared.shape.ShapeId.{ShapeId}
 use Rattle.fr_shape.specs.Look.{Table, def_of}
+use Rattle.fr_model.specs.Collections.{key_refusal, lacks_value, set_item_refusal, value_refusal}
 use Rattle.fr_model.specs.Items.{init_array_refusal, is_open_slice, item_refusal}
-use Rattle.fr_model.specs.Step.{field_refusal, init_list_refusal, named_refusal}
+use Rattle.fr_model.specs.Step.{field_refusal, init_list_refusal, init_map_refusal, init_set_refusal, named_refusal}
 use Rattle.fr_model.specs.Tree.{Form, Mode, selected, Tree, cursor_tree}
 use Rattle.fr_frame.specs.declared.places.Slot.{Slot}
 use Rattle.fr_store.specs.Moves.{tree_here}
 use Rattle.fr_partial.specs.Beginnings.{beginning_so, beginning_in, beginning_of_some}
 use Rattle.fr_partial.specs.Builder.{Builder, here}
+use Rattle.fr_partial.specs.Entries.{key_refusal_by, value_refusal_by}
 use Rattle.fr_partial.specs.Looks.{bare, LooksLike}
 use Rattle.fr_partial.specs.Openings.{HasItems}
 use Rattle.fr_partial.specs.Underway.{shape_here}
-use Rattle.fr_partial.proofs.LookLaws.{array_alike, in_alike, init_alike, item_alike, items_alike, named_alike, open_alike, refusal_alike, selected_alike, so_alike, some_alike}
+use Rattle.fr_partial.proofs.LookLaws.{array_alike, in_alike, init_alike, item_alike, items_alike, key_alike, map_alike, named_alike, open_alike, refusal_alike, selected_alike, set_alike, set_item_alike, so_alike, some_alike, value_alike}
 use Rattle.fr_partial.proofs.StateLaws.{builder_of}
 
 -- its table, the shape of the place, and how the place looks
@@ -87,6 +89,38 @@ module _ {H : Type 0} {builder : Builder H} {table : Table} {shape : ShapeId} {s
   item_seen =
       item_alike seen (cursor_tree builder.state) at.looks (def_of table shape.0)
       ∙ ap (λ (def : Def). item_refusal def (cursor_tree builder.state)) def_seen
+
+  pub map_seen : init_map_refusal shape.0 (def_of table shape.0) seen
+      ≡ init_map_refusal (here builder) (def_of builder.shapes (here builder)) (cursor_tree builder.state)
+  map_seen =
+      map_alike seen (cursor_tree builder.state) at.looks shape.0 (def_of table shape.0)
+      ∙ ap (λ (s : ℕ). init_map_refusal s (def_of table shape.0) (cursor_tree builder.state)) at.shape_is
+      ∙ ap (λ (def : Def). init_map_refusal (here builder) def (cursor_tree builder.state)) def_seen
+
+  pub set_seen : init_set_refusal shape.0 (def_of table shape.0) seen
+      ≡ init_set_refusal (here builder) (def_of builder.shapes (here builder)) (cursor_tree builder.state)
+  set_seen =
+      set_alike seen (cursor_tree builder.state) at.looks shape.0 (def_of table shape.0)
+      ∙ ap (λ (s : ℕ). init_set_refusal s (def_of table shape.0) (cursor_tree builder.state)) at.shape_is
+      ∙ ap (λ (def : Def). init_set_refusal (here builder) def (cursor_tree builder.state)) def_seen
+
+  pub set_item_seen : set_item_refusal (def_of table shape.0) seen
+      ≡ set_item_refusal (def_of builder.shapes (here builder)) (cursor_tree builder.state)
+  set_item_seen =
+      set_item_alike seen (cursor_tree builder.state) at.looks (def_of table shape.0)
+      ∙ ap (λ (def : Def). set_item_refusal def (cursor_tree builder.state)) def_seen
+
+  -- where it is known whether the last child is there
+  module _ (lacks : Bool) (told : lacks ≡ lacks_value (cursor_tree builder.state)) where
+    pub key_seen : key_refusal_by seen lacks ≡ key_refusal (cursor_tree builder.state)
+    key_seen =
+        key_alike seen (cursor_tree builder.state) at.looks lacks
+        ∙ ap (key_refusal_by (cursor_tree builder.state)) told
+
+    pub value_seen : value_refusal_by seen lacks ≡ value_refusal (cursor_tree builder.state)
+    value_seen =
+        value_alike seen (cursor_tree builder.state) at.looks lacks
+        ∙ ap (value_refusal_by (cursor_tree builder.state)) told
 
   pub items_seen : (form : Form) (count : ℕ) → HasItems form count seen → HasItems form count (cursor_tree builder.state)
   items_seen form count has = items_alike seen (cursor_tree builder.state) at.looks form count has

@@ -12,7 +12,7 @@ use Rattle.fr_shape.specs.Val.{list_of, no_vals, ptr}
 use Rattle.fr_model.specs.Contents.{is_slice, kept_slice, pointer_refusal, points_to_slice, slice_anew}
 use Rattle.fr_model.specs.Items.{closed_slice, is_open_slice, shared_slice_behind, shared_slice_by, shared_slice_refusal}
 use Rattle.fr_model.specs.Step.{begin_smart_ptr, begins_pointer, puts, set_empty_shared_slice}
-use Rattle.fr_model.specs.Tree.{Form, as_struct, as_array, as_variant, as_some, as_ok, as_err, as_pointer, as_list, as_slice, as_closed_slice, Tree, hole, entered, whole, begun, change_at, tree_at, Mode, strict, deferred, cursor_tree}
+use Rattle.fr_model.specs.Tree.{Form, as_struct, as_array, as_variant, as_some, as_ok, as_err, as_pointer, as_list, as_slice, as_closed_slice, as_set, as_map, as_dyn_array, as_dyn_object, Tree, hole, entered, whole, begun, change_at, tree_at, Mode, strict, deferred, cursor_tree}
 use Rattle.fr_model.specs.Places.{Place}
 use Rattle.fr_plan.specs.TypePlan.{Plan}
 use Rattle.fr_frame.specs.declared.places.Slot.{Slot}
@@ -39,6 +39,10 @@ slice_kept (deferred start) (begun as_some ts) is = cc
 slice_kept (deferred start) (begun as_ok ts) is = cc
 slice_kept (deferred start) (begun as_err ts) is = cc
 slice_kept (deferred start) (begun as_pointer ts) is = cc
+slice_kept (deferred start) (begun as_set ts) is = cc
+slice_kept (deferred start) (begun (as_map base) ts) is = cc
+slice_kept (deferred start) (begun as_dyn_array ts) is = cc
+slice_kept (deferred start) (begun (as_dyn_object keys) ts) is = cc
 slice_kept (deferred start) (begun as_list ts) is = cc
 
 pub slice_there : (mode : Mode) (tree : Tree) → is_some (kept_slice mode tree) ≡ true → IsBegunSlice tree
@@ -55,6 +59,10 @@ slice_there (deferred start) (begun as_some ts) is = cc
 slice_there (deferred start) (begun as_ok ts) is = cc
 slice_there (deferred start) (begun as_err ts) is = cc
 slice_there (deferred start) (begun as_pointer ts) is = cc
+slice_there (deferred start) (begun as_set ts) is = cc
+slice_there (deferred start) (begun (as_map base) ts) is = cc
+slice_there (deferred start) (begun as_dyn_array ts) is = cc
+slice_there (deferred start) (begun (as_dyn_object keys) ts) is = cc
 slice_there (deferred start) (begun as_list ts) is = cc
 
 -- or it starts anew
@@ -82,6 +90,10 @@ open_there (begun as_some ts) is = cc
 open_there (begun as_ok ts) is = cc
 open_there (begun as_err ts) is = cc
 open_there (begun as_pointer ts) is = cc
+open_there (begun as_set ts) is = cc
+open_there (begun (as_map base) ts) is = cc
+open_there (begun as_dyn_array ts) is = cc
+open_there (begun (as_dyn_object keys) ts) is = cc
 open_there (begun as_list ts) is = cc
 
 closed_alike : (tree : Tree) → begun_as as_closed_slice tree ≡ closed_slice tree

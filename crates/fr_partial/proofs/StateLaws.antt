@@ -88,12 +88,12 @@ module _ {table : Table} {root : ShapeId} {plan : Plan} {steps : List PathStep} 
       → step hooks table root.0 (state_of slots stack mode calls) command ≡ Ok next → (t : ℕ)
       → tree_occurs (state_of slots stack mode calls).tree t + brings command t
       ≡ tree_occurs next.tree t
-      + replaced hooks table (cursor_shape table root.0 (state_of slots stack mode calls)) (state_of slots stack mode calls)
+      + replaced hooks table root.0 (cursor_shape table root.0 (state_of slots stack mode calls)) (state_of slots stack mode calls)
       command t
   tokens_after law hooks next command is t =
       law hooks table root.0 (state_of slots stack mode calls) command underway.ready.checked order t
       ∙ ap (λ meant. held_after meant t
-      + removed_by hooks table (cursor_shape table root.0 (state_of slots stack mode calls)) (state_of slots stack mode calls)
+      + removed_by hooks table root.0 (cursor_shape table root.0 (state_of slots stack mode calls)) (state_of slots stack mode calls)
       command meant t) is
 
 -- What is stored.

@@ -1,8 +1,10 @@
 -- Changes at one place of a tree, and how often a token stands there.
-use Rattle.std.proofs.Common.{◌≡◌, ℕ, zero, suc, ◌+◌, [], ◌∷◌, ◌++◌, refl, sym, ◌∙◌, ap, arith}
+use Rattle.std.proofs.Common.{◌≡◌, ℕ, zero, suc, ◌+◌, false, [], ◌∷◌, ◌++◌, refl, sym, ◌∙◌, ap, arith}
+use Rattle.fr_shape.specs.Look.{Table}
 use Rattle.fr_shape.specs.Val.{Val}
-use Rattle.fr_model.specs.Places.{Place}
-use Rattle.fr_model.specs.Tree.{Tree, hole, entered, whole, begun, Trees, no_trees, branch, tree_nth, change_nth, child_tree, tree_at, change_child, change_at, holes, tree_occurs, trees_occur, Mode}
+use Rattle.fr_model.specs.Collections.{and_item, is_set, number_in, with_ended_item, without_nth}
+use Rattle.fr_model.specs.Places.{Place, is_root, up}
+use Rattle.fr_model.specs.Tree.{Tree, hole, entered, whole, begun, Trees, no_trees, branch, tree_nth, change_nth, child_tree, tree_at, change_child, change_at, child_as, holes, shape_in, tree_occurs, trees_occur, Mode}
 use Rattle.fr_model.specs.Well.{OffBut, Leads}
 
 nth_same : (i : ℕ) (f : Tree → Tree) → ((t : Tree) → f t ≡ t) → (ts : Trees) → change_nth i f ts ≡ ts
@@ -66,6 +68,79 @@ put_over i v change entered = refl
 put_over i v change (whole w) = refl
 put_over i v change (begun form ts) =
     ap (begun form) (nth_over i (λ old. whole v) change (whole v) (λ x. refl) ts)
+
+-- The end of a set's item.
+
+without_changed : (i : ℕ) (f : Tree → Tree) (ts : Trees) → without_nth i (change_nth i f ts) ≡ without_nth i ts
+without_changed i f no_trees = refl
+without_changed zero f (branch t ts) = refl
+without_changed (suc i) f (branch t ts) = ap (branch t) (without_changed i f ts)
+
+ended_over : (i : ℕ) (v : Val) (f : Tree → Tree) (t : Tree)
+    → with_ended_item i v (change_child i f t) ≡ with_ended_item i v t
+ended_over i v f hole = refl
+ended_over i v f entered = refl
+ended_over i v f (whole w) = refl
+ended_over i v f (begun form ts) = ap (λ (us : Trees). begun form (and_item us v)) (without_changed i f ts)
+
+nth_both : (i : ℕ) (f g h : Tree → Tree) → ((t : Tree) → f (g t) ≡ h t) → (ts : Trees)
+    → change_nth i f (change_nth i g ts) ≡ change_nth i h ts
+nth_both i f g h same no_trees = refl
+nth_both zero f g h same (branch t ts) = ap (λ (x : Tree). branch x ts) (same t)
+nth_both (suc i) f g h same (branch t ts) = ap (branch t) (nth_both i f g h same ts)
+
+-- whatever became of the item, the set takes the value with which it ends
+pub item_over : (place : Place) (v : Val) (f : Tree → Tree) (t : Tree) → is_root place ≡ false
+    → change_at (up place) (with_ended_item (number_in place) v) (change_at place f t)
+    ≡ change_at (up place) (with_ended_item (number_in place) v) t
+item_over [] v f t below = cc
+item_over (i ∷ []) v f t below = ended_over i v f t
+item_over (i ∷ j ∷ place) v f hole below = refl
+item_over (i ∷ j ∷ place) v f entered below = refl
+item_over (i ∷ j ∷ place) v f (whole w) below = refl
+item_over (i ∷ j ∷ place) v f (begun form ts) below =
+    ap (begun form)
+    (nth_both i (λ child. change_at (up (j ∷ place)) (with_ended_item (number_in (j ∷ place)) v) child)
+    (λ child. change_at (j ∷ place) f child)
+    (λ child. change_at (up (j ∷ place)) (with_ended_item (number_in (j ∷ place)) v) child)
+    (λ child. item_over (j ∷ place) v f child refl) ts)
+
+-- The shape of a place doesn't go by what stands there.
+
+nth_kept : (i : ℕ) (So : Tree → Type 0) (f : Tree → Tree) (ts : Trees) → So (f (tree_nth i ts)) → So (tree_nth i ts)
+    → So (tree_nth i (change_nth i f ts))
+nth_kept i So f no_trees then was = was
+nth_kept zero So f (branch t ts) then was = then
+nth_kept (suc i) So f (branch t ts) then was = nth_kept i So f ts then was
+
+pub shape_stays : (table : Table) (s : ℕ) (place : Place) (f : Tree → Tree) (t : Tree)
+    → shape_in table s place (change_at place f t) ≡ shape_in table s place t
+shape_stays table s [] f t = refl
+shape_stays table s (i ∷ place) f hole = refl
+shape_stays table s (i ∷ place) f entered = refl
+shape_stays table s (i ∷ place) f (whole v) = refl
+shape_stays table s (i ∷ place) f (begun form ts) =
+    nth_kept i
+    (λ (child : Tree). shape_in table (child_as table s form i) place child
+    ≡ shape_in table (child_as table s form i) place (tree_nth i ts))
+    (λ child. change_at place f child) ts
+    (shape_stays table (child_as table s form i) place f (tree_nth i ts)) refl
+
+-- what stands above is a set as before
+pub set_stays : (place : Place) (f : Tree → Tree) (t : Tree) → is_root place ≡ false
+    → is_set (tree_at (up place) (change_at place f t)) ≡ is_set (tree_at (up place) t)
+set_stays [] f t below = cc
+set_stays (i ∷ []) f hole below = refl
+set_stays (i ∷ []) f entered below = refl
+set_stays (i ∷ []) f (whole v) below = refl
+set_stays (i ∷ []) f (begun form ts) below = refl
+set_stays (i ∷ j ∷ place) f hole below = refl
+set_stays (i ∷ j ∷ place) f entered below = refl
+set_stays (i ∷ j ∷ place) f (whole v) below = refl
+set_stays (i ∷ j ∷ place) f (begun form ts) below =
+    nth_kept i
+    (λ (child : Tree). is_set (tree_at (up (j ∷ place)) child) ≡ is_set (tree_at (up (j ∷ place)) (tree_nth i ts)))
+    (λ child. change_at (j ∷ place) f child) ts (set_stays (j ∷ place) f (tree_nth i ts) refl) refl
 
 -- Tokens.
 

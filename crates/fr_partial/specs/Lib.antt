@@ -4,6 +4,7 @@ pub mod BuiltValue
 pub mod Choosing
 pub mod Ending
 pub mod Entering
+pub mod Entries
 pub mod FieldDefaults
 pub mod Filling
 pub mod HeldPlan

@@ -52,7 +52,7 @@ pub fn selected(piece: &Piece) -> Option<u32>
         Piece::Begun(form, _) => match *form {
             Form::Variant(k) => Some(k),
             Form::Struct | Form::Array | Form::Some | Form::Ok | Form::Err | Form::Pointer => None,
-            Form::List | Form::Slice | Form::ClosedSlice => None,
+            Form::List | Form::Slice | Form::ClosedSlice | Form::Set | Form::Map(_) => None,
         },
         Piece::Entered | Piece::Whole(_) => None,
     }

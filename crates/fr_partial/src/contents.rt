@@ -5,7 +5,7 @@ ghost use Rattle.fr_shape.specs.Released.{Room, Conserved};
 ghost use Rattle.fr_model.specs.Contents.{content_anew};
 ghost use Rattle.fr_model.specs.Paths.{path_of, step_as};
 ghost use Rattle.fr_model.specs.Step.{enters_content};
-ghost use Rattle.fr_model.specs.Tree.{cursor_tree};
+ghost use Rattle.fr_model.specs.Tree.{base_of_form, cursor_tree};
 ghost use Rattle.fr_model.specs.Well.{IsFullAs};
 ghost use Rattle.fr_frame.specs.Bodies.{is_around};
 ghost use Rattle.fr_frame.specs.Heap.{as_form, slots_occur};
@@ -45,6 +45,7 @@ pub fn begin_so(
     requires is_open { IsOpen plan.now slots.old stack.now }
     requires stored { IsKept store.old slots.old }
     requires may_have { MayHave (as_form form) count }
+    requires base { base_of_form (as_form form) ≡ 0 }
     requires some { beginning ≡ Onset.InPlace → IsWholeSome (tree_here slots.old stack.now) }
     requires room { Room (slots_occur slots.old) ledger.old }
     ensures begun { OnOk result (IsOpenAt plan.now slots.new stack.now (cursor_in slots.old stack.now)

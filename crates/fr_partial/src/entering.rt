@@ -2,11 +2,12 @@
 ghost use Rattle.std.specs.Prelude.{◌≡◌, ◌<◌, ◌^◌, [], ◌∷◌, ◌++◌, Ok, None, OnOk};
 ghost use Rattle.fr_shape.specs.Look.{def_of};
 ghost use Rattle.fr_shape.specs.Released.{Room, Conserved};
+ghost use Rattle.fr_model.specs.Places.{is_key};
 ghost use Rattle.fr_model.specs.Step.{enter_child, enters, field_refusal};
 ghost use Rattle.fr_model.specs.Tree.{change_at, cursor_tree};
 ghost use Rattle.fr_frame.specs.Changes.{SameTokens};
 ghost use Rattle.fr_frame.specs.Heap.{as_form};
-ghost use Rattle.fr_frame.specs.Kids.{child_node, slice_item_found};
+ghost use Rattle.fr_frame.specs.Kids.{child_node, entry_found, slice_item_found};
 ghost use Rattle.fr_store.specs.Moves.{cursor_in, node_here, tree_here, tree_in_slots, IsOpenAt};
 ghost use Rattle.fr_store.specs.Stands.{IsOpen};
 ghost use Rattle.fr_store.specs.Stored.{IsKept, StoresNoMore};
@@ -93,6 +94,17 @@ fn slice_item(plan: &TypePlanCore, node: NodeId) -> Option<NodeId>
     plan.list_item_node_id(plan.pointer_inner_node_id(node)?)
 }
 
+/// The plan's node of child `i` of a map of this node: of its keys, or of its values.
+fn entry_node(plan: &TypePlanCore, node: NodeId, i: usize) -> Option<NodeId>
+    ensures { result ≡ entry_found plan.now node (is_key i) }
+{
+    if i % 2 == 0 {
+        plan.map_key_node_id(node)
+    } else {
+        plan.map_value_node_id(node)
+    }
+}
+
 /// The plan's node of child `i` of a place of this node that is begun so.
 #[inline]
 pub(crate) fn child_node(plan: &TypePlanCore, node: NodeId, form: Form, i: usize) -> NodeId
@@ -107,6 +119,8 @@ pub(crate) fn child_node(plan: &TypePlanCore, node: NodeId, form: Form, i: usize
         Form::Err => plan.result_nodes_id(node).map(|sides| sides.1),
         Form::Pointer => plan.pointer_inner_node_id(node),
         Form::Slice | Form::ClosedSlice => slice_item(plan, node),
+        Form::Set => plan.set_item_node_id(node),
+        Form::Map(_) => entry_node(plan, node, i),
     };
     match found {
         Some(child) => child,

@@ -1,5 +1,5 @@
 //! The defaults of fields, and a value at a field or element that isn't entered for it.
-ghost use Rattle.std.specs.Prelude.{◌≡◌, ℕ, ◌<◌, ◌^◌, [], Err, false, IfErr, IfOk, None, Ok, OnOk};
+ghost use Rattle.std.specs.Prelude.{◌≡◌, ◌<◌, ◌^◌, [], Err, false, IfErr, IfOk, None, Ok, OnOk};
 ghost use Rattle.fr_shape.specs.Look.{def_of};
 ghost use Rattle.fr_shape.specs.Released.{Room, Conserved};
 ghost use Rattle.fr_shape.specs.Tokens.{tokens};
@@ -7,10 +7,10 @@ ghost use Rattle.fr_shape.specs.Val.{Val};
 ghost use Rattle.fr_shape.specs.View.{view};
 ghost use Rattle.fr_model.specs.Places.{is_root, up};
 ghost use Rattle.fr_model.specs.Step.{field_default, field_refusal, put_child, puts_child, set_nth_field_to_default};
-ghost use Rattle.fr_model.specs.Tree.{cursor_tree, whole};
+ghost use Rattle.fr_model.specs.Tree.{cursor_tree, tree_at, whole};
 ghost use Rattle.fr_frame.specs.Bodies.{own_tree};
 ghost use Rattle.fr_frame.specs.Heap.{body_of, slots_occur};
-ghost use Rattle.fr_store.specs.Moves.{changed_here, cursor_in, tree_here, tree_in_slots, IsOpenAt};
+ghost use Rattle.fr_store.specs.Moves.{changed_here, cursor_in, takes_at_end, tree_here, tree_in_slots, IsOpenAt};
 ghost use Rattle.fr_store.specs.Stands.{IsOpen};
 ghost use Rattle.fr_store.specs.Stored.{IsKept, StoresNoMore};
 ghost use Rattle.fr_partial.specs.Builder.{here, holds, left, IsStepTo, TellsPlaceBefore};
@@ -26,7 +26,7 @@ use crate::work::fail;
 use crate::{Partial, ReflectError};
 use fr_frame::{Piece, Slots};
 use fr_model::{law_paths, law_well};
-use fr_plan::TypePlanCore;
+use fr_plan::{TypePlanCore, law_plan_lookups};
 use fr_shape::{
     DefaultSource, Field, Hooks, Ledger, Operation, OutOfMemory, ReflectErrorKind, ShapeId,
     ShapeTable, Template, Value,
@@ -95,14 +95,16 @@ fn leave_whole(
     requires stored { IsKept store.old slots.old }
     requires mode { StoresNothing (mode_of mode) store.old }
     requires below { is_root (cursor_in slots.old stack.old) ≡ false }
+    requires not_item { takes_at_end (tree_at (up (cursor_in slots.old stack.old))
+        (tree_in_slots slots.old stack.old)) ≡ false }
     requires holds_value { (v : Val) × (tree_here slots.old stack.old ≡ whole v) }
     requires room { Room (slots_occur slots.old) ledger.old }
     ensures left { OnOk result (IsOpenAt plan.now slots.new stack.new
         (up (cursor_in slots.old stack.old)) (tree_in_slots slots.old stack.old)) }
     ensures stored { OnOk result (IsKept store.new slots.new) }
     ensures mode { OnOk result (StoresNothing (mode_of mode) store.new) }
-    ensures tokens { (t : ℕ) → slots_occur slots.new t ≡ slots_occur slots.old t }
-    ensures ledger { ledger.new ≡ ledger.old }
+    ensures conserved { Conserved (slots_occur slots.old) ledger.old
+        (slots_occur slots.new) ledger.new }
 {
     match mode {
         Mode::Strict => {
@@ -149,6 +151,7 @@ fn put_in_child(
     ensures mode { OnOk result (StoresNothing (mode_of mode) store.new) }
     ensures tokens { Conserved (slots_occur slots.old) ledger.old (slots_occur slots.new) ledger.new }
 {
+    law_plan_lookups();
     enter_child(table, root, plan, slots, stack, store, i, opening)?;
     stack.set(slots, store, plan, value, ledger);
     leave_whole(plan, slots, stack, store, mode, ledger)

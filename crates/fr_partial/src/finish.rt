@@ -5,9 +5,11 @@ ghost use Rattle.fr_shape.specs.Released.{Room, RoseBy, Conserved};
 ghost use Rattle.fr_model.specs.Commands.{Call};
 ghost use Rattle.fr_model.specs.Items.{is_open_slice};
 ghost use Rattle.fr_model.specs.Paths.{path_of};
-ghost use Rattle.fr_model.specs.Places.{is_root};
-ghost use Rattle.fr_model.specs.Step.{leaves};
-ghost use Rattle.fr_model.specs.Tree.{cursor_tree, strict};
+ghost use Rattle.fr_model.specs.Places.{is_root, up};
+ghost use Rattle.fr_model.specs.Step.{is_set_item, leaves};
+ghost use Rattle.fr_model.specs.Tree.{cursor_tree, strict, tree_at};
+ghost use Rattle.fr_store.specs.Moves.{takes_at_end};
+ghost use Rattle.fr_partial.specs.Ending.{completes_beneath};
 ghost use Rattle.fr_partial.specs.Filling.{takes_no_memory};
 ghost use Rattle.fr_partial.specs.Modes.{IsBelowStart};
 ghost use Rattle.fr_partial.specs.Builder.{holds, left, left_built, BuildRefusesBeforeMemory, IsBuilt, IsNotOutOfMemory, IsStep, IsStepTo, RefusesBeforeMemory, RisesByRemoved, RisesByRemovedAtBuild, TellsPlaceBefore};
@@ -16,6 +18,7 @@ use crate::finishing::{abandon, end_here, take_root};
 use crate::mode::Mode;
 use crate::paths::step_back;
 use crate::placing::place_here;
+use crate::set_items::is_set_item;
 use crate::slices::is_open_slice;
 use crate::work::{Work, fail};
 use crate::{Built, Partial, ReflectError};
@@ -24,11 +27,12 @@ use fr_path::Path;
 use fr_shape::{Hooks, Invariant, Ledger, ReflectErrorKind};
 
 impl<'t, H: Hooks> Partial<'t, H> {
-    /// Leaves the place for the one above. In strict mode it is completed, and its value written there: only copies of templates, and
-    /// what an option, a result or a pointer holds, need memory, and what is lacking is found before any is made. In deferred mode it is
-    /// left as it is, to be entered again or completed by `finish_deferred`; it has to lie deeper than the place at which deferred mode
-    /// began. At an open pointer to a slice the builder stays instead: the pointer becomes whole in strict mode, and in deferred mode it
-    /// is closed.
+    /// Leaves the place for the one above. In strict mode it is completed, and its value written there: only copies of templates, what an
+    /// option, a result or a pointer holds, and what a set or a map gathers, need memory, and what is lacking is found before any is made.
+    /// In deferred mode it is left as it is, to be entered again or completed by `finish_deferred`; it has to lie deeper than the place at
+    /// which deferred mode began. An item of a set is completed in either mode, and in deferred mode with all that lies beneath it: its
+    /// value comes to the set, which leaves it out where it has one that is the same. At an open pointer to a slice the builder stays
+    /// instead: the pointer becomes whole in strict mode, and in deferred mode it is closed.
     pub fn end(self, ledger: &mut Ledger) -> Result<Partial<'t, H>, ReflectError>
         requires room { Room (holds self) ledger.old }
         ensures step { IsStep (H.means self.entry.hooks) self.entry Call.End result }
@@ -38,8 +42,8 @@ impl<'t, H: Hooks> Partial<'t, H> {
             ledger.old ledger.new }
         ensures memory { self.entry.state.mode ≡ strict
             → takes_no_memory (cursor_tree self.entry.state) ≡ true → IsNotOutOfMemory result }
-        ensures refused { RefusesBeforeMemory (H.means self.entry.hooks) self.entry
-            Call.End result }
+        ensures refused { completes_beneath self.entry.state ≡ false
+            → RefusesBeforeMemory (H.means self.entry.hooks) self.entry Call.End result }
     {
         law_removed();
         let work = &*self.work;
@@ -66,12 +70,12 @@ impl<'t, H: Hooks> Partial<'t, H> {
                 let kind = ReflectErrorKind::InvariantViolation { invariant };
                 Err(self.refuse(kind, ledger))
             }
-            Mode::Deferred(_) => self.leave(ledger),
+            Mode::Deferred(_) => self.end_deferred(ledger),
         }
     }
 
     /// `end` in strict mode, below the root.
-    fn end_strict(mut self, ledger: &mut Ledger) -> Result<Partial<'t, H>, ReflectError>
+    fn end_strict(self, ledger: &mut Ledger) -> Result<Partial<'t, H>, ReflectError>
         requires room { Room (holds self) ledger.old }
         requires strict { self.state.mode ≡ strict }
         requires not_open { is_open_slice (cursor_tree self.state) ≡ false }
@@ -79,15 +83,56 @@ impl<'t, H: Hooks> Partial<'t, H> {
         ensures step { IsStep (H.means self.entry.hooks) self.entry Call.End result }
         ensures path { TellsPlaceBefore self.entry result }
         ensures tokens { Conserved (holds self.entry) ledger.old (left result) ledger.new }
-        ensures removed { RisesByRemoved (H.means self.entry.hooks) self.entry Call.End result
-            ledger.old ledger.new }
+        ensures memory { takes_no_memory (cursor_tree self.entry.state) ≡ true
+            → IsNotOutOfMemory result }
+        ensures refused { RefusesBeforeMemory (H.means self.entry.hooks) self.entry
+            Call.End result }
+    {
+        let work = &*self.work;
+        let item = is_set_item(work.plan.core(), &work.slots, &work.stack);
+        if item {
+            self.end_item(ledger)
+        } else {
+            self.end_place(ledger)
+        }
+    }
+
+    /// `end` in deferred mode, below the place at which that began.
+    fn end_deferred(self, ledger: &mut Ledger) -> Result<Partial<'t, H>, ReflectError>
+        requires room { Room (holds self) ledger.old }
+        requires not_open { is_open_slice (cursor_tree self.state) ≡ false }
+        requires below { IsBelowStart self.state.mode self.state.cursor }
+        ensures step { IsStep (H.means self.entry.hooks) self.entry Call.End result }
+        ensures path { TellsPlaceBefore self.entry result }
+        ensures tokens { Conserved (holds self.entry) ledger.old (left result) ledger.new }
+        ensures refused { completes_beneath self.entry.state ≡ false
+            → RefusesBeforeMemory (H.means self.entry.hooks) self.entry Call.End result }
+    {
+        let work = &*self.work;
+        let item = is_set_item(work.plan.core(), &work.slots, &work.stack);
+        if item {
+            self.complete_item(ledger)
+        } else {
+            self.leave(ledger)
+        }
+    }
+
+    /// `end` in strict mode, below the root, at no item of a set.
+    fn end_place(mut self, ledger: &mut Ledger) -> Result<Partial<'t, H>, ReflectError>
+        requires room { Room (holds self) ledger.old }
+        requires strict { self.state.mode ≡ strict }
+        requires not_open { is_open_slice (cursor_tree self.state) ≡ false }
+        requires below { is_root self.state.cursor ≡ false }
+        requires not_item { is_set_item self.state ≡ false }
+        ensures step { IsStep (H.means self.entry.hooks) self.entry Call.End result }
+        ensures path { TellsPlaceBefore self.entry result }
+        ensures tokens { Conserved (holds self.entry) ledger.old (left result) ledger.new }
         ensures memory { takes_no_memory (cursor_tree self.entry.state) ≡ true
             → IsNotOutOfMemory result }
         ensures refused { RefusesBeforeMemory (H.means self.entry.hooks) self.entry
             Call.End result }
     {
         law_paths();
-        law_removed();
         law_well();
         let hooks = self.hooks;
         let work = &mut *self.work;
@@ -111,17 +156,17 @@ impl<'t, H: Hooks> Partial<'t, H> {
         }
     }
 
-    /// `end` in deferred mode, below the place at which that began.
+    /// `end` in deferred mode, below the place at which that began, at no item of a set.
     fn leave(mut self, ledger: &mut Ledger) -> Result<Partial<'t, H>, ReflectError>
         requires room { Room (holds self) ledger.old }
         requires not_open { is_open_slice (cursor_tree self.state) ≡ false }
         requires below { IsBelowStart self.state.mode self.state.cursor }
+        requires not_item { takes_at_end (tree_at (up self.state.cursor) self.state.tree) ≡ false }
         ensures step { IsStepTo self.entry (Ok (leaves self.entry.state)) result }
         ensures path { TellsPlaceBefore self.entry result }
         ensures tokens { Conserved (holds self.entry) ledger.old (left result) ledger.new }
     {
         law_paths();
-        law_removed();
         law_well();
         let work = &mut *self.work;
         let (slots, store) = (&mut work.slots, &mut work.store);
@@ -133,8 +178,8 @@ impl<'t, H: Hooks> Partial<'t, H> {
         Ok(self)
     }
 
-    /// Completes the root and hands its value over. Only copies of templates, and what an option, a result or a pointer holds, need
-    /// memory, and what is lacking is found before any is made. Refused in deferred mode, and then below the root.
+    /// Completes the root and hands its value over. Only copies of templates, what an option, a result or a pointer holds, and what a set
+    /// or a map gathers, need memory, and what is lacking is found before any is made. Refused in deferred mode, and then below the root.
     pub fn build(self, ledger: &mut Ledger) -> Result<Built, ReflectError>
         requires room { Room (holds self) ledger.old }
         ensures built { IsBuilt (H.means self.entry.hooks) self.entry result }

@@ -1,6 +1,7 @@
 //! Completing the place on top of the stack, and leaving it with its value.
 ghost use Rattle.std.specs.Prelude.{◌≡◌, [], false, Some, IfOk, IfErr, OnOk, OnErr};
 ghost use Rattle.fr_shape.specs.Released.{Conserved, Room, RoseBy};
+ghost use Rattle.fr_shape.specs.Tokens.{occurs};
 ghost use Rattle.fr_shape.specs.View.{view};
 ghost use Rattle.fr_model.specs.Complete.{complete};
 ghost use Rattle.fr_model.specs.Places.{strict_column, is_root};
@@ -37,9 +38,8 @@ pub fn end_here<H: Hooks>(
         (tree_in_slots slots.old stack.old) (cursor_in slots.old stack.old)) }
     ensures why { IfErr result (λ kind. WhyNot (H.means hooks.now) table.now
         (shape_here table.now root.0 slots.old stack.old) (tree_here slots.old stack.old) kind) }
-    ensures tokens { OnErr result (Conserved (slots_occur slots.old) ledger.old
-        (slots_occur slots.new) ledger.new) }
-    ensures ledger { OnOk result (ledger.new ≡ ledger.old) }
+    ensures conserved { Conserved (slots_occur slots.old) ledger.old
+        (slots_occur slots.new) ledger.new }
 {
     law_plan_lookups();
     let _root = root;
@@ -71,7 +71,8 @@ pub fn take_root<H: Hooks>(
     requires room { Room (tree_occurs (tree_in_slots slots stack)) ledger.old }
     ensures value { IfOk result (λ v. complete strict_column (H.means hooks.now) table.now root.0
         (tree_in_slots slots stack) ≡ Some (view v)) }
-    ensures kept { OnOk result (ledger.new ≡ ledger.old) }
+    ensures conserved { IfOk result (λ v. Conserved (tree_occurs (tree_in_slots slots stack))
+        ledger.old (occurs (view v)) ledger.new) }
     ensures why { IfErr result (λ kind. WhyNot (H.means hooks.now) table.now root.0
         (tree_in_slots slots stack) kind) }
     ensures released { OnErr result

@@ -1,14 +1,16 @@
 //! A new item of the place at which the builder works, behind the others.
-ghost use Rattle.std.specs.Prelude.{◌≡◌, [], ◌∷◌, ◌++◌, Ok, None, OnErr, OnOk};
-ghost use Rattle.fr_shape.specs.Look.{def_of};
+ghost use Rattle.std.specs.Prelude.{[], ◌∷◌, ◌++◌, Ok, OnOk};
 ghost use Rattle.fr_shape.specs.Released.{Room, Conserved};
-ghost use Rattle.fr_model.specs.Items.{item_refusal, with_item};
+ghost use Rattle.fr_model.specs.Items.{with_item};
+ghost use Rattle.fr_model.specs.Paths.{path_of, step_as};
 ghost use Rattle.fr_model.specs.Step.{enters_item};
 ghost use Rattle.fr_model.specs.Tree.{count_below, cursor_tree};
+ghost use Rattle.fr_frame.specs.Bodies.{TakesItems};
 ghost use Rattle.fr_frame.specs.Changes.{SameMarks, SameTokens};
 ghost use Rattle.fr_frame.specs.Heap.{as_form};
 ghost use Rattle.fr_store.specs.Moves.{changed_here, cursor_in, tree_here, IsOpenAt};
 ghost use Rattle.fr_partial.specs.Builder.{here, holds, left, IsStepTo, TellsPlaceBefore};
+ghost use Rattle.fr_partial.specs.Meant.{IsMeant};
 ghost use Rattle.fr_partial.specs.Openings.{HasItems};
 ghost use Rattle.fr_partial.specs.Underway.{shape_here, IsReady};
 
@@ -18,7 +20,7 @@ use crate::paths::step_back;
 use crate::work::fail;
 use crate::{Partial, ReflectError};
 use fr_frame::{Form, Slots};
-use fr_model::{law_paths, law_well};
+use fr_model::law_well;
 use fr_path::Path;
 use fr_plan::{TypePlanCore, law_plan_lookups};
 use fr_shape::{Hooks, Ledger, OutOfMemory, ReflectErrorKind, ShapeId, ShapeTable};
@@ -37,9 +39,7 @@ fn enter_item(
 ) -> Result<(), OutOfMemory>
     requires ready { IsReady table.now root plan.now slots.old stack.old }
     requires items { HasItems (as_form opening.form) opening.count (tree_here slots.old stack.old) }
-    requires admitted { item_refusal
-        (def_of table.now (shape_here table.now root.0 slots.old stack.old))
-        (tree_here slots.old stack.old) ≡ None }
+    requires grows { TakesItems (as_form opening.form) }
     ensures entered { OnOk result (IsOpenAt plan.now slots.new stack.new
         (cursor_in slots.old stack.old ++ count_below (tree_here slots.old stack.old) ∷ [])
         (changed_here (with_item table.now (shape_here table.now root.0 slots.old stack.old))
@@ -67,14 +67,14 @@ impl<'t, H: Hooks> Partial<'t, H> {
     ) -> Result<Partial<'t, H>, ReflectError>
         requires room { Room (holds self) ledger.old }
         requires items { HasItems (as_form opening.form) opening.count (cursor_tree self.state) }
-        requires admitted { item_refusal (def_of self.shapes (here self)) (cursor_tree self.state)
-            ≡ None }
+        requires grows { TakesItems (as_form opening.form) }
+        requires meant { IsMeant self (enters_item self.shapes (here self) self.state)
+            (path_of self.state ++ step_as (as_form opening.form) opening.count ∷ []) }
         ensures step { IsStepTo self.entry
             (Ok (enters_item self.entry.shapes (here self.entry) self.entry.state)) result }
         ensures path { TellsPlaceBefore self.entry result }
         ensures tokens { Conserved (holds self.entry) ledger.old (left result) ledger.new }
     {
-        law_paths();
         law_well();
         let Ok(i) = u32::try_from(opening.count) else {
             return Err(self.refuse(ReflectErrorKind::OutOfMemory, ledger));

@@ -31,7 +31,7 @@ fn unless_list(table: &ShapeTable, shape: ShapeId, refusal: Operation) -> Option
 }
 
 /// The form of a begun place, as refusals name it.
-fn tracker(form: Form) -> TrackerKind
+pub fn tracker(form: Form) -> TrackerKind
     ensures { result ≡ tracker_of (as_form form) }
 {
     match form {
@@ -43,6 +43,8 @@ fn tracker(form: Form) -> TrackerKind
         Form::Pointer => TrackerKind::SmartPointer,
         Form::List => TrackerKind::List,
         Form::Slice | Form::ClosedSlice => TrackerKind::SmartPointerSlice,
+        Form::Set => TrackerKind::Set,
+        Form::Map(_) => TrackerKind::Map,
     }
 }
 
@@ -54,6 +56,7 @@ fn is_list_like(form: Form) -> bool
         Form::List | Form::Slice | Form::ClosedSlice => true,
         Form::Struct | Form::Array | Form::Variant(_) => false,
         Form::Some | Form::Ok | Form::Err | Form::Pointer => false,
+        Form::Set | Form::Map(_) => false,
     }
 }
 
@@ -106,6 +109,7 @@ fn item_opening(table: &ShapeTable, shape: ShapeId, piece: &Piece) -> Result<Ope
         Form::ClosedSlice => Err(Operation::ItemStillOpen),
         Form::Struct | Form::Array | Form::Variant(_) => Err(unbegun_refusal(table, shape)),
         Form::Some | Form::Ok | Form::Err | Form::Pointer => Err(unbegun_refusal(table, shape)),
+        Form::Set | Form::Map(_) => Err(unbegun_refusal(table, shape)),
     }
 }
 
@@ -170,6 +174,7 @@ impl<'t, H: Hooks> Partial<'t, H> {
         ensures refused { RefusesBeforeMemory (H.means self.entry.hooks) self.entry
             Call.BeginListItem result }
     {
+        law_paths();
         law_removed();
         let work = &*self.work;
         let plan = work.plan.core();

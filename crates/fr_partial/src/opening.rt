@@ -1,10 +1,10 @@
-//! Beginning the place at which the builder works as its definition tells: a list, or an array.
+//! Beginning the place at which the builder works as its definition tells: a list, an array, a set or a map.
 ghost use Rattle.std.specs.Prelude.{◌≡◌, IsOk, OnOk, Ok, true};
 ghost use Rattle.fr_shape.specs.Look.{def_of};
 ghost use Rattle.fr_shape.specs.Released.{Room, Conserved};
 ghost use Rattle.fr_model.specs.Paths.{path_of};
 ghost use Rattle.fr_model.specs.Step.{opened, opens};
-ghost use Rattle.fr_model.specs.Tree.{cursor_tree};
+ghost use Rattle.fr_model.specs.Tree.{base_of_form, cursor_tree};
 ghost use Rattle.fr_frame.specs.Bodies.{own_tree};
 ghost use Rattle.fr_frame.specs.Changes.{SameMarks, SameTokens};
 ghost use Rattle.fr_frame.specs.Heap.{as_form, body_of};
@@ -48,6 +48,7 @@ fn open_here(
     requires may_open { MayOpenAs (def_of table.now (shape_here table.now root.0 slots.old stack.now))
         (as_form form) count (tree_here slots.old stack.now) }
     requires many { TakesMany (as_form form) }
+    requires base { base_of_form (as_form form) ≡ 0 }
     ensures opened { OnOk result (IsOpenAt plan.now slots.new stack.now
         (cursor_in slots.old stack.now)
         (changed_here
@@ -78,6 +79,7 @@ impl<'t, H: Hooks> Partial<'t, H> {
         requires may_open { MayOpenAs (def_of self.shapes (here self)) (as_form form) count
             (cursor_tree self.state) }
         requires many { TakesMany (as_form form) }
+        requires base { base_of_form (as_form form) ≡ 0 }
         requires meant { IsMeant self (opens self.shapes (here self) self.state)
             (path_of self.state) }
         ensures step { IsStepTo self.entry

@@ -4,12 +4,13 @@ ghost use Rattle.fr_shape.specs.Fits.{fits};
 ghost use Rattle.fr_shape.specs.Released.{Room, Conserved};
 ghost use Rattle.fr_shape.specs.Tokens.{occurs};
 ghost use Rattle.fr_shape.specs.View.{view};
+ghost use Rattle.fr_model.specs.Collections.{lacks_value};
 ghost use Rattle.fr_model.specs.Step.{puts};
 ghost use Rattle.fr_frame.specs.Bodies.{own_tree};
 ghost use Rattle.fr_frame.specs.Heap.{body_of};
 ghost use Rattle.fr_store.specs.Moves.{tree_here};
 ghost use Rattle.fr_partial.specs.Builder.{here, holds};
-ghost use Rattle.fr_partial.specs.Looks.{LooksLike};
+ghost use Rattle.fr_partial.specs.Looks.{lacks_last, LooksLike};
 ghost use Rattle.fr_partial.specs.Underway.{shape_here, IsReady};
 
 use crate::Partial;
@@ -20,7 +21,7 @@ use fr_shape::{Hooks, Ledger, ShapeId, ShapeTable, Value};
 use fr_store::Stack;
 
 /// The shape of the place on top of the stack, as the plan has it, and what was put there, in which a child that is stored isn't
-/// told.
+/// told, but whether the last one is there.
 pub fn place_here<'a>(
     table: &ShapeTable,
     root: ShapeId,
@@ -31,6 +32,7 @@ pub fn place_here<'a>(
     requires { IsReady table.now root plan.now slots.now stack.now }
     ensures shape { result.0.0 ≡ shape_here table.now root.0 slots.now stack.now }
     ensures piece { LooksLike (own_tree (body_of result.1.now)) (tree_here slots.now stack.now) }
+    ensures last { lacks_last (body_of result.1.now) ≡ lacks_value (tree_here slots.now stack.now) }
 {
     law_plan_lookups();
     let _table = table;

@@ -7,9 +7,8 @@ ghost use Rattle.fr_model.specs.Contents.{kept_slice, slice_anew};
 ghost use Rattle.fr_model.specs.Items.{is_open_slice};
 ghost use Rattle.fr_model.specs.Paths.{path_of};
 ghost use Rattle.fr_model.specs.Step.{begins_pointer, closes};
-ghost use Rattle.fr_model.specs.Tree.{cursor_tree, strict};
+ghost use Rattle.fr_model.specs.Tree.{cursor_tree, strict, tree_occurs};
 ghost use Rattle.fr_frame.specs.Bodies.{own_tree};
-ghost use Rattle.fr_frame.specs.Changes.{SameTokens};
 ghost use Rattle.fr_frame.specs.Heap.{body_of, slots_occur};
 ghost use Rattle.fr_store.specs.Moves.{changed_here, cursor_in, tree_here, tree_in_slots, IsOpenAt};
 ghost use Rattle.fr_store.specs.Stored.{IsKept, NothingStored, StoresNoMore};
@@ -92,15 +91,18 @@ fn make_whole<H: Hooks>(
     hooks: &H,
     slots: &mut Slots,
     stack: &Stack,
+    ledger: &mut Ledger,
 ) -> Result<(), ReflectErrorKind>
     requires ready { IsReady table.now root plan.now slots.old stack.now }
     requires strict { NothingStored slots.old }
+    requires room { Room (tree_occurs (tree_in_slots slots.old stack.now)) ledger.old }
     ensures whole { OnOk result (IsMadeWhole (H.means hooks.now) table.now
         (shape_here table.now root.0 slots.old stack.now) plan.now slots.new stack.now
         (tree_in_slots slots.old stack.now) (cursor_in slots.old stack.now)) }
     ensures why { IfErr result (λ kind. WhyNot (H.means hooks.now) table.now
         (shape_here table.now root.0 slots.old stack.now) (tree_here slots.old stack.now) kind) }
-    ensures tokens { SameTokens slots.old slots.new }
+    ensures conserved { Conserved (slots_occur slots.old) ledger.old
+        (slots_occur slots.new) ledger.new }
 {
     law_plan_lookups();
     let _root = root;
@@ -108,7 +110,7 @@ fn make_whole<H: Hooks>(
         unreachable!()
     };
     match top.fill_and_require_fields(slots, table, plan, hooks) {
-        Ok(()) => match stack.make_whole(slots, plan) {
+        Ok(()) => match stack.make_whole(slots, plan, ledger) {
             Ok(()) => Ok(()),
             Err(OutOfMemory) => Err(ReflectErrorKind::OutOfMemory),
         },
@@ -172,7 +174,8 @@ impl<'t, H: Hooks> Partial<'t, H> {
         let table = work.table;
         let root = work.root;
         let slots = &mut work.slots;
-        match make_whole(table, root, work.plan.core(), hooks, slots, &work.stack) {
+        let plan = work.plan.core();
+        match make_whole(table, root, plan, hooks, slots, &work.stack, ledger) {
             Ok(()) => {
                 work.calls = work.calls.saturating_add(1);
                 Ok(self)

@@ -15,6 +15,7 @@ use Rattle.fr_store.specs.ShapeLaws.{IsOfShape, child_shaped}
 use Rattle.fr_store.specs.Stands.{kid_shown}
 use Rattle.fr_partial.specs.Beginnings.{begun_by, kept_by}
 use Rattle.fr_partial.specs.Underway.{shape_here}
+use Rattle.fr_partial.proofs.BelowLaws.{around_base, around_map, never_map}
 use Rattle.fr_partial.proofs.EnterLaws.{changed_at, changed_twice, node_stays, def_entered}
 use Rattle.fr_partial.proofs.FitLaws.{is_there}
 use Rattle.fr_partial.proofs.KeptLaws.{has_content, content_so, points_around}
@@ -59,6 +60,25 @@ enter-requires-clause-child c =
     ∙ changed_at (deferred 0) place (begun_by c.args.beginning (as_form c.args.form) 1) tree
     (leads (goal.at.enter-requires-clause-child c).In_ok-begin_so)))
     (has_content c.args.beginning (as_form c.args.form) (tree_here c.args.slots.now c.args.stack.now) c.requires.may_begin)
+
+pub begin_so-requires-clause-base : goal.begin_so-requires-clause-base
+begin_so-requires-clause-base c = around_base (as_form c.args.form) c.requires.around
+
+pub enter-requires-clause-map_hole : goal.enter-requires-clause-map_hole
+enter-requires-clause-map_hole c h =
+    let place : Place = cursor_in c.args.slots.now c.args.stack.now in
+    let tree : Tree = tree_in_slots c.args.slots.now c.args.stack.now in
+    let begun = c.in_ok-begin_so.ensures.begun in
+    absurd
+    (never_map (as_form c.args.form) 0 (tree_here c.begin_so.new.slots c.args.stack.now)
+    (subst (λ (t : Tree). HasChild (as_form c.args.form) 0 t)
+    (sym
+    (ap (λ (p : Place). tree_at p (tree_in_slots c.begin_so.new.slots c.args.stack.now)) begun.cursor
+    ∙ ap (tree_at place) begun.built
+    ∙ changed_at (deferred 0) place (begun_by c.args.beginning (as_form c.args.form) 1) tree
+    (leads (goal.at.enter-requires-clause-map_hole c).In_ok-begin_so)))
+    (has_content c.args.beginning (as_form c.args.form) (tree_here c.args.slots.now c.args.stack.now) c.requires.may_begin))
+    (around_map (as_form c.args.form) c.requires.around) h)
 
 pub enter-requires-clause-node : goal.enter-requires-clause-node
 enter-requires-clause-node c =

@@ -20,6 +20,7 @@ use Rattle.fr_store.specs.Numbers.{IsLast}
 use Rattle.fr_store.specs.Stands.{kid_shown}
 use Rattle.fr_partial.specs.Underway.{shape_here, IsReady}
 use Rattle.fr_partial.proofs.BeginLaws.{opened_within}
+use Rattle.fr_partial.proofs.BelowLaws.{never_map, no_base, no_map}
 use Rattle.fr_partial.proofs.EnterLaws.{may_open, has_child, changed_at, entered_so, node_stays, def_entered}
 use Rattle.fr_partial.proofs.FitLaws.{is_there}
 use Rattle.fr_partial.proofs.FormLaws.{form_is_at, full_tree, opened_same, points_so, takes_many}
@@ -174,3 +175,22 @@ begin-requires-clause-many c =
     takes_many (def_of c.args.table.now (shape_here c.args.table.now c.args.root.0 c.args.slots.now c.args.stack.now))
     (tree_here c.args.slots.now c.args.stack.now) (as_form c.args.opening.form) c.args.opening.count c.args.i
     c.requires.opening.begun c.requires.admitted
+
+pub begin-requires-clause-base : goal.begin-requires-clause-base
+begin-requires-clause-base c =
+    no_base (def_of c.args.table.now (shape_here c.args.table.now c.args.root.0 c.args.slots.now c.args.stack.now))
+    (tree_here c.args.slots.now c.args.stack.now) (as_form c.args.opening.form) c.args.opening.count c.args.i
+    c.requires.opening.begun c.requires.admitted
+
+pub enter-requires-clause-map_hole : goal.enter-requires-clause-map_hole
+enter-requires-clause-map_hole c h =
+    absurd
+    (never_map (as_form c.args.opening.form) c.args.i (tree_here c.begin.new.slots c.args.stack.now)
+    (has c.law_plan_lookups.ensures.agree c.law_plan_lookups.ensures.paths c.args.table.now c.args.root c.args.plan.now
+    c.args.slots.now c.args.stack.now c.requires.ready (as_form c.args.opening.form) c.args.opening.count c.args.i
+    c.requires.opening.begun
+    (opened_within c.args.table.now _ (tree_here c.args.slots.now c.args.stack.now) c.args.i c.args.opening c.requires.opening
+    c.requires.admitted) c.requires.opening.variant c.requires.admitted c.begin.new.slots c.in_ok-begin.ensures.begun)
+    (no_map (def_of c.args.table.now (shape_here c.args.table.now c.args.root.0 c.args.slots.now c.args.stack.now))
+    (tree_here c.args.slots.now c.args.stack.now) (as_form c.args.opening.form) c.args.opening.count c.args.i
+    c.requires.opening.begun c.requires.admitted) h)

@@ -2,7 +2,7 @@ use Rattle.std.proofs.Common.{◌≡◌, ℕ, ◌≤◌, false, true, IsOk, Ok, 
 use Rattle.fr_shape.specs.Val.{Val}
 use Rattle.fr_model.specs.Places.{up}
 use Rattle.fr_model.specs.Tree.{Tree, whole, tree_occurs}
-use Rattle.fr_frame.specs.Bodies.{Body, takes_box, value_of}
+use Rattle.fr_frame.specs.Bodies.{Body, takes_memory, value_of}
 use Rattle.fr_frame.specs.Heap.{slots_occur}
 use Rattle.fr_store.specs.Moves.{changed_here, cursor_in, tree_in_slots, IsOpenAt}
 use Rattle.fr_partial.proofs.HereLaws.{holds_value, top_body, unboxed_here, value_here}
@@ -25,7 +25,7 @@ pub unreachable-requires : goal.unreachable-requires
 unreachable-requires c =
     let there : IsOk c.end.result
     = top_body c.args.plan.now c.args.slots.now c.args.stack.now c.requires.is_open
-    (λ (body : Body). takes_box body ≡ false → IsOk c.end.result) c.end.ensures.memory
+    (λ (body : Body). takes_memory body ≡ false → IsOk c.end.result) c.end.ensures.memory
     (unboxed_here c.args.plan.now c.args.slots.now c.args.stack.now c.requires.is_open c.requires.holds_value.0
     c.requires.holds_value.1) in
     let no = rw c.in_default.is at there in
@@ -47,10 +47,3 @@ left c =
 
 pub returns-in-Ok-clause-left : goal.returns-in-Ok-clause-left
 returns-in-Ok-clause-left c = left (goal.at.returns-in-Ok-clause-left c).In-Ok
-
-pub returns-in-Ok-clause-tokens : goal.returns-in-Ok-clause-tokens
-returns-in-Ok-clause-tokens c t =
-    let then = left (goal.at.returns-in-Ok-clause-tokens c).In-Ok in
-    held_is c.args.plan.now c.end.new.slots c.end.new.self then.open_still t
-    ∙ ap (λ (tree : Tree). tree_occurs tree t) then.built
-    ∙ sym (held_is c.args.plan.now c.args.slots.now c.args.stack.now c.requires.is_open t)

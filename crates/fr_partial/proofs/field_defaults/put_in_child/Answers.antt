@@ -9,10 +9,11 @@ use Rattle.fr_model.specs.Step.{enter_child, put_child}
 use Rattle.fr_model.specs.Tree.{change_at, change_child, deferred, Tree, tree_at, whole}
 use Rattle.fr_frame.specs.Heap.{heap_of, slots_occur}
 use Rattle.fr_store.specs.LeaveLaws.{up_append}
-use Rattle.fr_store.specs.Moves.{cursor_in, tree_here, tree_in_slots, IsOpenAt}
+use Rattle.fr_store.specs.Moves.{cursor_in, takes_at_end, tree_here, tree_in_slots, IsOpenAt}
 use Rattle.fr_store.specs.Stands.{kid_shown}
 use Rattle.fr_partial.specs.Modes.{mode_of}
 use Rattle.fr_partial.specs.Underway.{shape_here}
+use Rattle.fr_partial.proofs.BelowLaws.{put_no_item}
 use Rattle.fr_partial.proofs.EnterLaws.{changed_at, changed_twice}
 use Rattle.fr_partial.proofs.KeepLaws.{kept_released, kept_same, kept_through, room_here}
 use Rattle.fr_partial.proofs.KeptLaws.{on_ok}
@@ -95,8 +96,36 @@ returns-clause-put c =
 
 pub returns-clause-tokens : goal.returns-clause-tokens
 returns-clause-tokens c =
-    subst (λ (l : List ℕ). Conserved (slots_occur c.args.slots.now) c.args.ledger.now (slots_occur c.leave_whole.new.slots) l)
-    (sym c.leave_whole.ensures.ledger)
-    (kept_through (slots_occur c.args.slots.now) (slots_occur c.set.new.slots) (slots_occur c.leave_whole.new.slots)
-    c.args.ledger.now c.set.new.ledger c.set.new.ledger (keeps (goal.at.returns-clause-tokens c).After-set)
-    (kept_same c.set.new.slots c.leave_whole.new.slots c.set.new.ledger c.leave_whole.ensures.tokens))
+    kept_through (slots_occur c.args.slots.now) (slots_occur c.set.new.slots) (slots_occur c.leave_whole.new.slots)
+    c.args.ledger.now c.set.new.ledger c.leave_whole.new.ledger (keeps (goal.at.returns-clause-tokens c).After-set)
+    c.leave_whole.ensures.conserved
+
+pub leave_whole-requires-clause-not_item : goal.leave_whole-requires-clause-not_item
+leave_whole-requires-clause-not_item c =
+    let v : Val = view c.args.value in
+    let s : ℕ = shape_here c.args.table.now c.args.root.0 c.args.slots.now c.args.stack.now in
+    let place : Place = cursor_in c.args.slots.now c.args.stack.now in
+    let tree : Tree = tree_in_slots c.args.slots.now c.args.stack.now in
+    let entered = c.in_ok-enter_child.ensures.entered in
+    let now = c.set.ensures.set in
+    let cursor : cursor_in c.set.new.slots c.enter_child.new.stack ≡ place ++ c.args.i ∷ [] = now.cursor ∙ entered.cursor in
+    let built : tree_in_slots c.set.new.slots c.enter_child.new.stack
+    ≡ change_at place (put_child (def_of c.args.table.now s) c.args.i v) tree =
+    now.built
+    ∙ ap (λ (p : Place). change_at p (λ old. whole v) (tree_in_slots c.enter_child.new.slots c.enter_child.new.stack))
+    entered.cursor
+    ∙ ap (change_at (place ++ c.args.i ∷ []) (λ old. whole v)) entered.built
+    ∙ changed_below place c.args.i (λ old. whole v) (change_at place (enter_child c.args.table.now s c.args.i) tree)
+    ∙ changed_twice place (change_child c.args.i (λ old. whole v)) (enter_child c.args.table.now s c.args.i) tree
+    ∙ alike_here place
+    (λ (x : Tree). change_child c.args.i (λ old. whole v) (enter_child c.args.table.now s c.args.i x))
+    (put_child (def_of c.args.table.now s) c.args.i v) tree (put_over c.args.i v _ _) in
+    ap (λ (p : Place). takes_at_end (tree_at p (tree_in_slots c.set.new.slots c.enter_child.new.stack)))
+    (ap up cursor ∙ up_append place c.args.i)
+    ∙ ap (λ (t : Tree). takes_at_end (tree_at place t)) built
+    ∙ ap takes_at_end
+    (changed_at (deferred 0) place (put_child (def_of c.args.table.now s) c.args.i v) tree
+    (tree_leads 0 place (kid_shown (heap_of c.args.slots.now) c.args.stack.now) c.requires.ready.shown.stands.leads))
+    ∙ put_no_item c.law_plan_lookups.ensures.agree c.law_plan_lookups.ensures.paths c.args.table.now c.args.root
+    c.args.plan.now c.args.slots.now c.args.stack.now c.requires.ready c.args.i c.args.opening v c.requires.opening
+    c.requires.admitted

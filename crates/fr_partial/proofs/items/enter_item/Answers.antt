@@ -1,13 +1,14 @@
-use Rattle.std.proofs.Common.{◌≡◌, ℕ, suc, ◌<◌, length, List, [], ◌∷◌, ◌++◌, None, refl, sym, ap, ◌∙◌, subst, arith}
+use Rattle.std.proofs.Common.{◌≡◌, ℕ, suc, ◌<◌, length, List, [], ◌∷◌, ◌++◌, refl, sym, ap, ◌∙◌, subst, arith}
 use Rattle.fr_shape.specs.declared.shape.ShapeId.{ShapeId}
 use Rattle.fr_shape.specs.Look.{Table, def_of}
-use Rattle.fr_model.specs.Items.{item_refusal, with_item}
+use Rattle.fr_model.specs.Items.{with_item}
 use Rattle.fr_model.specs.Places.{Place}
 use Rattle.fr_model.specs.Tree.{Form, Tree, child_as, change_at}
 use Rattle.fr_plan.specs.declared.nodes.NodeId.{NodeId}
 use Rattle.fr_plan.specs.LookupLaws.{LookupsAgree, LookupPathsAgree}
 use Rattle.fr_plan.specs.TypePlan.{Plan}
 use Rattle.fr_frame.specs.declared.places.Slot.{Slot}
+use Rattle.fr_frame.specs.Bodies.{TakesItems}
 use Rattle.fr_frame.specs.Completing.{shape_of}
 use Rattle.fr_frame.specs.Heap.{as_form}
 use Rattle.fr_frame.specs.Kids.{child_node}
@@ -18,7 +19,7 @@ use Rattle.fr_partial.specs.Underway.{shape_here, IsReady}
 use Rattle.fr_partial.proofs.EnterLaws.{def_entered}
 use Rattle.fr_partial.proofs.FitLaws.{is_there}
 use Rattle.fr_partial.proofs.KeptLaws.{on_ok}
-use Rattle.fr_partial.proofs.ListLaws.{grows, has_count, has_form, item_so, room_for_one}
+use Rattle.fr_partial.proofs.ListLaws.{has_count, has_form, item_so, room_for_one}
 use Rattle.fr_partial.proofs.PlaceLaws.{here_along}
 use Rattle.fr_partial.proofs.TreeLaws.{alike_here}
 use Rattle.fr_partial.proofs.items.enter_item.Goals as goal
@@ -26,7 +27,7 @@ use Rattle.fr_partial.proofs.items.enter_item.Goals as goal
 module _ (agree : LookupsAgree) (paths : LookupPathsAgree) (table : Table) (root : ShapeId) (plan : Plan) (slots : List Slot)
     (stack : List ℕ) (ready : IsReady table root plan slots stack) (form : Form) (count : ℕ)
     (has : HasItems form count (tree_here slots stack))
-    (may : item_refusal (def_of table (shape_here table root.0 slots stack)) (tree_here slots stack) ≡ None) where
+    (takes : TakesItems form) where
   -- the node of the item has the shape of an item
   child_is : IsOfShape plan (child_node plan (node_on_top plan slots stack) form count)
       (child_as table (shape_here table root.0 slots stack) form count)
@@ -34,7 +35,7 @@ module _ (agree : LookupsAgree) (paths : LookupPathsAgree) (table : Table) (root
       let s : ℕ = shape_here table root.0 slots stack in
       let along = here_along agree paths table root plan slots stack ready in
       let room = room_for_one table s form count (tree_here slots stack) has
-      (grows (def_of table s) form count (tree_here slots stack) has may) along.suits in
+      takes along.suits in
       child_shaped agree table root plan ready.checked ready.inside ready.planned (node_on_top plan slots stack) s form
       (suc count) count along.node_is room.0 room.1 (omega arith)
 
@@ -59,12 +60,6 @@ pub add_item-requires-clause-begun : goal.add_item-requires-clause-begun
 add_item-requires-clause-begun c =
     has_form (as_form c.args.opening.form) c.args.opening.count (tree_here c.args.slots.now c.args.stack.now) c.requires.items
 
-pub add_item-requires-clause-grows : goal.add_item-requires-clause-grows
-add_item-requires-clause-grows c =
-    grows (def_of c.args.table.now (shape_here c.args.table.now c.args.root.0 c.args.slots.now c.args.stack.now))
-    (as_form c.args.opening.form) c.args.opening.count (tree_here c.args.slots.now c.args.stack.now) c.requires.items
-    c.requires.admitted
-
 pub add_item-requires-clause-node : goal.add_item-requires-clause-node
 add_item-requires-clause-node c =
     c.child_node-node.ensures
@@ -79,7 +74,7 @@ pub add_item-requires-clause-planned : goal.add_item-requires-clause-planned
 add_item-requires-clause-planned c =
     let shaped = child_is c.law_plan_lookups.ensures.agree c.law_plan_lookups.ensures.paths c.args.table.now c.args.root
     c.args.plan.now c.args.slots.now c.args.stack.now c.requires.ready (as_form c.args.opening.form) c.args.opening.count
-    c.requires.items c.requires.admitted in
+    c.requires.items c.requires.grows in
     subst (λ (n : NodeId). n.0 < length c.args.plan.now.nodes)
     (sym
     (c.child_node-node.ensures
@@ -92,7 +87,7 @@ returns-clause-entered c =
     on_ok c.add_item.result
     (item_entered c.law_plan_lookups.ensures.agree c.law_plan_lookups.ensures.paths c.args.table.now c.args.root
     c.args.plan.now c.args.slots.now c.args.stack.now c.requires.ready (as_form c.args.opening.form) c.args.opening.count
-    c.requires.items c.requires.admitted c.child_node-node.result
+    c.requires.items c.requires.grows c.child_node-node.result
     (c.child_node-node.ensures
     ∙ ap (λ (n : NodeId). child_node c.args.plan.now n (as_form c.args.opening.form) c.args.opening.count)
     c.node_here.ensures)

@@ -1,4 +1,4 @@
-use Rattle.fr_partial.proofs.PlaceLaws.{none_found, found_inside, found_shape, looks_found}
+use Rattle.fr_partial.proofs.PlaceLaws.{none_found, found_inside, found_shape, lacks_found, looks_found}
 use Rattle.fr_partial.proofs.placing.place_here.Goals as goal
 
 pub node-requires : goal.node-requires
@@ -20,6 +20,9 @@ returns c = record {
       found_shape c.law_plan_lookups.ensures.agree c.law_plan_lookups.ensures.paths c.args.table.now c.args.root
       c.args.plan.now c.args.slots.now c.args.stack.now c.requires c.in-Some.top.0 c.in-Some.ensures.last
       c.in-Some-place.place.now c.in-Some-place.ensures.place c.node.result.now c.node.ensures.node;
+  last =
+      lacks_found c.args.plan.now c.args.slots.now c.args.stack.now c.requires.shown c.in-Some.top.0 c.in-Some.ensures.last
+      c.in-Some-place.place.now c.in-Some-place.ensures.place;
   piece =
       looks_found c.args.plan.now c.args.slots.now c.args.stack.now c.requires.shown c.in-Some.top.0 c.in-Some.ensures.last
       c.in-Some-place.place.now c.in-Some-place.ensures.place;

@@ -1,4 +1,4 @@
-use Rattle.std.proofs.Common.{◌≡◌, None, Some, List, Result, Ok, Err, inr, sym, ap, ◌∙◌, subst, arith}
+use Rattle.std.proofs.Common.{◌≡◌, None, Some, List, Result, Ok, Err, inr, sym, ap, ◌∙◌, subst, arith, true, false}
 use Rattle.fr_shape.specs.declared.error.ReflectErrorKind.{ReflectErrorKind}
 use Rattle.fr_shape.specs.Look.{def_of}
 use Rattle.fr_model.specs.Commands.{Call}
@@ -85,3 +85,11 @@ returns-in-Some-field_named-clause-removed g c =
     (in_order c.self.invariant c.self.view_is)
     (Call.BeginField c.args.field_name.now) (holds c.args.self) (λ t. omega arith) c.enter.result c.args.ledger.now
     c.enter.new.ledger (returns-in-Some-field_named-clause-step g c) c.enter.ensures.tokens
+
+pub returns-in-Some-field_named-clause-refused : goal.returns-in-Some-field_named-clause-refused
+returns-in-Some-field_named-clause-refused g c refused =
+    let here_at = (goal.at.returns-in-Some-field_named-clause-refused g c).In-Some-field_named in
+    let no : false ≡ true =
+    rw (named_admitted (seen g here_at) c.args.field_name.now c.in-Some-field_named.i (sym c.in_default.ensures)
+    (found g here_at)) at refused in
+    absurd (cc)

@@ -7,7 +7,7 @@ use Rattle.fr_model.specs.Tree.{State, cursor_tree}
 use Rattle.fr_frame.specs.Bodies.{own_tree}
 use Rattle.fr_frame.specs.Heap.{as_form, body_of}
 use Rattle.fr_partial.specs.Builder.{here, holds, IsStepTo}
-use Rattle.fr_partial.proofs.ListLaws.{item_begins, item_refused}
+use Rattle.fr_partial.proofs.ListLaws.{grows, item_begins, item_path, item_refused}
 use Rattle.fr_partial.proofs.RemovedLaws.{rises_by_removed, all_released}
 use Rattle.fr_partial.proofs.SeenLaws.{item_seen, items_seen, Sees, sees}
 use Rattle.fr_partial.proofs.StateLaws.{in_order}
@@ -39,8 +39,27 @@ enter_item-requires-clause-items g c =
     items_seen (seen g (goal.at.enter_item-requires-clause-items g c).In-Ok) (as_form c.in-Ok.opening.form) c.in-Ok.opening.count
     c.in-Ok.ensures.items
 
-pub enter_item-requires-clause-admitted : goal.enter_item-requires-clause-admitted
-enter_item-requires-clause-admitted g c = admitted g (goal.at.enter_item-requires-clause-admitted g c).In-Ok
+pub enter_item-requires-clause-grows : goal.enter_item-requires-clause-grows
+enter_item-requires-clause-grows g c =
+    grows (def_of c.args.self.shapes (here c.args.self)) (as_form c.in-Ok.opening.form) c.in-Ok.opening.count
+    (cursor_tree c.args.self.state)
+    (items_seen (seen g (goal.at.enter_item-requires-clause-grows g c).In-Ok) (as_form c.in-Ok.opening.form)
+    c.in-Ok.opening.count c.in-Ok.ensures.items)
+    (admitted g (goal.at.enter_item-requires-clause-grows g c).In-Ok)
+
+pub enter_item-requires-clause-meant : goal.enter_item-requires-clause-meant
+enter_item-requires-clause-meant g c = record {
+  call = Call.BeginListItem;
+  fitting = tt;
+  meant =
+      item_begins c.args.self.shapes (here c.args.self) c.args.self.state
+      (admitted g (goal.at.enter_item-requires-clause-meant g c).In-Ok);
+  path_is =
+      item_path c.law_paths.ensures.enter_item c.args.self.shapes (here c.args.self) c.args.self.state
+      (as_form c.in-Ok.opening.form) c.in-Ok.opening.count (in_order c.self.invariant c.self.view_is).state.leads
+      (items_seen (seen g (goal.at.enter_item-requires-clause-meant g c).In-Ok) (as_form c.in-Ok.opening.form)
+      c.in-Ok.opening.count c.in-Ok.ensures.items);
+}
 
 pub returns-in-Err-clause-step : goal.returns-in-Err-clause-step
 returns-in-Err-clause-step g c =

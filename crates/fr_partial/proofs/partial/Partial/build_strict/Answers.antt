@@ -2,7 +2,7 @@ use Rattle.std.proofs.Common.{◌≡◌, length, slice_index, true, false, IsErr
 use Rattle.fr_shape.specs.declared.error.Invariant.{Invariant}
 use Rattle.fr_shape.specs.declared.error.ReflectErrorKind.{ReflectErrorKind}
 use Rattle.fr_shape.specs.Fits.{fits}
-use Rattle.fr_shape.specs.Released.{Room, RoseBy}
+use Rattle.fr_shape.specs.Released.{Conserved, Room, RoseBy}
 use Rattle.fr_shape.specs.Tokens.{occurs}
 use Rattle.fr_shape.specs.View.{view}
 use Rattle.fr_model.specs.Places.{strict_column}
@@ -68,23 +68,9 @@ returns-in-Ok-clause-fits g c =
 pub returns-in-Ok-clause-tokens : goal.returns-in-Ok-clause-tokens
 returns-in-Ok-clause-tokens g c =
     let lent = works_with c.into_inner-plan.ensures c.self.view_is c.self.invariant in
-    record {
-      same_length = ap length c.in-Ok.ensures.kept;
-      kept_or_released = λ t.
-          let all : holds c.args.self t ≡ tree_occurs (tree_in_slots c.into_inner-plan.result.slots c.into_inner-plan.result.stack) t
-          = ap (λ (b : Builder _). holds b t) (sym lent.view_is) in
-          let kept : occurs (view c.in-Ok.value) t ≡ tree_occurs (tree_in_slots c.into_inner-plan.result.slots c.into_inner-plan.result.stack) t
-          = c.law_completes.ensures.tokens strict_column (g.H.Hooks.means c.self.inside.hooks.now) c.into_inner-plan.result.table.now
-          c.into_inner-plan.result.root.0 (tree_in_slots c.into_inner-plan.result.slots c.into_inner-plan.result.stack) (view c.in-Ok.value) t
-          lent.invariant.ready.checked lent.invariant.ready.suits c.in-Ok.ensures.value in
-          let same : slice_index c.take_root-result.new.ledger t ≡ slice_index c.args.ledger.now t
-          = ap (λ ledger. slice_index ledger t) c.in-Ok.ensures.kept in
-          omega arith;
-      none_falls = λ t.
-          let same : slice_index c.take_root-result.new.ledger t ≡ slice_index c.args.ledger.now t
-          = ap (λ ledger. slice_index ledger t) c.in-Ok.ensures.kept in
-          omega arith;
-    }
+    subst
+    (λ (b : Builder _). Conserved (holds b) c.args.ledger.now (occurs (view c.in-Ok.value)) c.take_root-result.new.ledger)
+    lent.view_is c.in-Ok.ensures.conserved
 
 pub returns-in-Ok-clause-removed : goal.returns-in-Ok-clause-removed
 returns-in-Ok-clause-removed g c =

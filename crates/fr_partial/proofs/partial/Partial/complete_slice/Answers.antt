@@ -12,9 +12,8 @@ use Rattle.fr_partial.specs.Builder.{Builder, holds, meaning}
 use Rattle.fr_partial.specs.Modes.{mode_of}
 use Rattle.fr_partial.specs.Underway.{shape_here, state_of}
 use Rattle.fr_partial.proofs.EndLaws.{keeps_none, makes_none, makes_whole, never_unmade}
-use Rattle.fr_partial.proofs.KeepLaws.{kept_same}
 use Rattle.fr_partial.proofs.LackLaws.{only_wants}
-use Rattle.fr_partial.proofs.ReleaseLaws.{held_kept, released_still, room_still}
+use Rattle.fr_partial.proofs.ReleaseLaws.{held_kept, released_kept, room_kept}
 use Rattle.fr_partial.proofs.RemovedLaws.{all_released}
 use Rattle.fr_partial.proofs.StateLaws.{state_is, strict_stores, underway_after, order_after}
 use Rattle.fr_partial.proofs.WorkLaws.{works_with}
@@ -39,7 +38,7 @@ invariant_of-self g c =
     = ap (λ (b : Builder _). is_open_slice (cursor_tree b.state)) lent.view_is ∙ c.requires.open_slice in
     underway_after lent.invariant c.deref_mut-work.result.now.path c.make_whole.new.slots c.deref_mut-work.result.now.stack c.deref_mut-work.result.now.store
     (mode_of c.deref_mut-work.result.now.mode) c.saturating_add-work.result (puts state v)
-    (subst (λ (p : Plan). IsOpen p c.make_whole.new.slots c.deref_mut-work.result.now.stack) c.core.ensures
+    (subst (λ (p : Plan). IsOpen p c.make_whole.new.slots c.deref_mut-work.result.now.stack) c.core-plan.ensures
     c.in-Ok.ensures.whole.after.open_still)
     (keeps_none (mode_of c.deref_mut-work.result.now.mode) c.deref_mut-work.result.now.store c.make_whole.new.slots mode lent.invariant.stores
     c.in-Ok.ensures.whole.stores)
@@ -82,12 +81,12 @@ returns-in-Ok-clause-tokens g c =
     let lent = works_with c.deref_mut-work.ensures.value c.self.view_is c.self.invariant in
     subst
     (λ (b : Builder _). Conserved (holds b) c.args.ledger.now
-    (tree_occurs (tree_in_slots c.make_whole.new.slots c.deref_mut-work.result.now.stack)) c.args.ledger.now)
+    (tree_occurs (tree_in_slots c.make_whole.new.slots c.deref_mut-work.result.now.stack)) c.make_whole.new.ledger)
     lent.view_is
     (held_kept c.make_whole.new.slots lent.invariant.ready.shown
-    (kept_same c.deref_mut-work.result.now.slots c.make_whole.new.slots c.args.ledger.now c.make_whole.ensures.tokens)
+    c.make_whole.ensures.conserved
     c.deref_mut-work.result.now.stack
-    (subst (λ (p : Plan). IsOpen p c.make_whole.new.slots c.deref_mut-work.result.now.stack) c.core.ensures
+    (subst (λ (p : Plan). IsOpen p c.make_whole.new.slots c.deref_mut-work.result.now.stack) c.core-plan.ensures
     c.in-Ok.ensures.whole.after.open_still))
 
 pub fail-requires : goal.fail-requires
@@ -95,8 +94,7 @@ fail-requires g c =
     let lent = works_with c.deref_mut-work.ensures.value c.self.view_is c.self.invariant in
     record {
       room =
-          room_still _ c.deref_mut-work.result.now.slots c.make_whole.new.slots c.deref_mut-work.result.now.stack lent.invariant.ready.shown
-          c.make_whole.ensures.tokens c.args.ledger.now
+          room_kept c.make_whole.new.slots lent.invariant.ready.shown c.make_whole.ensures.conserved
           (subst (λ (b : Builder _). Room (holds b) c.args.ledger.now) (sym lent.view_is) c.requires.room);
     }
 
@@ -123,8 +121,8 @@ returns-in-Err-clause-tokens g c =
     let lent = works_with c.deref_mut-work.ensures.value c.self.view_is c.self.invariant in
     all_released (holds c.args.self) c.args.ledger.now c.fail.new.ledger
     (subst (λ (b : Builder _). RoseBy (holds b) c.args.ledger.now c.fail.new.ledger) lent.view_is
-    (released_still _ c.deref_mut-work.result.now.slots c.make_whole.new.slots c.deref_mut-work.result.now.stack lent.invariant.ready.shown
-    c.make_whole.ensures.tokens c.args.ledger.now c.fail.new.ledger c.fail.ensures.released))
+    (released_kept c.make_whole.new.slots lent.invariant.ready.shown c.make_whole.ensures.conserved c.fail.new.ledger
+    c.fail.ensures.released))
 
 pub returns-in-Err-clause-refused : goal.returns-in-Err-clause-refused
 returns-in-Err-clause-refused g c refused is =
@@ -137,3 +135,8 @@ returns-in-Err-clause-refused g c refused is =
     (only_wants (g.H.Hooks.means c.self.inside.hooks.now) c.deref_mut-work.result.now.table.now lent.invariant.served _ _ c.in-Err.kind
     c.in-Err.ensures.why (sym c.fail.ensures.kind ∙ is))
     (subst (λ (b : Builder _). IsErr (meaning (g.H.Hooks.means b.hooks) b Call.End)) (sym lent.view_is) refused)
+
+pub make_whole-requires-clause-room : goal.make_whole-requires-clause-room
+make_whole-requires-clause-room g c =
+    let lent = works_with c.deref_mut-work.ensures.value c.self.view_is c.self.invariant in
+    subst (λ (b : Builder _). Room (holds b) c.args.ledger.now) (sym lent.view_is) c.requires.room

@@ -8,15 +8,15 @@ use Rattle.fr_frame.specs.Bodies.{own_tree}
 use Rattle.fr_frame.specs.Heap.{body_of}
 use Rattle.fr_partial.specs.Builder.{Builder, holds, IsStepTo}
 use Rattle.fr_partial.specs.Modes.{mode_of}
-use Rattle.fr_partial.proofs.EndLaws.{as_deep, closes_it, ends_at_root, ends_at_start, ends_below, far_below, none_above, some_above}
+use Rattle.fr_partial.proofs.EndLaws.{as_deep, closes_it, ends_at_root, ends_at_start, far_below, none_above, some_above}
 use Rattle.fr_partial.proofs.RemovedLaws.{rises_by_removed, all_released}
 use Rattle.fr_partial.proofs.StateLaws.{in_order}
 use Rattle.fr_partial.proofs.StayLaws.{held_at_end, open_told}
 use Rattle.fr_partial.proofs.WorkLaws.{works_with}
 use Rattle.fr_partial.proofs.partial.Partial.end.Goals as goal
 
-pub leave-requires-clause-below : goal.leave-requires-clause-below
-leave-requires-clause-below g c =
+pub end_deferred-requires-clause-below : goal.end_deferred-requires-clause-below
+end_deferred-requires-clause-below g c =
     let lent = works_with c.deref-work.ensures c.self.view_is c.self.invariant in
     far_below _ lent.invariant.ready.shown c.deref-work.result.now.mode c.in-Deferred-mode.start c.len-depth.result c.len-depth.ensures.count
     c.in-Deferred-mode.is c.if-depth-start.false lent.view_is
@@ -46,8 +46,16 @@ returns-in-Deferred-clause-step g c =
 
 pub returns-in-Deferred-clause-tokens : goal.returns-in-Deferred-clause-tokens
 returns-in-Deferred-clause-tokens g c =
+    let lent = works_with c.deref-work.ensures c.self.view_is c.self.invariant in
     let held = held_at_end (g.H.Hooks.means c.args.self.hooks) c.law_removed.ensures.step c.args.self c.close_slice.result
-    (in_order c.self.invariant c.self.view_is) (returns-in-Deferred-clause-step g c).0 in
+    (in_order c.self.invariant c.self.view_is)
+    (open_told lent c.place_here.result.0 (own_tree (body_of c.place_here.result.1.now)) c.place_here.ensures.shape
+    c.place_here.ensures.piece c.is_open_slice-stays.result true c.is_open_slice-stays.ensures c.if-stays.true)
+    (λ now_strict.
+    let apart : deferred c.in-Deferred.field-0 ≡ strict
+    = sym (ap mode_of c.in-Deferred.is) ∙ ap (λ (b : Builder _). b.state.mode) lent.view_is ∙ now_strict in
+    cc)
+    (returns-in-Deferred-clause-step g c).0 in
     record {
       same_length = refl;
       kept_or_released = λ t. omega (arith, held t);
@@ -103,34 +111,14 @@ returns-in-Deferred-mode-clause-removed g c =
     (all_released (holds c.args.self) c.args.ledger.now c.refuse-in-Deferred-mode.new.ledger
     c.refuse-in-Deferred-mode.ensures.released)
 
-pub returns-in-Deferred-2-clause-step : goal.returns-in-Deferred-2-clause-step
-returns-in-Deferred-2-clause-step g c =
-    let lent = works_with c.deref-work.ensures c.self.view_is c.self.invariant in
-    subst (λ (meant : Result State ReflectErrorKind). IsStepTo c.args.self meant c.leave.result)
-    (sym
-    (ends_below (g.H.Hooks.means c.args.self.hooks) c.args.self.shapes
-    (cursor_shape c.args.self.shapes c.args.self.root c.args.self.state) c.args.self.state
-    (open_told lent c.place_here.result.0 (own_tree (body_of c.place_here.result.1.now)) c.place_here.ensures.shape
-    c.place_here.ensures.piece c.is_open_slice-stays.result false c.is_open_slice-stays.ensures c.if-stays.false)
-    (far_below _ lent.invariant.ready.shown c.deref-work.result.now.mode c.in-Deferred-mode.start c.len-depth.result c.len-depth.ensures.count
-    c.in-Deferred-mode.is c.if-depth-start.false lent.view_is)))
-    c.leave.ensures.step
-
 pub returns-in-Deferred-2-clause-removed : goal.returns-in-Deferred-2-clause-removed
 returns-in-Deferred-2-clause-removed g c =
     rises_by_removed (g.H.Hooks.means c.args.self.hooks) c.law_removed.ensures.step c.args.self
-    (in_order c.self.invariant c.self.view_is) Call.End (holds c.args.self) (λ t. omega arith) c.leave.result
-    c.args.ledger.now c.leave.new.ledger (returns-in-Deferred-2-clause-step g c) c.leave.ensures.tokens
+    (in_order c.self.invariant c.self.view_is) Call.End (holds c.args.self) (λ t. omega arith) c.end_deferred.result
+    c.args.ledger.now c.end_deferred.new.ledger c.end_deferred.ensures.step c.end_deferred.ensures.tokens
 
-pub returns-in-Deferred-2-clause-refused : goal.returns-in-Deferred-2-clause-refused
-returns-in-Deferred-2-clause-refused g c refused =
-    let lent = works_with c.deref-work.ensures c.self.view_is c.self.invariant in
-    let no = subst (λ (meant : Result State ReflectErrorKind). IsErr meant)
-    (ends_below (g.H.Hooks.means c.args.self.hooks) c.args.self.shapes
-    (cursor_shape c.args.self.shapes c.args.self.root c.args.self.state) c.args.self.state
-    (open_told lent c.place_here.result.0 (own_tree (body_of c.place_here.result.1.now)) c.place_here.ensures.shape
-    c.place_here.ensures.piece c.is_open_slice-stays.result false c.is_open_slice-stays.ensures c.if-stays.false)
-    (far_below _ lent.invariant.ready.shown c.deref-work.result.now.mode c.in-Deferred-mode.start c.len-depth.result c.len-depth.ensures.count
-    c.in-Deferred-mode.is c.if-depth-start.false lent.view_is))
-    refused in
-    cc
+pub returns-in-Strict-2-clause-removed : goal.returns-in-Strict-2-clause-removed
+returns-in-Strict-2-clause-removed g c =
+    rises_by_removed (g.H.Hooks.means c.args.self.hooks) c.law_removed.ensures.step c.args.self
+    (in_order c.self.invariant c.self.view_is) Call.End (holds c.args.self) (λ t. omega arith) c.end_strict.result
+    c.args.ledger.now c.end_strict.new.ledger c.end_strict.ensures.step c.end_strict.ensures.tokens

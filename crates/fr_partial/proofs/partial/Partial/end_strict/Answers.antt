@@ -1,203 +1,21 @@
-use Rattle.std.proofs.Common.{◌≡◌, ℕ, ◌+◌, length, slice_index, List, true, false, IsErr, Ok, Err, inl, inr, refl, sym, ap, ◌∙◌, subst, arith}
-use Rattle.fr_shape.specs.declared.error.ReflectErrorKind.{ReflectErrorKind}
-use Rattle.fr_shape.specs.Released.{Room, RoseBy}
-use Rattle.fr_model.specs.Commands.{Call}
-use Rattle.fr_model.specs.Items.{is_open_slice}
+use Rattle.std.proofs.Common.{◌≡◌, sym, ap, ◌∙◌}
 use Rattle.fr_model.specs.Places.{is_root}
-use Rattle.fr_model.specs.Step.{puts_and_leaves}
-use Rattle.fr_model.specs.Tree.{strict, Tree, State, cursor_tree, tree_occurs}
-use Rattle.fr_plan.specs.TypePlan.{Plan}
-use Rattle.fr_frame.specs.Heap.{slots_occur}
-use Rattle.fr_store.specs.Moves.{cursor_in, tree_in_slots}
-use Rattle.fr_store.specs.Stands.{IsOpen}
-use Rattle.fr_partial.specs.Builder.{Builder, holds, meaning}
-use Rattle.fr_partial.specs.Filling.{takes_no_memory}
-use Rattle.fr_partial.specs.Modes.{mode_of}
-use Rattle.fr_partial.specs.Underway.{shape_here, state_of}
-use Rattle.fr_partial.proofs.EndLaws.{keeps_none, ends, ends_not, never_refused}
-use Rattle.fr_partial.proofs.LackLaws.{only_wants, only_takes}
-use Rattle.fr_partial.proofs.ReleaseLaws.{released_kept, room_kept}
-use Rattle.fr_partial.proofs.RemovedLaws.{rises_by_removed, all_released}
-use Rattle.fr_partial.proofs.StateLaws.{in_order, state_is, strict_stores, underway_after, order_after, tokens_after, last_of}
-use Rattle.fr_partial.proofs.WayLaws.{left_path}
+use Rattle.fr_model.specs.Step.{is_set_item}
+use Rattle.fr_partial.specs.Builder.{Builder}
 use Rattle.fr_partial.proofs.WorkLaws.{works_with}
 use Rattle.fr_partial.proofs.partial.Partial.end_strict.Goals as goal
 
-pub end_here-requires-clause-strict : goal.end_here-requires-clause-strict
-end_here-requires-clause-strict g c =
-    let lent = works_with c.deref_mut-work.ensures.value c.self.view_is c.self.invariant in
-    strict_stores (mode_of c.deref_mut-work.result.now.mode) c.deref_mut-work.result.now.store c.deref_mut-work.result.now.slots
-    (ap (λ (b : Builder _). b.state.mode) lent.view_is ∙ c.requires.strict) lent.invariant.stores lent.invariant.kept
-
-pub end_here-requires-clause-below : goal.end_here-requires-clause-below
-end_here-requires-clause-below g c =
-    let lent = works_with c.deref_mut-work.ensures.value c.self.view_is c.self.invariant in
+pub is_set_item-item-requires-clause-below : goal.is_set_item-item-requires-clause-below
+is_set_item-item-requires-clause-below g c =
+    let lent = works_with c.deref-work.ensures c.self.view_is c.self.invariant in
     ap (λ (b : Builder _). is_root b.state.cursor) lent.view_is ∙ c.requires.below
 
-pub invariant_of-self : goal.invariant_of-self
-invariant_of-self g c =
-    let lent = works_with c.deref_mut-work.ensures.value c.self.view_is c.self.invariant in
-    let s : ℕ = shape_here c.deref_mut-work.result.now.table.now c.deref_mut-work.result.now.root.0 c.deref_mut-work.result.now.slots c.deref_mut-work.result.now.stack in
-    let state : State = state_of c.deref_mut-work.result.now.slots c.deref_mut-work.result.now.stack
-    (mode_of c.deref_mut-work.result.now.mode) c.deref_mut-work.result.now.calls in
-    let v = c.in-Ok.ensures.ended.value in
-    let mode : mode_of c.deref_mut-work.result.now.mode ≡ strict
-    = ap (λ (b : Builder _). b.state.mode) lent.view_is ∙ c.requires.strict in
-    let deep : is_root state.cursor ≡ false
-    = ap (λ (b : Builder _). is_root b.state.cursor) lent.view_is ∙ c.requires.below in
-    let last = last_of (cursor_in c.deref_mut-work.result.now.slots c.deref_mut-work.result.now.stack) deep in
-    underway_after lent.invariant c.step_back.new.path c.end_here.new.slots c.end_here.new.stack c.deref_mut-work.result.now.store
-    (mode_of c.deref_mut-work.result.now.mode) c.saturating_add-work.result (puts_and_leaves state v)
-    (subst (λ (p : Plan). IsOpen p c.end_here.new.slots c.end_here.new.stack) c.core.ensures
-    c.in-Ok.ensures.ended.after.open_still)
-    (keeps_none (mode_of c.deref_mut-work.result.now.mode) c.deref_mut-work.result.now.store c.end_here.new.slots mode lent.invariant.stores
-    c.in-Ok.ensures.ended.stores)
-    lent.invariant.stores
-    (state_is _ c.end_here.new.slots c.end_here.new.stack _ _
-    (mode_of c.deref_mut-work.result.now.mode) c.saturating_add-work.result _ c.in-Ok.ensures.ended.after
-    c.saturating_add-work.ensures)
-    (order_after lent.invariant c.law_well.ensures.in_order (g.H.Hooks.means c.self.inside.hooks.now)
-    (puts_and_leaves state v) Call.End tt
-    (ends (g.H.Hooks.means c.self.inside.hooks.now) c.deref_mut-work.result.now.table.now s state v
-    (ap (λ (b : Builder _). is_open_slice (cursor_tree b.state)) lent.view_is ∙ c.requires.not_open) mode deep c.in-Ok.ensures.ended.meant))
-    (left_path c.law_paths.ensures.leave c.law_paths.ensures.deep state (puts_and_leaves state v) v last.0 last.1
-    c.deref_mut-work.result.now.path c.step_back.new.path lent.invariant.leads last.2 lent.invariant.path c.step_back.ensures
-    refl)
+pub end_item-requires-clause-of_set : goal.end_item-requires-clause-of_set
+end_item-requires-clause-of_set g c =
+    let lent = works_with c.deref-work.ensures c.self.view_is c.self.invariant in
+    sym (ap (λ (b : Builder _). is_set_item b.state) lent.view_is) ∙ sym c.is_set_item-item.ensures.set ∙ c.if-item.true
 
-pub returns-in-Ok-clause-step : goal.returns-in-Ok-clause-step
-returns-in-Ok-clause-step g c =
-    let lent = works_with c.deref_mut-work.ensures.value c.self.view_is c.self.invariant in
-    let s : ℕ = shape_here c.deref_mut-work.result.now.table.now c.deref_mut-work.result.now.root.0 c.deref_mut-work.result.now.slots c.deref_mut-work.result.now.stack in
-    let state : State = state_of c.deref_mut-work.result.now.slots c.deref_mut-work.result.now.stack
-    (mode_of c.deref_mut-work.result.now.mode) c.deref_mut-work.result.now.calls in
-    let v = c.in-Ok.ensures.ended.value in
-    let mode : mode_of c.deref_mut-work.result.now.mode ≡ strict
-    = ap (λ (b : Builder _). b.state.mode) lent.view_is ∙ c.requires.strict in
-    let deep : is_root state.cursor ≡ false
-    = ap (λ (b : Builder _). is_root b.state.cursor) lent.view_is ∙ c.requires.below in (
-      subst (λ (b : Builder _). meaning (g.H.Hooks.means b.hooks) b Call.End ≡ Ok (puts_and_leaves state v)) lent.view_is
-          (ends (g.H.Hooks.means c.self.inside.hooks.now) c.deref_mut-work.result.now.table.now s state v
-          (ap (λ (b : Builder _). is_open_slice (cursor_tree b.state)) lent.view_is ∙ c.requires.not_open) mode deep
-          c.in-Ok.ensures.ended.meant)
-          ∙ ap (λ (next : State). Ok next)
-          (sym
-          (state_is _ c.end_here.new.slots c.end_here.new.stack _ _ (mode_of c.deref_mut-work.result.now.mode) c.saturating_add-work.result _
-          c.in-Ok.ensures.ended.after
-          c.saturating_add-work.ensures)),
-      ap (λ (b : Builder _). b.shapes) lent.view_is,
-      ap (λ (b : Builder _). b.root) lent.view_is,
-      ap (λ (b : Builder _). b.hooks) lent.view_is,
-    )
-
-pub returns-in-Ok-clause-tokens : goal.returns-in-Ok-clause-tokens
-returns-in-Ok-clause-tokens g c =
-    let lent = works_with c.deref_mut-work.ensures.value c.self.view_is c.self.invariant in
-    record {
-      same_length = ap length c.in-Ok.ensures.ledger;
-      kept_or_released = λ t.
-          let s : ℕ = shape_here c.deref_mut-work.result.now.table.now c.deref_mut-work.result.now.root.0 c.deref_mut-work.result.now.slots c.deref_mut-work.result.now.stack in
-          let state : State = state_of c.deref_mut-work.result.now.slots c.deref_mut-work.result.now.stack
-          (mode_of c.deref_mut-work.result.now.mode) c.deref_mut-work.result.now.calls in
-          let v = c.in-Ok.ensures.ended.value in
-          let mode : mode_of c.deref_mut-work.result.now.mode ≡ strict
-          = ap (λ (b : Builder _). b.state.mode) lent.view_is ∙ c.requires.strict in
-          let deep : is_root state.cursor ≡ false
-          = ap (λ (b : Builder _). is_root b.state.cursor) lent.view_is ∙ c.requires.below in
-          let all : holds c.args.self t ≡ tree_occurs state.tree t
-          = ap (λ (b : Builder _). holds b t) (sym lent.view_is) in
-          let kept : tree_occurs state.tree t + 0 ≡ tree_occurs (puts_and_leaves state v).tree t + 0
-          = tokens_after lent.invariant c.law_removed.ensures.step (g.H.Hooks.means c.self.inside.hooks.now)
-          (puts_and_leaves state v) Call.End
-          (ends (g.H.Hooks.means c.self.inside.hooks.now) c.deref_mut-work.result.now.table.now s state v
-          (ap (λ (b : Builder _). is_open_slice (cursor_tree b.state)) lent.view_is ∙ c.requires.not_open) mode deep c.in-Ok.ensures.ended.meant)
-          t in
-          let now : tree_occurs (tree_in_slots c.end_here.new.slots c.end_here.new.stack) t ≡ tree_occurs
-          (puts_and_leaves state v).tree t
-          = ap (λ (tree : Tree). tree_occurs tree t) c.in-Ok.ensures.ended.after.built in
-          let same : slice_index c.end_here.new.ledger t ≡ slice_index c.args.ledger.now t
-          = ap (λ ledger. slice_index ledger t) c.in-Ok.ensures.ledger in
-          omega arith;
-      none_falls = λ t.
-          let same : slice_index c.end_here.new.ledger t ≡ slice_index c.args.ledger.now t
-          = ap (λ ledger. slice_index ledger t) c.in-Ok.ensures.ledger in
-          omega arith;
-    }
-
-pub returns-in-Ok-clause-removed : goal.returns-in-Ok-clause-removed
-returns-in-Ok-clause-removed g c =
-    rises_by_removed (g.H.Hooks.means c.args.self.hooks) c.law_removed.ensures.step c.args.self
-    (in_order c.self.invariant c.self.view_is)
-    Call.End (holds c.args.self) (λ t. omega arith) (Ok _) c.args.ledger.now c.end_here.new.ledger
-    (returns-in-Ok-clause-step g c) (returns-in-Ok-clause-tokens g c)
-
-pub returns-in-Err-clause-step : goal.returns-in-Err-clause-step
-returns-in-Err-clause-step g c =
-    let lent = works_with c.deref_mut-work.ensures.value c.self.view_is c.self.invariant in
-    elim c.in-Err.ensures.why [
-      | inl lacking ↦
-          inr
-          (subst (λ (b : Builder _). meaning (g.H.Hooks.means b.hooks) b Call.End ≡ Err c.in-Err.kind) lent.view_is
-          (ends_not (g.H.Hooks.means c.self.inside.hooks.now) c.deref_mut-work.result.now.table.now
-          (shape_here c.deref_mut-work.result.now.table.now c.deref_mut-work.result.now.root.0 c.deref_mut-work.result.now.slots c.deref_mut-work.result.now.stack)
-          (state_of c.deref_mut-work.result.now.slots c.deref_mut-work.result.now.stack
-          (mode_of c.deref_mut-work.result.now.mode) c.deref_mut-work.result.now.calls) c.in-Err.kind
-          (ap (λ (b : Builder _). is_open_slice (cursor_tree b.state)) lent.view_is ∙ c.requires.not_open)
-          (ap (λ (b : Builder _). b.state.mode) lent.view_is ∙ c.requires.strict)
-          (ap (λ (b : Builder _). is_root b.state.cursor) lent.view_is ∙ c.requires.below)
-          lacking)
-          ∙ ap (λ (kind : ReflectErrorKind). Err kind) (sym c.fail.ensures.kind))
-      | inr wants ↦ inl (c.fail.ensures.kind ∙ wants.memory)
-    ]
-
-pub end_here-requires-clause-room : goal.end_here-requires-clause-room
-end_here-requires-clause-room g c =
-    let lent = works_with c.deref_mut-work.ensures.value c.self.view_is c.self.invariant in
-    subst (λ (b : Builder _). Room (holds b) c.args.ledger.now) (sym lent.view_is) c.requires.room
-
-pub fail-requires : goal.fail-requires
-fail-requires g c =
-    let lent = works_with c.deref_mut-work.ensures.value c.self.view_is c.self.invariant in
-    record {
-      room =
-          room_kept c.end_here.new.slots lent.invariant.ready.shown c.in-Err.ensures.tokens
-          (subst (λ (b : Builder _). Room (holds b) c.args.ledger.now) (sym lent.view_is) c.requires.room);
-    }
-
-pub returns-in-Err-clause-tokens : goal.returns-in-Err-clause-tokens
-returns-in-Err-clause-tokens g c =
-    let lent = works_with c.deref_mut-work.ensures.value c.self.view_is c.self.invariant in
-    all_released (holds c.args.self) c.args.ledger.now c.fail.new.ledger
-    (subst (λ (b : Builder _). RoseBy (holds b) c.args.ledger.now c.fail.new.ledger) lent.view_is
-    (released_kept c.end_here.new.slots lent.invariant.ready.shown c.in-Err.ensures.tokens c.fail.new.ledger
-    c.fail.ensures.released))
-
-pub returns-in-Err-clause-memory : goal.returns-in-Err-clause-memory
-returns-in-Err-clause-memory g c nothing is =
-    let lent = works_with c.deref_mut-work.ensures.value c.self.view_is c.self.invariant in
-    let takes = only_takes (g.H.Hooks.means c.self.inside.hooks.now) c.deref_mut-work.result.now.table.now lent.invariant.served _ _
-    c.in-Err.kind c.in-Err.ensures.why (sym c.fail.ensures.kind ∙ is) in
-    let no : false ≡ true
-    = sym takes ∙ ap (λ (b : Builder _). takes_no_memory (cursor_tree b.state)) lent.view_is ∙ nothing in
-    cc
-
-pub returns-in-Err-clause-refused : goal.returns-in-Err-clause-refused
-returns-in-Err-clause-refused g c refused is =
-    let lent = works_with c.deref_mut-work.ensures.value c.self.view_is c.self.invariant in
-    never_refused (g.H.Hooks.means c.self.inside.hooks.now) c.deref_mut-work.result.now.table.now
-    (shape_here c.deref_mut-work.result.now.table.now c.deref_mut-work.result.now.root.0 c.deref_mut-work.result.now.slots c.deref_mut-work.result.now.stack)
-    (state_of c.deref_mut-work.result.now.slots c.deref_mut-work.result.now.stack (mode_of c.deref_mut-work.result.now.mode) c.deref_mut-work.result.now.calls)
-    (ap (λ (b : Builder _). is_open_slice (cursor_tree b.state)) lent.view_is ∙ c.requires.not_open)
-    (ap (λ (b : Builder _). b.state.mode) lent.view_is ∙ c.requires.strict)
-    (ap (λ (b : Builder _). is_root b.state.cursor) lent.view_is ∙ c.requires.below)
-    (only_wants (g.H.Hooks.means c.self.inside.hooks.now) c.deref_mut-work.result.now.table.now lent.invariant.served _ _ c.in-Err.kind
-    c.in-Err.ensures.why (sym c.fail.ensures.kind ∙ is))
-    (subst (λ (b : Builder _). IsErr (meaning (g.H.Hooks.means b.hooks) b Call.End)) (sym lent.view_is) refused)
-
-pub returns-in-Err-clause-removed : goal.returns-in-Err-clause-removed
-returns-in-Err-clause-removed g c =
-    let lent = works_with c.deref_mut-work.ensures.value c.self.view_is c.self.invariant in
-    rises_by_removed (g.H.Hooks.means c.args.self.hooks) c.law_removed.ensures.step c.args.self
-    (in_order lent.invariant lent.view_is)
-    Call.End (holds c.args.self) (λ t. omega arith)
-    (Err c.fail.result) c.args.ledger.now c.fail.new.ledger
-    (returns-in-Err-clause-step g c) (returns-in-Err-clause-tokens g c)
+pub end_place-requires-clause-not_item : goal.end_place-requires-clause-not_item
+end_place-requires-clause-not_item g c =
+    let lent = works_with c.deref-work.ensures c.self.view_is c.self.invariant in
+    sym (ap (λ (b : Builder _). is_set_item b.state) lent.view_is) ∙ sym c.is_set_item-item.ensures.set ∙ c.if-item.false

@@ -1,10 +1,7 @@
 use Rattle.std.proofs.Common.{◌≡◌, ℕ, List, [], ◌∷◌, ◌++◌, None, Ok, refl, sym, ap, ◌∙◌, subst, arith}
 use Rattle.fr_shape.specs.Hooks.{no_hooks}
-use Rattle.fr_shape.specs.Look.{def_of}
 use Rattle.fr_shape.specs.Released.{Conserved, Room, RoseBy}
 use Rattle.fr_path.specs.declared.path_steps.PathStep.{PathStep}
-use Rattle.fr_model.specs.Commands.{Call}
-use Rattle.fr_model.specs.Items.{item_refusal}
 use Rattle.fr_model.specs.Paths.{step_as, path_of}
 use Rattle.fr_model.specs.Step.{enters_item}
 use Rattle.fr_model.specs.Tree.{State, cursor_tree, tree_occurs}
@@ -14,11 +11,11 @@ use Rattle.fr_store.specs.Moves.{tree_in_slots}
 use Rattle.fr_store.specs.Stands.{IsOpen}
 use Rattle.fr_partial.specs.Builder.{Builder, here, holds}
 use Rattle.fr_partial.specs.HeldPlan.{plan_in}
+use Rattle.fr_partial.specs.Meant.{IsMeant}
 use Rattle.fr_partial.specs.Modes.{mode_of}
 use Rattle.fr_partial.specs.Openings.{HasItems}
 use Rattle.fr_partial.specs.Underway.{shape_here, state_of, IsUnderway}
 use Rattle.fr_partial.proofs.KeepLaws.{kept_same, marks_kept}
-use Rattle.fr_partial.proofs.ListLaws.{item_begins, item_path}
 use Rattle.fr_partial.proofs.ReleaseLaws.{held_kept, released_still, room_still}
 use Rattle.fr_partial.proofs.RemovedLaws.{all_released}
 use Rattle.fr_partial.proofs.StateLaws.{state_is, underway_after, order_after}
@@ -47,12 +44,6 @@ enter_item-requires-clause-items g c =
     subst (λ (b : Builder _). HasItems (as_form c.args.opening.form) c.args.opening.count (cursor_tree b.state))
     (sym lent.view_is) c.requires.items
 
-pub enter_item-requires-clause-admitted : goal.enter_item-requires-clause-admitted
-enter_item-requires-clause-admitted g c =
-    let lent = works_with c.deref_mut-work.ensures.value c.self.view_is c.self.invariant in
-    subst (λ (b : Builder _). item_refusal (def_of b.shapes (here b)) (cursor_tree b.state) ≡ None)
-    (sym lent.view_is) c.requires.admitted
-
 pub fail-requires : goal.fail-requires
 fail-requires g c =
     let lent = works_with c.deref_mut-work.ensures.value c.self.view_is c.self.invariant in
@@ -79,10 +70,10 @@ invariant_of-self-in-Ok-enter_item g c =
     let state : State = state_of c.deref_mut-work.result.now.slots c.deref_mut-work.result.now.stack
     (mode_of c.deref_mut-work.result.now.mode) c.deref_mut-work.result.now.calls in
     let next : State = enters_item c.deref_mut-work.result.now.table.now s state in
-    let items = subst (λ (b : Builder _). HasItems (as_form c.args.opening.form) c.args.opening.count (cursor_tree b.state))
-    (sym lent.view_is) c.requires.items in
-    let admitted = subst (λ (b : Builder _). item_refusal (def_of b.shapes (here b)) (cursor_tree b.state) ≡ None)
-    (sym lent.view_is) c.requires.admitted in
+    let meant = subst
+    (λ (b : Builder _). IsMeant b (enters_item b.shapes (here b) b.state)
+    (path_of b.state ++ step_as (as_form c.args.opening.form) c.args.opening.count ∷ []))
+    (sym lent.view_is) c.requires.meant in
     underway_after lent.invariant _ c.enter_item.new.slots c.enter_item.new.stack c.deref_mut-work.result.now.store
     (mode_of c.deref_mut-work.result.now.mode) c.saturating_add-work.result next
     (subst (λ (p : Plan). IsOpen p c.enter_item.new.slots c.enter_item.new.stack) c.core-plan.ensures
@@ -92,16 +83,13 @@ invariant_of-self-in-Ok-enter_item g c =
     lent.invariant.stores
     (state_is _ c.enter_item.new.slots c.enter_item.new.stack _ _ (mode_of c.deref_mut-work.result.now.mode) c.saturating_add-work.result _
     c.in-Ok-enter_item.ensures.entered c.saturating_add-work.ensures)
-    (order_after lent.invariant c.law_well.ensures.in_order no_hooks next Call.BeginListItem tt
-    (item_begins c.deref_mut-work.result.now.table.now s state admitted))
+    (order_after lent.invariant c.law_well.ensures.in_order no_hooks next meant.call meant.fitting meant.meant)
     (c.in-Ok-push.ensures.appended
     ∙ ap (λ (step : PathStep). c.deref_mut-work.result.now.path ++ step ∷ []) c.step.ensures.step
     ∙ ap (λ (n : ℕ). c.deref_mut-work.result.now.path ++ step_as (as_form c.args.opening.form) n ∷ []) same
     ∙ ap (λ (steps : List PathStep). steps ++ step_as (as_form c.args.opening.form) c.args.opening.count ∷ [])
     lent.invariant.path
-    ∙ sym
-    (item_path c.law_paths.ensures.enter_item c.deref_mut-work.result.now.table.now s state (as_form c.args.opening.form)
-    c.args.opening.count lent.invariant.leads items))
+    ∙ sym meant.path_is)
 
 pub returns-in-Ok-enter_item-clause-step : goal.returns-in-Ok-enter_item-clause-step
 returns-in-Ok-enter_item-clause-step g c =

@@ -1,5 +1,5 @@
 use Rattle.std.proofs.Common.{◌≡◌, ◌+◌, length, slice_index, Ok, Err, inl, inr, refl, sym, ap, ◌∙◌, subst, arith}
-use Rattle.fr_shape.specs.Released.{Room, RoseBy}
+use Rattle.fr_shape.specs.Released.{Conserved, Room, RoseBy}
 use Rattle.fr_model.specs.Commands.{Call}
 use Rattle.fr_model.specs.Tree.{strict, Tree, State, tree_occurs}
 use Rattle.fr_model.specs.Well.{Suits}
@@ -11,8 +11,9 @@ use Rattle.fr_partial.specs.Modes.{mode_of}
 use Rattle.fr_partial.specs.Underway.{state_of}
 use Rattle.fr_partial.proofs.EndLaws.{keeps_none}
 use Rattle.fr_partial.proofs.FinishLaws.{ends_with, finished_so, held_up, state_with, suits_root}
+use Rattle.fr_partial.proofs.ReleaseLaws.{held_kept}
 use Rattle.fr_partial.proofs.RemovedLaws.{all_released}
-use Rattle.fr_partial.proofs.StateLaws.{state_is, underway_after, order_after, tokens_after}
+use Rattle.fr_partial.proofs.StateLaws.{state_is, underway_after, order_after}
 use Rattle.fr_partial.proofs.WorkLaws.{works_with}
 use Rattle.fr_partial.proofs.partial.Partial.finish_all.Goals as goal
 
@@ -93,37 +94,16 @@ returns-in-Ok-clause-step g c =
 pub returns-in-Ok-clause-tokens : goal.returns-in-Ok-clause-tokens
 returns-in-Ok-clause-tokens g c =
     let lent = works_with c.deref_mut-work.ensures.value c.self.view_is c.self.invariant in
-    record {
-      same_length = ap length c.in-Ok.ensures.kept;
-      kept_or_released = λ t.
-          let done = subst
-          (λ (p : Plan). IsFinished (g.H.Hooks.means c.self.inside.hooks.now) c.deref_mut-work.result.now.table.now p c.deref_mut-work.result.now.slots
-          c.deref_mut-work.result.now.stack c.finish.new.slots c.finish.new.stack)
-          c.core-plan.ensures c.in-Ok.ensures.finished in
-          let state : State = state_of c.deref_mut-work.result.now.slots c.deref_mut-work.result.now.stack
-          (mode_of c.deref_mut-work.result.now.mode) c.deref_mut-work.result.now.calls in
-          let all : holds c.args.self t ≡ tree_occurs state.tree t
-          = ap (λ (b : Builder _). holds b t) (sym lent.view_is) in
-          let kept : tree_occurs state.tree t + 0 ≡ tree_occurs done.tree t + 0
-          = tokens_after lent.invariant c.law_removed.ensures.step (g.H.Hooks.means c.self.inside.hooks.now)
-          (state_with state done.tree) Call.FinishDeferred
-          (ends_with c.law_plan_lookups.ensures.agree c.law_plan_lookups.ensures.paths (g.H.Hooks.means c.self.inside.hooks.now)
-          c.deref_mut-work.result.now.table.now c.deref_mut-work.result.now.root _ c.deref_mut-work.result.now.slots c.deref_mut-work.result.now.stack
-          (mode_of c.deref_mut-work.result.now.mode)
-          c.deref_mut-work.result.now.calls lent.invariant.ready
-          (λ mode. c.requires.deferred (ap (λ (b : Builder _). b.state.mode) (sym lent.view_is) ∙ mode))
-          c.finish.new.slots c.finish.new.stack done)
-          t in
-          let now : tree_occurs (tree_in_slots c.finish.new.slots c.finish.new.stack) t ≡ tree_occurs done.tree t
-          = ap (λ (tree : Tree). tree_occurs tree t) done.stands.built in
-          let same : slice_index c.finish.new.ledger t ≡ slice_index c.args.ledger.now t
-          = ap (λ ledger. slice_index ledger t) c.in-Ok.ensures.kept in
-          omega (arith, all, kept, now, same);
-      none_falls = λ t.
-          let same : slice_index c.finish.new.ledger t ≡ slice_index c.args.ledger.now t
-          = ap (λ ledger. slice_index ledger t) c.in-Ok.ensures.kept in
-          omega (arith, same);
-    }
+    let done = subst
+    (λ (p : Plan). IsFinished (g.H.Hooks.means c.self.inside.hooks.now) c.deref_mut-work.result.now.table.now p c.deref_mut-work.result.now.slots
+    c.deref_mut-work.result.now.stack c.finish.new.slots c.finish.new.stack)
+    c.core-plan.ensures c.in-Ok.ensures.finished in
+    subst
+    (λ (b : Builder _). Conserved (holds b) c.args.ledger.now
+    (tree_occurs (tree_in_slots c.finish.new.slots c.finish.new.stack)) c.finish.new.ledger)
+    lent.view_is
+    (held_kept c.finish.new.slots lent.invariant.ready.shown c.in-Ok.ensures.conserved c.finish.new.stack
+    done.stands.open_still)
 
 pub returns-in-Err-clause-step : goal.returns-in-Err-clause-step
 returns-in-Err-clause-step g c =

@@ -2,11 +2,12 @@ use Rattle.std.proofs.Common.{ℕ, List, sym, ap, ◌∙◌, subst}
 use Rattle.fr_shape.specs.Released.{Room}
 use Rattle.fr_model.specs.Commands.{Call}
 use Rattle.fr_model.specs.Items.{is_open_slice}
+use Rattle.fr_model.specs.Places.{up}
 use Rattle.fr_model.specs.Step.{leaves}
-use Rattle.fr_model.specs.Tree.{State, cursor_tree, tree_occurs}
+use Rattle.fr_model.specs.Tree.{State, cursor_tree, tree_at, tree_occurs}
 use Rattle.fr_plan.specs.TypePlan.{Plan}
 use Rattle.fr_frame.specs.declared.places.Slot.{Slot}
-use Rattle.fr_store.specs.Moves.{tree_in_slots}
+use Rattle.fr_store.specs.Moves.{takes_at_end, tree_in_slots}
 use Rattle.fr_store.specs.Stands.{IsOpen}
 use Rattle.fr_partial.specs.Builder.{Builder, holds}
 use Rattle.fr_partial.specs.Modes.{mode_of, IsBelowStart}
@@ -15,6 +16,11 @@ use Rattle.fr_partial.proofs.EndLaws.{ends_below, left_so, may_store, not_root}
 use Rattle.fr_partial.proofs.StateLaws.{state_is, underway_after, order_after}
 use Rattle.fr_partial.proofs.WorkLaws.{works_with}
 use Rattle.fr_partial.proofs.partial.Partial.leave.Goals as goal
+
+pub leave-requires-clause-not_item : goal.leave-requires-clause-not_item
+leave-requires-clause-not_item g c =
+    let lent = works_with c.deref_mut-work.ensures.value c.self.view_is c.self.invariant in
+    ap (λ (b : Builder _). takes_at_end (tree_at (up b.state.cursor) b.state.tree)) lent.view_is ∙ c.requires.not_item
 
 pub invariant_of-self : goal.invariant_of-self
 invariant_of-self g c =
@@ -51,6 +57,7 @@ invariant_of-self-2 g c =
     (leaves state) Call.End tt
     (ends_below (g.H.Hooks.means c.self.inside.hooks.now) c.deref_mut-work.result.now.table.now
     (shape_here c.deref_mut-work.result.now.table.now c.deref_mut-work.result.now.root.0 c.deref_mut-work.result.now.slots c.deref_mut-work.result.now.stack) state
-    (ap (λ (b : Builder _). is_open_slice (cursor_tree b.state)) lent.view_is ∙ c.requires.not_open) deep))
+    (ap (λ (b : Builder _). is_open_slice (cursor_tree b.state)) lent.view_is ∙ c.requires.not_open) deep
+    (ap (λ (b : Builder _). takes_at_end (tree_at (up b.state.cursor) b.state.tree)) lent.view_is ∙ c.requires.not_item)))
     (left_so c.law_paths.ensures.leave_as_it_is c.law_paths.ensures.deep state c.deref_mut-work.result.now.path c.step_back.new.path
     lent.invariant.leads (not_root state.mode state.cursor deep) lent.invariant.path c.step_back.ensures)

@@ -1,0 +1,186 @@
+-- The place above the one at which a builder works: whether it is a set, by the slot that the place on top knows as its owner's.
+use Rattle.std.proofs.Common.{◌≡◌, ◌⊎◌, ◌||◌, ◌+◌, ℕ, inl, inr, length, Bool, true, false, List, [], ◌∷◌, ◌++◌, Option, Some, None, refl, sym, ◌∙◌, ap, subst}
+use Rattle.fr_shape.specs.declared.value.Value.{Value}
+use Rattle.fr_model.specs.Collections.{is_set, is_set_form}
+use Rattle.fr_model.specs.DynamicPlaces.{is_begun_dynamic}
+use Rattle.fr_model.specs.Places.{Place, is_root, up}
+use Rattle.fr_model.specs.Tree.{Form, Tree, begun, Trees, tree_at}
+use Rattle.fr_plan.specs.TypePlan.{Plan}
+use Rattle.fr_frame.specs.declared.places.Form.{Form as RustForm}
+use Rattle.fr_frame.specs.declared.places.FrameOwner.{FrameOwner}
+use Rattle.fr_frame.specs.declared.places.Piece.{Piece}
+use Rattle.fr_frame.specs.declared.places.Place.{Place as Entry}
+use Rattle.fr_frame.specs.declared.places.Slot.{Slot}
+use Rattle.fr_frame.specs.Bodies.{Body, entered_body, whole_body, begun_body}
+use Rattle.fr_frame.specs.Cells.{Cell}
+use Rattle.fr_frame.specs.Heap.{Node, as_form, body_of, node_of, heap_of}
+use Rattle.fr_frame.specs.Kids.{Kid, gone, there, at, Plot, entered_plot, whole_plot, begun_plot, Kids, tree_of, trees_in, cells_in, child_owner, Holds}
+use Rattle.fr_store.specs.HoldLaws.{holds_at}
+use Rattle.fr_store.specs.LeaveLaws.{below_root, owner_append, up_append}
+use Rattle.fr_store.specs.Moves.{cursor_in, takes_at_end, tree_in_slots}
+use Rattle.fr_store.specs.Numbers.{IsLast}
+use Rattle.fr_store.specs.Stands.{IsOpen, kid_shown}
+use Rattle.fr_store.specs.Ways.{Leads, kid_at, node_along, owner_along, owner_below}
+use Rattle.fr_store.specs.WayLaws.{leads_at, leads_reach, tree_of_at}
+use Rattle.fr_partial.proofs.PlaceLaws.{found_is}
+
+-- it is begun, and lies in this slot
+pub record IsAbove (slots : List Slot) (owner : FrameOwner) (tree : Tree) : Type 0 where
+  pub slot : ℕ
+  pub number : ℕ
+  pub node : Node
+  pub form : Form
+  pub cells : List Cell
+  pub trees : Trees
+  pub owner_is : owner ≡ child_owner slot number
+  pub found : heap_of slots slot ≡ Some node
+  pub body : node.body ≡ begun_body form cells
+  pub stands : tree ≡ begun form trees
+
+module _ (plan : Plan) (slots : List Slot) (stack : List ℕ) (shown : IsOpen plan slots stack) where
+  way : (above : Place) (i : ℕ) → cursor_in slots stack ≡ above ++ i ∷ []
+      → IsAbove slots (owner_along FrameOwner.Root (cursor_in slots stack) (kid_shown (heap_of slots) stack))
+      (tree_at (up (cursor_in slots stack)) (tree_in_slots slots stack))
+  way above i is =
+      subst
+      (λ (p : Place). IsAbove slots (owner_along FrameOwner.Root p (kid_shown (heap_of slots) stack))
+      (tree_at (up p) (tree_in_slots slots stack)))
+      (sym is)
+      (go (kid_at above k) refl (leads_at above (i ∷ []) k leads)
+      (holds_at plan (heap_of slots) plan.root FrameOwner.Root 0 above k shown.stands.holds
+      (leads_reach above (i ∷ []) k leads)))
+    where
+      k : Kid
+      k = kid_shown (heap_of slots) stack
+
+      leads : Leads (above ++ i ∷ []) k
+      leads = subst (λ (p : Place). Leads p k) is shown.stands.leads
+
+      go : (x : Kid) → kid_at above k ≡ x → Leads (i ∷ []) (kid_at above k)
+          → Holds plan (heap_of slots) (node_along plan plan.root above k) (owner_along FrameOwner.Root above k)
+          (0 + length above) (kid_at above k)
+          → IsAbove slots (owner_along FrameOwner.Root (above ++ i ∷ []) k)
+          (tree_at (up (above ++ i ∷ [])) (tree_in_slots slots stack))
+      go gone e l h = absurd (subst (λ (x : Kid). Leads (i ∷ []) x) e l)
+      go (there v) e l h = absurd (subst (λ (x : Kid). Leads (i ∷ []) x) e l)
+      go (at slot stored entered_plot) e l h = absurd (subst (λ (x : Kid). Leads (i ∷ []) x) e l).1
+      go (at slot stored (whole_plot v)) e l h = absurd (subst (λ (x : Kid). Leads (i ∷ []) x) e l).1
+      go (at slot stored (begun_plot form kids)) e l h =
+          let held = subst
+          (λ (x : Kid). Holds plan (heap_of slots) (node_along plan plan.root above k)
+          (owner_along FrameOwner.Root above k) (0 + length above) x) e h in
+          record {
+            slot = slot;
+            number = i;
+            node = _;
+            form = form;
+            cells = cells_in kids;
+            trees = trees_in kids;
+            owner_is =
+                owner_append FrameOwner.Root above i k
+                ∙ ap (λ (x : Kid). owner_below (owner_along FrameOwner.Root above k) i x) e;
+            found = held.0;
+            body = refl;
+            stands =
+                ap (λ (p : Place). tree_at p (tree_in_slots slots stack)) (up_append above i)
+                ∙ sym (tree_of_at above k)
+                ∙ ap tree_of e;
+          }
+
+  pub above_here : is_root (cursor_in slots stack) ≡ false
+      → IsAbove slots (owner_along FrameOwner.Root (cursor_in slots stack) (kid_shown (heap_of slots) stack))
+      (tree_at (up (cursor_in slots stack)) (tree_in_slots slots stack))
+  above_here below =
+      let last = below_root (cursor_in slots stack) below in
+      way last.0 last.1 last.2
+
+  -- by the place that is found on top
+  module _ (n : ℕ) (last : IsLast stack n) (place : Entry) (is : Some (node_of place) ≡ heap_of slots n)
+      (below : is_root (cursor_in slots stack) ≡ false) where
+    owner_told : place.owner ≡ child_owner (above_here below).slot (above_here below).number
+    owner_told =
+        ap (λ (found : Node). found.owner) (found_is plan slots stack shown n last place is) ∙ (above_here below).owner_is
+
+    pub never_root : place.owner ≡ FrameOwner.Root → ⊥
+    never_root root = let no = sym root ∙ owner_told in cc
+
+    module _ (parent : _) (i : ℕ) (owned : place.owner ≡ FrameOwner.Child parent i) where
+      slot_is : parent.0 ≡ (above_here below).slot
+      slot_is = let same = sym owned ∙ owner_told in cc
+
+      parent_found : heap_of slots parent.0 ≡ Some (above_here below).node
+      parent_found = ap (heap_of slots) slot_is ∙ (above_here below).found
+
+      pub never_free : None ≡ heap_of slots parent.0 → ⊥
+      never_free none = let no = none ∙ parent_found in cc
+
+      body_told : (above : Entry) → Some (node_of above) ≡ heap_of slots parent.0
+          → body_of above.piece ≡ begun_body (above_here below).form (above_here below).cells
+      body_told above found =
+          let both : Some (node_of above) ≡ Some (above_here below).node = found ∙ parent_found in
+          let same : node_of above ≡ (above_here below).node = cc in
+          ap (λ (x : Node). x.body) same ∙ (above_here below).body
+
+      pub never_bare : (above : Entry) → Some (node_of above) ≡ heap_of slots parent.0
+          → body_of above.piece ≡ entered_body → ⊥
+      never_bare above found bare = let no = sym bare ∙ body_told above found in cc
+
+      pub never_whole : (above : Entry) (v : _) → Some (node_of above) ≡ heap_of slots parent.0
+          → body_of above.piece ≡ whole_body v → ⊥
+      never_whole above v found whole = let no = sym whole ∙ body_told above found in cc
+
+      pub never_other : (above : Entry) → Some (node_of above) ≡ heap_of slots parent.0
+          → (above.piece ≡ Piece.Entered) ⊎ ((v : Value) × (above.piece ≡ Piece.Whole v)) → ⊥
+      never_other above found (inl e) = never_bare above found (ap body_of e)
+      never_other above found (inr e) = never_whole above _ found (ap body_of e.1)
+
+      form_told : (above : Entry) (form : RustForm) (cells : List Cell) → Some (node_of above) ≡ heap_of slots parent.0
+          → body_of above.piece ≡ begun_body (as_form form) cells
+          → tree_at (up (cursor_in slots stack)) (tree_in_slots slots stack) ≡ begun (as_form form) (above_here below).trees
+      form_told above form cells found begun_so =
+          let both : begun_body (as_form form) cells ≡ begun_body (above_here below).form (above_here below).cells
+          = sym begun_so ∙ body_told above found in
+          let same : (above_here below).form ≡ as_form form = cc in
+          (above_here below).stands ∙ ap (λ (f : Form). begun f (above_here below).trees) same
+
+      pub set_told : (above : Entry) (form : RustForm) (cells : List Cell) → Some (node_of above) ≡ heap_of slots parent.0
+          → body_of above.piece ≡ begun_body (as_form form) cells
+          → is_set_form (as_form form) ≡ is_set (tree_at (up (cursor_in slots stack)) (tree_in_slots slots stack))
+      set_told above form cells found begun_so = sym (ap is_set (form_told above form cells found begun_so))
+
+      never_dynamic : (form : RustForm) (ts : Trees) → takes_at_end (begun (as_form form) ts) ≡ is_set_form (as_form form)
+      never_dynamic RustForm.Struct ts = refl
+      never_dynamic RustForm.Array ts = refl
+      never_dynamic (RustForm.Variant k) ts = refl
+      never_dynamic RustForm.Some ts = refl
+      never_dynamic RustForm.Ok ts = refl
+      never_dynamic RustForm.Err ts = refl
+      never_dynamic RustForm.Pointer ts = refl
+      never_dynamic RustForm.List ts = refl
+      never_dynamic RustForm.Slice ts = refl
+      never_dynamic RustForm.ClosedSlice ts = refl
+      never_dynamic RustForm.Set ts = refl
+      never_dynamic (RustForm.Map base) ts = refl
+
+      pub end_told : (above : Entry) (form : RustForm) (cells : List Cell) → Some (node_of above) ≡ heap_of slots parent.0
+          → body_of above.piece ≡ begun_body (as_form form) cells
+          → is_set_form (as_form form) ≡ takes_at_end (tree_at (up (cursor_in slots stack)) (tree_in_slots slots stack))
+      end_told above form cells found begun_so =
+          sym
+          (ap takes_at_end (form_told above form cells found begun_so) ∙ never_dynamic form (above_here below).trees)
+
+-- a place that isn't left so belongs neither to a set nor to a dynamic value
+pub no_item : (tree : Tree) → takes_at_end tree ≡ false → is_set tree ≡ false
+no_item tree other = go (is_set tree) (is_begun_dynamic tree) refl refl
+  where
+    go : (a b : Bool) → is_set tree ≡ a → is_begun_dynamic tree ≡ b → is_set tree ≡ false
+    go false b e h = e
+    go true b e h = let apart : true ≡ false = rw e at other in cc
+
+pub no_part : (tree : Tree) → takes_at_end tree ≡ false → is_begun_dynamic tree ≡ false
+no_part tree other = go (is_set tree) (is_begun_dynamic tree) refl refl
+  where
+    go : (a b : Bool) → is_set tree ≡ a → is_begun_dynamic tree ≡ b → is_begun_dynamic tree ≡ false
+    go a false e h = h
+    go true true e h = let apart : true ≡ false = rw e at other in cc
+    go false true e h = let apart : true ≡ false = rw (e, h) at other in cc

@@ -1,0 +1,207 @@
+//! `init_map`, `begin_key` and `begin_value`: a map, entry by entry.
+ghost use Rattle.std.specs.Prelude.{◌≡◌, suc, true, None, Some, IfErr, IfOk, OnOk};
+ghost use Rattle.fr_shape.specs.Look.{def_of};
+ghost use Rattle.fr_shape.specs.Released.{Room, Conserved};
+ghost use Rattle.fr_model.specs.Collections.{is_map_form, is_map_like, unless_map};
+ghost use Rattle.fr_model.specs.Commands.{Call};
+ghost use Rattle.fr_model.specs.Step.{init_map_refusal};
+ghost use Rattle.fr_model.specs.Tree.{cursor_tree};
+ghost use Rattle.fr_frame.specs.Bodies.{own_tree};
+ghost use Rattle.fr_frame.specs.Heap.{as_form, body_of};
+ghost use Rattle.fr_partial.specs.Builder.{holds, left, IsNotOutOfMemory, IsStep, RefusesBeforeMemory, RisesByRemoved, TellsPlaceBefore};
+ghost use Rattle.fr_partial.specs.Entries.{key_refusal_by, value_refusal_by};
+ghost use Rattle.fr_partial.specs.Looks.{ends_absent, lacks_last};
+ghost use Rattle.fr_partial.specs.Openings.{is_begun, HasItems};
+
+use crate::admitting::Opening;
+use crate::lists::tracker;
+use crate::placing::place_here;
+use crate::{Partial, ReflectError};
+use fr_frame::{Children, Form, Piece};
+use fr_model::{law_paths, law_removed};
+use fr_shape::{Def, Hooks, InitCall, Ledger, Operation, ReflectErrorKind, ShapeId, ShapeTable};
+
+/// Nothing, where the shape is a map; else this refusal.
+fn unless_map(table: &ShapeTable, shape: ShapeId, refusal: Operation) -> Option<Operation>
+    ensures { result ≡ unless_map refusal (def_of table.now shape.0) }
+{
+    match table.get(shape) {
+        Some(entry) if matches!(&entry.def, Def::Map(_, _)) => None,
+        Some(_) | None => Some(refusal),
+    }
+}
+
+/// Whether a place that is begun so is a map.
+fn is_map(form: Form) -> bool
+    ensures form { result ≡ is_map_form (as_form form) }
+    ensures like { result ≡ is_map_like (as_form form) }
+{
+    match form {
+        Form::Map(_) => true,
+        Form::Struct | Form::Array | Form::Variant(_) => false,
+        Form::Some | Form::Ok | Form::Err | Form::Pointer => false,
+        Form::List | Form::Slice | Form::ClosedSlice | Form::Set => false,
+    }
+}
+
+/// Why no map can be begun at a place of this shape at which this stands, if none can.
+fn init_map_refusal(table: &ShapeTable, shape: ShapeId, piece: &Piece) -> Option<ReflectErrorKind>
+    ensures { result
+        ≡ init_map_refusal shape.0 (def_of table.now shape.0) (own_tree (body_of piece.now)) }
+{
+    let refused = match piece {
+        Piece::Begun(form, _) => {
+            if is_map(*form) {
+                return None;
+            }
+            let (call, current) = (InitCall::Map, tracker(*form));
+            return Some(ReflectErrorKind::UnexpectedTracker { call, current });
+        }
+        Piece::Entered | Piece::Whole(_) => unless_map(table, shape, Operation::InitMapOfOther),
+    };
+    let operation = refused?;
+    Some(ReflectErrorKind::OperationFailed { shape, operation })
+}
+
+/// Whether the last of these children isn't there.
+fn lacks_last(children: &Children) -> bool
+    ensures { result ≡ ends_absent children.now }
+{
+    let count = children.len();
+    if count == 0 {
+        return false;
+    }
+    let last = count - 1;
+    match (children.value(last), children.slot(last)) {
+        (None, None) => true,
+        (Some(_), _) | (None, Some(_)) => false,
+    }
+}
+
+/// As what a begun map is entered at one more key, and how many children it has, or why none can be begun.
+#[inline]
+fn key_opening(piece: &Piece) -> Result<Opening, Operation>
+    ensures items { IfOk result (λ opening.
+        HasItems (as_form opening.form) opening.count (own_tree (body_of piece.now))) }
+    ensures map { IfOk result (λ opening. is_map_form (as_form opening.form) ≡ true) }
+    ensures admitted { OnOk result (key_refusal_by (own_tree (body_of piece.now))
+        (lacks_last (body_of piece.now)) ≡ None) }
+    ensures refused { IfErr result (λ operation. key_refusal_by (own_tree (body_of piece.now))
+        (lacks_last (body_of piece.now)) ≡ Some operation) }
+{
+    let Piece::Begun(made, children) = piece else {
+        return Err(Operation::KeyBeforeInitMap);
+    };
+    if !is_map(*made) {
+        return Err(Operation::KeyBeforeInitMap);
+    }
+    if lacks_last(children) {
+        return Err(Operation::KeyBeforeValue);
+    }
+    let (form, count) = (*made, children.len());
+    Ok(Opening { form, count })
+}
+
+/// As what a begun map is entered at the value that its last entry lacks, and the number of that child, or why it can't be begun.
+#[inline]
+fn value_opening(piece: &Piece) -> Result<Opening, Operation>
+    ensures items { IfOk result (λ opening.
+        HasItems (as_form opening.form) (suc opening.count) (own_tree (body_of piece.now))) }
+    ensures map { IfOk result (λ opening. is_map_form (as_form opening.form) ≡ true) }
+    ensures admitted { OnOk result (value_refusal_by (own_tree (body_of piece.now))
+        (lacks_last (body_of piece.now)) ≡ None) }
+    ensures refused { IfErr result (λ operation. value_refusal_by (own_tree (body_of piece.now))
+        (lacks_last (body_of piece.now)) ≡ Some operation) }
+{
+    let Piece::Begun(made, children) = piece else {
+        return Err(Operation::ValueBeforeKey);
+    };
+    if !is_map(*made) {
+        return Err(Operation::ValueBeforeKey);
+    }
+    if !lacks_last(children) {
+        return Err(Operation::ValueBeforeKey);
+    }
+    let (form, count) = (*made, children.len() - 1);
+    Ok(Opening { form, count })
+}
+
+impl<'t, H: Hooks> Partial<'t, H> {
+    /// Begins a map: a whole one keeps its entries, in front of those that come. A map that is begun stays as it is. Anything else is
+    /// refused, and never out of memory.
+    #[inline(never)]
+    pub fn init_map(self, ledger: &mut Ledger) -> Result<Partial<'t, H>, ReflectError>
+        requires room { Room (holds self) ledger.old }
+        ensures step { IsStep (H.means self.entry.hooks) self.entry Call.InitMap result }
+        ensures path { TellsPlaceBefore self.entry result }
+        ensures tokens { Conserved (holds self.entry) ledger.old (left result) ledger.new }
+        ensures removed { RisesByRemoved (H.means self.entry.hooks) self.entry
+            Call.InitMap result ledger.old ledger.new }
+        ensures memory { is_begun (cursor_tree self.entry.state) ≡ true → IsNotOutOfMemory result }
+        ensures refused { RefusesBeforeMemory (H.means self.entry.hooks) self.entry
+            Call.InitMap result }
+    {
+        law_paths();
+        law_removed();
+        let work = &*self.work;
+        let plan = work.plan.core();
+        let (slots, stack) = (&work.slots, &work.stack);
+        let (shape, piece) = place_here(work.table, work.root, plan, slots, stack);
+        match init_map_refusal(work.table, shape, piece) {
+            Some(kind) => Err(self.refuse(kind, ledger)),
+            None => self.open(Form::Map(0), 0, ledger),
+        }
+    }
+
+    /// Enters the key of a new entry, behind the others, of a map that is begun. Where the last entry has no value yet, or the place
+    /// isn't such a map, that is the refusal, and never out of memory.
+    pub fn begin_key(self, ledger: &mut Ledger) -> Result<Partial<'t, H>, ReflectError>
+        requires room { Room (holds self) ledger.old }
+        ensures step { IsStep (H.means self.entry.hooks) self.entry Call.BeginKey result }
+        ensures path { TellsPlaceBefore self.entry result }
+        ensures tokens { Conserved (holds self.entry) ledger.old (left result) ledger.new }
+        ensures removed { RisesByRemoved (H.means self.entry.hooks) self.entry
+            Call.BeginKey result ledger.old ledger.new }
+        ensures refused { RefusesBeforeMemory (H.means self.entry.hooks) self.entry
+            Call.BeginKey result }
+    {
+        law_removed();
+        let work = &*self.work;
+        let plan = work.plan.core();
+        let (slots, stack) = (&work.slots, &work.stack);
+        let (shape, piece) = place_here(work.table, work.root, plan, slots, stack);
+        match key_opening(piece) {
+            Ok(opening) => self.enter_key(opening, ledger),
+            Err(operation) => {
+                let kind = ReflectErrorKind::OperationFailed { shape, operation };
+                Err(self.refuse(kind, ledger))
+            }
+        }
+    }
+
+    /// Enters the value of the last entry of a map that is begun, where that entry has none yet. Anywhere else it is refused, and never
+    /// out of memory.
+    pub fn begin_value(self, ledger: &mut Ledger) -> Result<Partial<'t, H>, ReflectError>
+        requires room { Room (holds self) ledger.old }
+        ensures step { IsStep (H.means self.entry.hooks) self.entry Call.BeginValue result }
+        ensures path { TellsPlaceBefore self.entry result }
+        ensures tokens { Conserved (holds self.entry) ledger.old (left result) ledger.new }
+        ensures removed { RisesByRemoved (H.means self.entry.hooks) self.entry
+            Call.BeginValue result ledger.old ledger.new }
+        ensures refused { RefusesBeforeMemory (H.means self.entry.hooks) self.entry
+            Call.BeginValue result }
+    {
+        law_removed();
+        let work = &*self.work;
+        let plan = work.plan.core();
+        let (slots, stack) = (&work.slots, &work.stack);
+        let (shape, piece) = place_here(work.table, work.root, plan, slots, stack);
+        match value_opening(piece) {
+            Ok(opening) => self.enter_value(opening, ledger),
+            Err(operation) => {
+                let kind = ReflectErrorKind::OperationFailed { shape, operation };
+                Err(self.refuse(kind, ledger))
+            }
+        }
+    }
+}

@@ -1,0 +1,141 @@
+//! `init_set` and `begin_set_item`: a set, item by item.
+ghost use Rattle.std.specs.Prelude.{◌≡◌, true, None, Some, IfErr, IfOk, OnOk};
+ghost use Rattle.fr_shape.specs.Look.{def_of};
+ghost use Rattle.fr_shape.specs.Released.{Room, Conserved};
+ghost use Rattle.fr_model.specs.Collections.{is_set_form, set_item_refusal, unless_set};
+ghost use Rattle.fr_model.specs.Commands.{Call};
+ghost use Rattle.fr_model.specs.Step.{init_set_refusal};
+ghost use Rattle.fr_model.specs.Tree.{cursor_tree};
+ghost use Rattle.fr_frame.specs.Bodies.{own_tree, TakesItems};
+ghost use Rattle.fr_frame.specs.Heap.{as_form, body_of};
+ghost use Rattle.fr_partial.specs.Builder.{holds, left, IsNotOutOfMemory, IsStep, RefusesBeforeMemory, RisesByRemoved, TellsPlaceBefore};
+ghost use Rattle.fr_partial.specs.Openings.{is_begun, HasItems};
+
+use crate::admitting::Opening;
+use crate::lists::tracker;
+use crate::placing::place_here;
+use crate::{Partial, ReflectError};
+use fr_frame::{Form, Piece};
+use fr_model::{law_paths, law_removed};
+use fr_shape::{Def, Hooks, InitCall, Ledger, Operation, ReflectErrorKind, ShapeId, ShapeTable};
+
+/// Nothing, where the shape is a set; else this refusal.
+fn unless_set(table: &ShapeTable, shape: ShapeId, refusal: Operation) -> Option<Operation>
+    ensures { result ≡ unless_set refusal (def_of table.now shape.0) }
+{
+    match table.get(shape) {
+        Some(entry) if matches!(&entry.def, Def::Set(_)) => None,
+        Some(_) | None => Some(refusal),
+    }
+}
+
+/// Whether a place that is begun so is a set.
+pub fn is_set(form: Form) -> bool
+    ensures { result ≡ is_set_form (as_form form) }
+{
+    match form {
+        Form::Set => true,
+        Form::Struct | Form::Array | Form::Variant(_) => false,
+        Form::Some | Form::Ok | Form::Err | Form::Pointer => false,
+        Form::List | Form::Slice | Form::ClosedSlice | Form::Map(_) => false,
+    }
+}
+
+/// Why no set can be begun at a place of this shape at which this stands, if none can.
+fn init_set_refusal(table: &ShapeTable, shape: ShapeId, piece: &Piece) -> Option<ReflectErrorKind>
+    ensures { result
+        ≡ init_set_refusal shape.0 (def_of table.now shape.0) (own_tree (body_of piece.now)) }
+{
+    let refused = match piece {
+        Piece::Begun(form, _) => {
+            if is_set(*form) {
+                return None;
+            }
+            let (call, current) = (InitCall::Set, tracker(*form));
+            return Some(ReflectErrorKind::UnexpectedTracker { call, current });
+        }
+        Piece::Entered | Piece::Whole(_) => unless_set(table, shape, Operation::InitSetOfOther),
+    };
+    let operation = refused?;
+    Some(ReflectErrorKind::OperationFailed { shape, operation })
+}
+
+/// As what a set is begun that takes one more item, and how many it has, or why the place takes none.
+#[inline]
+fn set_item_opening(table: &ShapeTable, shape: ShapeId, piece: &Piece) -> Result<Opening, Operation>
+    ensures items { IfOk result (λ opening.
+        HasItems (as_form opening.form) opening.count (own_tree (body_of piece.now))) }
+    ensures grows { IfOk result (λ opening. TakesItems (as_form opening.form)) }
+    ensures admitted { OnOk result
+        (set_item_refusal (def_of table.now shape.0) (own_tree (body_of piece.now)) ≡ None) }
+    ensures refused { IfErr result (λ operation.
+        set_item_refusal (def_of table.now shape.0) (own_tree (body_of piece.now))
+        ≡ Some operation) }
+{
+    if let Some(operation) = unless_set(table, shape, Operation::SetItemOfOther) {
+        return Err(operation);
+    }
+    let Piece::Begun(made, children) = piece else {
+        return Err(Operation::SetItemBeforeInitSet);
+    };
+    if !is_set(*made) {
+        return Err(Operation::SetItemBeforeInitSet);
+    }
+    let (form, count) = (*made, children.len());
+    Ok(Opening { form, count })
+}
+
+impl<'t, H: Hooks> Partial<'t, H> {
+    /// Begins a set: a whole one keeps its items, in front of those that come. A set that is begun stays as it is. Anything else is
+    /// refused, and never out of memory.
+    #[inline(never)]
+    pub fn init_set(self, ledger: &mut Ledger) -> Result<Partial<'t, H>, ReflectError>
+        requires room { Room (holds self) ledger.old }
+        ensures step { IsStep (H.means self.entry.hooks) self.entry Call.InitSet result }
+        ensures path { TellsPlaceBefore self.entry result }
+        ensures tokens { Conserved (holds self.entry) ledger.old (left result) ledger.new }
+        ensures removed { RisesByRemoved (H.means self.entry.hooks) self.entry
+            Call.InitSet result ledger.old ledger.new }
+        ensures memory { is_begun (cursor_tree self.entry.state) ≡ true → IsNotOutOfMemory result }
+        ensures refused { RefusesBeforeMemory (H.means self.entry.hooks) self.entry
+            Call.InitSet result }
+    {
+        law_paths();
+        law_removed();
+        let work = &*self.work;
+        let plan = work.plan.core();
+        let (slots, stack) = (&work.slots, &work.stack);
+        let (shape, piece) = place_here(work.table, work.root, plan, slots, stack);
+        match init_set_refusal(work.table, shape, piece) {
+            Some(kind) => Err(self.refuse(kind, ledger)),
+            None => self.open(Form::Set, 0, ledger),
+        }
+    }
+
+    /// Enters a new item behind the others of a set that is begun. It comes to the set as it ends, if that doesn't have it yet. Anywhere
+    /// else it is refused, and never out of memory.
+    pub fn begin_set_item(self, ledger: &mut Ledger) -> Result<Partial<'t, H>, ReflectError>
+        requires room { Room (holds self) ledger.old }
+        ensures step { IsStep (H.means self.entry.hooks) self.entry Call.BeginSetItem result }
+        ensures path { TellsPlaceBefore self.entry result }
+        ensures tokens { Conserved (holds self.entry) ledger.old (left result) ledger.new }
+        ensures removed { RisesByRemoved (H.means self.entry.hooks) self.entry
+            Call.BeginSetItem result ledger.old ledger.new }
+        ensures refused { RefusesBeforeMemory (H.means self.entry.hooks) self.entry
+            Call.BeginSetItem result }
+    {
+        law_paths();
+        law_removed();
+        let work = &*self.work;
+        let plan = work.plan.core();
+        let (slots, stack) = (&work.slots, &work.stack);
+        let (shape, piece) = place_here(work.table, work.root, plan, slots, stack);
+        match set_item_opening(work.table, shape, piece) {
+            Ok(opening) => self.enter_item(opening, ledger),
+            Err(operation) => {
+                let kind = ReflectErrorKind::OperationFailed { shape, operation };
+                Err(self.refuse(kind, ledger))
+            }
+        }
+    }
+}
