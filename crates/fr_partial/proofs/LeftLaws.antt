@@ -5,9 +5,9 @@ use Rattle.fr_model.specs.Tree.{Form, as_struct, as_array, as_variant, as_some, 
 use Rattle.fr_frame.specs.Bodies.{Body, entered_body, whole_body, begun_body, boxes, gathers}
 use Rattle.fr_frame.specs.Cells.{Cell, absent, given, placed}
 use Rattle.fr_frame.specs.Defaults.{KeepGiven, KeepsForm}
-use Rattle.fr_frame.specs.Kids.{Kid, gone, there, at, Plot, entered_plot, whole_plot, begun_plot, Kids, no_kids, kid, is_stored, body_in, cell_of, cells_in, kid_in, kids_in, IsThere, AreLeftRightly, AreLeftIn, AreLeftAll}
+use Rattle.fr_frame.specs.Kids.{Kid, gone, there, at, Plot, entered_plot, whole_plot, begun_plot, Kids, no_kids, kid, is_stored, body_in, cell_of, cells_in, kid_in, kids_in, IsThere, IsLeftRightly, AreLeftRightly, AreLeftIn, AreLeftAll}
 use Rattle.fr_store.specs.HereLaws.{closed_plot}
-use Rattle.fr_store.specs.LeftLaws.{IsLeftAs, as_left, left_free}
+use Rattle.fr_store.specs.LeftLaws.{IsLeftAs, as_left}
 
 unstored : (d : Cell) → is_stored (kid_in (λ slot. gone) d) ≡ false
 unstored absent = refl
@@ -19,9 +19,25 @@ bare_left absent = tt
 bare_left (given v) = tt
 bare_left (placed n) = tt
 
+left_free : (form : Form) (i : ℕ) (k : Kid) → base_of_form form ≡ 0 → is_stored k ≡ false → IsLeftRightly form i k
+left_free as_set i k none out = out
+left_free as_dyn_array i k none out = out
+left_free (as_dyn_object keys) i k none out = out
+left_free (as_map base) i k none out = λ h. absurd (omega (arith, none, h))
+left_free as_struct i k none out = tt
+left_free as_array i k none out = tt
+left_free (as_variant number) i k none out = tt
+left_free as_some i k none out = tt
+left_free as_ok i k none out = tt
+left_free as_err i k none out = tt
+left_free as_pointer i k none out = tt
+left_free as_list i k none out = tt
+left_free as_slice i k none out = tt
+left_free as_closed_slice i k none out = tt
+
 free_left : (form : Form) (i : ℕ) (cells : List Cell) → base_of_form form ≡ 0
     → AreLeftAll form i (kids_in (λ slot. gone) cells)
-free_left form i [] none = tt
+free_left form i [] none = omega (arith, none)
 free_left form i (d ∷ cells) none =
     (left_free form i (kid_in (λ slot. gone) d) none (unstored d), bare_left d, free_left form (suc i) cells none)
 
@@ -41,7 +57,8 @@ kept_rest (at slot stored plot) ks ds d keeps = keeps
 
 all_left : (form : Form) (i : ℕ) (kids : Kids) (cells : List Cell) → length cells ≡ length (cells_in kids)
     → KeepGiven (cells_in kids) cells → AreLeftAll form i kids → AreLeftAll form i (kids_in (λ slot. gone) cells)
-all_left form i kids [] same keeps left = tt
+all_left form i no_kids [] same keeps left = left
+all_left form i (kid k kids) [] same keeps left = absurd (omega (arith, same))
 all_left form i no_kids (d ∷ cells) same keeps left = absurd (omega (arith, same))
 all_left form i (kid k kids) (d ∷ cells) same keeps left = (
   as_left form i k (kid_in (λ slot. gone) d) (kept_as k (cells_in kids) cells d keeps) left.0,
