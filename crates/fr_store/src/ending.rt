@@ -40,7 +40,8 @@ impl Stack {
             (changed_here (λ old. whole v) slots.old self.old))) }
         ensures places { OnOk result (StayPutBut (cursor_in slots.old self.old)
             (kid_here slots.old self.old) (kid_here slots.new self.new)) }
-        ensures memory { AtTop slots.old self.old (λ at. takes_memory at.body ≡ false → IsOk result) }
+        ensures memory { AtTop slots.old self.old (λ at.
+            takes_memory at.body ≡ false → IsOk result) }
         ensures strict { NothingStored slots.new }
         ensures conserved { Conserved (slots_occur slots.old) ledger.old
             (slots_occur slots.new) ledger.new }
@@ -74,7 +75,8 @@ impl Stack {
             (tree_in_slots slots.old self.old)))) }
         ensures places { OnOk result (StayPutBut (cursor_in slots.old self.old)
             (kid_here slots.old self.old) (kid_here slots.new self.new)) }
-        ensures memory { AtTop slots.old self.old (λ at. takes_memory at.body ≡ false → IsOk result) }
+        ensures memory { AtTop slots.old self.old (λ at.
+            takes_memory at.body ≡ false → IsOk result) }
         ensures marks { SameMarks slots.old slots.new }
         ensures conserved { Conserved (slots_occur slots.old) ledger.old
             (slots_occur slots.new) ledger.new }

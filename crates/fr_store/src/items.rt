@@ -143,7 +143,8 @@ impl Stack {
             → IsOpenAt plan.now slots.new self.now (cursor_in slots.old self.now)
             (changed_here (λ old. whole v) slots.old self.now))) }
         ensures places { AllStayPut (kid_here slots.old self.now) (kid_here slots.new self.now) }
-        ensures memory { AtTop slots.old self.now (λ at. takes_memory at.body ≡ false → IsOk result) }
+        ensures memory { AtTop slots.old self.now (λ at.
+            takes_memory at.body ≡ false → IsOk result) }
         ensures refused { OnErr result (Shows slots.new (heap_of slots.old)) }
         ensures ledger_kept { OnErr result (ledger.new ≡ ledger.old) }
         ensures conserved { Conserved (slots_occur slots.old) ledger.old
