@@ -1,5 +1,5 @@
 -- Each command that goes on does so in one of these ways.
-use Rattle.std.proofs.Common.{◌≡◌, ℕ, ◌+◌, ◌<◌, ltb-true, nat_lt, Bool, true, false, if◌then◌else◌, List, [], length, Option, Some, None, unwrap_or, Result, Ok, Err, refl, ◌∙◌, ap, subst, arith}
+use Rattle.std.proofs.Common.{◌≡◌, ℕ, ◌+◌, ◌<◌, ◌==◌, ltb-true, nat_lt, Bool, true, false, if◌then◌else◌, List, [], length, Option, Some, None, unwrap_or, Result, Ok, Err, refl, ◌∙◌, ap, subst, arith}
 use Rattle.fr_shape.specs.declared.error.ReflectErrorKind.{ReflectErrorKind}
 use Rattle.fr_shape.specs.declared.error.Invariant.{Invariant}
 use Rattle.fr_shape.specs.declared.error.Expected.{Expected}
@@ -10,20 +10,23 @@ use Rattle.fr_shape.specs.Checked.{IsChecked}
 use Rattle.fr_shape.specs.Fills.{preset_of, is_option}
 use Rattle.fr_shape.specs.Hooks.{Meanings}
 use Rattle.fr_shape.specs.Look.{Table, def_of, field_in, variants_of}
-use Rattle.fr_shape.specs.Val.{Val, list_of, ptr, no_vals}
+use Rattle.fr_shape.specs.Plannable.{is_dynamic}
+use Rattle.fr_shape.specs.Val.{Val, Dynamic, list_of, ptr, dyn, no_vals}
 use Rattle.fr_model.specs.Commands.{Call}
 use Rattle.fr_model.specs.Contents.{is_result, pointer_refusal, points_to_slice, slice_anew}
+use Rattle.fr_model.specs.Converting.{converted}
 use Rattle.fr_model.specs.Collections.{key_refusal, value_refusal, last_of, set_item_refusal}
 use Rattle.fr_model.specs.Dropping.{dropped_by_completing}
+use Rattle.fr_model.specs.DynamicPlaces.{array_anew, object_anew, kept_array, kept_object, entry_refusal}
 use Rattle.fr_model.specs.Places.{Column, strict_column, deferred_column, is_root}
 use Rattle.fr_model.specs.Variants.{is_enum, variant_numbered, variant_named, variant_told_by, selection_refusal}
 use Rattle.fr_model.specs.Tree.{Form, as_some, as_ok, as_err, as_pointer, selected, Tree, whole, count_below, Mode, strict, deferred, State, cursor_shape, cursor_tree, tree_occurs}
 use Rattle.fr_model.specs.Complete.{complete}
 use Rattle.fr_model.specs.Finish.{finished}
-use Rattle.fr_model.specs.Step.{unless_refused, at_shape, was_not_a, named_refusal, takes_shape, field_default, puts_child, puts_child_default, defaults_field, enters_content, option_kept, content_kept, begin_side, pointer_kept, begins_pointer, opens, init_list_refusal, init_map_refusal, init_set_refusal, init_list, enters_item, enters_key, puts_made, closes, closes_slice, leaves_place, selects, select_found, select, violates, enters, puts, puts_default, puts_and_leaves, ended, leaves, is_set_item, takes_item, item_ended, is_dynamic_part, part_ended, leaves_deferred, end_in, begins_deferred, finishes, finish_in, step}
+use Rattle.fr_model.specs.Step.{unless_refused, at_shape, was_not_a, named_refusal, takes_shape, field_default, puts_child, puts_child_default, defaults_field, enters_content, option_kept, content_kept, begin_side, pointer_kept, begins_pointer, opens, becomes, init_list_refusal, init_map_refusal, init_set_refusal, begins_list, init_list, begins_map, enters_item, enters_key, enters_entry, set_refusal, puts_dynamic, set_dynamic, puts_made, closes, closes_slice, leaves_place, selects, select_found, select, violates, enters, puts, puts_default, puts_and_leaves, ended, leaves, is_set_item, takes_item, item_ended, is_dynamic_part, part_ended, leaves_deferred, end_in, begins_deferred, finishes, finish_in, step}
 use Rattle.fr_model.specs.Step.{ends_item as end_of_item}
 use Rattle.fr_model.specs.Scripts.{brings}
-use Rattle.fr_model.specs.Removed.{replaced, dropped_unless, dropped_by_selecting, column_at_end, dropped_by_column, dropped_at_end}
+use Rattle.fr_model.specs.Removed.{replaced, dropped_unless, dropped_if, dropped_by_selecting, column_at_end, dropped_by_column, dropped_at_end}
 use Rattle.fr_model.specs.Items.{init_array_refusal, item_refusal, is_open_slice, closed_slice, shared_slice_refusal}
 use Rattle.fr_model.proofs.Items.{takes_an_item, slice_closes, closed_holds, shared_fits}
 use Rattle.fr_model.proofs.Resting.{closed_rests}
@@ -35,7 +38,7 @@ use Rattle.fr_model.proofs.Completing.{Made, completing_makes}
 use Rattle.fr_model.proofs.Cursor.{at_cursor, suits_at, defers}
 use Rattle.fr_model.proofs.Steps.{finishes_as}
 use Rattle.fr_model.proofs.Templates.{IsTemplate, field_default_template, template_holds}
-use Rattle.fr_model.proofs.Ways.{EndsBelow, Admits, begins, names, sets, defaults, sets_child, holds_it, selects_it, opens_list, opens_array, opens_map, opens_set, adds_key, begins_value, adds_set_item, ends, ends_item, ends_part, is_left, changes_it, adds_it, defers_there, is_finished, lost_is, ok_is}
+use Rattle.fr_model.proofs.Ways.{EndsBelow, Admits, begins, names, sets, converts, defaults, sets_child, holds_it, selects_it, opens_list, begins_array, opens_array, opens_map, begins_object, opens_set, adds_key, begins_value, adds_set_item, adds_entry, ends, ends_item, ends_part, is_left, changes_it, adds_it, defers_there, is_finished, lost_is, ok_is}
 
 module _ (hooks : Meanings) (table : Table) (checked : IsChecked table) (root : ℕ) (state next : State)
     (order : IsInOrder table root state) where
@@ -85,7 +88,7 @@ module _ (hooks : Meanings) (table : Table) (checked : IsChecked table) (root : 
 
   sets_so : (given : ℕ) (v : Val) → step hooks table root state (Call.Set given v) ≡ Ok next
       → Admits hooks table root state (Call.Set given v) next
-  sets_so given v e = go (takes_shape table here given) refl e
+  sets_so given v e = by_place (is_dynamic (def_of table here)) refl e
     where
       go : (b : Bool) → takes_shape table here given ≡ b
           → unless_refused (if b then None else Some (ReflectErrorKind.WrongShape (record { 0 = here }) (record { 0 = given })))
@@ -94,6 +97,29 @@ module _ (hooks : Meanings) (table : Table) (checked : IsChecked table) (root : 
           subst (λ (after : State). Admits hooks table root state (Call.Set given v) after) (ok_is (puts state v) next h)
           (sets given v taken)
       go false taken h = cc
+
+      converts_so : (made : Result Dynamic Operation) → is_dynamic (def_of table here) ≡ true
+          → converted table here (def_of table given) v ≡ made → puts_dynamic state given made ≡ Ok next
+          → Admits hooks table root state (Call.Set given v) next
+      converts_so (Ok d) dynamic is h =
+          subst (λ (after : State). Admits hooks table root state (Call.Set given v) after)
+          (ok_is (puts state (dyn d)) next h) (converts given v d dynamic is)
+      converts_so (Err operation) dynamic is h = cc
+
+      by_shape : (b : Bool) → (here == given) ≡ b → is_dynamic (def_of table here) ≡ true
+          → (if b then Ok (puts state v) else puts_dynamic state given (converted table here (def_of table given) v)) ≡ Ok next
+          → Admits hooks table root state (Call.Set given v) next
+      by_shape true same dynamic h =
+          subst (λ (after : State). Admits hooks table root state (Call.Set given v) after) (ok_is (puts state v) next h)
+          (sets given v (rw same refl))
+      by_shape false same dynamic h = converts_so (converted table here (def_of table given) v) dynamic refl h
+
+      by_place : (b : Bool) → is_dynamic (def_of table here) ≡ b
+          → (if b then set_dynamic table here state given v
+          else unless_refused (set_refusal table here given) (puts state v)) ≡ Ok next
+          → Admits hooks table root state (Call.Set given v) next
+      by_place true dynamic h = by_shape (here == given) refl dynamic h
+      by_place false other h = go (takes_shape table here given) refl h
 
   defaults_so : step hooks table root state Call.SetDefault ≡ Ok next
       → Admits hooks table root state Call.SetDefault next
@@ -202,17 +228,30 @@ module _ (hooks : Meanings) (table : Table) (checked : IsChecked table) (root : 
 
   -- a list, an array, a map or a set is begun
 
-  list_so : (command : Call) → ((t : ℕ) → replaced hooks table root here state command t ≡ 0)
+  list_so : (command : Call)
+      → ((t : ℕ)
+      → replaced hooks table root here state command t
+      ≡ dropped_if (is_dynamic (def_of table here)) (kept_array (cursor_tree state)) state t)
       → ((t : ℕ) → brings command t ≡ 0) → init_list table here state ≡ Ok next
       → Admits hooks table root state command next
-  list_so command drops none e = go (init_list_refusal here (def_of table here) (cursor_tree state)) refl e
+  list_so command drops none e =
+      go (init_list_refusal here (def_of table here) (cursor_tree state)) (is_dynamic (def_of table here)) refl refl e
     where
-      go : (refusal : Option ReflectErrorKind) → init_list_refusal here (def_of table here) (cursor_tree state) ≡ refusal
-          → unless_refused refusal (opens table here state) ≡ Ok next → Admits hooks table root state command next
-      go None is h =
+      go : (refusal : Option ReflectErrorKind) (of_dynamic : Bool)
+          → init_list_refusal here (def_of table here) (cursor_tree state) ≡ refusal
+          → is_dynamic (def_of table here) ≡ of_dynamic
+          → unless_refused refusal (begins_list table here state of_dynamic) ≡ Ok next
+          → Admits hooks table root state command next
+      go None false is other h =
           subst (λ (after : State). Admits hooks table root state command after) (ok_is (opens table here state) next h)
-          (opens_list command is drops none)
-      go (Some kind) is h = cc
+          (opens_list command is other
+          (λ t. drops t ∙ ap (λ (b : Bool). dropped_if b (kept_array (cursor_tree state)) state t) other) none)
+      go None true is dynamic h =
+          subst (λ (after : State). Admits hooks table root state command after)
+          (ok_is (becomes state (kept_array (cursor_tree state)) array_anew) next h)
+          (begins_array command is dynamic
+          (λ t. drops t ∙ ap (λ (b : Bool). dropped_if b (kept_array (cursor_tree state)) state t) dynamic) none)
+      go (Some kind) of_dynamic is dynamic h = cc
 
   array_so : step hooks table root state Call.InitArray ≡ Ok next → Admits hooks table root state Call.InitArray next
   array_so e = go (at_shape here (init_array_refusal (def_of table here) (cursor_tree state))) refl e
@@ -226,14 +265,21 @@ module _ (hooks : Meanings) (table : Table) (checked : IsChecked table) (root : 
       go (Some kind) is h = cc
 
   map_so : step hooks table root state Call.InitMap ≡ Ok next → Admits hooks table root state Call.InitMap next
-  map_so e = go (init_map_refusal here (def_of table here) (cursor_tree state)) refl e
+  map_so e =
+      go (init_map_refusal here (def_of table here) (cursor_tree state)) (is_dynamic (def_of table here)) refl refl e
     where
-      go : (refusal : Option ReflectErrorKind) → init_map_refusal here (def_of table here) (cursor_tree state) ≡ refusal
-          → unless_refused refusal (opens table here state) ≡ Ok next → Admits hooks table root state Call.InitMap next
-      go None is h =
+      go : (refusal : Option ReflectErrorKind) (of_dynamic : Bool)
+          → init_map_refusal here (def_of table here) (cursor_tree state) ≡ refusal
+          → is_dynamic (def_of table here) ≡ of_dynamic
+          → unless_refused refusal (begins_map table here state of_dynamic) ≡ Ok next
+          → Admits hooks table root state Call.InitMap next
+      go None false is other h =
           subst (λ (after : State). Admits hooks table root state Call.InitMap after)
-          (ok_is (opens table here state) next h) (opens_map is)
-      go (Some kind) is h = cc
+          (ok_is (opens table here state) next h) (opens_map is other)
+      go None true is dynamic h =
+          subst (λ (after : State). Admits hooks table root state Call.InitMap after)
+          (ok_is (becomes state (kept_object (cursor_tree state)) object_anew) next h) (begins_object is dynamic)
+      go (Some kind) of_dynamic is dynamic h = cc
 
   set_so : step hooks table root state Call.InitSet ≡ Ok next → Admits hooks table root state Call.InitSet next
   set_so e = go (init_set_refusal here (def_of table here) (cursor_tree state)) refl e
@@ -245,7 +291,7 @@ module _ (hooks : Meanings) (table : Table) (checked : IsChecked table) (root : 
           (ok_is (opens table here state) next h) (opens_set is)
       go (Some kind) is h = cc
 
-  -- an item, a key or a value is begun
+  -- an item, a key, a value or an entry is begun
 
   key_so : step hooks table root state Call.BeginKey ≡ Ok next → Admits hooks table root state Call.BeginKey next
   key_so e = go (key_refusal (cursor_tree state)) refl e
@@ -279,6 +325,18 @@ module _ (hooks : Meanings) (table : Table) (checked : IsChecked table) (root : 
       go None is h =
           subst (λ (after : State). Admits hooks table root state Call.BeginSetItem after)
           (ok_is (enters_item table here state) next h) (adds_set_item is)
+      go (Some operation) is h = cc
+
+  entry_so : (key : List ℕ) → step hooks table root state (Call.BeginObjectEntry key) ≡ Ok next
+      → Admits hooks table root state (Call.BeginObjectEntry key) next
+  entry_so key e = go (entry_refusal (def_of table here) (cursor_tree state)) refl e
+    where
+      go : (refusal : Option Operation) → entry_refusal (def_of table here) (cursor_tree state) ≡ refusal
+          → unless_refused (at_shape here refusal) (enters_entry table here state key) ≡ Ok next
+          → Admits hooks table root state (Call.BeginObjectEntry key) next
+      go None is h =
+          subst (λ (after : State). Admits hooks table root state (Call.BeginObjectEntry key) after)
+          (ok_is (enters_entry table here state key) next h) (adds_entry key is)
       go (Some operation) is h = cc
 
   item_so : step hooks table root state Call.BeginListItem ≡ Ok next → Admits hooks table root state Call.BeginListItem next
@@ -500,6 +558,7 @@ module _ (hooks : Meanings) (table : Table) (checked : IsChecked table) (root : 
   admits Call.BeginValue e = value_so e
   admits Call.InitSet e = set_so e
   admits Call.BeginSetItem e = set_item_so e
+  admits (Call.BeginObjectEntry key) e = entry_so key e
   admits Call.BeginListItem e = item_so e
   admits Call.BeginSome e = some_so e
   admits Call.BeginOk e = side_so Call.BeginOk as_ok tt e (λ t. refl) (λ t. refl)

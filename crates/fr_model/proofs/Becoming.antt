@@ -16,7 +16,7 @@ use Rattle.fr_model.specs.StateCode.{form_numbered, form_comes_back}
 use Rattle.fr_model.specs.Tree.{Form, as_struct, as_array, as_variant, as_some, as_ok, as_err, as_pointer, as_list, as_slice, as_closed_slice, as_set, as_map, as_dyn_array, as_dyn_object, form_number, base_of_form, keys_of_form, same_keys, same_form, Tree, hole, entered, whole, begun, Trees, no_trees, branch, child_as, shapes_from, count_trees, fresh, tree_occurs, Mode, strict, deferred}
 use Rattle.fr_model.specs.Variants.{is_enum, fields_or_none, variant_fields, layout_refusal, told_apart, selection_refusal}
 use Rattle.fr_model.specs.Well.{HasSide, HasFieldsOf, HasVariantFields, IsPointer, IsFullAs, MayBegin, IsBegunAs, MayPoint, IsTouched, IsContent, IsBegunRightly, Suits, SuitAll, RestsAround, AtCursor, OffBut, Leads}
-use Rattle.std.proofs.lemmas.Slice.Eq.{bytes_eq-Decides}
+use Rattle.fr_model.proofs.Keys.{bytes_are}
 use Rattle.fr_model.proofs.Opening.{enter_touched, fresh_suits, fresh_at_cursor, holes_off, all_deferred}
 use Rattle.fr_model.proofs.Resting.{rests_here, holes_rest, fresh_rests, rest_but}
 use Rattle.fr_model.proofs.Structs.{has_pointee, count_holes, holes_suit, settled_option}
@@ -33,7 +33,7 @@ same_keys_are (key ∷ keys) [] e = cc
 same_keys_are (key ∷ keys) (other ∷ others) e =
     let both : (bytes_eq key other ≡ true) × (same_keys keys others ≡ true)
     = both_true (bytes_eq key other) (same_keys keys others) e in
-    ap₂ (λ (first : List ℕ) (rest : List (List ℕ)). first ∷ rest) ((bytes_eq-Decides key other).0 both.0)
+    ap₂ (λ (first : List ℕ) (rest : List (List ℕ)). first ∷ rest) (bytes_are key other both.0)
     (same_keys_are keys others both.1)
 
 same_form_is : (one other : Form) → same_form one other ≡ true → one ≡ other

@@ -5,6 +5,7 @@ use Rattle.fr_shape.specs.declared.shape.ShapeId.{ShapeId}
 use Rattle.fr_shape.specs.declared.error.Operation.{Operation}
 use Rattle.fr_shape.specs.Fits.{fits, all_fit, entries_fit}
 use Rattle.fr_shape.specs.Look.{Table, def_of}
+use Rattle.fr_shape.specs.Plannable.{is_dynamic}
 use Rattle.fr_shape.specs.Same.{none_twice, keys}
 use Rattle.fr_shape.specs.Val.{Val, Vals, Entries, unit, set_of, map_of, no_vals, first, no_entries, entry}
 use Rattle.fr_model.specs.Collections.{unless_map, unless_set, is_map, is_hole, ends_in_hole, lacks_value, key_refusal, value_refusal, with_key, last_of}
@@ -104,27 +105,29 @@ whole_map mode table s key item (map_of es) is fit =
 whole_map mode table s key item unit is fit = cc
 whole_map mode table s key item _ is fit = let none = rw (settled_map table s key item is) at fit in cc
 
-pub map_opens : (mode : Mode) (table : Table) (s : ℕ) (t : Tree)
+pub map_opens : (mode : Mode) (table : Table) (s : ℕ) (t : Tree) → is_dynamic (def_of table s) ≡ false
     → init_map_refusal s (def_of table s) t ≡ None → Placed mode table s [] t
     → Placed mode table s [] (opened (def_of table s) t)
-map_opens mode table s hole e there = absurd there.leads
-map_opens mode table s entered e there = go (def_of table s) refl e
+map_opens mode table s hole other e there = absurd there.leads
+map_opens mode table s entered other e there = go (def_of table s) refl other e
   where
-    go : (def : Def) → def_of table s ≡ def → at_shape s (unless_map Operation.InitMapOfOther def) ≡ None
+    go : (def : Def) → def_of table s ≡ def → is_dynamic def ≡ false
+        → at_shape s (unless_map Operation.InitMapOfOther def) ≡ None
         → Placed mode table s [] (opened (def_of table s) entered)
-    go (Def.Map key item) is e =
+    go (Def.Map key item) is other e =
         subst (λ (def : Def). Placed mode table s [] (opened def entered)) (sym is)
         (record { suits = ((rw is refl, tt), tt, tt); leads = tt })
-    go _ is e = cc
-map_opens mode table s (whole v) e there = go (def_of table s) refl e
+    go _ is other e = cc
+map_opens mode table s (whole v) other e there = go (def_of table s) refl other e
   where
-    go : (def : Def) → def_of table s ≡ def → at_shape s (unless_map Operation.InitMapOfOther def) ≡ None
+    go : (def : Def) → def_of table s ≡ def → is_dynamic def ≡ false
+        → at_shape s (unless_map Operation.InitMapOfOther def) ≡ None
         → Placed mode table s [] (opened (def_of table s) (whole v))
-    go (Def.Map key item) is e =
+    go (Def.Map key item) is other e =
         subst (λ (def : Def). Placed mode table s [] (opened def (whole v))) (sym is)
         (whole_map mode table s key item v is there.suits)
-    go _ is e = cc
-map_opens mode table s (begun form ts) e there = there
+    go _ is other e = cc
+map_opens mode table s (begun form ts) other e there = there
 
 -- A key is added
 

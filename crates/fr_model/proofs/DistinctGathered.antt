@@ -1,5 +1,5 @@
 -- Items of which no two are the same, and entries with distinct keys, make a set and a map of just these.
-use Rattle.std.proofs.Common.{◌≡◌, ℕ, ◌+◌, Bool, true, false, not, ◌||◌, if◌then◌else◌, refl, sym, ap, ◌∙◌}
+use Rattle.std.proofs.Common.{◌≡◌, ℕ, ◌+◌, Bool, true, false, not, ◌&&◌, ◌||◌, if◌then◌else◌, true≢false, refl, sym, ap, ◌∙◌}
 use Rattle.fr_shape.specs.Same.{same, is_among, none_twice, keys}
 use Rattle.fr_shape.specs.Tokens.{occurs}
 use Rattle.fr_shape.specs.Val.{Val, Vals, Entries, no_vals, first, no_entries, entry}
@@ -7,8 +7,18 @@ use Rattle.fr_model.specs.Collections.{has_same}
 use Rattle.fr_model.specs.Gathering.{is_there, and_last_val, items_in, items_left_out, with_entry_in, entry_leaves_out, entries_in, entries_left_out}
 use Rattle.fr_model.specs.Places.{in_turn}
 use Rattle.fr_model.specs.Tree.{wholes}
-use Rattle.fr_model.proofs.Templates.{both_true}
-use Rattle.fr_model.proofs.Wholes.{both_false, is_not}
+
+both_true : (a b : Bool) → a && b ≡ true → (a ≡ true) × (b ≡ true)
+both_true true b e = (refl, e)
+both_true false b e = absurd (true≢false (sym e))
+
+not_true : (a : Bool) → not a ≡ true → a ≡ false
+not_true true e = absurd (true≢false (sym e))
+not_true false e = refl
+
+neither : (a b : Bool) → a || b ≡ false → (a ≡ false) × (b ≡ false)
+neither true b e = absurd (true≢false e)
+neither false b e = (refl, e)
 
 -- Items
 
@@ -26,15 +36,15 @@ pushed no_vals v vs = refl
 pushed (first u us) v vs = ap (first u) (pushed us v vs)
 
 not_among : (u : Val) (us : Vals) (v : Val) (vs : Vals) → is_among u (joined us (first v vs)) ≡ false → same u v ≡ false
-not_among u no_vals v vs e = (both_false (same u v) (is_among u vs) e).0
-not_among u (first w us) v vs e = not_among u us v vs (both_false (same u w) (is_among u (joined us (first v vs))) e).1
+not_among u no_vals v vs e = (neither (same u v) (is_among u vs) e).0
+not_among u (first w us) v vs e = not_among u us v vs (neither (same u w) (is_among u (joined us (first v vs))) e).1
 
 -- of distinct values none is there among those in front of it
 new_behind : (us : Vals) (v : Val) (vs : Vals) → none_twice (joined us (first v vs)) ≡ true → is_there v us ≡ false
 new_behind no_vals v vs apart = refl
 new_behind (first u us) v vs apart =
     let parts = both_true (not (is_among u (joined us (first v vs)))) (none_twice (joined us (first v vs))) apart in
-    let here = not_among u us v vs (is_not (is_among u (joined us (first v vs))) parts.0) in
+    let here = not_among u us v vs (not_true (is_among u (joined us (first v vs))) parts.0) in
     let others = new_behind us v vs parts.1 in
     λ j. here j || others j
 
@@ -86,14 +96,14 @@ new_key there k v es apart =
 added : (there : Entries) (k v : Val) → is_there k (keys there) ≡ false → with_entry_in there k v ≡ and_last_entry there k v
 added no_entries k v new = refl
 added (entry l w there) k v new =
-    let parts = both_false (same l k) (is_there k (keys there)) new in
+    let parts = neither (same l k) (is_there k (keys there)) new in
     ap (λ (b : Bool). if b then entry l v there else entry l w (with_entry_in there k v)) parts.0
     ∙ ap (entry l w) (added there k v parts.1)
 
 leaves_none : (there : Entries) (k : Val) (t : ℕ) → is_there k (keys there) ≡ false → entry_leaves_out there k t ≡ 0
 leaves_none no_entries k t new = refl
 leaves_none (entry l w there) k t new =
-    let parts = both_false (same l k) (is_there k (keys there)) new in
+    let parts = neither (same l k) (is_there k (keys there)) new in
     ap (λ (b : Bool). if b then occurs k t + occurs w t else entry_leaves_out there k t) parts.0
     ∙ leaves_none there k t parts.1
 

@@ -9,7 +9,10 @@ use Rattle.fr_shape.specs.Val.{Val, Vals, Entries, unit, dyn, no_vals, first, no
 use Rattle.fr_model.specs.Dynamics.{dynamic_in, dynamics_in, members_in, lacks, keys_apart}
 use Rattle.fr_model.specs.Gathering.{is_there, and_last_val, with_item_in, items_in, items_left_out, with_entry_in, entry_leaves_out, entries_in, entries_left_out}
 use Rattle.fr_model.proofs.Templates.{both_true}
-use Rattle.fr_model.proofs.Wholes.{both_false}
+
+neither : (a b : Bool) → (a || b) ≡ false → (a ≡ false) × (b ≡ false)
+neither true b h = cc
+neither false b h = (refl, h)
 
 -- no two are `same`
 
@@ -30,7 +33,7 @@ apart_last no_vals v h e = refl
 apart_last (first u there) v h e =
     let both : (not (is_among u there) ≡ true) × (none_twice there ≡ true)
     = both_true (not (is_among u there)) (none_twice there) h in
-    let apart : (same u v ≡ false) × (is_there v there ≡ false) = both_false (same u v) (is_there v there) e in
+    let apart : (same u v ≡ false) × (is_there v there ≡ false) = neither (same u v) (is_there v there) e in
     rw (apart_here u v there both.0 apart.0, apart_last there v both.1 apart.1) refl
 
 item_apart : (there : Vals) (v : Val) → none_twice there ≡ true → none_twice (with_item_in there v) ≡ true

@@ -7,6 +7,7 @@ use Rattle.fr_shape.specs.declared.shape.ShapeId.{ShapeId}
 use Rattle.fr_shape.specs.declared.error.Operation.{Operation}
 use Rattle.fr_shape.specs.Fits.{fits, all_fit, points_at}
 use Rattle.fr_shape.specs.Look.{Table, def_of}
+use Rattle.fr_shape.specs.Plannable.{is_dynamic}
 use Rattle.fr_shape.specs.Val.{Val, Vals, unit, list_of, ptr, no_vals, first}
 use Rattle.fr_model.specs.Collections.{set_item_refusal}
 use Rattle.fr_model.specs.Contents.{is_slice}
@@ -47,26 +48,26 @@ whole_list mode table s item (list_of vs) is fit =
 whole_list mode table s item unit is fit = cc
 whole_list mode table s item _ is fit = let none = rw (settled_list table s item is) at fit in cc
 
-pub list_opens : (mode : Mode) (table : Table) (s : ℕ) (t : Tree)
+pub list_opens : (mode : Mode) (table : Table) (s : ℕ) (t : Tree) → is_dynamic (def_of table s) ≡ false
     → init_list_refusal s (def_of table s) t ≡ None → Placed mode table s [] t → Placed mode table s [] (opened (def_of table s) t)
-list_opens mode table s hole e there = absurd there.leads
-list_opens mode table s entered e there = go (def_of table s) refl e
+list_opens mode table s hole other e there = absurd there.leads
+list_opens mode table s entered other e there = go (def_of table s) refl other e
   where
-    go : (def : Def) → def_of table s ≡ def → at_shape s (unless_list Operation.InitListOfOther def) ≡ None
+    go : (def : Def) → def_of table s ≡ def → is_dynamic def ≡ false → at_shape s (unless_list Operation.InitListOfOther def) ≡ None
         → Placed mode table s [] (opened (def_of table s) entered)
-    go (Def.List item) is e =
+    go (Def.List item) is other e =
         subst (λ (def : Def). Placed mode table s [] (opened def entered)) (sym is)
         (record { suits = ((rw is tt, tt), tt, tt); leads = tt })
-    go _ is e = cc
-list_opens mode table s (whole v) e there = go (def_of table s) refl e
+    go _ is other e = cc
+list_opens mode table s (whole v) other e there = go (def_of table s) refl other e
   where
-    go : (def : Def) → def_of table s ≡ def → at_shape s (unless_list Operation.InitListOfWholeOther def) ≡ None
+    go : (def : Def) → def_of table s ≡ def → is_dynamic def ≡ false → at_shape s (unless_list Operation.InitListOfWholeOther def) ≡ None
         → Placed mode table s [] (opened (def_of table s) (whole v))
-    go (Def.List item) is e =
+    go (Def.List item) is other e =
         subst (λ (def : Def). Placed mode table s [] (opened def (whole v))) (sym is)
         (whole_list mode table s item v is there.suits)
-    go _ is e = cc
-list_opens mode table s (begun form ts) e there = there
+    go _ is other e = cc
+list_opens mode table s (begun form ts) other e there = there
 
 pub array_opens : (mode : Mode) (table : Table) (s : ℕ) (t : Tree) → at_shape s (init_array_refusal (def_of table s) t) ≡ None
     → Placed mode table s [] t → Placed mode table s [] (opened (def_of table s) t)

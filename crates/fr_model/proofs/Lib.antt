@@ -7,11 +7,13 @@ pub mod Children
 pub mod Closing
 pub mod Collections
 pub mod Completing
+pub mod Conversions
 pub mod Covering
 pub mod Cursor
 pub mod DefaultRows
 pub mod Defaulting
 pub mod DistinctGathered
+pub mod Dynamics
 pub mod Ending
 pub mod Failing
 pub mod FailingPlaces
@@ -22,6 +24,7 @@ pub mod Finishes
 pub mod FirstFailure
 pub mod GatheredParts
 pub mod Items
+pub mod Keys
 pub mod Moves
 pub mod Moving
 pub mod Opening

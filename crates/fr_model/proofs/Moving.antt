@@ -1,36 +1,39 @@
 -- What an admitted command does to the place at the cursor: what becomes of it suits its shape, rests, and holds what it held and what
 -- the command brought, but for what is dropped.
-use Rattle.std.proofs.Common.{◌≡◌, ℕ, ◌+◌, ◌<◌, ◌==◌, eqb-true, Bool, true, false, ◌&&◌, ◌||◌, [], ◌∷◌, ◌++◌, length, Option, Some, unwrap_or, refl, sym, ◌∙◌, ap, subst, arith}
+use Rattle.std.proofs.Common.{◌≡◌, ℕ, ◌+◌, ◌<◌, ◌==◌, eqb-true, Bool, true, false, ◌&&◌, ◌||◌, List, [], ◌∷◌, ◌++◌, length, Option, Some, unwrap_or, refl, sym, ◌∙◌, ap, subst, arith}
 use Rattle.fr_shape.specs.declared.shape.Def.{Def}
 use Rattle.fr_shape.specs.declared.shape.ScalarKind.{ScalarKind}
 use Rattle.fr_shape.specs.Checked.{IsChecked}
 use Rattle.fr_shape.specs.Fits.{fits}
 use Rattle.fr_shape.specs.Hooks.{Meanings}
 use Rattle.fr_shape.specs.Look.{Table, def_of, settled}
-use Rattle.fr_shape.specs.Val.{Val, unit, text}
+use Rattle.fr_shape.specs.Val.{Val, unit, text, dyn}
 use Rattle.fr_model.specs.Collections.{with_key, last_of, number_in}
 use Rattle.fr_model.specs.Commands.{Call}
 use Rattle.fr_model.specs.Complete.{complete}
 use Rattle.fr_model.specs.Contents.{variant_anew, content_anew}
 use Rattle.fr_model.specs.Dropping.{dropped_by_completing}
+use Rattle.fr_model.specs.DynamicPlaces.{array_anew, object_anew, kept_array, kept_object, entry_number, with_entry}
 use Rattle.fr_model.specs.Finish.{finished}
 use Rattle.fr_model.specs.Items.{with_item, is_open_slice}
 use Rattle.fr_model.specs.Places.{Place, Column, strict_column, deferred_column, is_root, up, child_count}
-use Rattle.fr_model.specs.Removed.{replaced, dropped_unless, column_at_end, dropped_with_item, dropped_by_column}
+use Rattle.fr_model.specs.Removed.{replaced, dropped_unless, dropped_if, column_at_end, dropped_with_item, dropped_by_column}
 use Rattle.fr_model.specs.Scripts.{IsFitting, brings}
 use Rattle.fr_model.specs.Step.{is_str, is_owned_string_kind, is_owned_string, takes_shape, opened, put_child, becomes, enters, enter_child, opens, variant_kept, puts_and_leaves, leaves, is_set_item, takes_item, is_dynamic_part}
 use Rattle.fr_model.specs.Tree.{form_of, Tree, whole, tree_at, change_at, count_below, Mode, strict, deferred, State, cursor_shape, cursor_tree, one_more_call, tree_occurs}
 use Rattle.fr_model.specs.Well.{Suits, RestsAround, AtCursor, BeganAbove, IsInOrder}
-use Rattle.fr_model.proofs.Ways.{changed, EndsBelow, Admits, begins, names, sets, defaults, sets_child, holds_it, selects_it, opens_list, opens_array, opens_map, opens_set, adds_key, begins_value, adds_set_item, ends, ends_item, ends_part, is_left, changes_it, adds_it, defers_there, is_finished, lost_is}
+use Rattle.fr_model.proofs.Ways.{changed, EndsBelow, Admits, begins, names, sets, converts, defaults, sets_child, holds_it, selects_it, opens_list, begins_array, opens_array, opens_map, begins_object, opens_set, adds_key, begins_value, adds_set_item, adds_entry, ends, ends_item, ends_part, is_left, changes_it, adds_it, defers_there, is_finished, lost_is}
 use Rattle.fr_model.proofs.Becoming.{Placed, Becoming}
 use Rattle.fr_model.proofs.Collections.{set_opens, map_opens, IsMap, takes_a_key, takes_a_value, key_placed, key_holds, value_enterable}
+use Rattle.fr_model.proofs.Conversions.{IsTaken, converted_is}
 use Rattle.fr_model.proofs.Cursor.{at_cursor, suits_at, up_long, began_strict, entry_at, defers}
+use Rattle.fr_model.proofs.Dynamics.{dynamic_def, array_becomes, object_becomes, IsObject, takes_an_entry, entry_placed, entry_holds, entry_rests}
 use Rattle.fr_model.proofs.Ending.{began_up}
 use Rattle.fr_model.proofs.Items.{list_opens, array_opens, TakesAnItem, takes_a_set_item, item_placed, item_holds}
 use Rattle.fr_model.proofs.Opening.{Enterable}
 use Rattle.fr_model.proofs.Resting.{opened_rests, enter_child_rests, item_rests, key_rests}
 use Rattle.fr_model.proofs.Steps.{finishes_as}
-use Rattle.fr_model.proofs.Structs.{settled_str, settled_scalar}
+use Rattle.fr_model.proofs.Structs.{settled_str, settled_scalar, settled_dynamic}
 use Rattle.fr_model.proofs.Templates.{IsTemplate, preset_template, template_holds}
 use Rattle.fr_model.proofs.Tokens.{opened_holds, enter_child_holds}
 
@@ -186,6 +189,22 @@ module _ (hooks : Meanings) (table : Table) (checked : IsChecked table) (root : 
       (subst (λ (u : Tree). RestsAround [] u → RestsAround (count_below u ∷ []) (with_key table here u)) (sym map.is)
       (key_rests table here map.base map.children))
 
+  entry_so : (key : List ℕ) → IsObject (cursor_tree state)
+      → Move hooks table root state (Call.BeginObjectEntry key)
+      (moved state (entry_number key (cursor_tree state)) (with_entry table here key))
+  entry_so key object =
+      goes_on (Call.BeginObjectEntry key) (entry_number key (cursor_tree state)) (with_entry table here key)
+      (subst (λ (u : Tree). Placed state.mode table here (entry_number key u ∷ []) (with_entry table here key u))
+      (sym object.is)
+      (entry_placed state.mode table here key object.keys object.children
+      (subst (λ (u : Tree). Placed state.mode table here [] u) object.is placed_here)))
+      (λ t. let same : tree_occurs (with_entry table here key (cursor_tree state)) t ≡ tree_occurs (cursor_tree state) t
+      = subst (λ (u : Tree). tree_occurs (with_entry table here key u) t ≡ tree_occurs u t) (sym object.is)
+      (entry_holds table here key object.keys object.children t) in omega arith)
+      (subst (λ (u : Tree). Suits table here u → RestsAround [] u
+      → RestsAround (entry_number key u ∷ []) (with_entry table here key u)) (sym object.is)
+      (entry_rests table here key object.keys object.children) suits_here)
+
   -- what a place that isn't open drops as it ends
   replaced_end : (set part : Bool) (mode : Mode) → is_open_slice (cursor_tree state) ≡ false → is_set_item state ≡ set
       → is_dynamic_part state ≡ part → state.mode ≡ mode → (t : ℕ)
@@ -233,6 +252,14 @@ module _ (hooks : Meanings) (table : Table) (checked : IsChecked table) (root : 
   move command next (sets given v taken) =
       stays (Call.Set given v) (λ (u : Tree). whole v)
       (λ fit. record { suits = taken_fits table here given v taken fit.1; leads = tt }) (λ t. omega arith) (λ rested. tt)
+  move command next (converts given v d of_dynamic made) =
+      let taken : IsTaken v d = converted_is table here (def_of table given) v d made in
+      stays (Call.Set given v) (λ (u : Tree). whole (dyn d))
+      (λ fit. record {
+        suits = rw (settled_dynamic table here (dynamic_def (def_of table here) of_dynamic)) taken.once;
+        leads = tt;
+      })
+      (λ t. omega (arith, taken.holds t)) (λ rested. tt)
   move command next (defaults v is) =
       let template : IsTemplate table here v = preset_template table here v checked is in
       stays Call.SetDefault (λ (u : Tree). whole v) (λ fit. record { suits = template.fit; leads = tt })
@@ -245,12 +272,21 @@ module _ (hooks : Meanings) (table : Table) (checked : IsChecked table) (root : 
       (λ t. omega (arith, there.hold t, lost_is kept state t, drops t, none t)) there.rest
   move command next (selects_it same k there drops none) =
       becomes_so same (variant_kept state k) (variant_anew (def_of table here) k) there drops none
-  move command next (opens_list same e drops none) =
-      opens_so same (list_opens state.mode table here (cursor_tree state) e placed_here) drops none
+  move command next (opens_list same e other drops none) =
+      opens_so same (list_opens state.mode table here (cursor_tree state) other e placed_here) drops none
+  move command next (begins_array same e of_dynamic drops none) =
+      becomes_so same (kept_array (cursor_tree state)) array_anew
+      (array_becomes state.mode table here (cursor_tree state) (dynamic_def (def_of table here) of_dynamic) at_here suits_here)
+      drops none
   move command next (opens_array e) =
       opens_so Call.InitArray (array_opens state.mode table here (cursor_tree state) e placed_here) (λ t. refl) (λ t. refl)
-  move command next (opens_map e) =
-      opens_so Call.InitMap (map_opens state.mode table here (cursor_tree state) e placed_here) (λ t. refl) (λ t. refl)
+  move command next (opens_map e other) =
+      opens_so Call.InitMap (map_opens state.mode table here (cursor_tree state) other e placed_here)
+      (λ t. ap (λ (b : Bool). dropped_if b (kept_object (cursor_tree state)) state t) other) (λ t. refl)
+  move command next (begins_object e of_dynamic) =
+      becomes_so Call.InitMap (kept_object (cursor_tree state)) object_anew
+      (object_becomes state.mode table here (cursor_tree state) (dynamic_def (def_of table here) of_dynamic) at_here suits_here)
+      (λ t. ap (λ (b : Bool). dropped_if b (kept_object (cursor_tree state)) state t) of_dynamic) (λ t. refl)
   move command next (opens_set e) =
       opens_so Call.InitSet (set_opens state.mode table here (cursor_tree state) e placed_here) (λ t. refl) (λ t. refl)
   move command next (adds_key e) = key_so (takes_a_key (cursor_tree state) e)
@@ -259,6 +295,7 @@ module _ (hooks : Meanings) (table : Table) (checked : IsChecked table) (root : 
       (value_enterable table here (cursor_tree state) (takes_a_value (cursor_tree state) e) suits_here) (λ t. refl) (λ t. refl)
   move command next (adds_set_item e) =
       item_so Call.BeginSetItem (takes_a_set_item (def_of table here) (cursor_tree state) e) (λ t. refl) (λ t. refl)
+  move command next (adds_entry key e) = entry_so key (takes_an_entry (def_of table here) (cursor_tree state) e)
   move command next (ends v is_strict shut no_set is) = ends_so v is_strict shut no_set is
   move command next (ends_item column v below deeper by shut of_set is) = taken_so column v below deeper by shut of_set is
   move command next (ends_part start v mode deeper shut no_set of_part is) =

@@ -4,20 +4,24 @@ use Rattle.std.specs.Option.{option_map}
 use Rattle.fr_shape.specs.declared.shape.Def.{Def}
 use Rattle.fr_shape.specs.declared.shape.ShapeId.{ShapeId}
 use Rattle.fr_shape.specs.Look.{Table, def_of}
+use Rattle.std.specs.Str.{bytes_eq}
 use Rattle.fr_shape.specs.Val.{Val, Vals, unit, product, list_of, set_of, map_of}
 use Rattle.fr_shape.specs.Fits.{fits}
 use Rattle.fr_path.specs.declared.path_steps.PathStep.{PathStep}
 use Rattle.fr_model.specs.Paths.{step_as, step_below, steps_in, path_of}
 use Rattle.fr_model.specs.Collections.{with_key, with_ended_item, number_in}
+use Rattle.fr_model.specs.Dynamics.{key_nth}
+use Rattle.fr_model.specs.DynamicPlaces.{array_anew, object_anew, kept_array, kept_object, entry_found, number_or_last, and_entry, with_entry, entry_number}
 use Rattle.fr_model.specs.Items.{with_item, closed_slice}
 use Rattle.fr_model.specs.Contents.{variant_anew, around, content_anew, slice_anew, kept_in, is_entered_in_place, content_of, kept_option}
 use Rattle.fr_model.specs.Places.{Place, up, content_shape, parts_of, items_of, set_items_of, entries_of}
-use Rattle.fr_model.specs.Step.{parts_as, opened_value, opened, enter, enter_child, enters, puts, put_child, puts_child, enters_content, option_kept, content_kept, pointer_kept, begins_pointer, opens, enters_item, enters_key, takes_item, closes, variant_kept, selects, puts_and_leaves, leaves}
-use Rattle.fr_model.specs.Tree.{Form, as_some, form_of, form_at, over_base, Tree, hole, entered, whole, begun, Trees, no_trees, branch, tree_nth, child_tree, change_nth, change_child, tree_at, change_at, child_as, count_trees, count_below, Mode, strict, deferred, State, cursor_shape, cursor_tree}
+use Rattle.fr_model.specs.Step.{parts_as, opened_value, opened, enter, enter_child, enters, puts, put_child, puts_child, enters_content, option_kept, content_kept, pointer_kept, begins_pointer, opens, begins_list, begins_map, enters_item, enters_key, enters_entry, takes_item, closes, variant_kept, selects, puts_and_leaves, leaves}
+use Rattle.fr_model.specs.Tree.{Form, as_some, as_dyn_object, form_of, form_at, over_base, Tree, hole, entered, whole, begun, Trees, no_trees, branch, tree_nth, child_tree, change_nth, change_child, tree_at, change_at, child_as, count_trees, count_below, Mode, strict, deferred, State, cursor_shape, cursor_tree}
 use Rattle.fr_model.specs.Well.{Suits, AtCursor, Leads, IsInOrder}
 use Rattle.fr_model.proofs.Agreement.{leads_within, leads_child}
 use Rattle.fr_model.proofs.Cursor.{at_cursor, suits_at}
 use Rattle.fr_model.proofs.Becoming.{kept_so_is}
+use Rattle.fr_model.proofs.Keys.{bytes_are}
 use Rattle.fr_model.proofs.Structs.{settled_array, settled_list, settled_set, settled_map}
 
 pub as_deep : (here : Place) (t : Tree) → length (steps_in here t) ≡ length here
@@ -195,9 +199,55 @@ key_adds table s state form children leads is =
     steps_on state.mode state.cursor (count_below (cursor_tree state) ∷ []) state.tree (with_key table s) leads
     ∙ ap (λ (here : Tree). path_of state ++ step_below (count_below here) (with_key table s here) ∷ []) is
 
+-- entries of a dynamic object
+
+found_is : (key : List ℕ) (keys : List (List ℕ)) (i : ℕ) → entry_found key keys ≡ Some i → key_nth keys i ≡ key
+found_is key [] i e = cc
+found_is key (other ∷ keys) i e =
+    go (bytes_eq key other) (entry_found key keys) i refl e (λ k is. found_is key keys k is)
+  where
+    go : (b : Bool) (found : Option ℕ) (i : ℕ) → bytes_eq key other ≡ b
+        → (if b then Some 0 else option_map suc found) ≡ Some i
+        → ((k : ℕ) → found ≡ Some k → key_nth keys k ≡ key) → key_nth (other ∷ keys) i ≡ key
+    go true found zero is e others = sym (bytes_are key other is)
+    go true found (suc i) is e others = cc
+    go false (Some k) zero is e others = cc
+    go false (Some k) (suc i) is e others = others i (ap Some cc)
+    go false None i is e others = cc
+
+last_key : (keys : List (List ℕ)) (key : List ℕ) → key_nth (keys ++ key ∷ []) (length keys) ≡ key
+last_key [] key = refl
+last_key (other ∷ keys) key = last_key keys key
+
+entry_below : (table : Table) (s : ℕ) (keys : List (List ℕ)) (children : Trees) (key : List ℕ) (found : Option ℕ)
+    → entry_found key keys ≡ found
+    → step_below (number_or_last found (length keys)) (and_entry table s key (as_dyn_object keys) children found)
+    ≡ PathStep.Entry key
+entry_below table s keys children key (Some i) is = ap PathStep.Entry (found_is key keys i is)
+entry_below table s keys children key None is = ap PathStep.Entry (last_key keys key)
+
+pub entry_adds : (table : Table) (s : ℕ) (state : State) (keys : List (List ℕ)) (children : Trees) (key : List ℕ)
+    → Leads state.mode state.cursor state.tree → cursor_tree state ≡ begun (as_dyn_object keys) children
+    → path_of (enters_entry table s state key) ≡ path_of state ++ PathStep.Entry key ∷ []
+entry_adds table s state keys children key leads is =
+    steps_on state.mode state.cursor (entry_number key (cursor_tree state) ∷ []) state.tree (with_entry table s key) leads
+    ∙ ap (λ (here : Tree). path_of state ++ step_below (entry_number key here) (with_entry table s key here) ∷ []) is
+    ∙ ap (λ (step : PathStep). path_of state ++ step ∷ [])
+    (entry_below table s keys children key (entry_found key keys) refl)
+
 pub open_keeps : (table : Table) (s : ℕ) (state : State) → Leads state.mode state.cursor state.tree
     → path_of (opens table s state) ≡ path_of state
 open_keeps table s state leads = change_keeps state (opened (def_of table s)) leads
+
+pub list_keeps : (table : Table) (s : ℕ) (state : State) (of_dynamic : Bool) → Leads state.mode state.cursor state.tree
+    → path_of (begins_list table s state of_dynamic) ≡ path_of state
+list_keeps table s state true leads = change_keeps state (λ old. unwrap_or (kept_array (cursor_tree state)) array_anew) leads
+list_keeps table s state false leads = open_keeps table s state leads
+
+pub map_keeps : (table : Table) (s : ℕ) (state : State) (of_dynamic : Bool) → Leads state.mode state.cursor state.tree
+    → path_of (begins_map table s state of_dynamic) ≡ path_of state
+map_keeps table s state true leads = change_keeps state (λ old. unwrap_or (kept_object (cursor_tree state)) object_anew) leads
+map_keeps table s state false leads = open_keeps table s state leads
 
 pub open_slice_keeps : (table : Table) (s : ℕ) (state : State) → Leads state.mode state.cursor state.tree
     → path_of (begins_pointer table s state true) ≡ path_of state

@@ -1,5 +1,5 @@
 -- Where each shape that is reached is plain no field has a validator, so each value is valid.
-use Rattle.std.proofs.Common.{◌≡◌, ℕ, zero, suc, ◌<◌, true, List, [], ◌∷◌, ◌++◌, map, length, slice_get, Option, Some, None, refl, ap, arith}
+use Rattle.std.proofs.Common.{◌≡◌, ℕ, zero, suc, ◌<◌, Bool, true, false, not, List, [], ◌∷◌, ◌++◌, map, length, slice_get, Option, Some, None, refl, ap, arith}
 use Rattle.std.specs.List.{Contains, list_all}
 use Rattle.std.proofs.lemmas.List.Elements.{Contains-append_left, Contains-append_right}
 use Rattle.fr_shape.specs.declared.shape.Shape.{Shape}
@@ -12,7 +12,7 @@ use Rattle.fr_shape.specs.Checked.{fields_of}
 use Rattle.fr_shape.specs.Hooks.{Meanings}
 use Rattle.fr_shape.specs.Lists.{is_nil}
 use Rattle.fr_shape.specs.Look.{Table, def_or_other, def_of, field_in}
-use Rattle.fr_shape.specs.Plannable.{Reached, at_root, further, children_of, own_sources, leads_to, is_plain_field, is_plain_shape}
+use Rattle.fr_shape.specs.Plannable.{is_dynamic, Reached, at_root, further, children_of, own_sources, leads_to, is_plain_field, is_plain_shape}
 use Rattle.fr_shape.specs.Val.{Val}
 use Rattle.fr_model.specs.Complete.{first_failing, failing_field, unless_failing, valid_child}
 use Rattle.fr_model.specs.Relation.{HasParts}
@@ -74,6 +74,21 @@ plain_child table s as_struct i parts below plain id shape reached is =
 plain_child table s as_array i parts below plain id shape reached is =
     plain id shape (reached_on table s (child_shape table s i) id (child_reached table s i below) reached) is
 plain_child table s _ i parts below plain id shape reached is = absurd parts
+
+-- a plain shape isn't dynamic
+pub not_dynamic : (table : Table) (s : ℕ) → AllPlain table s → is_dynamic (def_of table s) ≡ false
+not_dynamic table s plain = go (slice_get table s) refl
+  where
+    negated : (b : Bool) → not b ≡ true → b ≡ false
+    negated true e = cc
+    negated false e = refl
+
+    go : (found : Option Shape) → slice_get table s ≡ found → is_dynamic (def_or_other found) ≡ false
+    go (Some shape) is =
+        negated (is_dynamic shape.def)
+        (both_true _ (not (is_dynamic shape.def))
+        (both_true _ (list_all is_plain_field (fields_of shape.def)) (plain s shape at_root is)).0).1
+    go None is = refl
 
 -- each field of a plain struct is plain
 field_plain : (table : Table) (s : ℕ) (struct : StructDef) (i : ℕ) (field : Field) → AllPlain table s

@@ -26,7 +26,7 @@ use Rattle.fr_model.specs.Finish.{finished}
 use Rattle.fr_model.specs.Step.{unless_refused, field_refusal, named_refusal, at_shape, enter_child, enters, begins_named, puts, is_str, is_owned_string, takes_shape, set_refusal, puts_default, violates, ended, leaves, is_set_item, is_dynamic_part, ends_item, leaves_deferred, end_in, begins_deferred, finishes, finish_in, step}
 use Rattle.fr_model.specs.Scripts.{IsFitting}
 use Rattle.fr_model.specs.Well.{Suits, IsInOrder}
-use Rattle.fr_model.proofs.Plain.{AllPlain}
+use Rattle.fr_model.proofs.Plain.{AllPlain, not_dynamic}
 use Rattle.fr_model.proofs.Beneath.{along, held_along}
 use Rattle.fr_model.proofs.Agreement.{by_value, Agrees, agree_along, completes_at, under_entered, under_wrote, follow}
 use Rattle.fr_model.proofs.Children.{nothing_below, SeesWhole, sees_whole, may_enter_by, ChildOf, enterable, ChildCase, a_child, a_variant_child, no_child, child_case, only_of_enum, NamedCase, a_named, a_variant_named, no_such_name, no_names, named_case}
@@ -256,7 +256,7 @@ module _ (hooks : Meanings) (table : Table) (checked : IsChecked table) (root : 
   sets_alike : (given : ℕ) (v : Val) → fits table given v ≡ true
       → BothStep table root (step hooks table root state (Call.Set given v)) (rule table root run (Call.Set given v))
   sets_alike given v fit =
-      rw same (go (at_here == given) refl)
+      rw (same, not_dynamic table at_here plain_here) (go (at_here == given) refl)
     where
       go : (b : Bool) → (at_here == given) ≡ b
           → BothStep table root (unless_refused (set_refusal table at_here given) (puts state v))

@@ -6,6 +6,7 @@ use Rattle.fr_shape.specs.declared.error.Invariant.{Invariant}
 use Rattle.fr_shape.specs.declared.error.Operation.{Operation}
 use Rattle.fr_shape.specs.declared.error.ReflectErrorKind.{ReflectErrorKind}
 use Rattle.fr_shape.specs.Hooks.{Meanings}
+use Rattle.fr_shape.specs.Plannable.{is_dynamic}
 use Rattle.fr_shape.specs.Look.{Table, def_of, field_in}
 use Rattle.fr_shape.specs.Val.{Val}
 use Rattle.fr_model.specs.Collections.{is_set, is_set_form}
@@ -15,7 +16,7 @@ use Rattle.fr_model.specs.DynamicPlaces.{is_begun_dynamic, is_dynamic_form}
 use Rattle.fr_model.specs.Items.{is_open_slice}
 use Rattle.fr_model.specs.DefaultLaws.{and_step, three_calls, AreSameButCalls}
 use Rattle.fr_model.specs.Places.{Place, strict_column, deferred_column, is_root, up}
-use Rattle.fr_model.specs.Step.{unless_refused, at_shape, violates, field_refusal, named_refusal, opened, enter, enter_child, enters, set, field_default, puts, put_child, puts_child, puts_child_default, defaults_field, ended, is_set_item, is_dynamic_part, ends_item, leaves_deferred, end_in, leaves_place, closes_slice, step}
+use Rattle.fr_model.specs.Step.{unless_refused, at_shape, violates, field_refusal, named_refusal, opened, enter, enter_child, enters, set_refusal, set_dynamic, set, field_default, puts, put_child, puts_child, puts_child_default, defaults_field, ended, is_set_item, is_dynamic_part, ends_item, leaves_deferred, end_in, leaves_place, closes_slice, step}
 use Rattle.fr_model.specs.Tree.{Form, as_struct, as_variant, form_at, selected, Tree, hole, entered, whole, begun, Trees, no_trees, branch, tree_nth, change_nth, change_child, child_as, tree_at, change_at, shape_in, shape_below, Mode, strict, deferred, State, cursor_shape, cursor_tree}
 use Rattle.fr_model.specs.Well.{IsFullAs, Suits, AtCursor, Leads, BeganAbove, IsInOrder}
 use Rattle.fr_model.proofs.Agreement.{leads_within, leads_child}
@@ -116,7 +117,13 @@ may_enter def t i field e = go def (selected t) refl e
 
 own_shape : (table : Table) (s given : ℕ) (state : State) (v : Val) → s ≡ given
     → set table s state given v ≡ Ok (puts state v)
-own_shape table s given state v same = rw (eq-eqb s given same) refl
+own_shape table s given state v same = go (is_dynamic (def_of table s))
+  where
+    go : (b : Bool)
+        → (if b then set_dynamic table s state given v else unless_refused (set_refusal table s given) (puts state v))
+        ≡ Ok (puts state v)
+    go true = rw (eq-eqb s given same) refl
+    go false = rw (eq-eqb s given same) refl
 
 -- what has fields is neither a set nor a dynamic value
 fields_alone : (def : Def) (form : Form) (n : ℕ) (chosen : Option ℕ) (i : ℕ) (field : Field)

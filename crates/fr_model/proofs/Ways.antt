@@ -4,16 +4,19 @@ use Rattle.fr_shape.specs.declared.error.ReflectErrorKind.{ReflectErrorKind}
 use Rattle.fr_shape.specs.Fills.{preset_of}
 use Rattle.fr_shape.specs.Hooks.{Meanings}
 use Rattle.fr_shape.specs.Look.{Table, def_of}
+use Rattle.fr_shape.specs.Plannable.{is_dynamic}
 use Rattle.fr_shape.specs.Tokens.{occurs}
-use Rattle.fr_shape.specs.Val.{Val}
+use Rattle.fr_shape.specs.Val.{Val, Dynamic, dyn}
 use Rattle.fr_model.specs.Commands.{Call}
 use Rattle.fr_model.specs.Contents.{variant_anew, content_anew}
+use Rattle.fr_model.specs.Converting.{converted}
 use Rattle.fr_model.specs.Collections.{key_refusal, value_refusal, last_of, set_item_refusal}
+use Rattle.fr_model.specs.DynamicPlaces.{array_anew, object_anew, kept_array, kept_object, entry_refusal}
 use Rattle.fr_model.specs.Places.{Place, Column, strict_column, deferred_column, is_root}
 use Rattle.fr_model.specs.Tree.{Form, Tree, count_below, change_at, Mode, strict, deferred, State, cursor_shape, cursor_tree, one_more_call, tree_occurs}
 use Rattle.fr_model.specs.Complete.{complete}
 use Rattle.fr_model.specs.Finish.{finished}
-use Rattle.fr_model.specs.Step.{at_shape, takes_shape, puts_child, enters_content, opens, init_list_refusal, init_map_refusal, init_set_refusal, enters_item, enters_key, variant_kept, selects, enters, puts, puts_and_leaves, leaves, is_set_item, takes_item, is_dynamic_part}
+use Rattle.fr_model.specs.Step.{at_shape, takes_shape, puts_child, enters_content, opens, becomes, init_list_refusal, init_map_refusal, init_set_refusal, enters_item, enters_key, enters_entry, variant_kept, selects, enters, puts, puts_and_leaves, leaves, is_set_item, takes_item, is_dynamic_part}
 use Rattle.fr_model.specs.Scripts.{brings}
 use Rattle.fr_model.specs.Removed.{replaced, dropped_unless, column_at_end}
 use Rattle.fr_model.specs.Items.{init_array_refusal, is_open_slice}
@@ -46,6 +49,9 @@ pub data Admits (hooks : Meanings) (table : Table) (root : ℕ) (state : State) 
       → Admits hooks table root state (Call.BeginField name) (enters table (cursor_shape table root state) state i)
   sets : (given : ℕ) (v : Val) → takes_shape table (cursor_shape table root state) given ≡ true
       → Admits hooks table root state (Call.Set given v) (puts state v)
+  converts : (given : ℕ) (v : Val) (d : Dynamic) → is_dynamic (def_of table (cursor_shape table root state)) ≡ true
+      → converted table (cursor_shape table root state) (def_of table given) v ≡ Ok d
+      → Admits hooks table root state (Call.Set given v) (puts state (dyn d))
   defaults : (v : Val) → preset_of table (cursor_shape table root state) ≡ Some v
       → Admits hooks table root state Call.SetDefault (puts state v)
   sets_child : (i : ℕ) (v : Val) → Putting state.mode table (cursor_shape table root state) i v (cursor_tree state)
@@ -66,18 +72,30 @@ pub data Admits (hooks : Meanings) (table : Table) (root : ℕ) (state : State) 
       → Admits hooks table root state command (selects table (cursor_shape table root state) state k)
   opens_list : (command : Call)
       → init_list_refusal (cursor_shape table root state) (def_of table (cursor_shape table root state)) (cursor_tree state)
-      ≡ None
+      ≡ None → is_dynamic (def_of table (cursor_shape table root state)) ≡ false
       → ((t : ℕ) → replaced hooks table root (cursor_shape table root state) state command t ≡ 0)
       → ((t : ℕ) → brings command t ≡ 0)
       → Admits hooks table root state command (opens table (cursor_shape table root state) state)
+  begins_array : (command : Call)
+      → init_list_refusal (cursor_shape table root state) (def_of table (cursor_shape table root state)) (cursor_tree state)
+      ≡ None → is_dynamic (def_of table (cursor_shape table root state)) ≡ true
+      → ((t : ℕ)
+      → replaced hooks table root (cursor_shape table root state) state command t
+      ≡ dropped_unless (kept_array (cursor_tree state)) state t)
+      → ((t : ℕ) → brings command t ≡ 0)
+      → Admits hooks table root state command (becomes state (kept_array (cursor_tree state)) array_anew)
   opens_array :
       at_shape (cursor_shape table root state)
       (init_array_refusal (def_of table (cursor_shape table root state)) (cursor_tree state)) ≡ None
       → Admits hooks table root state Call.InitArray (opens table (cursor_shape table root state) state)
   opens_map :
       init_map_refusal (cursor_shape table root state) (def_of table (cursor_shape table root state)) (cursor_tree state)
-      ≡ None
+      ≡ None → is_dynamic (def_of table (cursor_shape table root state)) ≡ false
       → Admits hooks table root state Call.InitMap (opens table (cursor_shape table root state) state)
+  begins_object :
+      init_map_refusal (cursor_shape table root state) (def_of table (cursor_shape table root state)) (cursor_tree state)
+      ≡ None → is_dynamic (def_of table (cursor_shape table root state)) ≡ true
+      → Admits hooks table root state Call.InitMap (becomes state (kept_object (cursor_tree state)) object_anew)
   opens_set :
       init_set_refusal (cursor_shape table root state) (def_of table (cursor_shape table root state)) (cursor_tree state)
       ≡ None → Admits hooks table root state Call.InitSet (opens table (cursor_shape table root state) state)
@@ -88,6 +106,10 @@ pub data Admits (hooks : Meanings) (table : Table) (root : ℕ) (state : State) 
       (enters table (cursor_shape table root state) state (last_of (count_below (cursor_tree state))))
   adds_set_item : set_item_refusal (def_of table (cursor_shape table root state)) (cursor_tree state) ≡ None
       → Admits hooks table root state Call.BeginSetItem (enters_item table (cursor_shape table root state) state)
+  adds_entry : (key : List ℕ)
+      → entry_refusal (def_of table (cursor_shape table root state)) (cursor_tree state) ≡ None
+      → Admits hooks table root state (Call.BeginObjectEntry key)
+      (enters_entry table (cursor_shape table root state) state key)
   ends : (v : Val) → state.mode ≡ strict → is_open_slice (cursor_tree state) ≡ false → is_set_item state ≡ false
       → complete strict_column hooks table (cursor_shape table root state) (cursor_tree state) ≡ Some v
       → Admits hooks table root state Call.End (puts_and_leaves state v)

@@ -10,7 +10,7 @@ use Rattle.fr_model.specs.Tree.{Form, as_struct, as_array, as_variant, as_some, 
 
 -- Beginning a map or a set
 
--- a map is begun as one; any other definition is refused so
+-- a map is begun as one, and a dynamic value; any other definition is refused so
 abbrev pub unless_map : Operation → Def → Option Operation
 unless_map refusal (Def.Map key item) = None
 unless_map refusal (Def.Scalar kind) = Some refusal
@@ -25,7 +25,7 @@ unless_map refusal (Def.Set t) = Some refusal
 unless_map refusal (Def.Array t n) = Some refusal
 unless_map refusal (Def.Pointer pointer) = Some refusal
 unless_map refusal (Def.Slice t) = Some refusal
-unless_map refusal Def.Dynamic = Some refusal
+unless_map refusal Def.Dynamic = None
 unless_map refusal Def.Undefined = Some refusal
 unless_map refusal Def.Other = Some refusal
 

@@ -21,6 +21,7 @@ pub data Call : Type 0 where
   BeginValue : Call
   InitSet : Call
   BeginSetItem : Call
+  BeginObjectEntry : (key : List ℕ) → Call
   BeginSome : Call
   BeginOk : Call
   BeginErr : Call
@@ -49,6 +50,7 @@ call_of Command.BeginKey = Call.BeginKey
 call_of Command.BeginValue = Call.BeginValue
 call_of Command.InitSet = Call.InitSet
 call_of Command.BeginSetItem = Call.BeginSetItem
+call_of (Command.BeginObjectEntry key) = Call.BeginObjectEntry key
 call_of Command.BeginSome = Call.BeginSome
 call_of Command.BeginOk = Call.BeginOk
 call_of Command.BeginErr = Call.BeginErr
@@ -81,6 +83,7 @@ IsFieldCall Call.BeginKey = ⊥
 IsFieldCall Call.BeginValue = ⊥
 IsFieldCall Call.InitSet = ⊥
 IsFieldCall Call.BeginSetItem = ⊥
+IsFieldCall (Call.BeginObjectEntry key) = ⊥
 IsFieldCall Call.BeginSome = ⊥
 IsFieldCall Call.BeginOk = ⊥
 IsFieldCall Call.BeginErr = ⊥

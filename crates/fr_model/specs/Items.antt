@@ -12,7 +12,7 @@ use Rattle.fr_model.specs.Tree.{Form, as_struct, as_array, as_variant, as_some, 
 
 -- Beginning a list or an array
 
--- a list is begun as one; any other definition is refused so
+-- a list is begun as one, and a dynamic value; any other definition is refused so
 abbrev pub unless_list : Operation → Def → Option Operation
 unless_list refusal (Def.List t) = None
 unless_list refusal (Def.Scalar kind) = Some refusal
@@ -27,7 +27,7 @@ unless_list refusal (Def.Set t) = Some refusal
 unless_list refusal (Def.Array t n) = Some refusal
 unless_list refusal (Def.Pointer pointer) = Some refusal
 unless_list refusal (Def.Slice t) = Some refusal
-unless_list refusal Def.Dynamic = Some refusal
+unless_list refusal Def.Dynamic = None
 unless_list refusal Def.Undefined = Some refusal
 unless_list refusal Def.Other = Some refusal
 

@@ -312,6 +312,7 @@ rule_at table root s run Call.BeginKey = None
 rule_at table root s run Call.BeginValue = None
 rule_at table root s run Call.InitSet = None
 rule_at table root s run Call.BeginSetItem = None
+rule_at table root s run (Call.BeginObjectEntry key) = None
 rule_at table root s run Call.BeginSome = None
 rule_at table root s run Call.BeginOk = None
 rule_at table root s run Call.BeginErr = None

@@ -5,10 +5,12 @@ pub mod Commands
 pub mod Complete
 pub mod ContentExamples
 pub mod Contents
+pub mod Converting
 pub mod Covering
 pub mod DefaultExamples
 pub mod DefaultLaws
 pub mod Dropping
+pub mod DynamicExamples
 pub mod DynamicPlaces
 pub mod Dynamics
 pub mod Examples

@@ -1,5 +1,5 @@
 -- How the path of the place at which a builder works goes on, from state to state.
-use Rattle.std.specs.Prelude.{◌≡◌, ℕ, true, List, [], ◌∷◌, ◌++◌, length, Some}
+use Rattle.std.specs.Prelude.{◌≡◌, ℕ, Bool, true, List, [], ◌∷◌, ◌++◌, length, Some}
 use Rattle.fr_shape.specs.Hooks.{Meanings}
 use Rattle.fr_shape.specs.Look.{Table, def_of}
 use Rattle.fr_shape.specs.Val.{Val}
@@ -7,8 +7,8 @@ use Rattle.fr_path.specs.declared.path_steps.PathStep.{PathStep}
 use Rattle.fr_model.specs.Finish.{finished}
 use Rattle.fr_model.specs.Paths.{step_as, steps_in, path_of}
 use Rattle.fr_model.specs.Places.{Place}
-use Rattle.fr_model.specs.Step.{enters, puts, puts_child, puts_and_leaves, leaves, enters_content, option_kept, content_kept, begins_pointer, opens, enters_item, enters_key, closes, takes_item, selects}
-use Rattle.fr_model.specs.Tree.{Form, as_some, Tree, begun, Trees, form_at, count_trees, State, cursor_shape, cursor_tree}
+use Rattle.fr_model.specs.Step.{enters, puts, puts_child, puts_and_leaves, leaves, enters_content, option_kept, content_kept, begins_pointer, opens, enters_item, enters_key, enters_entry, begins_list, begins_map, closes, takes_item, selects}
+use Rattle.fr_model.specs.Tree.{Form, as_some, as_dyn_object, Tree, begun, Trees, form_at, count_trees, State, cursor_shape, cursor_tree}
 use Rattle.fr_model.specs.Well.{Leads, IsInOrder}
 
 -- the path has one step for each place below the root on the way to the cursor, so that only the root has none
@@ -52,11 +52,29 @@ EnteringAKeyAddsAStep =
     → cursor_tree state ≡ begun form children
     → path_of (enters_key table s state) ≡ path_of state ++ step_as form (count_trees children) ∷ []
 
+-- entering an entry of a dynamic object adds the step under its key
+abbrev pub EnteringAnEntryAddsAStep : Type 0
+EnteringAnEntryAddsAStep =
+    (table : Table) (s : ℕ) (state : State) (keys : List (List ℕ)) (children : Trees) (key : List ℕ)
+    → Leads state.mode state.cursor state.tree → cursor_tree state ≡ begun (as_dyn_object keys) children
+    → path_of (enters_entry table s state key) ≡ path_of state ++ PathStep.Entry key ∷ []
+
 -- beginning a list, an array, a set or a map keeps the path
 abbrev pub OpeningKeepsThePath : Type 0
 OpeningKeepsThePath =
     (table : Table) (s : ℕ) (state : State) → Leads state.mode state.cursor state.tree
     → path_of (opens table s state) ≡ path_of state
+
+-- and so does beginning a list or a map at a dynamic place
+abbrev pub BeginningAListKeepsThePath : Type 0
+BeginningAListKeepsThePath =
+    (table : Table) (s : ℕ) (state : State) (of_dynamic : Bool) → Leads state.mode state.cursor state.tree
+    → path_of (begins_list table s state of_dynamic) ≡ path_of state
+
+abbrev pub BeginningAMapKeepsThePath : Type 0
+BeginningAMapKeepsThePath =
+    (table : Table) (s : ℕ) (state : State) (of_dynamic : Bool) → Leads state.mode state.cursor state.tree
+    → path_of (begins_map table s state of_dynamic) ≡ path_of state
 
 -- a pointer to a slice, opened or closed for items, keeps it too
 abbrev pub OpeningASliceKeepsThePath : Type 0

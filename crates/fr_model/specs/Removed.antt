@@ -2,12 +2,14 @@
 use Rattle.std.specs.Prelude.{ℕ, ◌+◌, Bool, true, false, not, ◌&&◌, ◌||◌, if◌then◌else◌, Option, Some, None, Result, Ok, Err}
 use Rattle.fr_shape.specs.declared.error.ReflectErrorKind.{ReflectErrorKind}
 use Rattle.fr_shape.specs.Hooks.{Meanings}
+use Rattle.fr_shape.specs.Plannable.{is_dynamic}
 use Rattle.fr_shape.specs.Look.{Table, def_of, variants_of}
 use Rattle.fr_shape.specs.Val.{Val}
 use Rattle.fr_shape.specs.Tokens.{occurs}
 use Rattle.fr_model.specs.Collections.{leaves_item_out, number_in}
 use Rattle.fr_model.specs.Commands.{Call}
 use Rattle.fr_model.specs.Complete.{complete}
+use Rattle.fr_model.specs.DynamicPlaces.{kept_array, kept_object}
 use Rattle.fr_model.specs.Dropping.{dropped_by_completing, dropped_by_finishing}
 use Rattle.fr_model.specs.Items.{is_open_slice}
 use Rattle.fr_model.specs.Places.{up, Column, strict_column, deferred_column}
@@ -29,6 +31,11 @@ occurs_in_child table s state i t = tree_occurs (child_tree i (opened (def_of ta
 abbrev pub dropped_unless : (kept : Option Tree) → State → ℕ → ℕ
 dropped_unless (Some kept) state t = 0
 dropped_unless None state t = occurs_here state t
+
+-- a dynamic value that starts anew; another place is begun as it is
+abbrev pub dropped_if : (of_dynamic : Bool) → (kept : Option Tree) → State → ℕ → ℕ
+dropped_if true kept state t = dropped_unless kept state t
+dropped_if false kept state t = 0
 
 -- the place of an enum at which this variant is selected
 abbrev pub dropped_by_selecting : (found : Option ℕ) → State → ℕ → ℕ
@@ -72,8 +79,8 @@ dropped_at_end hooks table s state t =
 
 -- What an admitted command drops, at a place of shape s, the root having shape `root`: `set`, `set_default` and
 -- `set_empty_shared_slice` what stood there, for their value takes its place; `set_nth_field_to_default` what stood at that field; a
--- command that begins a content, a side or a pointee, or selects a variant, what stood there, unless it is kept; `end` and
--- `finish_deferred` what is left out of the sets and maps that complete; no other command drops anything.
+-- command that begins a content, a side or a pointee, an array or an object of a dynamic value, or selects a variant, what stood there,
+-- unless it is kept; `end` and `finish_deferred` what is left out of the sets and maps that complete; no other command drops anything.
 abbrev pub replaced : Meanings → Table → (root s : ℕ) → State → Call → ℕ → ℕ
 replaced hooks table root s state (Call.BeginField name) t = 0
 replaced hooks table root s state (Call.BeginNthField i) t = 0
@@ -81,15 +88,19 @@ replaced hooks table root s state (Call.SetNthFieldToDefault i) t = occurs_in_ch
 replaced hooks table root s state (Call.Set given v) t = occurs_here state t
 replaced hooks table root s state Call.SetDefault t = occurs_here state t
 replaced hooks table root s state Call.SetEmptySharedSlice t = occurs_here state t
-replaced hooks table root s state Call.InitList t = 0
-replaced hooks table root s state (Call.InitListWithCapacity n) t = 0
+replaced hooks table root s state Call.InitList t =
+    dropped_if (is_dynamic (def_of table s)) (kept_array (cursor_tree state)) state t
+replaced hooks table root s state (Call.InitListWithCapacity n) t =
+    dropped_if (is_dynamic (def_of table s)) (kept_array (cursor_tree state)) state t
 replaced hooks table root s state Call.InitArray t = 0
 replaced hooks table root s state Call.BeginListItem t = 0
-replaced hooks table root s state Call.InitMap t = 0
+replaced hooks table root s state Call.InitMap t =
+    dropped_if (is_dynamic (def_of table s)) (kept_object (cursor_tree state)) state t
 replaced hooks table root s state Call.BeginKey t = 0
 replaced hooks table root s state Call.BeginValue t = 0
 replaced hooks table root s state Call.InitSet t = 0
 replaced hooks table root s state Call.BeginSetItem t = 0
+replaced hooks table root s state (Call.BeginObjectEntry key) t = 0
 replaced hooks table root s state Call.BeginSome t = dropped_unless (option_kept table s state) state t
 replaced hooks table root s state Call.BeginOk t = dropped_unless (content_kept state as_ok) state t
 replaced hooks table root s state Call.BeginErr t = dropped_unless (content_kept state as_err) state t

@@ -1,5 +1,5 @@
 -- The tables that the builder serves so far. The definition widens until it holds of every table.
-use Rattle.std.specs.Prelude.{◌≡◌, Bool, true, false, ◌&&◌, is_none}
+use Rattle.std.specs.Prelude.{◌≡◌, Bool, true, ◌&&◌, is_none}
 use Rattle.std.specs.List.{list_all}
 use Rattle.fr_shape.specs.declared.shape.Shape.{Shape}
 use Rattle.fr_shape.specs.declared.shape.Def.{Def}
@@ -15,7 +15,7 @@ serves_field field = is_none field.proxy && is_nil field.format_proxies && is_ni
 abbrev pub serves_variant : VariantDef → Bool
 serves_variant variant = list_all serves_field variant.fields
 
--- every definition but dynamic values, with fields that are served
+-- every definition, with fields that are served
 abbrev pub serves_def : Def → Bool
 serves_def (Def.Scalar kind) = true
 serves_def Def.Str = true
@@ -30,7 +30,7 @@ serves_def (Def.Set t) = true
 serves_def (Def.Array t n) = true
 serves_def (Def.Pointer pointer) = true
 serves_def (Def.Slice t) = true
-serves_def Def.Dynamic = false
+serves_def Def.Dynamic = true
 serves_def Def.Undefined = true
 serves_def Def.Other = true
 

@@ -1,6 +1,6 @@
 -- What each command does to a builder's state, or which refusal it meets: one function for each command. The words
 -- here mean what they say at tables that are served.
-use Rattle.std.specs.Prelude.{ℕ, ℤ, Bool, true, false, [], ◌∷◌, ◌++◌, List, length, nat_lt, Option, Some, None, unwrap_or, Result, Ok, Err, if◌then◌else◌}
+use Rattle.std.specs.Prelude.{ℕ, ℤ, ◌==◌, Bool, true, false, [], ◌∷◌, ◌++◌, List, length, nat_lt, Option, Some, None, unwrap_or, Result, Ok, Err, if◌then◌else◌}
 use Rattle.fr_shape.specs.declared.shape.Def.{Def}
 use Rattle.fr_shape.specs.declared.shape.DefaultSource.{DefaultSource}
 use Rattle.fr_shape.specs.declared.shape.Field.{Field}
@@ -12,12 +12,14 @@ use Rattle.fr_shape.specs.declared.error.Operation.{Operation}
 use Rattle.fr_shape.specs.declared.error.Invariant.{Invariant}
 use Rattle.fr_shape.specs.Fills.{preset_of, is_option}
 use Rattle.fr_shape.specs.Hooks.{Meanings}
+use Rattle.fr_shape.specs.Plannable.{is_dynamic}
 use Rattle.fr_shape.specs.Look.{Table, def_of, field_in, variants_of}
-use Rattle.fr_shape.specs.Val.{Val, Vals, list_of, ptr, no_vals}
+use Rattle.fr_shape.specs.Val.{Val, Vals, Dynamic, list_of, ptr, dyn, no_vals}
 use Rattle.fr_path.specs.declared.path_steps.PathStep.{PathStep}
 use Rattle.fr_model.specs.Commands.{Call}
 use Rattle.fr_model.specs.Contents.{is_result, pointer_refusal, points_to_slice, variant_anew, content_anew, slice_anew, kept_so, kept_in, kept_slice, kept_option}
-use Rattle.fr_model.specs.DynamicPlaces.{is_begun_dynamic}
+use Rattle.fr_model.specs.Converting.{converted}
+use Rattle.fr_model.specs.DynamicPlaces.{is_begun_dynamic, array_anew, object_anew, kept_array, kept_object, entry_refusal, entry_number, with_entry}
 use Rattle.fr_model.specs.Items.{init_array_refusal, item_refusal, with_item, is_open_slice, closed_slice, shared_slice_refusal}
 use Rattle.fr_model.specs.Places.{Column, strict_column, deferred_column, is_root, up, count_children, content_shape, parts_of, items_of, set_items_of, entries_of}
 use Rattle.fr_model.specs.Tree.{Form, as_struct, as_array, as_variant, as_some, as_ok, as_err, as_pointer, as_list, as_slice, as_closed_slice, as_set, as_map, as_dyn_array, as_dyn_object, form_of, form_at, over_base, selected, Tree, hole, entered, whole, begun, for_hole, wholes, holes, fresh, child_as, count_below, change_child, change_at, tree_at, Mode, strict, deferred, State, cursor_shape, cursor_tree, one_more_call}
@@ -115,9 +117,19 @@ puts state v = record state {
   calls = one_more_call state.calls;
 }
 
--- set takes the place of all that stood there, where the place takes a value of that shape
+abbrev pub puts_dynamic : State → (given : ℕ) → Result Dynamic Operation → Result State ReflectErrorKind
+puts_dynamic state given (Ok d) = Ok (puts state (dyn d))
+puts_dynamic state given (Err operation) = Err (operation_failed given operation)
+
+-- a dynamic place takes a value of its own shape, and what it makes of one of another
+abbrev pub set_dynamic : Table → ℕ → State → ℕ → Val → Result State ReflectErrorKind
+set_dynamic table s state given v =
+    if s == given then Ok (puts state v) else puts_dynamic state given (converted table s (def_of table given) v)
+
 abbrev pub set : Table → ℕ → State → ℕ → Val → Result State ReflectErrorKind
-set table s state given v = unless_refused (set_refusal table s given) (puts state v)
+set table s state given v =
+    if is_dynamic (def_of table s) then set_dynamic table s state given v
+    else unless_refused (set_refusal table s given) (puts state v)
 
 abbrev pub puts_default : ℕ → State → Option Val → Result State ReflectErrorKind
 puts_default s state (Some v) = Ok (puts state v)
@@ -231,11 +243,16 @@ opens table s state = record state {
   calls = one_more_call state.calls;
 }
 
+-- a list is begun, or a dynamic array, which starts anew where the place is another dynamic value
+abbrev pub begins_list : Table → ℕ → State → (of_dynamic : Bool) → State
+begins_list table s state of_dynamic =
+    if of_dynamic then becomes state (kept_array (cursor_tree state)) array_anew else opens table s state
+
 -- init_list, with a capacity or without: a list keeps the items that it has
 abbrev pub init_list : Table → ℕ → State → Result State ReflectErrorKind
 init_list table s state =
     unless_refused (init_list_refusal s (def_of table s) (cursor_tree state))
-    (opens table s state)
+    (begins_list table s state (is_dynamic (def_of table s)))
 
 -- init_array: the elements of an entered array are holes
 abbrev pub init_array : Table → ℕ → State → Result State ReflectErrorKind
@@ -256,11 +273,16 @@ begin_list_item table s state =
 
 -- Sets and maps
 
+-- a map is begun, or a dynamic object, which starts anew where the place is another dynamic value
+abbrev pub begins_map : Table → ℕ → State → (of_dynamic : Bool) → State
+begins_map table s state of_dynamic =
+    if of_dynamic then becomes state (kept_object (cursor_tree state)) object_anew else opens table s state
+
 -- init_map: a map keeps the entries that it has
 abbrev pub init_map : Table → ℕ → State → Result State ReflectErrorKind
 init_map table s state =
     unless_refused (init_map_refusal s (def_of table s) (cursor_tree state))
-    (opens table s state)
+    (begins_map table s state (is_dynamic (def_of table s)))
 
 -- init_set: at a set alone, which keeps the items that it has
 abbrev pub init_set : Table → ℕ → State → Result State ReflectErrorKind
@@ -287,6 +309,20 @@ begin_value table s state =
 abbrev pub begin_set_item : Table → ℕ → State → Result State ReflectErrorKind
 begin_set_item table s state =
     unless_refused (at_shape s (set_item_refusal (def_of table s) (cursor_tree state))) (enters_item table s state)
+
+-- Dynamic values
+
+-- the entry of this key is entered, as it is or new
+abbrev pub enters_entry : Table → ℕ → State → (key : List ℕ) → State
+enters_entry table s state key = record state {
+  tree = change_at state.cursor (with_entry table s key) state.tree;
+  cursor = state.cursor ++ entry_number key (cursor_tree state) ∷ [];
+  calls = one_more_call state.calls;
+}
+
+abbrev pub begin_object_entry : Table → ℕ → State → (key : List ℕ) → Result State ReflectErrorKind
+begin_object_entry table s state key =
+    unless_refused (at_shape s (entry_refusal (def_of table s) (cursor_tree state))) (enters_entry table s state key)
 
 -- Slices
 
@@ -474,6 +510,7 @@ step_at hooks table root s state Call.BeginKey = begin_key table s state
 step_at hooks table root s state Call.BeginValue = begin_value table s state
 step_at hooks table root s state Call.InitSet = init_set table s state
 step_at hooks table root s state Call.BeginSetItem = begin_set_item table s state
+step_at hooks table root s state (Call.BeginObjectEntry key) = begin_object_entry table s state key
 step_at hooks table root s state Call.BeginSome = begin_some table s state
 step_at hooks table root s state Call.BeginOk = begin_side table s state as_ok
 step_at hooks table root s state Call.BeginErr = begin_side table s state as_err

@@ -19,6 +19,7 @@ pub enum Command {
     BeginValue,
     InitSet,
     BeginSetItem,
+    BeginObjectEntry(Text),
     BeginSome,
     BeginOk,
     BeginErr,

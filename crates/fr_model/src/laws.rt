@@ -5,6 +5,7 @@ ghost use Rattle.fr_model.specs.ContentExamples.{OptionExamples, PointerExamples
 ghost use Rattle.fr_model.specs.Covering.{ScanAgrees, WaysAgree};
 ghost use Rattle.fr_model.specs.DefaultExamples.{DefaultExamples, ValidatorExamples};
 ghost use Rattle.fr_model.specs.DefaultLaws.{DefaultIsThreeCalls};
+ghost use Rattle.fr_model.specs.DynamicExamples.{ConversionExamples, DynamicExamples};
 ghost use Rattle.fr_model.specs.Examples.{EndRunsValidators};
 ghost use Rattle.fr_model.specs.FailingLaws.{FailuresLieThere, FinishesOrRefuses, FinishOfDone, FirstByWalkIs, LackingFails, NothingFailsOfDone};
 ghost use Rattle.fr_model.specs.FinishExamples.{FinishExamples};
@@ -13,7 +14,7 @@ ghost use Rattle.fr_model.specs.Finishing.{NotesWhatIsDue, StuckOrNoted};
 ghost use Rattle.fr_model.specs.GatheringLaws.{DistinctEntriesStay, DistinctItemsStay, NoEntryIsLeftOut, NoItemIsLeftOut, SameIsThere};
 ghost use Rattle.fr_model.specs.Laws.{BuildKeepsTokens, CompletesOrFails, CompletesOrLacks, CompletingFits, CompletingKeepsTokens, StartIsWell, StepKeepsDistinct, StepKeepsOrder, StepKeepsRest, StepKeepsTokens};
 ghost use Rattle.fr_model.specs.ListExamples.{ArrayExamples, ListExamples, SliceExamples};
-ghost use Rattle.fr_model.specs.PathLaws.{ClosingASliceKeepsThePath, DefaultingKeepsThePath, EnteringAddsAStep, EnteringAKeyAddsAStep, EnteringAnItemAddsAStep, EnteringContentAddsAStep, EnteringSomeAddsAStep, FinishingKeepsThePath, LeavingAnItemDropsAStep, LeavingAsItIs, LeavingDropsAStep, OpeningASliceKeepsThePath, OpeningKeepsThePath, PathIsAsDeep, PuttingKeepsThePath, SelectingKeepsThePath};
+ghost use Rattle.fr_model.specs.PathLaws.{BeginningAListKeepsThePath, BeginningAMapKeepsThePath, ClosingASliceKeepsThePath, DefaultingKeepsThePath, EnteringAddsAStep, EnteringAKeyAddsAStep, EnteringAnEntryAddsAStep, EnteringAnItemAddsAStep, EnteringContentAddsAStep, EnteringSomeAddsAStep, FinishingKeepsThePath, LeavingAnItemDropsAStep, LeavingAsItIs, LeavingDropsAStep, OpeningASliceKeepsThePath, OpeningKeepsThePath, PathIsAsDeep, PuttingKeepsThePath, SelectingKeepsThePath};
 
 /// For every field script of fitting values over a table that is plain for the root, whatever the hooks mean, the run of the
 /// commands gives a value exactly where the journal completes, and the same one. At the start, and after each fitting call
@@ -69,6 +70,8 @@ pub fn law_examples()
     ensures slices { SliceExamples }
     ensures sets { SetExamples }
     ensures maps { MapExamples }
+    ensures conversions { ConversionExamples }
+    ensures dynamics { DynamicExamples }
 {}
 
 /// What fails at the end of deferred mode is half done and lies off the way, and a place that lacks something by itself fails, its
@@ -100,18 +103,21 @@ pub fn law_finishing()
 {}
 
 /// The path of the place at which a builder works, from state to state. Entering a child, from a state that is in order,
-/// adds the step to that child, and so does entering what an option, a side of a result or a pointer holds, a new item or a new
-/// key. Beginning a list, an array, a set or a map, opening and closing a pointer to a slice, selecting a variant and setting a
-/// field to its default keep the path. Putting a value keeps it, or takes its last step away where the cursor goes up. Leaving a
-/// place as it is takes it away too, and so does leaving an item of a set. The end of deferred mode keeps it. There are as many
-/// steps as the place lies deep, so that only the root has none.
+/// adds the step to that child, and so does entering what an option, a side of a result or a pointer holds, a new item, a new
+/// key or an entry of an object. Beginning a list, an array, a set, a map or a dynamic value, opening and closing a pointer
+/// to a slice, selecting a variant and setting a field to its default keep the path. Putting a value keeps it, or takes its
+/// last step away where the cursor goes up. Leaving a place as it is takes it away too, and so does leaving an item of a set.
+/// The end of deferred mode keeps it. There are as many steps as the place lies deep, so that only the root has none.
 pub fn law_paths()
     ensures enter { EnteringAddsAStep }
     ensures enter_content { EnteringContentAddsAStep }
     ensures enter_some { EnteringSomeAddsAStep }
     ensures enter_item { EnteringAnItemAddsAStep }
     ensures enter_key { EnteringAKeyAddsAStep }
+    ensures enter_entry { EnteringAnEntryAddsAStep }
     ensures open { OpeningKeepsThePath }
+    ensures begin_list { BeginningAListKeepsThePath }
+    ensures begin_map { BeginningAMapKeepsThePath }
     ensures open_slice { OpeningASliceKeepsThePath }
     ensures close_slice { ClosingASliceKeepsThePath }
     ensures select { SelectingKeepsThePath }

@@ -1,4 +1,4 @@
-use Rattle.fr_model.proofs.Paths.{as_deep, close_slice_keeps, content_adds, default_keeps, enter_adds, item_adds, key_adds, leave_as_it_is, leave_drops, leave_item, open_keeps, open_slice_keeps, put_keeps, select_keeps, some_adds}
+use Rattle.fr_model.proofs.Paths.{as_deep, close_slice_keeps, content_adds, default_keeps, enter_adds, entry_adds, item_adds, key_adds, leave_as_it_is, leave_drops, leave_item, list_keeps, map_keeps, open_keeps, open_slice_keeps, put_keeps, select_keeps, some_adds}
 use Rattle.fr_model.specs.Tree.{cursor_shape}
 use Rattle.fr_model.proofs.Finishes.{finish_keeps_path}
 use Rattle.fr_model.proofs.laws.law_paths.Goals as goal
@@ -48,6 +48,16 @@ returns-clause-close_slice c state leads = close_slice_keeps state leads
 
 pub returns-clause-enter_key : goal.returns-clause-enter_key
 returns-clause-enter_key c table s state form children leads is = key_adds table s state form children leads is
+
+pub returns-clause-enter_entry : goal.returns-clause-enter_entry
+returns-clause-enter_entry c table s state keys children key leads is =
+    entry_adds table s state keys children key leads is
+
+pub returns-clause-begin_list : goal.returns-clause-begin_list
+returns-clause-begin_list c table s state of_dynamic leads = list_keeps table s state of_dynamic leads
+
+pub returns-clause-begin_map : goal.returns-clause-begin_map
+returns-clause-begin_map c table s state of_dynamic leads = map_keeps table s state of_dynamic leads
 
 pub returns-clause-leave_item : goal.returns-clause-leave_item
 returns-clause-leave_item c state v before last leads is = leave_item state v before last leads is
