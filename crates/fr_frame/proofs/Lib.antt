@@ -2,6 +2,7 @@ pub mod BodyLaws
 pub mod CellLaws
 pub mod DefaultLaws
 pub mod DefaultedLaws
+pub mod DynamicLaws
 pub mod EntryLaws
 pub mod FillLaws
 pub mod FormLaws
@@ -12,8 +13,10 @@ pub mod HeapLaws
 pub mod IndexLaws
 pub mod Indexed
 pub mod ItemLaws
+pub mod KeyLaws
 pub mod Kept
 pub mod LackLaws
+pub mod ObjectLaws
 pub mod OwnLackLaws
 pub mod PlaceLaws
 pub mod Placed

@@ -4,12 +4,14 @@ use Rattle.fr_shape.specs.declared.shape.Def.{Def}
 use Rattle.fr_shape.specs.Fills.{is_empty_struct}
 use Rattle.fr_shape.specs.Same.{same}
 use Rattle.fr_shape.specs.Tokens.{occurs}
-use Rattle.fr_shape.specs.Val.{Val, Vals, unit, product, some, ok, err, list_of, ptr, no_vals, first}
+use Rattle.fr_shape.specs.Val.{Val, Vals, Dynamics, Members, unit, product, some, ok, err, list_of, ptr, no_vals, first}
 use Rattle.fr_model.specs.Complete.{made}
 use Rattle.fr_model.specs.Contents.{content_of}
+use Rattle.fr_model.specs.DynamicPlaces.{is_object_form, entry_found, number_or_last}
+use Rattle.fr_model.specs.Dynamics.{dynamic_in, elements_in, element_vals, members_of_object, member_keys, member_vals}
 use Rattle.fr_model.specs.Places.{vals_nth}
 use Rattle.fr_model.specs.Step.{parts_as}
-use Rattle.fr_model.specs.Tree.{Form, as_struct, as_array, as_variant, as_some, as_ok, as_err, as_pointer, as_list, as_slice, as_closed_slice, as_set, as_map, as_dyn_array, as_dyn_object, over_base, Tree, hole, entered, whole, begun, Trees, no_trees, branch}
+use Rattle.fr_model.specs.Tree.{Form, as_struct, as_array, as_variant, as_some, as_ok, as_err, as_pointer, as_list, as_slice, as_closed_slice, as_set, as_map, as_dyn_array, as_dyn_object, keys_of_form, over_base, Tree, hole, entered, whole, begun, Trees, no_trees, branch}
 use Rattle.fr_frame.specs.Cells.{Cell, absent, given, placed, cells_occur, values_of}
 
 -- a place: entered, with nothing put in; holding a value; or begun, with its children
@@ -194,11 +196,71 @@ IsSetBody entered_body = ⊥
 IsSetBody (whole_body v) = ⊥
 IsSetBody (begun_body form cells) = form ≡ as_set
 
+-- Dynamic values.
+
+-- a whole dynamic array, or object
+abbrev pub HoldsArray : Body → Type 0
+HoldsArray entered_body = ⊥
+HoldsArray (whole_body v) = IsSome (elements_in (dynamic_in v))
+HoldsArray (begun_body form cells) = ⊥
+
+abbrev pub HoldsObject : Body → Type 0
+HoldsObject entered_body = ⊥
+HoldsObject (whole_body v) = IsSome (members_of_object (dynamic_in v))
+HoldsObject (begun_body form cells) = ⊥
+
+abbrev pub opened_elements : Val → (elements : Option Dynamics) → Body
+opened_elements v (Some ds) = begun_body as_dyn_array (cells_of_vals (element_vals ds))
+opened_elements v None = whole_body v
+
+-- a whole dynamic array is begun with its elements as they are; any other place stays as it is
+abbrev pub opened_array : Body → Body
+opened_array entered_body = entered_body
+opened_array (whole_body v) = opened_elements v (elements_in (dynamic_in v))
+opened_array (begun_body form cells) = begun_body form cells
+
+abbrev pub opened_members : Val → (members : Option Members) → Body
+opened_members v (Some ms) = begun_body (as_dyn_object (member_keys ms)) (cells_of_vals (member_vals ms))
+opened_members v None = whole_body v
+
+-- a whole dynamic object is begun with its entries as they are; any other place stays as it is
+abbrev pub opened_object : Body → Body
+opened_object entered_body = entered_body
+opened_object (whole_body v) = opened_members v (members_of_object (dynamic_in v))
+opened_object (begun_body form cells) = begun_body form cells
+
+-- the place is begun as a dynamic object
+abbrev pub IsObjectBody : Body → Type 0
+IsObjectBody entered_body = ⊥
+IsObjectBody (whole_body v) = ⊥
+IsObjectBody (begun_body form cells) = is_object_form form ≡ true
+
+-- the keys of its entries
+abbrev pub keys_in : Body → List (List ℕ)
+keys_in entered_body = []
+keys_in (whole_body v) = []
+keys_in (begun_body form cells) = keys_of_form form
+
+abbrev pub with_entry_unless : (key : List ℕ) → Form → List Cell → (found : Option ℕ) → Body
+with_entry_unless key form cells (Some i) = begun_body form cells
+with_entry_unless key form cells None = begun_body (as_dyn_object (keys_of_form form ++ key ∷ [])) (cells ++ absent ∷ [])
+
+-- an object with an entry under this key: the one that it has, or one more behind the others, whose value isn't there yet; any other
+-- place stays as it is
+abbrev pub with_entry_for : (key : List ℕ) → Body → Body
+with_entry_for key entered_body = entered_body
+with_entry_for key (whole_body v) = whole_body v
+with_entry_for key (begun_body form cells) = with_entry_unless key form cells (entry_found key (keys_of_form form))
+
 -- how many children a place has, as far as it is begun
 abbrev pub count_cells : Body → ℕ
 count_cells entered_body = 0
 count_cells (whole_body v) = 0
 count_cells (begun_body form cells) = length cells
+
+-- the number of the entry of an object that has this key, or of a new last one
+abbrev pub entry_in : (key : List ℕ) → Body → ℕ
+entry_in key body = number_or_last (entry_found key (keys_in body)) (count_cells body)
 
 -- a begun place, begun so instead, with the children that it has; any other place stays as it is
 abbrev pub reformed : Form → Body → Body

@@ -13,7 +13,7 @@ use Rattle.fr_frame.specs.declared.places.Piece.{Piece}
 use Rattle.fr_frame.specs.declared.places.Place.{Place}
 use Rattle.fr_frame.specs.declared.places.Slot.{Slot}
 use Rattle.fr_frame.specs.Cells.{Cell, given, slot_of_cell}
-use Rattle.fr_frame.specs.Bodies.{Body, entered_body, whole_body, begun_body, body_occurs, cell_at, count_cells, with_cell, with_ended, taken_over, linked, unlinked, IsSetBody}
+use Rattle.fr_frame.specs.Bodies.{Body, entered_body, whole_body, begun_body, body_occurs, cell_at, count_cells, entry_in, with_cell, with_ended, taken_over, linked, unlinked, IsSetBody}
 
 -- the place in a slot: the plan's node that it is built by, the place that it belongs to, whether it is stored, how deep it
 -- lies, and what was put at it
@@ -40,6 +40,7 @@ as_form Form.Slice = as_slice
 as_form Form.ClosedSlice = as_closed_slice
 as_form Form.Set = as_set
 as_form (Form.Map base) = as_map base
+as_form Form.DynArray = as_dyn_array
 
 -- what the children of a place that is begun so are: fields, of a struct or of the variant that is selected, or something else
 abbrev pub parts_in : TreeForm → Parts
@@ -62,6 +63,7 @@ abbrev pub body_of : Piece → Body
 body_of Piece.Entered = entered_body
 body_of (Piece.Whole v) = whole_body (view v)
 body_of (Piece.Begun form children) = begun_body (as_form form) children
+body_of (Piece.Object keys children) = begun_body (as_dyn_object keys) children
 
 abbrev pub node_of : Place → Node
 node_of place = record {
@@ -168,6 +170,10 @@ ends (FrameOwner.Child parent i) v heap = with_body heap parent.0 (with_ended i 
 -- where an item belongs that comes behind all children of the place in slot n
 abbrev pub item_owner : (n : ℕ) → Body → FrameOwner
 item_owner n body = FrameOwner.Child (record { 0 = n }) (count_cells body)
+
+-- where the value belongs that the object in slot n has under this key
+abbrev pub entry_owner : (n : ℕ) → (key : List ℕ) → Body → FrameOwner
+entry_owner n key body = FrameOwner.Child (record { 0 = n }) (entry_in key body)
 
 -- Marks.
 

@@ -9,5 +9,6 @@ pub mod FieldDefaults
 pub mod Filling
 pub mod Heap
 pub mod Indexing
+pub mod KeyNames
 pub mod KeyPlaces
 pub mod Kids

@@ -17,6 +17,7 @@ use crate::value_index::ValueIndex;
 use fr_arena::ISet;
 use fr_shape::{Ledger, OutOfMemory, Value, release, same};
 use std::alloc::Global;
+use std::default::Default;
 use std::marker::Model;
 
 /// The children of a begun place: their values side by side, so that they become a product as they are.
@@ -146,6 +147,17 @@ fn index_given(index: &mut ValueIndex, values: &[Value], given: &ISet)
 
 impl Children {
     ghost use Rattle.fr_frame.specs.Cells.{absent, given, placed, value_at, slot_at, values_of};
+
+    /// No children. Takes no memory.
+    pub(crate) fn none(alloc: Global) -> Children
+        ensures { result ≡ [] }
+    {
+        Children {
+            values: Vec::new(alloc),
+            given: ISet::default(),
+            index: ValueIndex::new(alloc),
+        }
+    }
 
     /// So many children, none of them there yet.
     pub(crate) fn none_yet(alloc: Global, count: usize) -> Result<Children, OutOfMemory>
@@ -292,7 +304,7 @@ impl Children {
     }
 
     /// Lets the last child go.
-    fn pop(&mut self)
+    pub(crate) fn pop(&mut self)
         ensures { (rest : List Cell) (last : Cell) → self.old ≡ rest ++ last ∷ []
             → self.new ≡ rest }
     {

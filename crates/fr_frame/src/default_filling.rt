@@ -240,5 +240,6 @@ pub(crate) fn default_piece(
             Parts::Fields(selected) => default_fields(alloc, table, plan, node, selected, children),
             Parts::Others => Ok(()),
         },
+        Piece::Object(..) => Ok(()),
     }
 }

@@ -124,5 +124,6 @@ pub(crate) fn fill(
             Parts::Fields(selected) => fill_holes(alloc, table, plan, node, selected, children),
             Parts::Others => Ok(()),
         },
+        Piece::Object(..) => Ok(()),
     }
 }

@@ -191,7 +191,7 @@ fn keep_item(kept: &mut Vec<Value>, place: usize, item: Value, ledger: &mut Ledg
 }
 
 /// Appends an item that there is memory for.
-fn append<T: Drop>(list: &mut Vec<T>, item: T)
+pub(crate) fn append<T: Drop>(list: &mut Vec<T>, item: T)
     requires space { vec_len list.old < vec_capacity list.old }
     ensures items { list.new.items ≡ list.old.items ++ item ∷ [] }
     ensures len { vec_len list.new ≡ vec_len list.old + 1 }

@@ -28,7 +28,7 @@ impl SlotId {
 
 impl Slots {
     /// Where an item belongs that comes behind all children of a place, unless there are too many.
-    fn item_owner(&self, parent: SlotId) -> Option<FrameOwner>
+    pub(crate) fn item_owner(&self, parent: SlotId) -> Option<FrameOwner>
         requires { IsInUse self.now parent.0 }
         ensures owner { IfSome result (λ owner. IfInUse self.now parent.0 (λ above.
             owner ≡ item_owner parent.0 above.body)) }

@@ -245,5 +245,6 @@ pub(crate) fn test_piece<H: Hooks>(
             }
             Parts::Others => test_others(plan, node, children),
         },
+        Piece::Object(_, children) => test_others(plan, node, children),
     }
 }

@@ -90,8 +90,8 @@ impl SlotId {
     }
 
     /// The value of a place that is whole, or begun with each child there. Its slot is then free, and its owner has it in no
-    /// slot. A content, a side, a pointee or a slice goes into a box, and a set or a map is put together anew, of which what is
-    /// there twice is released; where there is no memory for that, what was put at the place is released.
+    /// slot. A content, a side, a pointee or a slice goes into a box. A set or a map, of which what is there twice is released, and a
+    /// dynamic array or object are put together anew. Where there is no memory for that, what was put at the place is released.
     pub fn into_value(self, slots: &mut Slots, ledger: &mut Ledger) -> Result<Value, OutOfMemory>
         requires complete { IfInUse slots.old self.0 (λ at. IsSome (value_of at.body)) }
         requires room { IfInUse slots.old self.0 (λ at. Room (body_occurs at.body) ledger.old) }

@@ -74,5 +74,6 @@ pub(crate) fn test_full(
             Parts::Fields(selected) => test_fields_there(table, plan, node, selected, children),
             Parts::Others => test_others(plan, node, children),
         },
+        Piece::Object(_, children) => test_others(plan, node, children),
     }
 }

@@ -6,12 +6,15 @@ ghost use Rattle.fr_shape.specs.Val.{Val, list_of, map_of, set_of, first, no_val
 ghost use Rattle.fr_shape.specs.View.{view, vals_view, entries_view};
 ghost use Rattle.fr_model.specs.Complete.{value_as};
 ghost use Rattle.fr_model.specs.Gathering.{entries_in, items_in};
+ghost use Rattle.fr_model.specs.Tree.{as_dyn_object};
 ghost use Rattle.fr_frame.specs.Bodies.{around_as, begun_body, body_occurs, boxed_as, boxes, gathers, is_around, takes_memory, value_of, whole_body};
 ghost use Rattle.fr_frame.specs.Cells.{cells_occur, values_of};
 ghost use Rattle.fr_frame.specs.Heap.{as_form, body_of};
 
 use crate::children::Children;
+use crate::dynamics::{array_of, object_of};
 use crate::gathering::{distinct_items, merge_entries};
+use crate::keys::Keys;
 use crate::pieces::release_piece;
 use crate::places::{Form, Piece};
 use fr_shape::{Items, Ledger, OutOfMemory, Value};
@@ -37,6 +40,7 @@ fn value_of_parts(form: Form, values: Vec<Value>) -> Value
         Form::List => list_of(values),
         Form::Some | Form::Ok | Form::Err | Form::Pointer => unreachable!(),
         Form::Slice | Form::ClosedSlice | Form::Set | Form::Map(_) => unreachable!(),
+        Form::DynArray => unreachable!(),
     }
 }
 
@@ -61,7 +65,7 @@ fn value_in_box(form: Form, values: Vec<Value>) -> Value
         Form::Some | Form::Ok | Form::Err | Form::Pointer => only(values),
         Form::Slice | Form::ClosedSlice => list_of(values),
         Form::Struct | Form::Array | Form::Variant(_) | Form::List => unreachable!(),
-        Form::Set | Form::Map(_) => unreachable!(),
+        Form::Set | Form::Map(_) | Form::DynArray => unreachable!(),
     }
 }
 
@@ -76,7 +80,7 @@ fn value_of_box(form: Form, held: Box<Value>) -> Value
         Form::Err => Value::Err(held),
         Form::Pointer | Form::Slice | Form::ClosedSlice => Value::Ptr(held),
         Form::Struct | Form::Array | Form::Variant(_) | Form::List => unreachable!(),
-        Form::Set | Form::Map(_) => unreachable!(),
+        Form::Set | Form::Map(_) | Form::DynArray => unreachable!(),
     }
 }
 
@@ -140,6 +144,7 @@ fn value_gathered(
     match form {
         Form::Set => set_of(alloc, values, ledger),
         Form::Map(_) => map_of(alloc, values, ledger),
+        Form::DynArray => array_of(alloc, values, ledger),
         Form::Struct | Form::Array | Form::Variant(_) | Form::List => unreachable!(),
         Form::Some | Form::Ok | Form::Err | Form::Pointer => unreachable!(),
         Form::Slice | Form::ClosedSlice => unreachable!(),
@@ -171,6 +176,30 @@ fn value_of_children(
     match value_gathered(alloc, form, values, ledger) {
         Ok(value) => Ok(value),
         Err(back) => Err(Children::of_parts(back, given)),
+    }
+}
+
+/// The value of a dynamic object with each child there. Without memory its keys and children are handed back.
+fn value_of_object(
+    alloc: Global,
+    keys: Keys,
+    children: Children,
+    ledger: &mut Ledger,
+) -> Result<Value, (Keys, Children)>
+    requires there { IsSome (values_of children) }
+    requires room { Room (cells_occur children) ledger.old }
+    ensures value { IfOk result (λ v.
+        value_of (begun_body (as_dyn_object keys) children) ≡ Some (view v)) }
+    ensures conserved { IfOk result (λ v. Conserved (cells_occur children) ledger.old
+        (occurs (view v)) ledger.new) }
+    ensures keys_back { IfErr result (λ back. back.0 ≡ keys) }
+    ensures handed_back { IfErr result (λ back. back.1 ≡ children) }
+    ensures ledger_kept { OnErr result (ledger.new ≡ ledger.old) }
+{
+    let (values, given) = children.into_parts();
+    match object_of(alloc, keys, values, ledger) {
+        Ok(value) => Ok(value),
+        Err((keys, back)) => Err((keys, Children::of_parts(back, given))),
     }
 }
 
@@ -226,6 +255,10 @@ fn value_or_back(alloc: Global, piece: Piece, ledger: &mut Ledger) -> Result<Val
         Piece::Begun(form, children) => match value_of_begun(alloc, form, children, ledger) {
             Ok(value) => Ok(value),
             Err(back) => Err(Piece::Begun(form, back)),
+        },
+        Piece::Object(keys, children) => match value_of_object(alloc, keys, children, ledger) {
+            Ok(value) => Ok(value),
+            Err((keys, back)) => Err(Piece::Object(keys, back)),
         },
         Piece::Entered => unreachable!(),
     }

@@ -138,7 +138,7 @@ pub(crate) fn over_base(form: Form, value: &Value) -> Option<Form>
         },
         Form::Struct | Form::Array | Form::Variant(_) | Form::List | Form::Set => Some(form),
         Form::Some | Form::Ok | Form::Err | Form::Pointer => Some(form),
-        Form::Slice | Form::ClosedSlice => Some(form),
+        Form::Slice | Form::ClosedSlice | Form::DynArray => Some(form),
     }
 }
 
@@ -160,6 +160,6 @@ pub(crate) fn children_of(
         Form::Set => children_of_set(alloc, value),
         Form::Map(_) => children_of_map(alloc, value),
         Form::Variant(_) | Form::Some | Form::Ok | Form::Err | Form::Pointer => unreachable!(),
-        Form::Slice | Form::ClosedSlice => unreachable!(),
+        Form::Slice | Form::ClosedSlice | Form::DynArray => unreachable!(),
     }
 }

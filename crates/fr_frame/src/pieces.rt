@@ -1,5 +1,5 @@
 //! What is put at one place, by itself.
-ghost use Rattle.std.specs.Prelude.{◌≡◌, ℕ, ◌+◌, ◌<◌, length, slice_get, Some, IfSome, IsSome, OnErr, OnOk};
+ghost use Rattle.std.specs.Prelude.{◌≡◌, ℕ, ◌+◌, ◌<◌, length, slice_get, slice_set, Some, IfSome, IsSome, OnErr, OnOk};
 ghost use Rattle.std.specs.Option.{option_map, option_and_then};
 ghost use Rattle.fr_shape.specs.Fills.{is_empty_struct};
 ghost use Rattle.fr_shape.specs.Look.{def_of};
@@ -8,7 +8,8 @@ ghost use Rattle.fr_shape.specs.Tokens.{occurs};
 ghost use Rattle.fr_shape.specs.Val.{product};
 ghost use Rattle.fr_shape.specs.View.{view, vals_view};
 ghost use Rattle.fr_model.specs.Contents.{content_of};
-ghost use Rattle.fr_frame.specs.Bodies.{added, added_entry, body_occurs, cell_at, count_cells, fresh_body, linked, opened, opened_some, reformed, unlinked, whole_body, with_cell, with_ended, HoldsSome, IsGrowing, IsMapBody, IsSetBody, MayOpen};
+ghost use Rattle.fr_model.specs.Tree.{Form as TreeForm};
+ghost use Rattle.fr_frame.specs.Bodies.{added, added_entry, begun_body, body_occurs, cell_at, count_cells, fresh_body, linked, opened, opened_some, reformed, unlinked, whole_body, with_cell, with_ended, HoldsSome, IsGrowing, IsMapBody, IsSetBody, MayOpen};
 ghost use Rattle.fr_frame.specs.Cells.{absent, given, cells_occur, held_value, slot_of_cell, value_occurs};
 ghost use Rattle.fr_frame.specs.Heap.{as_form, body_of};
 ghost use Rattle.fr_frame.specs.declared.places.SlotId.{SlotId as Number};
@@ -33,15 +34,39 @@ fn child_at(children: &Children, i: u32) -> Option<usize>
     }
 }
 
+/// The slot of child `i`, where there is that child, and it is in a slot.
+fn slot_of_child(children: &Children, i: u32) -> Option<SlotId>
+    ensures { option_map (λ (child : Number). child.0) result
+        ≡ option_and_then slot_of_cell (slice_get children.now i) }
+{
+    children.slot(child_at(children, i)?)
+}
+
 /// The slot of child `i`, where the place has that child, and has it in a slot.
 pub(crate) fn slot_at(piece: &Piece, i: u32) -> Option<SlotId>
     ensures { option_map (λ (child : Number). child.0) result
         ≡ option_and_then slot_of_cell (cell_at (body_of piece.now) i) }
 {
     match piece {
-        Piece::Begun(_, children) => children.slot(child_at(children, i)?),
+        Piece::Begun(_, children) => slot_of_child(children, i),
+        Piece::Object(_, children) => slot_of_child(children, i),
         Piece::Entered | Piece::Whole(_) => None,
     }
+}
+
+/// Puts child `i` into a slot, where there is that child and it is in none, and hands its value out, if it was there.
+fn link_child(children: &mut Children, i: u32, slot: SlotId) -> Option<Value>
+    ensures linked { (form : TreeForm) →
+        begun_body form children.new ≡ linked slot.0 i (begun_body form children.old) }
+    ensures taken { option_map view result ≡ held_value (slice_get children.old i) }
+    ensures tokens { (t : ℕ) → cells_occur children.old t
+        ≡ cells_occur children.new t + value_occurs (option_map view result) t }
+{
+    let at = child_at(children, i)?;
+    if children.slot(at).is_some() {
+        return None;
+    }
+    children.place(at, slot)
 }
 
 /// Puts child `i` into a slot, where the place has it and it is in none, and hands its value out, if it was there.
@@ -51,25 +76,19 @@ pub(crate) fn link(piece: &mut Piece, i: u32, slot: SlotId) -> Option<Value>
     ensures tokens { (t : ℕ) → body_occurs (body_of piece.old) t
         ≡ body_occurs (body_of piece.new) t + value_occurs (option_map view result) t }
 {
-    let Piece::Begun(_, children) = piece else {
-        return None;
-    };
-    let at = child_at(children, i)?;
-    if children.slot(at).is_some() {
-        return None;
+    match piece {
+        Piece::Begun(_, children) => link_child(children, i, slot),
+        Piece::Object(_, children) => link_child(children, i, slot),
+        Piece::Entered | Piece::Whole(_) => None,
     }
-    children.place(at, slot)
 }
 
 /// Lets child `i` not be there, where it is in this slot.
-pub(crate) fn unlink(piece: &mut Piece, i: u32, slot: SlotId)
-    ensures piece { body_of piece.new ≡ unlinked slot.0 i (body_of piece.old) }
-    ensures tokens { (t : ℕ) →
-        body_occurs (body_of piece.new) t ≡ body_occurs (body_of piece.old) t }
+fn unlink_child(children: &mut Children, i: u32, slot: SlotId)
+    ensures unlinked { (form : TreeForm) →
+        begun_body form children.new ≡ unlinked slot.0 i (begun_body form children.old) }
+    ensures tokens { (t : ℕ) → cells_occur children.new t ≡ cells_occur children.old t }
 {
-    let Piece::Begun(_, children) = piece else {
-        return;
-    };
     let Some(at) = child_at(children, i) else {
         return;
     };
@@ -81,6 +100,32 @@ pub(crate) fn unlink(piece: &mut Piece, i: u32, slot: SlotId)
     }
 }
 
+/// Lets child `i` not be there, where it is in this slot.
+pub(crate) fn unlink(piece: &mut Piece, i: u32, slot: SlotId)
+    ensures piece { body_of piece.new ≡ unlinked slot.0 i (body_of piece.old) }
+    ensures tokens { (t : ℕ) →
+        body_occurs (body_of piece.new) t ≡ body_occurs (body_of piece.old) t }
+{
+    match piece {
+        Piece::Begun(_, children) => unlink_child(children, i, slot),
+        Piece::Object(_, children) => unlink_child(children, i, slot),
+        Piece::Entered | Piece::Whole(_) => {}
+    }
+}
+
+/// Puts child `i`, which isn't there, there with this value.
+fn put_at(children: &mut Children, i: u32, value: Value)
+    requires { slice_get children.old i ≡ Some absent }
+    ensures put { children.new ≡ slice_set children.old i (given (view value)) }
+    ensures tokens { (t : ℕ) →
+        cells_occur children.new t ≡ cells_occur children.old t + occurs (view value) t }
+{
+    match child_at(children, i) {
+        Some(at) => children.put(at, value),
+        None => unreachable!(),
+    }
+}
+
 /// Puts child `i` there with this value, where it wasn't there.
 pub(crate) fn put_child(piece: &mut Piece, i: u32, value: Value)
     requires { cell_at (body_of piece.old) i ≡ Some absent }
@@ -89,12 +134,10 @@ pub(crate) fn put_child(piece: &mut Piece, i: u32, value: Value)
     ensures tokens { (t : ℕ) → body_occurs (body_of piece.new) t
         ≡ body_occurs (body_of piece.old) t + occurs (view value) t }
 {
-    let Piece::Begun(_, children) = piece else {
-        unreachable!()
-    };
-    match child_at(children, i) {
-        Some(at) => children.put(at, value),
-        None => unreachable!(),
+    match piece {
+        Piece::Begun(_, children) => put_at(children, i, value),
+        Piece::Object(_, children) => put_at(children, i, value),
+        Piece::Entered | Piece::Whole(_) => unreachable!(),
     }
 }
 
@@ -133,7 +176,7 @@ pub(crate) fn open(
             *piece = Piece::Begun(over, children);
             Ok(())
         }
-        Piece::Begun(..) => Ok(()),
+        Piece::Begun(..) | Piece::Object(..) => Ok(()),
     }
 }
 
@@ -155,7 +198,7 @@ fn held_in(piece: Piece) -> Value
 {
     match piece {
         Piece::Whole(value) => value,
-        Piece::Entered | Piece::Begun(..) => unreachable!(),
+        Piece::Entered | Piece::Begun(..) | Piece::Object(..) => unreachable!(),
     }
 }
 
@@ -184,7 +227,7 @@ pub(crate) fn add_child(alloc: Global, piece: &mut Piece) -> Result<(), OutOfMem
 {
     match piece {
         Piece::Begun(_, children) => children.push(alloc),
-        Piece::Entered | Piece::Whole(_) => unreachable!(),
+        Piece::Entered | Piece::Whole(_) | Piece::Object(..) => unreachable!(),
     }
 }
 
@@ -198,7 +241,7 @@ pub(crate) fn add_entry(alloc: Global, piece: &mut Piece) -> Result<(), OutOfMem
 {
     match piece {
         Piece::Begun(_, children) => children.push_two(alloc),
-        Piece::Entered | Piece::Whole(_) => unreachable!(),
+        Piece::Entered | Piece::Whole(_) | Piece::Object(..) => unreachable!(),
     }
 }
 
@@ -227,6 +270,7 @@ pub(crate) fn count_children(piece: &Piece) -> usize
 {
     match piece {
         Piece::Begun(_, children) => children.len(),
+        Piece::Object(_, children) => children.len(),
         Piece::Entered | Piece::Whole(_) => 0,
     }
 }
@@ -237,9 +281,11 @@ pub(crate) fn reform(piece: &mut Piece, form: Form)
     ensures tokens { (t : ℕ) →
         body_occurs (body_of piece.new) t ≡ body_occurs (body_of piece.old) t }
 {
-    match piece {
-        Piece::Begun(as_before, _) => *as_before = form,
-        Piece::Entered | Piece::Whole(_) => {}
+    match std::mem::replace(piece, Piece::Entered) {
+        Piece::Begun(_, children) => *piece = Piece::Begun(form, children),
+        Piece::Object(_keys, children) => *piece = Piece::Begun(form, children),
+        Piece::Whole(value) => *piece = Piece::Whole(value),
+        Piece::Entered => {}
     }
 }
 
@@ -286,5 +332,6 @@ pub(crate) fn release_piece(piece: Piece, ledger: &mut Ledger)
         Piece::Entered => {}
         Piece::Whole(value) => release(value, ledger),
         Piece::Begun(_, children) => release_children(children, ledger),
+        Piece::Object(_keys, children) => release_children(children, ledger),
     }
 }

@@ -5,6 +5,7 @@ ghost use Rattle.fr_model.specs.Paths.{step_as};
 ghost use Rattle.fr_model.specs.Tree.{as_map};
 
 use crate::children::Children;
+use crate::keys::Keys;
 use fr_arena::Idx;
 use fr_path::PathStep;
 use fr_plan::NodeId;
@@ -39,8 +40,9 @@ pub enum FrameOwner {
 
 /// As what a place is begun: with the fields of a struct or of an enum's variant of this number, with the elements of an array,
 /// around one child, which is the content of an option, of either side of a result, or what a pointer points to, with the items
-/// of a list, as a pointer to a slice, with its items, that is open for more of them or closed, with the items of a set, or with
-/// the keys and values of a map, which take turns, over as many entries as it had when it was begun.
+/// of a list, as a pointer to a slice, with its items, that is open for more of them or closed, with the items of a set, with
+/// the keys and values of a map, which take turns, over as many entries as it had when it was begun, or with the elements of a
+/// dynamic array.
 #[derive(Clone, Copy)]
 pub enum Form {
     Struct,
@@ -55,6 +57,7 @@ pub enum Form {
     ClosedSlice,
     Set,
     Map(u32),
+    DynArray,
 }
 
 /// What the children of a begun place are: the fields of a struct, or of the variant of this number, for which there are fills and
@@ -90,6 +93,7 @@ impl Form {
         match self {
             Form::Struct | Form::Variant(_) => PathStep::Field(i),
             Form::Array | Form::List | Form::Slice | Form::ClosedSlice => PathStep::Index(i),
+            Form::DynArray => PathStep::Index(i),
             Form::Some => PathStep::OptionSome,
             Form::Ok => PathStep::ResultOk,
             Form::Err => PathStep::ResultErr,
@@ -115,6 +119,7 @@ impl Form {
             Form::ClosedSlice => 8,
             Form::Set => 9,
             Form::Map(_) => 10,
+            Form::DynArray => 11,
             Form::Variant(k) => 13 + k as u64,
         }
     }
@@ -127,7 +132,7 @@ impl Form {
             Form::Map(base) => base,
             Form::Struct | Form::Array | Form::Variant(_) | Form::List | Form::Set => 0,
             Form::Some | Form::Ok | Form::Err | Form::Pointer => 0,
-            Form::Slice | Form::ClosedSlice => 0,
+            Form::Slice | Form::ClosedSlice | Form::DynArray => 0,
         }
     }
 
@@ -146,7 +151,7 @@ impl Form {
             Form::Struct | Form::Array | Form::Variant(_) | Form::List => false,
             Form::Some | Form::Ok | Form::Err | Form::Pointer => true,
             Form::Slice | Form::ClosedSlice => true,
-            Form::Set | Form::Map(_) => false,
+            Form::Set | Form::Map(_) | Form::DynArray => false,
         }
     }
 
@@ -158,7 +163,7 @@ impl Form {
             Form::Struct | Form::Array | Form::Variant(_) | Form::List => false,
             Form::Some | Form::Ok | Form::Err | Form::Pointer => false,
             Form::Slice | Form::ClosedSlice => false,
-            Form::Set | Form::Map(_) => true,
+            Form::Set | Form::Map(_) | Form::DynArray => true,
         }
     }
 
@@ -171,17 +176,19 @@ impl Form {
             Form::Variant(k) => Parts::Fields(Some(k)),
             Form::Array | Form::Some | Form::Ok | Form::Err | Form::Pointer => Parts::Others,
             Form::List | Form::Slice | Form::ClosedSlice => Parts::Others,
-            Form::Set | Form::Map(_) => Parts::Others,
+            Form::Set | Form::Map(_) | Form::DynArray => Parts::Others,
         }
     }
 }
 
-/// What was put at a place so far.
+/// What was put at a place so far: nothing, all of its value, or some of its children. A dynamic object, which is begun with a child
+/// for each key, holds its keys.
 #[derive(Drop)]
 pub enum Piece {
     Entered,
     Whole(Value),
     Begun(Form, Children),
+    Object(Keys, Children),
 }
 
 /// A place in a slot. `stored` says that the builder isn't at it or below it, and that it will be completed later.

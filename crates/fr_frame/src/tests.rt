@@ -1,15 +1,21 @@
 //! Slots with ample memory.
-ghost use Rattle.std.specs.Prelude.{◌≡◌, ◌<◌, length, IfOk, OnOk};
+ghost use Rattle.std.specs.Prelude.{◌≡◌, ◌<◌, [], ◌∷◌, length, IfOk, OnOk};
 ghost use Rattle.fr_shape.specs.Checked.{IsChecked};
 ghost use Rattle.fr_shape.specs.Fills.{is_empty_struct};
 ghost use Rattle.fr_shape.specs.Look.{def_of};
+ghost use Rattle.fr_model.specs.Tree.{as_dyn_object};
+ghost use Rattle.fr_frame.specs.Bodies.{begun_body};
+ghost use Rattle.fr_frame.specs.Cells.{absent};
 ghost use Rattle.fr_frame.specs.Completing.{shape_of, IsPlanFor};
+ghost use Rattle.fr_frame.specs.Heap.{body_of};
 
+use crate::dynamic_pieces::{add_entry_for, entry_number};
 use crate::making::value_of;
+use crate::pieces::put_child;
 use crate::*;
 use fr_plan::{NodeId, TypePlanCore};
 use fr_shape::{
-    Def, DefaultSource, EnumDef, EnumRepr, Field, Items, Ledger, NoHooks, PlanError,
+    Def, DefaultSource, Dyn, EnumDef, EnumRepr, Field, Items, Ledger, NoHooks, PlanError,
     ReflectErrorKind, ScalarKind, Shape, ShapeId, ShapeTable, StructDef, StructKind, Template,
     Text, ValidatorDef, Value, VariantDef,
 };
@@ -129,7 +135,7 @@ fn completed(
     let place = slots.place(id).expect(rt, "no place");
     let full = match &place.piece {
         Piece::Begun(_, children) => children.are_all_there(),
-        Piece::Entered | Piece::Whole(_) => false,
+        Piece::Entered | Piece::Whole(_) | Piece::Object(..) => false,
     };
     (result, full)
 }
@@ -359,4 +365,58 @@ fn items_after(rt: &impl Abort, alloc: Global, held: u128, ended: u128) -> usize
 fn an_item_that_is_there_already_is_released(rt: HostRuntime) {
     assert_eq!(&rt; items_after(&rt, rt.alloc(), 5, 5), 1);
     assert_eq!(&rt; items_after(&rt, rt.alloc(), 5, 6), 2);
+}
+
+/// This text.
+fn text(rt: &impl Abort, alloc: Global, s: &str) -> Text
+    ensures { result ≡ s.now }
+{
+    let Ok(made) = Text::new(alloc, s) else {
+        panic!(rt; "no memory");
+    };
+    made
+}
+
+/// A dynamic object that is begun with the entries "a" and "b", whose values aren't there yet.
+fn begun_object(rt: &impl Abort, alloc: Global) -> Piece
+    ensures { body_of result ≡ begun_body (as_dyn_object ((97 ∷ []) ∷ (98 ∷ []) ∷ []))
+        (absent ∷ absent ∷ []) }
+{
+    let mut object = Piece::Object(Keys::none(), Children::none(alloc));
+    let Ok(()) = add_entry_for(alloc, &mut object, text(rt, alloc, "a")) else {
+        panic!(rt; "no memory");
+    };
+    let Ok(()) = add_entry_for(alloc, &mut object, text(rt, alloc, "b")) else {
+        panic!(rt; "no memory");
+    };
+    object
+}
+
+#[test]
+fn an_entry_is_found_by_its_key(rt: HostRuntime) {
+    let alloc = rt.alloc();
+    let object = begun_object(&rt, alloc);
+    let (first, _key) = entry_number(&object, text(&rt, alloc, "a"));
+    assert_eq!(&rt; first, Some(0));
+    let (second, _key) = entry_number(&object, text(&rt, alloc, "b"));
+    assert_eq!(&rt; second, Some(1));
+    let (third, _key) = entry_number(&object, text(&rt, alloc, "c"));
+    assert_eq!(&rt; third, None);
+}
+
+#[test]
+fn an_object_has_its_entries_in_order(rt: HostRuntime) {
+    let alloc = rt.alloc();
+    let mut object = begun_object(&rt, alloc);
+    put_child(&mut object, 1, Value::Dyn(Dyn::Bool(true)));
+    put_child(&mut object, 0, Value::Dyn(Dyn::Null));
+    let mut ledger = Ledger::new(alloc, 0).ok().expect(&rt, "no memory");
+    let made = value_of(alloc, object, &mut ledger);
+    let Value::Dyn(Dyn::Object(members)) = made.ok().expect(&rt, "no memory") else {
+        panic!(&rt; "another value");
+    };
+    assert_eq!(&rt; members.len(), 2);
+    let (key, value) = members.get(1).expect(&rt, "no entry");
+    assert_eq!(&rt; key.as_str(), "b");
+    assert!(&rt; matches!(value, Dyn::Bool(true)));
 }

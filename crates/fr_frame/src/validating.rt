@@ -110,5 +110,6 @@ pub(crate) fn test_valid<H: Hooks>(
             Parts::Fields(selected) => test_values(alloc, plan, hooks, node, selected, children),
             Parts::Others => Ok(()),
         },
+        Piece::Object(..) => Ok(()),
     }
 }

@@ -1,4 +1,5 @@
-use Rattle.std.proofs.Common.{sym, ◌∙◌, ap, subst}
+use Rattle.std.proofs.Common.{refl, sym, ◌∙◌, ap, subst}
+use Rattle.fr_model.specs.Tree.{as_dyn_object}
 use Rattle.fr_frame.specs.declared.places.Piece.{Piece}
 use Rattle.fr_frame.specs.Bodies.{Body, begun_body, body_occurs, entered_body, IsClosed}
 use Rattle.fr_frame.specs.Completing.{shape_of}
@@ -30,3 +31,17 @@ returns-in-Others-clause-met c =
     ap (λ (piece : Piece). unmet c.args.table.now (shape_of c.args.plan.now c.args.node) (body_of piece)) c.in-Begun.is
     ∙ others_met c.args.table.now (shape_of c.args.plan.now c.args.node) (as_form c.in-Begun.form) (sym c.in-Others.ensures) 0
     c.in-Begun.children
+
+pub returns-in-Object-clause-filled : goal.returns-in-Object-clause-filled
+returns-in-Object-clause-filled c =
+    ap body_of c.in-Object.is
+    ∙ ap (begun_body (as_dyn_object c.in-Object.field-0))
+    (others_stay c.args.table.now (shape_of c.args.plan.now c.args.node) (as_dyn_object c.in-Object.field-0) refl 0
+    c.in-Object.field-1)
+    ∙ ap (λ (piece : Piece). defaulted c.args.table.now (shape_of c.args.plan.now c.args.node) (body_of piece)) (sym c.in-Object.is)
+
+pub returns-in-Object-clause-met : goal.returns-in-Object-clause-met
+returns-in-Object-clause-met c =
+    ap (λ (piece : Piece). unmet c.args.table.now (shape_of c.args.plan.now c.args.node) (body_of piece)) c.in-Object.is
+    ∙ others_met c.args.table.now (shape_of c.args.plan.now c.args.node) (as_dyn_object c.in-Object.field-0) refl 0
+    c.in-Object.field-1

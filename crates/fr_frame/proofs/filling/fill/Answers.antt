@@ -2,8 +2,9 @@ use Rattle.std.proofs.Common.{ap, refl, sym, ◌∙◌, subst}
 use Rattle.std.specs.Prelude.{Result, Ok, Err, OnOk}
 use Rattle.fr_shape.specs.Look.{def_of}
 use Rattle.fr_model.specs.Complete.{made}
+use Rattle.fr_model.specs.Tree.{as_dyn_object}
 use Rattle.fr_frame.specs.declared.places.Piece.{Piece}
-use Rattle.fr_frame.specs.Bodies.{begun_body}
+use Rattle.fr_frame.specs.Bodies.{begun_body, value_of}
 use Rattle.fr_frame.specs.Completing.{shape_of}
 use Rattle.fr_frame.specs.Defaults.{KeepsForm}
 use Rattle.fr_frame.specs.Filling.{filled_body}
@@ -49,3 +50,18 @@ returns-in-Fields-2-clause-form c =
     on_ok c.fill_holes.result
     (subst (λ (piece : Piece). KeepsForm (body_of piece) (begun_body (as_form c.in-Begun.form) c.fill_holes.new.children))
     (sym c.in-Begun.is) (refl, c.fill_holes.ensures.count, c.fill_holes.ensures.kept))
+
+pub returns-in-Object-clause-filled : goal.returns-in-Object-clause-filled
+returns-in-Object-clause-filled c =
+    ap (λ (piece : Piece). value_of (body_of piece)) c.in-Object.is
+    ∙ full_value (def_of c.args.table.now (shape_of c.args.plan.now c.args.node)) (as_dyn_object c.in-Object.field-0) c.in-Object.field-1
+    (rw c.in-Object.is at c.requires.full)
+    ∙ ap (made (as_dyn_object c.in-Object.field-0))
+    (others_filled c.args.table.now (shape_of c.args.plan.now c.args.node) (as_dyn_object c.in-Object.field-0) refl 0
+    c.in-Object.field-1)
+    ∙ ap (λ (piece : Piece). filled_body c.args.table.now (shape_of c.args.plan.now c.args.node) (body_of piece)) (sym c.in-Object.is)
+
+pub returns-in-Object-clause-form : goal.returns-in-Object-clause-form
+returns-in-Object-clause-form c =
+    subst (λ (piece : Piece). KeepsForm (body_of piece) (body_of piece))
+    (sym c.in-Object.is) (refl, refl, keep_same c.in-Object.field-1)

@@ -1,10 +1,10 @@
-use Rattle.std.proofs.Common.{◌≡◌, List, ℕ, Some, None, IsSome, inl, ap, sym, ◌∙◌, subst}
+use Rattle.std.proofs.Common.{◌≡◌, List, ℕ, Some, None, IsSome, inl, refl, ap, sym, ◌∙◌, subst}
 use Rattle.std.specs.Prelude.{IfErr, OnOk, OnErr, Result, Ok, Err}
 use Rattle.fr_shape.specs.declared.error.ReflectErrorKind.{ReflectErrorKind}
 use Rattle.fr_shape.specs.Hooks.{Meanings}
 use Rattle.fr_shape.specs.Look.{Table}
 use Rattle.fr_model.specs.Complete.{lack, lack_among, missing_value}
-use Rattle.fr_model.specs.Tree.{Form}
+use Rattle.fr_model.specs.Tree.{Form, as_dyn_object}
 use Rattle.fr_frame.specs.declared.places.Parts.{Parts}
 use Rattle.fr_frame.specs.Bodies.{Body, own_tree, trees_of}
 use Rattle.fr_frame.specs.Cells.{Cell, values_of}
@@ -45,3 +45,25 @@ returns-in-Others-clause-failing g c =
     (they_fail (g.H.Hooks.means c.args.hooks.now) c.args.table.now (shape_of c.args.plan.now c.args.node)
     (as_form c.in-Begun.form) (sym c.in-Others.ensures) c.in-Begun.children c.test_others.result c.test_others.ensures.failing
     c.test_others.ensures.absent)
+
+pub returns-in-Object-clause-passing : goal.returns-in-Object-clause-passing
+returns-in-Object-clause-passing g c =
+    subst
+    (λ (body : Body).
+    OnOk c.test_others-in-Object.result
+    (lack (g.H.Hooks.means c.args.hooks.now) c.args.table.now (shape_of c.args.plan.now c.args.node) (own_tree body) ≡ None))
+    (sym (ap body_of c.in-Object.is))
+    (they_pass (g.H.Hooks.means c.args.hooks.now) c.args.table.now (shape_of c.args.plan.now c.args.node)
+    (as_dyn_object c.in-Object.field-0) refl c.in-Object.children c.test_others-in-Object.result
+    c.test_others-in-Object.ensures.passing)
+
+pub returns-in-Object-clause-failing : goal.returns-in-Object-clause-failing
+returns-in-Object-clause-failing g c =
+    subst
+    (λ (body : Body).
+    IfErr c.test_others-in-Object.result
+    (IsCauseOf (lack (g.H.Hooks.means c.args.hooks.now) c.args.table.now (shape_of c.args.plan.now c.args.node) (own_tree body))))
+    (sym (ap body_of c.in-Object.is))
+    (they_fail (g.H.Hooks.means c.args.hooks.now) c.args.table.now (shape_of c.args.plan.now c.args.node)
+    (as_dyn_object c.in-Object.field-0) refl c.in-Object.children c.test_others-in-Object.result
+    c.test_others-in-Object.ensures.failing c.test_others-in-Object.ensures.absent)

@@ -1,5 +1,6 @@
-use Rattle.std.proofs.Common.{◌≡◌, Some, None, IsSome, sym, ◌∙◌, ap}
+use Rattle.std.proofs.Common.{◌≡◌, Some, None, IsSome, refl, sym, ◌∙◌, ap}
 use Rattle.fr_model.specs.Complete.{missing_value}
+use Rattle.fr_model.specs.Tree.{as_dyn_object}
 use Rattle.fr_frame.specs.declared.places.Piece.{Piece}
 use Rattle.fr_frame.specs.Cells.{values_of}
 use Rattle.fr_frame.specs.Completing.{shape_of}
@@ -28,3 +29,24 @@ returns-in-Others-clause-failing c =
     (rw c.in-Begun.is at c.requires.closed) absent
     ∙ ap Some (sym is))
     c.test_others.ensures.absent c.test_others.ensures.failing
+
+pub returns-in-Object-clause-passing : goal.returns-in-Object-clause-passing
+returns-in-Object-clause-passing c =
+    ok_so c.test_others-in-Object.result (IsSome (values_of c.in-Object.children))
+    (left_out (shape_of c.args.plan.now c.args.node) (body_of c.args.piece.now) ≡ None)
+    (λ there.
+    ap (λ (piece : Piece). left_out (shape_of c.args.plan.now c.args.node) (body_of piece)) c.in-Object.is
+    ∙ none_absent (shape_of c.args.plan.now c.args.node) (as_dyn_object c.in-Object.field-0) 0 c.in-Object.children there)
+    c.test_others-in-Object.ensures.passing
+
+pub returns-in-Object-clause-failing : goal.returns-in-Object-clause-failing
+returns-in-Object-clause-failing c =
+    err_both c.test_others-in-Object.result (values_of c.in-Object.children ≡ None)
+    (λ kind. kind ≡ missing_value (shape_of c.args.plan.now c.args.node))
+    (λ kind. left_out (shape_of c.args.plan.now c.args.node) (body_of c.args.piece.now) ≡ Some kind)
+    (λ kind absent is.
+    ap (λ (piece : Piece). left_out (shape_of c.args.plan.now c.args.node) (body_of piece)) c.in-Object.is
+    ∙ other_absent (shape_of c.args.plan.now c.args.node) (as_dyn_object c.in-Object.field-0) refl 0 c.in-Object.children
+    (rw c.in-Object.is at c.requires.closed) absent
+    ∙ ap Some (sym is))
+    c.test_others-in-Object.ensures.absent c.test_others-in-Object.ensures.failing

@@ -1,9 +1,9 @@
-use Rattle.std.proofs.Common.{◌≡◌, Option, length, ap, sym, ◌∙◌, subst}
+use Rattle.std.proofs.Common.{◌≡◌, Option, length, refl, ap, sym, ◌∙◌, subst}
 use Rattle.std.proofs.lemmas.Result.{on_ok_weaker, IfErr-weaker}
 use Rattle.fr_shape.specs.declared.error.ReflectErrorKind.{ReflectErrorKind}
 use Rattle.fr_shape.specs.Look.{def_of}
 use Rattle.fr_model.specs.Failing.{first_invalid}
-use Rattle.fr_model.specs.Tree.{Form}
+use Rattle.fr_model.specs.Tree.{Form, as_dyn_object}
 use Rattle.fr_model.specs.Well.{IsFullAs}
 use Rattle.fr_frame.specs.declared.places.Piece.{Piece}
 use Rattle.fr_frame.specs.Bodies.{as_fields, trees_of}
@@ -71,3 +71,11 @@ returns-in-Others-clause-passing g c table checked planned inside full =
     c.in-Begun.is
     ∙ others_valid (g.H.Hooks.means c.args.hooks.now) table (shape_of c.args.plan.now c.args.node) (as_form c.in-Begun.form)
     (sym c.in-Others.ensures) 0 c.in-Begun.children
+
+pub returns-in-Object-clause-passing : goal.returns-in-Object-clause-passing
+returns-in-Object-clause-passing g c table checked planned inside full =
+    ap
+    (λ (piece : Piece). invalid (g.H.Hooks.means c.args.hooks.now) table (shape_of c.args.plan.now c.args.node) (body_of piece))
+    c.in-Object.is
+    ∙ others_valid (g.H.Hooks.means c.args.hooks.now) table (shape_of c.args.plan.now c.args.node) (as_dyn_object c.in-Object.field-0)
+    refl 0 c.in-Object.field-1

@@ -3,10 +3,15 @@ use Rattle.fr_shape.specs.Tokens.{occurs}
 use Rattle.fr_shape.specs.View.{view}
 use Rattle.fr_frame.specs.declared.places.Piece.{Piece}
 use Rattle.fr_frame.specs.declared.places.Slot.{Slot}
-use Rattle.fr_frame.specs.Bodies.{body_occurs}
+use Rattle.fr_frame.specs.Bodies.{Body, body_occurs, whole_body}
 use Rattle.fr_frame.specs.Heap.{Node, body_of, slots_occur}
-use Rattle.fr_frame.proofs.PlaceLaws.{repieced, of_place, occur_change}
+use Rattle.fr_frame.proofs.PlaceLaws.{repieced, of_place, occur_change, shows}
 use Rattle.fr_frame.proofs.places.SlotId.put.Goals as goal
+
+pub returns-clause-put : goal.returns-clause-put
+returns-clause-put c =
+    shows c.args.slots.now c.args.self.0 c.place_mut-place.result.now c.place_mut-place.ensures.value c.replace-before.new.dest
+    (λ (old : Body). whole_body (view c.args.value)) (ap body_of c.replace-before.ensures.after)
 
 pub returns-clause-tokens : goal.returns-clause-tokens
 returns-clause-tokens c =

@@ -1,0 +1,13 @@
+use Rattle.std.proofs.Common.{map, sym, ◌∙◌, arith}
+use Rattle.std.specs.Vec.Iter.{into_iter_items}
+use Rattle.fr_frame.proofs.DynamicLaws.{element_cell, element_cells, entered_all, none_left}
+use Rattle.fr_frame.proofs.dynamics.enter_elements.Goals as goal
+
+pub returns : goal.returns
+returns c =
+    let rest = into_iter_items c.loop-element.rest in
+    let done = c.in_default.ensures.cases.0 in
+    entered_all element_cell c.loop-element.children c.loop-element.i rest (map element_cell c.args.elements.items)
+    (none_left rest (omega (arith, c.loop-element.invariant.count))) (omega (arith, c.loop-element.invariant.number))
+    c.loop-element.invariant.entered
+    ∙ sym (element_cells c.args.elements.items)

@@ -1,0 +1,14 @@
+use Rattle.std.proofs.Common.{◌≡◌, List, Some, slice_get, ap, sym, ◌∙◌, arith}
+use Rattle.fr_shape.specs.View.{view}
+use Rattle.fr_frame.specs.Cells.{Cell, absent, given, cells_occur}
+use Rattle.fr_frame.proofs.CellLaws.{occur_set}
+use Rattle.fr_frame.proofs.pieces.put_at.Goals as goal
+
+pub returns-clause-tokens : goal.returns-clause-tokens
+returns-clause-tokens c t =
+    let here : slice_get c.args.children.now c.in-Some.at ≡ Some absent = sym c.in-Some.ensures.cell ∙ c.requires in
+    omega (
+      arith,
+      occur_set c.args.children.now c.in-Some.at absent (given (view c.args.value)) t here,
+      ap (λ (cs : List Cell). cells_occur cs t) c.put.ensures,
+    )

@@ -1,0 +1,27 @@
+use Rattle.std.proofs.Common.{◌≡◌, ℕ, ◌+◌, set, ap, arith}
+use Rattle.fr_frame.specs.declared.places.Piece.{Piece}
+use Rattle.fr_frame.specs.declared.places.Slot.{Slot}
+use Rattle.fr_frame.specs.Bodies.{Body, body_occurs}
+use Rattle.fr_frame.specs.Heap.{Node, body_of, slots_occur}
+use Rattle.fr_frame.proofs.PlaceLaws.{repieced, of_place, occur_change, shows}
+use Rattle.fr_frame.proofs.places.SlotId.replace.Goals as goal
+
+pub returns-clause-put : goal.returns-clause-put
+returns-clause-put c =
+    shows c.args.slots.now c.args.self.0 c.place_mut-place.result.now c.place_mut-place.ensures.value c.replace-before.new.dest
+    (λ (old : Body). body_of c.args.piece) (ap body_of c.replace-before.ensures.after)
+
+pub returns-clause-tokens : goal.returns-clause-tokens
+returns-clause-tokens c =
+    of_place c.args.slots.now c.args.self.0 c.place_mut-place.result.now c.place_mut-place.ensures.value
+    (λ (at : Node).
+    (t : ℕ) → slots_occur c.args.slots.now t + body_occurs (body_of c.args.piece) t
+    ≡ slots_occur (set c.args.slots.now c.args.self.0 (Slot.Used (repieced c.place_mut-place.result.now c.replace-before.new.dest))) t
+    + body_occurs at.body t)
+    (λ t.
+    omega (
+      arith,
+      occur_change c.args.slots.now c.args.self.0 c.place_mut-place.result.now c.place_mut-place.ensures.value
+          c.replace-before.new.dest t,
+      ap (λ (p : Piece). body_occurs (body_of p) t) c.replace-before.ensures.after,
+    ))

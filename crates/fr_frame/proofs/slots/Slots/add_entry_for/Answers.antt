@@ -1,0 +1,27 @@
+use Rattle.std.proofs.Common.{arith}
+use Rattle.std.proofs.lemmas.Result.{on_ok_weaker, IfErr-weaker}
+use Rattle.fr_frame.specs.Bodies.{with_entry_for}
+use Rattle.fr_frame.proofs.PlaceLaws.{shows, shows_same, occur_change}
+use Rattle.fr_frame.proofs.slots.Slots.add_entry_for.Goals as goal
+
+pub returns-clause-added : goal.returns-clause-added
+returns-clause-added c =
+    on_ok_weaker c.add_entry_for.result
+    (shows c.args.self.now c.args.parent.0 c.place_mut-place.result.now c.place_mut-place.ensures.value c.add_entry_for.new.piece (with_entry_for c.args.key))
+    c.add_entry_for.ensures.added
+
+pub returns-clause-refused : goal.returns-clause-refused
+returns-clause-refused c =
+    IfErr-weaker c.add_entry_for.result _ _
+    (λ e.
+    shows_same c.args.self.now c.args.parent.0 c.place_mut-place.result.now c.place_mut-place.ensures.value c.add_entry_for.new.piece)
+    c.add_entry_for.ensures.refused
+
+pub returns-clause-tokens : goal.returns-clause-tokens
+returns-clause-tokens c t =
+    omega (
+      arith,
+      occur_change c.args.self.now c.args.parent.0 c.place_mut-place.result.now c.place_mut-place.ensures.value
+          c.add_entry_for.new.piece t,
+      c.add_entry_for.ensures.tokens t,
+    )

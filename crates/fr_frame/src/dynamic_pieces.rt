@@ -1,0 +1,94 @@
+//! What is put at one place as a dynamic value.
+ghost use Rattle.std.specs.Prelude.{◌≡◌, ℕ, [], ◌∷◌, ◌++◌, true, None, OnErr, OnOk};
+ghost use Rattle.fr_model.specs.DynamicPlaces.{entry_found};
+ghost use Rattle.fr_model.specs.Dynamics.{keys_apart};
+ghost use Rattle.fr_frame.specs.Bodies.{body_occurs, keys_in, opened_array, opened_object, with_entry_for, HoldsArray, HoldsObject, IsObjectBody};
+ghost use Rattle.fr_frame.specs.Cells.{absent};
+ghost use Rattle.fr_frame.specs.Heap.{body_of};
+
+use crate::children::Children;
+use crate::dynamics::{elements_of, members_of};
+use crate::keys::Keys;
+use crate::places::{Form, Piece};
+use fr_shape::{OutOfMemory, Text};
+use std::alloc::Global;
+
+/// Begins a whole dynamic array in its stead, with its elements. It stays as it was where there is no memory for that.
+pub(crate) fn open_array(alloc: Global, piece: &mut Piece) -> Result<(), OutOfMemory>
+    requires { HoldsArray (body_of piece.old) }
+    ensures opened { OnOk result (body_of piece.new ≡ opened_array (body_of piece.old)) }
+    ensures refused { OnErr result (body_of piece.new ≡ body_of piece.old) }
+    ensures tokens { (t : ℕ) →
+        body_occurs (body_of piece.new) t ≡ body_occurs (body_of piece.old) t }
+{
+    let Piece::Whole(value) = piece else {
+        unreachable!()
+    };
+    let children = elements_of(alloc, value)?;
+    *piece = Piece::Begun(Form::DynArray, children);
+    Ok(())
+}
+
+/// Begins a whole dynamic object in its stead, with its entries. It stays as it was where there is no memory for that.
+pub(crate) fn open_object(alloc: Global, piece: &mut Piece) -> Result<(), OutOfMemory>
+    requires { HoldsObject (body_of piece.old) }
+    ensures opened { OnOk result (body_of piece.new ≡ opened_object (body_of piece.old)) }
+    ensures refused { OnErr result (body_of piece.new ≡ body_of piece.old) }
+    ensures tokens { (t : ℕ) →
+        body_occurs (body_of piece.new) t ≡ body_occurs (body_of piece.old) t }
+{
+    let Piece::Whole(value) = piece else {
+        unreachable!()
+    };
+    let (keys, children) = members_of(alloc, value)?;
+    *piece = Piece::Object(keys, children);
+    Ok(())
+}
+
+/// The number of the entry that a begun object has under a key, where it has one, and the key back. Doesn't look at each entry.
+pub(crate) fn entry_number(piece: &Piece, key: Text) -> (Option<usize>, Text)
+    requires object { IsObjectBody (body_of piece.now) }
+    requires apart { keys_apart (keys_in (body_of piece.now)) ≡ true }
+    ensures number { result.0 ≡ entry_found key (keys_in (body_of piece.now)) }
+    ensures key { result.1 ≡ key }
+{
+    match piece {
+        Piece::Object(keys, _) => keys.number_of(key),
+        Piece::Entered | Piece::Whole(_) | Piece::Begun(..) => unreachable!(),
+    }
+}
+
+/// One key and one child more behind the others, or neither.
+fn push_entry(
+    alloc: Global,
+    keys: &mut Keys,
+    children: &mut Children,
+    key: Text,
+) -> Result<(), OutOfMemory>
+    ensures key_added { OnOk result (keys.new ≡ keys.old ++ key ∷ []) }
+    ensures child_added { OnOk result (children.new ≡ children.old ++ absent ∷ []) }
+    ensures keys_kept { OnErr result (keys.new ≡ keys.old) }
+    ensures children_kept { OnErr result (children.new ≡ children.old) }
+{
+    children.push(alloc)?;
+    let Ok(()) = keys.push(alloc, key) else {
+        children.pop();
+        return Err(OutOfMemory);
+    };
+    Ok(())
+}
+
+/// One entry more at a begun object, behind the others, under a key that it doesn't have. The entry's value isn't there yet.
+pub(crate) fn add_entry_for(alloc: Global, piece: &mut Piece, key: Text) -> Result<(), OutOfMemory>
+    requires object { IsObjectBody (body_of piece.old) }
+    requires lacked { entry_found key (keys_in (body_of piece.old)) ≡ None }
+    ensures added { OnOk result (body_of piece.new ≡ with_entry_for key (body_of piece.old)) }
+    ensures refused { OnErr result (body_of piece.new ≡ body_of piece.old) }
+    ensures tokens { (t : ℕ) →
+        body_occurs (body_of piece.new) t ≡ body_occurs (body_of piece.old) t }
+{
+    match piece {
+        Piece::Object(keys, children) => push_entry(alloc, keys, children, key),
+        Piece::Entered | Piece::Whole(_) | Piece::Begun(..) => unreachable!(),
+    }
+}
