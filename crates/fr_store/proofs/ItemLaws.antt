@@ -35,19 +35,19 @@ abbrev pub kids_and_last : Kids → (last : Kid) → Kids
 kids_and_last no_kids last = kid last no_kids
 kids_and_last (kid k ks) last = kid k (kids_and_last ks last)
 
-count_and_last : (ks : Kids) (last : Kid) → count_kids (kids_and_last ks last) ≡ suc (count_kids ks)
+pub count_and_last : (ks : Kids) (last : Kid) → count_kids (kids_and_last ks last) ≡ suc (count_kids ks)
 count_and_last no_kids last = refl
 count_and_last (kid k ks) last = ap suc (count_and_last ks last)
 
-cells_and_last : (ks : Kids) → cells_in (kids_and_last ks gone) ≡ cells_in ks ++ absent ∷ []
+pub cells_and_last : (ks : Kids) → cells_in (kids_and_last ks gone) ≡ cells_in ks ++ absent ∷ []
 cells_and_last no_kids = refl
 cells_and_last (kid k ks) = ap (λ (cs : List Cell). cell_of k ∷ cs) (cells_and_last ks)
 
-trees_and_last : (ks : Kids) (last : Kid) → trees_in (kids_and_last ks last) ≡ and_last (trees_in ks) (tree_of last)
+pub trees_and_last : (ks : Kids) (last : Kid) → trees_in (kids_and_last ks last) ≡ and_last (trees_in ks) (tree_of last)
 trees_and_last no_kids last = refl
 trees_and_last (kid k ks) last = ap (λ (ts : Trees). branch (tree_of k) ts) (trees_and_last ks last)
 
-nth_last : (ks : Kids) (last : Kid) → kid_nth (count_kids ks) (kids_and_last ks last) ≡ last
+pub nth_last : (ks : Kids) (last : Kid) → kid_nth (count_kids ks) (kids_and_last ks last) ≡ last
 nth_last no_kids last = refl
 nth_last (kid k ks) last = nth_last ks last
 
@@ -56,24 +56,24 @@ nth_before i no_kids last h = absurd (omega arith)
 nth_before zero (kid k ks) last h = refl
 nth_before (suc i) (kid k ks) last h = nth_before i ks last (omega arith)
 
-put_last : (ks : Kids) (old new : Kid) → put_nth (count_kids ks) new (kids_and_last ks old) ≡ kids_and_last ks new
+pub put_last : (ks : Kids) (old new : Kid) → put_nth (count_kids ks) new (kids_and_last ks old) ≡ kids_and_last ks new
 put_last no_kids old new = refl
 put_last (kid k ks) old new = ap (λ (xs : Kids). kid k xs) (put_last ks old new)
 
 -- while it isn't there, it has no slots and no tokens
-uses_and_last : (ks : Kids) (n : ℕ) → uses_among (kids_and_last ks gone) n ≡ uses_among ks n
+pub uses_and_last : (ks : Kids) (n : ℕ) → uses_among (kids_and_last ks gone) n ≡ uses_among ks n
 uses_and_last no_kids n = refl
 uses_and_last (kid k ks) n = ap (λ (m : ℕ). uses k n + m) (uses_and_last ks n)
 
-occurs_and_last : (ks : Kids) (t : ℕ) → kids_occur (kids_and_last ks gone) t ≡ kids_occur ks t
+pub occurs_and_last : (ks : Kids) (t : ℕ) → kids_occur (kids_and_last ks gone) t ≡ kids_occur ks t
 occurs_and_last no_kids t = refl
 occurs_and_last (kid k ks) t = ap (λ (m : ℕ). kid_occurs k t + m) (occurs_and_last ks t)
 
-marked_and_last : (ks : Kids) → AllMarkedAmong true ks → AllMarkedAmong true (kids_and_last ks gone)
+pub marked_and_last : (ks : Kids) → AllMarkedAmong true ks → AllMarkedAmong true (kids_and_last ks gone)
 marked_and_last no_kids all = (tt, tt)
 marked_and_last (kid k ks) all = (all.0, marked_and_last ks all.1)
 
-holds_and_last : (plan : Plan) (heap : Heap) (node : NodeId) (slot : ℕ) (form : Form) (i depth : ℕ) (ks : Kids)
+pub holds_and_last : (plan : Plan) (heap : Heap) (node : NodeId) (slot : ℕ) (form : Form) (i depth : ℕ) (ks : Kids)
     → ((count : ℕ) → MayHave form count) → HoldsAll plan heap node slot form i depth ks
     → HoldsAll plan heap node slot form i depth (kids_and_last ks gone)
 holds_and_last plan heap node slot form i depth no_kids may holds = (tt, may (suc i))
@@ -98,7 +98,7 @@ items_may_have (as_map base) count takes = absurd takes
 items_may_have as_dyn_array count takes = tt
 items_may_have (as_dyn_object keys) count takes = absurd takes
 
-left_and_last : (form : Form) (i : ℕ) (ks : Kids) → AreLeftAll form i ks → AreLeftAll form i (kids_and_last ks gone)
+pub left_and_last : (form : Form) (i : ℕ) (ks : Kids) → AreLeftAll form i ks → AreLeftAll form i (kids_and_last ks gone)
 left_and_last form i no_kids all =
     (left_past form i gone all refl, tt, omega (arith, all, entry_next i))
 left_and_last form i (kid k ks) all = (all.0, all.1, left_and_last form (suc i) ks all.2)
@@ -114,10 +114,10 @@ grown_keeps form kids takes = record {
   left = λ h. left_and_last form 0 kids h;
 }
 
-grown_stay : (slot : ℕ) (form : Form) (kids : Kids)
-    → AllStayPut (at slot false (begun_plot form kids)) (at slot false (begun_plot form (kids_and_last kids gone)))
-grown_stay slot form kids [] placed = (record { reaches = tt; here = tt }, refl)
-grown_stay slot form kids (i ∷ place) placed =
+pub grown_stay : (slot : ℕ) (form made : Form) (kids : Kids)
+    → AllStayPut (at slot false (begun_plot form kids)) (at slot false (begun_plot made (kids_and_last kids gone)))
+grown_stay slot form made kids [] placed = (record { reaches = tt; here = tt }, refl)
+grown_stay slot form made kids (i ∷ place) placed =
     let same = nth_before i kids gone placed.reaches.0 in
     let below = subst (λ (x : Kid). IsPlaced x place) (sym same) (record { reaches = placed.reaches.1; here = placed.here }) in (
       record {
@@ -127,30 +127,49 @@ grown_stay slot form kids (i ∷ place) placed =
       ap (λ (x : Kid). slot_here (kid_at place x)) same,
     )
 
--- So a place grows: behind its children come others that aren't there yet, and the first of them is then entered.
-pub record Grows (form : Form) (kids more : Kids) (change : Body → Body) (with_new : Def → Tree → Tree) : Type 1 where
-  pub body : begun_body form (cells_in more) ≡ change (begun_body form (cells_in kids))
-  pub keeps : KeepsChildren (begun_plot form kids) (begun_plot form more)
-  pub stay : (slot : ℕ) → AllStayPut (at slot false (begun_plot form kids)) (at slot false (begun_plot form more))
+-- So a place grows: behind its children come others that aren't there yet, if any do, and child i is then entered, which isn't in a
+-- slot. It may be begun otherwise then.
+pub record Grows (form made : Form) (kids more : Kids) (i : ℕ) (change : Body → Body) (with_new : Def → Tree → Tree) : Type 1 where
+  pub body : begun_body made (cells_in more) ≡ change (begun_body form (cells_in kids))
+  pub keeps : KeepsChildren (begun_plot form kids) (begun_plot made more)
+  pub stay : (slot : ℕ) → AllStayPut (at slot false (begun_plot form kids)) (at slot false (begun_plot made more))
   pub used : (n : ℕ) → uses_among more n ≡ uses_among kids n
   pub occurs : (t : ℕ) → kids_occur more t ≡ kids_occur kids t
-  pub within : count_kids kids < count_kids more
-  pub nth : kid_nth (count_kids kids) more ≡ gone
-  pub tree : (n : ℕ) (def : Def) → begun form (trees_in (put_nth (count_kids kids) (at n false (fresh_plot def)) more))
+  pub within : i < count_kids more
+  pub unplaced : IsUnplaced (cell_of (kid_nth i more))
+  pub vacant : is_map_form made ≡ true → IsThere (kid_nth i more) → ⊥
+  pub tree : (n : ℕ) (def : Def) → begun made (trees_in (put_nth i (at n false (child_plot def (kid_nth i more))) more))
       ≡ with_new def (begun form (trees_in kids))
 
+-- a child that isn't there
+pub gone_unplaced : (k : Kid) → k ≡ gone → IsUnplaced (cell_of k)
+gone_unplaced k e = subst (λ (x : Kid). IsUnplaced (cell_of x)) (sym e) tt
+
+pub gone_vacant : (k : Kid) → k ≡ gone → IsThere k → ⊥
+gone_vacant k e is_there = subst IsThere e is_there
+
+-- gets what is fresh
+pub tree_vacant : (form : Form) (i : ℕ) (ks : Kids) (n : ℕ) (def : Def) → kid_nth i ks ≡ gone
+    → begun form (trees_in (put_nth i (at n false (child_plot def (kid_nth i ks))) ks))
+    ≡ begun form (trees_in (put_nth i (at n false (fresh_plot def)) ks))
+tree_vacant form i ks n def e =
+    ap (λ (x : Kid). begun form (trees_in (put_nth i (at n false (child_plot def x)) ks))) e
+
 -- one item
-items_grow : (form : Form) (kids : Kids) → TakesItems form → Grows form kids (kids_and_last kids gone) added with_item_of
+items_grow : (form : Form) (kids : Kids) → TakesItems form
+    → Grows form form kids (kids_and_last kids gone) (count_kids kids) added with_item_of
 items_grow form kids takes = record {
   body = ap (begun_body form) (cells_and_last kids);
   keeps = grown_keeps form kids takes;
-  stay = λ slot. grown_stay slot form kids;
+  stay = λ slot. grown_stay slot form form kids;
   used = uses_and_last kids;
   occurs = occurs_and_last kids;
   within = omega (arith, count_and_last kids gone);
-  nth = nth_last kids gone;
+  unplaced = gone_unplaced (kid_nth (count_kids kids) (kids_and_last kids gone)) (nth_last kids gone);
+  vacant = λ of_map. gone_vacant (kid_nth (count_kids kids) (kids_and_last kids gone)) (nth_last kids gone);
   tree = λ n def.
-      ap (λ (ks : Kids). begun form (trees_in ks)) (put_last kids gone (at n false (fresh_plot def)))
+      tree_vacant form (count_kids kids) (kids_and_last kids gone) n def (nth_last kids gone)
+      ∙ ap (λ (ks : Kids). begun form (trees_in ks)) (put_last kids gone (at n false (fresh_plot def)))
       ∙ ap (begun form) (trees_and_last kids (at n false (fresh_plot def)))
       ∙ ap (λ (t : Tree). begun form (and_last (trees_in kids) t)) (fresh_tree def);
 }
@@ -168,12 +187,17 @@ two_cells (kid k ks) = ap (λ (cs : List Cell). cell_of k ∷ cs) (two_cells ks)
 two_stay : (slot : ℕ) (form : Form) (kids : Kids)
     → AllStayPut (at slot false (begun_plot form kids)) (at slot false (begun_plot form (kids_and_last (kids_and_last kids gone) gone)))
 two_stay slot form kids place placed =
-    let one = grown_stay slot form kids place placed in
-    let two = grown_stay slot form (kids_and_last kids gone) place one.0 in
+    let one = grown_stay slot form form kids place placed in
+    let two = grown_stay slot form form (kids_and_last kids gone) place one.0 in
     (two.0, two.1 ∙ one.1)
 
+nth_key : (kids : Kids) → kid_nth (count_kids kids) (kids_and_last (kids_and_last kids gone) gone) ≡ gone
+nth_key kids =
+    nth_before (count_kids kids) (kids_and_last kids gone) gone (omega (arith, count_and_last kids gone))
+    ∙ nth_last kids gone
+
 entries_grow : (base : ℕ) (kids : Kids)
-    → Grows (as_map base) kids (kids_and_last (kids_and_last kids gone) gone) added_entry with_key_of
+    → Grows (as_map base) (as_map base) kids (kids_and_last (kids_and_last kids gone) gone) (count_kids kids) added_entry with_key_of
 entries_grow base kids = record {
   body = ap (begun_body (as_map base)) (two_cells kids);
   keeps = record {
@@ -189,11 +213,11 @@ entries_grow base kids = record {
   used = λ n. omega (arith, uses_and_last kids n, uses_and_last (kids_and_last kids gone) n);
   occurs = λ t. omega (arith, occurs_and_last kids t, occurs_and_last (kids_and_last kids gone) t);
   within = omega (arith, count_and_last kids gone, count_and_last (kids_and_last kids gone) gone);
-  nth =
-      nth_before (count_kids kids) (kids_and_last kids gone) gone (omega (arith, count_and_last kids gone))
-      ∙ nth_last kids gone;
+  unplaced = gone_unplaced (kid_nth (count_kids kids) (kids_and_last (kids_and_last kids gone) gone)) (nth_key kids);
+  vacant = λ of_map. gone_vacant (kid_nth (count_kids kids) (kids_and_last (kids_and_last kids gone) gone)) (nth_key kids);
   tree = λ n def.
-      ap (λ (ks : Kids). begun (as_map base) (trees_in ks)) (put_key kids gone (at n false (fresh_plot def)))
+      tree_vacant (as_map base) (count_kids kids) (kids_and_last (kids_and_last kids gone) gone) n def (nth_key kids)
+      ∙ ap (λ (ks : Kids). begun (as_map base) (trees_in ks)) (put_key kids gone (at n false (fresh_plot def)))
       ∙ ap (begun (as_map base)) (trees_and_last (kids_and_last kids (at n false (fresh_plot def))) gone)
       ∙ ap (λ (ts : Trees). begun (as_map base) (and_last ts hole)) (trees_and_last kids (at n false (fresh_plot def)))
       ∙ ap (λ (t : Tree). begun (as_map base) (and_last (and_last (trees_in kids) t) hole)) (fresh_tree def);
@@ -201,8 +225,8 @@ entries_grow base kids = record {
 
 -- An open builder's top grows.
 module _ (plan : Plan) (before : List Slot) (stack : List ℕ) (open_now : IsOpen plan before stack) (p : ℕ) (last : IsLast stack p)
-    (form : Form) (kids more : Kids) (begun_now : (open_top plan before stack open_now).plot ≡ begun_plot form kids)
-    (change : Body → Body) (with_new : Def → Tree → Tree) (grows : Grows form kids more change with_new) where
+    (form made : Form) (kids more : Kids) (i : ℕ) (begun_now : (open_top plan before stack open_now).plot ≡ begun_plot form kids)
+    (change : Body → Body) (with_new : Def → Tree → Tree) (grows : Grows form made kids more i change with_new) where
   abbrev k : Kid
   k = kid_here before stack
 
@@ -217,7 +241,7 @@ module _ (plan : Plan) (before : List Slot) (stack : List ℕ) (open_now : IsOpe
   grown = with_body (heap_of before) p change
 
   abbrev new : Kid
-  new = at top.slot false (begun_plot form more)
+  new = at top.slot false (begun_plot made more)
 
   abbrev first : Kid
   first = put_at place new k
@@ -225,13 +249,13 @@ module _ (plan : Plan) (before : List Slot) (stack : List ℕ) (open_now : IsOpe
   reach : Reaches place k
   reach = open_reach plan before stack open_now
 
-  grown_body : begun_body form (cells_in more) ≡ change (body_in top.plot)
+  grown_body : begun_body made (cells_in more) ≡ change (body_in top.plot)
   grown_body = grows.body ∙ ap (λ (plot : Plot). change (body_in plot)) (sym begun_now)
 
   stands_grown : Stands plan grown stack place first
   stands_grown =
-      top_stands_in plan before grown stack open_now p last change (begun_plot form more) grown_body
-      (subst (λ (plot : Plot). KeepsChildren plot (begun_plot form more)) (sym begun_now) grows.keeps)
+      top_stands_in plan before grown stack open_now p last change (begun_plot made more) grown_body
+      (subst (λ (plot : Plot). KeepsChildren plot (begun_plot made more)) (sym begun_now) grows.keeps)
       (λ m. refl)
 
   stay_grown : AllStayPut k first
@@ -266,7 +290,7 @@ module _ (plan : Plan) (before : List Slot) (stack : List ℕ) (open_now : IsOpe
   slot_same : now.slot ≡ top.slot
   slot_same = let is = now_is in cc
 
-  plot_same : now.plot ≡ begun_plot form more
+  plot_same : now.plot ≡ begun_plot made more
   plot_same = let is = now_is in cc
 
   slot_is : now.slot ≡ p
@@ -283,26 +307,12 @@ module _ (plan : Plan) (before : List Slot) (stack : List ℕ) (open_now : IsOpe
       node_of (Some found) = found.node
       node_of None = plan.root
 
-  within : count_kids kids < count_kids more
-  within = grows.within
-
-  unplaced : IsUnplaced (cell_of (kid_nth (count_kids kids) more))
-  unplaced = subst (λ (x : Kid). IsUnplaced (cell_of x)) (sym grows.nth) tt
-
-  vacant_item : is_map_form form ≡ true → IsThere (kid_nth (count_kids kids) more) → ⊥
-  vacant_item of_map is_there = subst IsThere grows.nth is_there
-
-  owner_same : item_owner p (body_in top.plot) ≡ child_owner now.slot (count_kids kids)
-  owner_same =
-      ap (λ (count : ℕ). FrameOwner.Child (record { 0 = p }) count)
-      (ap (λ (plot : Plot). count_cells (body_in plot)) begun_now ∙ cells_count kids)
-      ∙ ap (λ (m : ℕ). child_owner m (count_kids kids)) (sym slot_is)
-
-  module _ (after : List Slot) (next : List ℕ) (def : Def) (n : ℕ) (node : NodeId)
-      (is : node ≡ child_node plan (node_along plan plan.root place k) form (count_kids kids)) (vacant : heap_of before n ≡ None)
+  module _ (owner_of : Body → FrameOwner) (owner_is : owner_of (begun_body form (cells_in kids)) ≡ child_owner p i)
+      (after : List Slot) (next : List ℕ) (def : Def) (n : ℕ) (node : NodeId)
+      (is : node ≡ child_node plan (node_along plan plan.root place k) made i) (vacant : heap_of before n ≡ None)
       (shows : IfInUse before p (λ (found : Node). Shows after
-      (with_entered def (with_body (heap_of before) p change) node (item_owner p found.body) n)))
-      (limit : IfInUse before p (λ (found : Node). depth_below (heap_of before) (item_owner p found.body) < depth_limit))
+      (with_entered def (with_body (heap_of before) p change) node (owner_of found.body) n)))
+      (limit : IfInUse before p (λ (found : Node). depth_below (heap_of before) (owner_of found.body) < depth_limit))
       (tokens : SameTokens before after) (along : next ≡ stack ++ n ∷ []) where
     apart : n ≢ p
     apart e = let wrong = sym vacant ∙ ap (heap_of before) e ∙ top_found plan before stack open_now p last in cc
@@ -310,85 +320,90 @@ module _ (plan : Plan) (before : List Slot) (stack : List ℕ) (open_now : IsOpe
     free : grown n ≡ None
     free = body_other (heap_of before) p change n apart ∙ vacant
 
+    -- whose child it is
+    owner_here : owner_of (body_in top.plot) ≡ child_owner p i
+    owner_here = ap (λ (plot : Plot). owner_of (body_in plot)) begun_now ∙ owner_is
+
+    owner_same : owner_of (body_in top.plot) ≡ child_owner now.slot i
+    owner_same = owner_here ∙ ap (λ (m : ℕ). child_owner m i) (sym slot_is)
+
     shown : (m : ℕ) → heap_of after m
-        ≡ with_entered def grown (child_node plan (node_along plan plan.root place first) form (count_kids kids))
-        (child_owner now.slot (count_kids kids)) n m
+        ≡ with_entered def grown (child_node plan (node_along plan plan.root place first) made i)
+        (child_owner now.slot i) n m
     unfolding top_node
     shown m =
         top_so plan before stack open_now p last
-        (λ (found : Node). Shows after (with_entered def grown node (item_owner p found.body) n)) shows m
+        (λ (found : Node). Shows after (with_entered def grown node (owner_of found.body) n)) shows m
         ∙ ap (λ (o : FrameOwner). with_entered def grown node o n m) owner_same
-        ∙ ap (λ (x : NodeId). with_entered def grown x (child_owner now.slot (count_kids kids)) n m)
-        (is ∙ ap (λ (x : NodeId). child_node plan x form (count_kids kids)) (sym same_node))
+        ∙ ap (λ (x : NodeId). with_entered def grown x (child_owner now.slot i) n m)
+        (is ∙ ap (λ (x : NodeId). child_node plan x made i) (sym same_node))
 
-    deep : depth_below grown (child_owner now.slot (count_kids kids)) < depth_limit
+    deep : depth_below grown (child_owner now.slot i) < depth_limit
     unfolding top_node
     deep =
         let was : depth_above (heap_of before p) < depth_limit
-        = top_so plan before stack open_now p last
-        (λ (found : Node). depth_below (heap_of before) (item_owner p found.body) < depth_limit) limit in
+        = subst (λ (o : FrameOwner). depth_below (heap_of before) o < depth_limit) owner_here
+        (top_so plan before stack open_now p last
+        (λ (found : Node). depth_below (heap_of before) (owner_of found.body) < depth_limit) limit) in
         subst (λ (d : ℕ). d < depth_limit)
         (ap depth_above (top_found plan before stack open_now p last) ∙ sym (ap depth_above now.here)) was
 
     abbrev item : Kid
     item =
-        entered_kid plan grown (heap_of after) stack place first stands_grown now form more plot_same (count_kids kids) within
-        unplaced vacant_item def n free shown deep
+        entered_kid plan grown (heap_of after) stack place first stands_grown now made more plot_same i grows.within
+        grows.unplaced grows.vacant def n free shown deep
 
     abbrev second : Kid
     second = put_at place item first
 
     tree_second : tree_of second ≡ change_at place (with_new def) (tree_of k)
     tree_second =
-        let fresh_child : child_plot def (kid_nth (count_kids kids) more) ≡ fresh_plot def
-        = ap (child_plot def) grows.nth in
         let was : tree_at place (tree_of k) ≡ begun form (trees_in kids)
         = sym (tree_of_at place k) ∙ ap tree_of top.is ∙ ap tree_in begun_now in
         ap tree_of (put_at_twice place new item k reach)
         ∙ tree_change_at place (with_new def) item k
-        (ap (λ (plot : Plot). begun form (trees_in (put_nth (count_kids kids) (at n false plot) more))) fresh_child
-        ∙ grows.tree n def ∙ ap (with_new def) (sym was))
+        (grows.tree n def ∙ ap (with_new def) (sym was))
 
-    stands_second : Stands plan (heap_of after) (stack ++ n ∷ []) (place ++ count_kids kids ∷ []) second
+    stands_second : Stands plan (heap_of after) (stack ++ n ∷ []) (place ++ i ∷ []) second
     stands_second =
-        stands_entered plan grown (heap_of after) stack place first stands_grown now form more plot_same (count_kids kids) within
-        unplaced vacant_item def n free shown deep
+        stands_entered plan grown (heap_of after) stack place first stands_grown now made more plot_same i grows.within
+        grows.unplaced grows.vacant def n free shown deep
 
     occurs_second : (t : ℕ) → kid_occurs second t ≡ kid_occurs k t
     occurs_second t =
-        tokens_entered plan grown (heap_of after) stack place first stands_grown now form more plot_same (count_kids kids) within
-        unplaced vacant_item def n free shown deep t
+        tokens_entered plan grown (heap_of after) stack place first stands_grown now made more plot_same i grows.within
+        grows.unplaced grows.vacant def n free shown deep t
         ∙ occurs_grown t
 
     all_second : AllServe (heap_of after) second
     all_second =
-        all_entered plan grown (heap_of after) stack place first stands_grown now form more plot_same (count_kids kids) within
-        unplaced vacant_item def n free shown deep all_grown
+        all_entered plan grown (heap_of after) stack place first stands_grown now made more plot_same i grows.within
+        grows.unplaced grows.vacant def n free shown deep all_grown
 
     stay_second : AllStayPut k second
     stay_second way placed =
         let one = stay_grown way placed in
-        let two = stay_entered plan grown (heap_of after) stack place first stands_grown now form more plot_same (count_kids kids)
-        within unplaced vacant_item def n free shown deep way one.0 in
+        let two = stay_entered plan grown (heap_of after) stack place first stands_grown now made more plot_same i
+        grows.within grows.unplaced grows.vacant def n free shown deep way one.0 in
         (two.0, two.1 ∙ one.1)
 
-    open_item : IsOpenAt plan after next (place ++ count_kids kids ∷ []) (change_at place (with_new def) (tree_of k))
+    pub open_item : IsOpenAt plan after next (place ++ i ∷ []) (change_at place (with_new def) (tree_of k))
         × AllStayPut k (kid_here after next)
     open_item =
         subst
-        (λ (s : List ℕ). IsOpenAt plan after s (place ++ count_kids kids ∷ []) (change_at place (with_new def) (tree_of k))
+        (λ (s : List ℕ). IsOpenAt plan after s (place ++ i ∷ []) (change_at place (with_new def) (tree_of k))
         × AllStayPut k (kid_here after s)) (sym along) (
-          open_at_from plan after (stack ++ n ∷ []) (place ++ count_kids kids ∷ []) second
+          open_at_from plan after (stack ++ n ∷ []) (place ++ i ∷ []) second
               (change_at place (with_new def) (tree_of k)) stands_second
               (tokens_kept before after k second tokens open_now.tokens occurs_second) all_second tree_second,
-          stay_shown plan after (stack ++ n ∷ []) (place ++ count_kids kids ∷ []) second k stands_second stay_second,
+          stay_shown plan after (stack ++ n ∷ []) (place ++ i ∷ []) second k stands_second stay_second,
         )
 
-    marks_item : SameMarks before after
+    pub marks_item : SameMarks before after
     marks_item m =
         ap stored_in (shown m)
-        ∙ marked_entered def grown (child_node plan (node_along plan plan.root place first) form (count_kids kids))
-        (child_owner now.slot (count_kids kids)) n m free
+        ∙ marked_entered def grown (child_node plan (node_along plan plan.root place first) made i)
+        (child_owner now.slot i) n m free
         ∙ marked_body (heap_of before) p change m
 
 -- The same, as the calls say it, of a place that is begun so.
@@ -400,26 +415,29 @@ module _ (plan : Plan) (before : List Slot) (stack : List ℕ) (open_now : IsOpe
       plot_formed form top.plot
       (subst (λ (t : Tree). HasForm form t) (sym (tree_of_at (cursor_in before stack) (kid_here before stack)) ∙ ap tree_of top.is) has)
 
-  counted : count_here before stack ≡ count_kids formed.0
+  pub counted : count_here before stack ≡ count_kids formed.0
   counted =
       let top = open_top plan before stack open_now in
       ap count_below
       (sym (tree_of_at (cursor_in before stack) (kid_here before stack)) ∙ ap tree_of top.is ∙ ap tree_in formed.1)
       ∙ count_kids_trees formed.0
 
-  formed_here : (So : Body → Type 0) → So (begun_body form (cells_in formed.0)) → IfInUse before p (λ (found : Node). So found.body)
+  pub formed_here : (So : Body → Type 0) → So (begun_body form (cells_in formed.0)) → IfInUse before p (λ (found : Node). So found.body)
   unfolding top_node
   formed_here So so =
       so_top plan before stack open_now p last (λ (found : Node). So found.body)
       (subst (λ (plot : Plot). So (body_in plot)) (sym formed.1) so)
 
-  module _ (more : Kids) (change : Body → Body) (with_new : Def → Tree → Tree) (grows : Grows form formed.0 more change with_new)
+  module _ (more : Kids) (change : Body → Body) (with_new : Def → Tree → Tree) (grows : Grows form form formed.0 more (count_kids formed.0) change with_new)
       (after : List Slot) (next : List ℕ) (def : Def) (n : ℕ) (node : NodeId)
       (is : node ≡ child_node plan (node_here plan before stack) form (count_here before stack)) (vacant : heap_of before n ≡ None)
       (shows : IfInUse before p (λ (found : Node). Shows after
       (with_entered def (with_body (heap_of before) p change) node (item_owner p found.body) n)))
       (limit : IfInUse before p (λ (found : Node). depth_below (heap_of before) (item_owner p found.body) < depth_limit))
       (tokens : SameTokens before after) (along : next ≡ stack ++ n ∷ []) where
+    owner_is : item_owner p (begun_body form (cells_in formed.0)) ≡ child_owner p (count_kids formed.0)
+    owner_is = ap (child_owner p) (cells_count formed.0)
+
     numbered : node ≡ child_node plan (node_here plan before stack) form (count_kids formed.0)
     numbered = is ∙ ap (child_node plan (node_here plan before stack) form) counted
 
@@ -427,7 +445,8 @@ module _ (plan : Plan) (before : List Slot) (stack : List ℕ) (open_now : IsOpe
         (change_at (cursor_in before stack) (with_new def) (tree_in_slots before stack))
         × AllStayPut (kid_here before stack) (kid_here after next)
     both =
-        open_item plan before stack open_now p last form formed.0 more formed.1 change with_new grows after next def n node numbered
+        open_item plan before stack open_now p last form form formed.0 more (count_kids formed.0) formed.1 change with_new grows
+        (item_owner p) owner_is after next def n node numbered
         vacant shows limit tokens along
 
     -- the new child is on top
@@ -446,7 +465,8 @@ module _ (plan : Plan) (before : List Slot) (stack : List ℕ) (open_now : IsOpe
     -- and none is stored that wasn't, nor taken out of the store
     pub child_marks : SameMarks before after
     child_marks =
-        marks_item plan before stack open_now p last form formed.0 more formed.1 change with_new grows after next def n node numbered
+        marks_item plan before stack open_now p last form form formed.0 more (count_kids formed.0) formed.1 change with_new grows
+        (item_owner p) owner_is after next def n node numbered
         vacant shows limit tokens along
 
 -- An item.

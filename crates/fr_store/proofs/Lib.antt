@@ -5,8 +5,11 @@ pub mod BeneathSteps
 pub mod BeneathTurns
 pub mod ChildOrder
 pub mod ContentLaws
+pub mod DynamicLaws
 pub mod EarlierLaws
 pub mod EndItemLaws
+pub mod EndLaws
+pub mod EntryLaws
 pub mod FinishTests
 pub mod IndexLaws
 pub mod ItemLaws

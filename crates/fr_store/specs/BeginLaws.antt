@@ -45,7 +45,7 @@ pub gones_cells : (count : ℕ) → cells_in (gones count) ≡ replicate count a
 gones_cells zero = refl
 gones_cells (suc count) = ap (λ (cs : List Cell). absent ∷ cs) (gones_cells count)
 
-theres_cells : (vs : Vals) → cells_in (theres vs) ≡ cells_of_vals vs
+pub theres_cells : (vs : Vals) → cells_in (theres vs) ≡ cells_of_vals vs
 theres_cells no_vals = refl
 theres_cells (first v vs) = ap (λ (cs : List Cell). given v ∷ cs) (theres_cells vs)
 
@@ -62,7 +62,7 @@ pub gones_trees : (count : ℕ) → trees_in (gones count) ≡ holes count
 gones_trees zero = refl
 gones_trees (suc count) = ap (λ (ts : Trees). branch hole ts) (gones_trees count)
 
-theres_trees : (vs : Vals) → trees_in (theres vs) ≡ wholes vs
+pub theres_trees : (vs : Vals) → trees_in (theres vs) ≡ wholes vs
 theres_trees no_vals = refl
 theres_trees (first v vs) = ap (λ (ts : Trees). branch (whole v) ts) (theres_trees vs)
 
@@ -79,7 +79,7 @@ pub gones_unplaced : (count : ℕ) → AreUnplaced (cells_in (gones count))
 gones_unplaced zero = tt
 gones_unplaced (suc count) = (tt, gones_unplaced count)
 
-theres_unplaced : (vs : Vals) → AreUnplaced (cells_in (theres vs))
+pub theres_unplaced : (vs : Vals) → AreUnplaced (cells_in (theres vs))
 theres_unplaced no_vals = tt
 theres_unplaced (first v vs) = (tt, theres_unplaced vs)
 
@@ -120,7 +120,7 @@ gones_left form i zero none = no_base form i none
 gones_left form i (suc count) none =
     (left_past form i gone (no_base form i none) refl, tt, gones_left form (suc i) count none)
 
-theres_left : (form : Form) (i : ℕ) (vs : Vals) (m : ℕ) → m ≡ i + count_vals vs → base_of_form form ≤ entry_of m
+pub theres_left : (form : Form) (i : ℕ) (vs : Vals) (m : ℕ) → m ≡ i + count_vals vs → base_of_form form ≤ entry_of m
     → AreLeftAll form i (theres vs)
 theres_left form i no_vals m e past =
     let same : m ≡ i = omega arith in

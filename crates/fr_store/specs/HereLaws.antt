@@ -24,7 +24,7 @@ use Rattle.fr_frame.specs.Completing.{shape_of, FillsAt, IsPlanFor, MayComplete}
 use Rattle.fr_frame.specs.Defaults.{KeepGiven, KeepsForm, WhyNotDefault}
 use Rattle.fr_frame.specs.Heap.{Node, heap_of, marked, slots_occur, stored_in, with_body, with_slot}
 use Rattle.fr_frame.specs.Kids.{Kid, gone, MayHave, Plot, tree_of, tree_in, trees_in, cells_in, body_in, kids_in, plot_in, kid_occurs, plot_occurs, begun_plot, entered_plot, whole_plot, AreLeftRightly, AreLeftIn, AreLeftAll}
-use Rattle.fr_store.specs.EndLaws.{made_of, made_value, more_is, values_count}
+use Rattle.fr_store.specs.ValueLaws.{made_of, made_value, more_is, values_count}
 use Rattle.fr_store.specs.LeftLaws.{left_at, left_end, left_value}
 use Rattle.fr_store.specs.MoveLaws.{closed_open, open_top, so_top, top_changed_held, top_found, top_node, top_so}
 use Rattle.fr_store.specs.Moves.{IsOpenAt, cursor_in, tree_in_slots}

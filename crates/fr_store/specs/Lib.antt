@@ -4,7 +4,6 @@ pub mod Beneath
 pub mod BeneathLaws
 pub mod ChildLaws
 pub mod ClosingLaws
-pub mod EndLaws
 pub mod EnterLaws
 pub mod FailLaws
 pub mod FinishTests
@@ -36,6 +35,7 @@ pub mod TurnLaws
 pub mod TurnedLaws
 pub mod Turning
 pub mod Turns
+pub mod ValueLaws
 pub mod WalkedLaws
 pub mod Walks
 pub mod WayLaws

@@ -1,12 +1,13 @@
 -- What the moves of a builder do, as contracts see it.
-use Rattle.std.specs.Prelude.{◌≡◌, ℕ, ◌<◌, Bool, ◌||◌, List, Option, Some, None}
+use Rattle.std.specs.Prelude.{◌≡◌, ℕ, ◌<◌, Bool, ◌||◌, List, [], ◌∷◌, ◌++◌, Option, Some, None, unwrap_or}
 use Rattle.fr_shape.specs.declared.shape.Def.{Def}
 use Rattle.fr_shape.specs.Val.{Val}
 use Rattle.fr_model.specs.Collections.{is_set, is_set_form}
 use Rattle.fr_model.specs.Contents.{around, content_of}
-use Rattle.fr_model.specs.DynamicPlaces.{is_begun_dynamic, is_dynamic_form}
+use Rattle.fr_model.specs.DynamicPlaces.{is_begun_dynamic, is_dynamic_form, kept_array, kept_object, keys_here, entry_found, number_or_last}
 use Rattle.fr_model.specs.Places.{Place}
-use Rattle.fr_model.specs.Tree.{Form, as_struct, as_array, as_variant, as_some, as_ok, as_err, as_pointer, as_list, as_slice, as_closed_slice, as_set, as_map, as_dyn_array, as_dyn_object, Tree, hole, entered, whole, begun, and_last, count_below, count_trees, fresh, change_at, tree_at, tree_occurs}
+use Rattle.fr_model.specs.Step.{enter}
+use Rattle.fr_model.specs.Tree.{Form, as_struct, as_array, as_variant, as_some, as_ok, as_err, as_pointer, as_list, as_slice, as_closed_slice, as_set, as_map, as_dyn_array, as_dyn_object, keys_of_form, Tree, hole, entered, whole, begun, Trees, and_last, count_below, count_trees, fresh, change_at, change_nth, tree_at, tree_occurs}
 use Rattle.fr_plan.specs.declared.nodes.NodeId.{NodeId}
 use Rattle.fr_plan.specs.TypePlan.{Plan}
 use Rattle.fr_frame.specs.declared.places.FrameOwner.{FrameOwner}
@@ -160,3 +161,29 @@ begun_as form (begun made ts) = begun form ts
 -- the plan's node of the place at which it works
 abbrev pub node_here : Plan → List Slot → List ℕ → NodeId
 node_here plan slots stack = node_along plan plan.root (cursor_in slots stack) (kid_shown (heap_of slots) stack)
+
+-- Dynamic values.
+
+-- what stands there, where it is a dynamic array, or object, begun with its parts as they are; any other place stays as it was
+abbrev pub around_elements : Tree → Tree
+around_elements old = unwrap_or (kept_array old) old
+
+abbrev pub around_members : Tree → Tree
+around_members old = unwrap_or (kept_object old) old
+
+abbrev pub with_entry_unless : Def → (key : List ℕ) → Form → Trees → (found : Option ℕ) → Tree
+with_entry_unless def key form ts (Some i) = begun form (change_nth i (enter def) ts)
+with_entry_unless def key form ts None = begun (as_dyn_object (keys_of_form form ++ key ∷ [])) (and_last ts (fresh def))
+
+-- an object whose entry of this key is entered, a value of this definition: the one that it has, or one more behind the others; any
+-- other place stays as it was
+abbrev pub with_entry_of : Def → (key : List ℕ) → Tree → Tree
+with_entry_of def key hole = hole
+with_entry_of def key entered = entered
+with_entry_of def key (whole v) = whole v
+with_entry_of def key (begun form ts) = with_entry_unless def key form ts (entry_found key (keys_of_form form))
+
+-- the number of that entry, of the object at which the builder works
+abbrev pub entry_here : (key : List ℕ) → List Slot → List ℕ → ℕ
+entry_here key slots stack =
+    number_or_last (entry_found key (keys_here (tree_here slots stack))) (count_here slots stack)

@@ -42,7 +42,7 @@ tree_kept (i ∷ place) new (at slot stored (begun_plot form kids)) same =
     (trees_kept i (put_at place new (kid_nth i kids)) kids (tree_kept place new (kid_nth i kids) same))
 
 -- all are stored where the one is that wasn't
-all_stored : (i : ℕ) (Below : Kid → Type 0) (new : Kid) (ks : Kids) → StoredBut i Below ks → AllMarked true new
+pub all_stored : (i : ℕ) (Below : Kid → Type 0) (new : Kid) (ks : Kids) → StoredBut i Below ks → AllMarked true new
     → AllMarkedAmong true (put_nth i new ks)
 all_stored i Below new no_kids but stored = absurd but
 all_stored zero Below new (kid k ks) but stored = (stored, but.1)

@@ -10,9 +10,9 @@ use Rattle.fr_plan.specs.declared.nodes.NodeId.{NodeId}
 use Rattle.fr_plan.specs.TypePlan.{Plan}
 use Rattle.fr_frame.specs.declared.places.FrameOwner.{FrameOwner}
 use Rattle.fr_frame.specs.declared.places.SlotId.{SlotId}
-use Rattle.fr_frame.specs.Bodies.{Body, entered_body, whole_body, begun_body, body_occurs, linked, unlinked, IsClosed, AreUnplaced, own_tree, trees_of}
+use Rattle.fr_frame.specs.Bodies.{Body, entered_body, whole_body, begun_body, body_occurs, linked, IsClosed, AreUnplaced, own_tree, trees_of}
 use Rattle.fr_frame.specs.Cells.{cells_occur}
-use Rattle.fr_frame.specs.Heap.{Node, Heap, with_slot, with_body, without, with_entered, entered_node, links, marked, stored_in, depth_limit}
+use Rattle.fr_frame.specs.Heap.{Node, Heap, with_slot, with_body, with_entered, entered_node, links, marked, stored_in, depth_limit}
 use Rattle.fr_frame.specs.Kids.{Kid, gone, there, at, Plot, entered_plot, whole_plot, begun_plot, Kids, no_kids, kid, MayHave, tree_of, tree_in, trees_in, cell_of, cells_in, body_in, plot_occurs, kids_occur, Holds, HoldsIn, HoldsAll, AreLeftRightly, AreLeftIn}
 use Rattle.fr_store.specs.HoldLaws.{Replaces, holds_at, holds_frame_in, may_have}
 use Rattle.fr_store.specs.LeftLaws.{at_for_at}
@@ -79,25 +79,6 @@ used_entered def heap node p step n m used = go (same_or_other m n)
         (subst (λ (o : Option Node). IsSome o)
         (slot_other (links owner n heap) n (Some (entered_node def heap node owner)) m ne) used))
 
--- a slot that was freed isn't in use, and no other came into use
-pub used_without : (heap : Heap) (n : ℕ) (owner : FrameOwner) (m : ℕ) → IsSome (without heap n owner m)
-    → (m ≢ n) × IsSome (heap m)
-used_without heap n owner m used = go owner used
-  where
-    freed : IsSome (with_slot heap n None m) → (m ≢ n) × IsSome (heap m)
-    freed h = (apart, subst (λ (o : Option Node). IsSome o) (slot_other heap n None m apart) h)
-      where
-        apart : m ≢ n
-        apart e =
-            free_unused (with_slot heap n None) m
-            (ap (λ (x : ℕ). with_slot heap n None x) e ∙ slot_here heap n None) h
-
-    go : (owner : FrameOwner) → IsSome (without heap n owner m) → (m ≢ n) × IsSome (heap m)
-    go FrameOwner.Root h = freed h
-    go (FrameOwner.Child parent step) h =
-        freed
-        (used_mapped (with_slot heap n None) parent.0 (λ (x : Node). record x { body = unlinked n step x.body }) m h)
-
 -- Marks.
 
 pub marked_body : (heap : Heap) (n : ℕ) (change : Body → Body) (m : ℕ) → marked (with_body heap n change) m ≡ marked heap m
@@ -114,22 +95,6 @@ marked_body heap n change m = go (same_or_other m n)
         ∙ ap stored_in (slot_here heap n (option_map (λ (x : Node). record x { body = change x.body }) (heap n)))
         ∙ kept (heap n) ∙ ap (marked heap) (sym e)
     go (inr ne) = ap stored_in (body_other heap n change m ne)
-
--- a slot that is free again, or holds a place that isn't stored
-pub unmarked_slot : (heap : Heap) (n : ℕ) (found : Option Node) (m : ℕ) → stored_in found ≡ false → marked heap m ≡ false
-    → marked (with_slot heap n found) m ≡ false
-unmarked_slot heap n found m is unmarked = go (same_or_other m n)
-  where
-    go : (m ≡ n) ⊎ (m ≢ n) → marked (with_slot heap n found) m ≡ false
-    go (inl e) =
-        ap (λ (x : ℕ). marked (with_slot heap n found) x) e ∙ ap stored_in (slot_here heap n found) ∙ is
-    go (inr ne) = ap stored_in (slot_other heap n found m ne) ∙ unmarked
-
-pub unmarked_without : (heap : Heap) (n : ℕ) (owner : FrameOwner) (m : ℕ) → marked heap m ≡ false
-    → marked (without heap n owner) m ≡ false
-unmarked_without heap n FrameOwner.Root m unmarked = unmarked_slot heap n None m refl unmarked
-unmarked_without heap n (FrameOwner.Child parent step) m unmarked =
-    marked_body (with_slot heap n None) parent.0 (unlinked n step) m ∙ unmarked_slot heap n None m refl unmarked
 
 marked_links : (heap : Heap) (n : ℕ) (owner : FrameOwner) (m : ℕ) → marked (links owner n heap) m ≡ marked heap m
 marked_links heap n FrameOwner.Root m = refl

@@ -307,7 +307,7 @@ tree_put_at place new k = tree_change_at place (λ old. tree_of new) new k refl
 
 -- Something put twice at one place.
 
-put_nth_twice : (i : ℕ) (old new : Kid) (ks : Kids) → put_nth i new (put_nth i old ks) ≡ put_nth i new ks
+pub put_nth_twice : (i : ℕ) (old new : Kid) (ks : Kids) → put_nth i new (put_nth i old ks) ≡ put_nth i new ks
 put_nth_twice i old new no_kids = refl
 put_nth_twice zero old new (kid k ks) = refl
 put_nth_twice (suc i) old new (kid k ks) = ap (λ (xs : Kids). kid k xs) (put_nth_twice i old new ks)

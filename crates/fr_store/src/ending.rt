@@ -11,7 +11,7 @@ ghost use Rattle.fr_frame.specs.Heap.{slots_occur};
 ghost use Rattle.fr_store.specs.Moves.{changed_here, cursor_in, takes_at_end, tokens_here, tree_in_slots, AtTop, IsOpenAt};
 ghost use Rattle.fr_store.specs.Stands.{kid_here, IsOpen};
 ghost use Rattle.fr_store.specs.Staying.{AllStayPut, StayPutBut};
-ghost use Rattle.fr_store.specs.Stored.{IsKept, NothingStored};
+ghost use Rattle.fr_store.specs.Stored.{IsKept};
 
 use crate::{FrameStore, Stack};
 use fr_frame::Slots;
@@ -19,9 +19,9 @@ use fr_plan::TypePlanCore;
 use fr_shape::{Ledger, OutOfMemory};
 
 impl Stack {
-    /// Strict mode: the value of the place on top goes into the place above, where the builder then works. Only a begun option, result
-    /// or pointer, also one to a slice, takes memory: a box for what it holds; and a set or a map, which is put together anew: what is
-    /// there twice is released. Where there is none, what was put there is released.
+    /// The value of the place on top goes into the place above, where the builder then works; what else is stored stays so. Only a begun
+    /// option, result or pointer, also one to a slice, takes memory: a box for what it holds; and a set, a map or a dynamic value, which is
+    /// put together anew: what is there twice is released. Where there is none, what was put there is released.
     #[inline(always)]
     pub fn end(
         &mut self,
@@ -30,7 +30,6 @@ impl Stack {
         ledger: &mut Ledger,
     ) -> Result<(), OutOfMemory>
         requires is_open { IsOpen plan.now slots.old self.old }
-        requires strict { NothingStored slots.old }
         requires below { is_root (cursor_in slots.old self.old) ≡ false }
         requires complete { AtTop slots.old self.old (λ at. IsSome (value_of at.body)) }
         requires room { Room (tokens_here slots.old self.old) ledger.old }
@@ -42,7 +41,7 @@ impl Stack {
             (kid_here slots.old self.old) (kid_here slots.new self.new)) }
         ensures memory { AtTop slots.old self.old (λ at.
             takes_memory at.body ≡ false → IsOk result) }
-        ensures strict { NothingStored slots.new }
+        ensures marks { SameMarks slots.old slots.new }
         ensures conserved { Conserved (slots_occur slots.old) ledger.old
             (slots_occur slots.new) ledger.new }
     {

@@ -22,7 +22,7 @@ use fr_shape::{Hooks, Ledger, OutOfMemory, ReflectErrorKind, ShapeTable};
 
 /// The turn of a stored place that has no child in a slot: it is completed, and its value goes into the place above. What a set or a
 /// map has twice is released. Where there is no memory for the box that a begun option, result or pointer takes, also one to a
-/// slice, or for putting a set or a map together, what was put at the place is released.
+/// slice, or for putting a set, a map or a dynamic value together, what was put at the place is released.
 pub(crate) fn turn<H: Hooks>(
     slots: &mut Slots,
     stack: &Stack,
@@ -94,7 +94,8 @@ fn take_turns<H: Hooks>(
     Ok(())
 }
 
-/// Whether the place becomes whole where the builder works: it was only entered, or is a closed pointer to a slice.
+/// Whether the place becomes whole where the builder works: it was only entered, or is a closed pointer to a slice. A dynamic value
+/// that is begun stays so, as a list does.
 fn becomes_whole(slots: &Slots, place: SlotId) -> bool
     requires { IsInUse slots.now place.0 }
     ensures { IfInUse slots.now place.0 (λ at. result ≡ becomes_whole at.body) }
@@ -104,7 +105,7 @@ fn becomes_whole(slots: &Slots, place: SlotId) -> bool
     };
     match &found.piece {
         Piece::Entered | Piece::Begun(Form::ClosedSlice, _) => true,
-        Piece::Whole(_) => false,
+        Piece::Whole(_) | Piece::Object(_, _) => false,
         Piece::Begun(
             Form::Struct
             | Form::Array
@@ -116,7 +117,8 @@ fn becomes_whole(slots: &Slots, place: SlotId) -> bool
             | Form::List
             | Form::Slice
             | Form::Set
-            | Form::Map(_),
+            | Form::Map(_)
+            | Form::DynArray,
             _,
         ) => false,
     }
@@ -208,8 +210,8 @@ impl FrameStore {
 
     /// Completes every stored place, the longest path first, then step by step, and then the place on top of the stack, which stays
     /// begun where it is, but a closed pointer to a slice. What a set or a map has twice is released. The first place that fails gives
-    /// the refusal; all is released then. Only templates, boxes for what options, results and pointers hold, and sets and maps that
-    /// are put together want memory.
+    /// the refusal; all is released then. Only templates, boxes for what options, results and pointers hold, and sets, maps and
+    /// dynamic values that are put together want memory.
     pub fn finish<H: Hooks>(
         &mut self,
         slots: &mut Slots,

@@ -1,5 +1,5 @@
-//! Items of the place at which a builder works, a list, a set or a pointer to a slice: one more, no more, and all of them as one
-//! value. And keys of a map: one more entry.
+//! Items of the place at which a builder works, a list, a set, a pointer to a slice or a dynamic array: one more, no more, and all of
+//! them as one value. And keys of a map: one more entry.
 ghost use Rattle.std.specs.Prelude.{◌≡◌, ◌∷◌, ◌++◌, [], ◌<◌, length, true, false, IsOk, IsSome, OnErr, OnOk, Some};
 ghost use Rattle.fr_shape.specs.Look.{def_of};
 ghost use Rattle.fr_shape.specs.Released.{Conserved, Room};
@@ -22,8 +22,8 @@ use fr_plan::{NodeId, TypePlanCore};
 use fr_shape::{Ledger, OutOfMemory, ShapeTable};
 
 impl Stack {
-    /// Enters a new item of the place on top, a list, a set or an open pointer to a slice, behind its other children: the item is on
-    /// top then. A place with 4,294,967,296 items takes no more.
+    /// Enters a new item of the place on top, a list, a set, an open pointer to a slice or a dynamic array, behind its other children:
+    /// the item is on top then. A place with 4,294,967,296 items takes no more.
     #[inline(always)]
     pub fn add_item(
         &mut self,
@@ -127,7 +127,8 @@ impl Stack {
     }
 
     /// Strict mode: the place on top, whose value is there, becomes whole with it where it is; what a set or a map has twice is
-    /// released. It stays as it was where there is no memory for the box that this takes, or for putting a set or a map together.
+    /// released. It stays as it was where there is no memory for the box that this takes, or for putting a set, a map or a dynamic value
+    /// together.
     pub fn make_whole(
         &self,
         slots: &mut Slots,

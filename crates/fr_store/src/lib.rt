@@ -2,6 +2,7 @@
 #![tactic(auto)]
 
 mod beneath;
+mod dynamic_places;
 mod ending;
 mod entering;
 mod finishing;

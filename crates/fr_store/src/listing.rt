@@ -39,7 +39,7 @@ fn child_from_last(of_map: bool, count: usize, i: usize) -> usize
     }
 }
 
-/// Whether a place is begun as a map.
+/// Whether a place is begun as a map. An object, whose entries have their values alone as children, is none.
 fn is_map(slots: &Slots, place: SlotId) -> bool
     ensures { result ≡ is_map_found (heap_of slots.now place.0) }
 {
@@ -47,7 +47,7 @@ fn is_map(slots: &Slots, place: SlotId) -> bool
         return false;
     };
     match &found.piece {
-        Piece::Entered | Piece::Whole(_) => false,
+        Piece::Entered | Piece::Whole(_) | Piece::Object(_, _) => false,
         Piece::Begun(Form::Map(_), _) => true,
         Piece::Begun(
             Form::Struct
@@ -60,7 +60,8 @@ fn is_map(slots: &Slots, place: SlotId) -> bool
             | Form::List
             | Form::Slice
             | Form::ClosedSlice
-            | Form::Set,
+            | Form::Set
+            | Form::DynArray,
             _,
         ) => false,
     }

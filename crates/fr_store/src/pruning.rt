@@ -9,7 +9,7 @@ ghost use Rattle.fr_store.specs.Prunes.{beneath, cells_found, pruned, slotted_oc
 ghost use Rattle.fr_store.specs.Stored.{IsKept, StoresNoMore};
 
 use crate::FrameStore;
-use fr_frame::{Piece, SlotId, Slots};
+use fr_frame::{Children, Piece, SlotId, Slots};
 use fr_shape::Ledger;
 
 /// How many children a place has.
@@ -21,7 +21,19 @@ pub(crate) fn count_children(slots: &Slots, place: SlotId) -> usize
     };
     match &found.piece {
         Piece::Begun(_, children) => children.len(),
+        Piece::Object(_, children) => children.len(),
         Piece::Entered | Piece::Whole(_) => 0,
+    }
+}
+
+/// The slot of one of these children, where there is that one, and it is in a slot.
+fn slot_among(children: &Children, i: usize) -> Option<SlotId>
+    ensures { option_map (λ (slot : Number). slot.0) result ≡ slot_at children.now i }
+{
+    if i < children.len() {
+        children.slot(i)
+    } else {
+        None
     }
 }
 
@@ -32,13 +44,8 @@ pub(crate) fn slot_of_child(slots: &Slots, place: SlotId, i: usize) -> Option<Sl
 {
     let found = slots.place(place)?;
     match &found.piece {
-        Piece::Begun(_, children) => {
-            if i < children.len() {
-                children.slot(i)
-            } else {
-                None
-            }
-        }
+        Piece::Begun(_, children) => slot_among(children, i),
+        Piece::Object(_, children) => slot_among(children, i),
         Piece::Entered | Piece::Whole(_) => None,
     }
 }

@@ -39,6 +39,7 @@ fn order_of(form: &Form, i: u32) -> u32
         Form::Map(_) => order_in_map(i),
         Form::Struct | Form::Array | Form::Variant(_) | Form::Some | Form::Ok | Form::Err => i,
         Form::Pointer | Form::List | Form::Slice | Form::ClosedSlice | Form::Set => i,
+        Form::DynArray => i,
     }
 }
 
@@ -51,7 +52,7 @@ fn order_below(slots: &Slots, parent: SlotId, i: u32) -> u32
     };
     match &above.piece {
         Piece::Begun(form, _) => order_of(form, i),
-        Piece::Entered | Piece::Whole(_) => i,
+        Piece::Entered | Piece::Whole(_) | Piece::Object(_, _) => i,
     }
 }
 

@@ -1,28 +1,21 @@
 use Rattle.std.specs.Prelude.{◌≡◌, IsSome, Result, Ok, Err, OnErr, OnOk, Some}
 use Rattle.fr_shape.specs.Val.{Val}
 use Rattle.fr_frame.specs.Bodies.{value_of}
-use Rattle.fr_frame.specs.Changes.{IfInUse, Shows}
+use Rattle.fr_frame.specs.Changes.{IfInUse, SameMarks, Shows}
 use Rattle.fr_frame.specs.Heap.{Node, gives, heap_of, without}
-use Rattle.fr_store.specs.EndLaws.{ended_so, owned_now, slot_now, stay_ended, strict_ended, strict_left}
-use Rattle.fr_store.specs.LeaveLaws.{below_root}
-use Rattle.fr_store.specs.MoveLaws.{closed_open, top_room}
-use Rattle.fr_store.specs.Moves.{cursor_in}
-use Rattle.fr_store.specs.Stored.{NothingStored}
+use Rattle.fr_store.proofs.EndLaws.{ended_marks, ended_room, ended_so, lost_marks, owned_top, stay_ended}
 use Rattle.fr_store.proofs.stack.Stack.end.Goals as goal
 
 pub hand_up-requires-clause-owned : goal.hand_up-requires-clause-owned
 hand_up-requires-clause-owned c =
-    let way = below_root (cursor_in c.args.slots.now c.args.self.now) c.requires.below in
-    owned_now c.args.plan.now c.args.slots.now c.args.self.now c.requires.is_open c.requires.strict way.0 way.1 way.2
-    c.in-Some.place.0 (slot_now c.args.plan.now c.args.slots.now c.args.self.now c.requires.is_open c.requires.strict way.0
-    way.1 way.2 c.pop.new.self c.in-Some.place.0 c.in-Some.ensures.last)
+    owned_top c.args.plan.now c.args.slots.now c.args.self.now c.requires.is_open c.requires.below c.pop.new.self
+    c.in-Some.place.0 c.in-Some.ensures.last
 
 pub hand_up-requires-clause-room : goal.hand_up-requires-clause-room
 hand_up-requires-clause-room c =
-    top_room c.args.plan.now c.args.slots.now c.args.self.now c.requires.is_open c.in-Some.place.0
-    (c.pop.new.self, c.in-Some.ensures.last)
-    (closed_open c.args.plan.now c.args.slots.now c.args.self.now c.requires.is_open c.requires.strict) c.args.ledger.now
-    c.requires.room
+    ended_room c.args.plan.now c.args.slots.now c.args.self.now c.requires.is_open c.requires.below c.pop.new.self
+    c.in-Some.place.0 c.in-Some.ensures.last
+    (c.requires.complete c.in-Some.place.0 (c.pop.new.self, c.in-Some.ensures.last)) c.args.ledger.now c.requires.room
 
 on_ok : {A E : Type 0} (result : Result A E) (So Then : Type 0) → (So → Then) → OnOk result So → OnOk result Then
 on_ok (Ok x) So Then step so = step so
@@ -35,39 +28,36 @@ either_way (Err e) So Else Then step back so refused = back refused
 
 pub returns-clause-ended : goal.returns-clause-ended
 returns-clause-ended c =
-    let way = below_root (cursor_in c.args.slots.now c.args.self.now) c.requires.below in
     on_ok c.hand_up.result
     (IfInUse c.args.slots.now c.in-Some.place.0 (λ (at : Node). (v : Val) → value_of at.body ≡ Some v
     → Shows c.hand_up.new.slots (gives at.owner v (without (heap_of c.args.slots.now) c.in-Some.place.0 at.owner))))
     _
-    (λ handed. ended_so c.args.plan.now c.args.slots.now c.args.self.now c.requires.is_open c.requires.strict way.0
-    way.1 way.2 c.pop.new.self c.in-Some.place.0 c.in-Some.ensures.last c.hand_up.new.slots handed)
+    (λ handed. ended_so c.args.plan.now c.args.slots.now c.args.self.now c.requires.is_open c.requires.below
+    c.pop.new.self c.in-Some.place.0 c.in-Some.ensures.last c.hand_up.new.slots handed)
     c.hand_up.ensures.handed
 
 pub returns-clause-places : goal.returns-clause-places
 returns-clause-places c =
-    let way = below_root (cursor_in c.args.slots.now c.args.self.now) c.requires.below in
     on_ok c.hand_up.result
     (IfInUse c.args.slots.now c.in-Some.place.0 (λ (at : Node). (v : Val) → value_of at.body ≡ Some v
     → Shows c.hand_up.new.slots (gives at.owner v (without (heap_of c.args.slots.now) c.in-Some.place.0 at.owner))))
     _
-    (λ handed. stay_ended c.args.plan.now c.args.slots.now c.args.self.now c.requires.is_open c.requires.strict way.0
-    way.1 way.2 c.pop.new.self c.in-Some.place.0 c.in-Some.ensures.last c.hand_up.new.slots handed
+    (λ handed. stay_ended c.args.plan.now c.args.slots.now c.args.self.now c.requires.is_open c.requires.below
+    c.pop.new.self c.in-Some.place.0 c.in-Some.ensures.last c.hand_up.new.slots handed
     (c.requires.complete c.in-Some.place.0 (c.pop.new.self, c.in-Some.ensures.last)))
     c.hand_up.ensures.handed
 
-pub returns-clause-strict : goal.returns-clause-strict
-returns-clause-strict c =
-    let way = below_root (cursor_in c.args.slots.now c.args.self.now) c.requires.below in
+pub returns-clause-marks : goal.returns-clause-marks
+returns-clause-marks c =
     either_way c.hand_up.result
     (IfInUse c.args.slots.now c.in-Some.place.0 (λ (at : Node). (v : Val) → value_of at.body ≡ Some v
     → Shows c.hand_up.new.slots (gives at.owner v (without (heap_of c.args.slots.now) c.in-Some.place.0 at.owner))))
     (IfInUse c.args.slots.now c.in-Some.place.0 (λ (at : Node).
     Shows c.hand_up.new.slots (without (heap_of c.args.slots.now) c.in-Some.place.0 at.owner)))
-    (NothingStored c.hand_up.new.slots)
-    (λ handed. strict_ended c.args.plan.now c.args.slots.now c.args.self.now c.requires.is_open c.requires.strict way.0
-    way.1 way.2 c.pop.new.self c.in-Some.place.0 c.in-Some.ensures.last c.hand_up.new.slots handed
+    (SameMarks c.args.slots.now c.hand_up.new.slots)
+    (λ handed. ended_marks c.args.plan.now c.args.slots.now c.args.self.now c.requires.is_open c.requires.below
+    c.pop.new.self c.in-Some.place.0 c.in-Some.ensures.last c.hand_up.new.slots handed
     (c.requires.complete c.in-Some.place.0 (c.pop.new.self, c.in-Some.ensures.last)))
-    (λ left. strict_left c.args.plan.now c.args.slots.now c.args.self.now c.requires.is_open c.requires.strict way.0
-    way.1 way.2 c.pop.new.self c.in-Some.place.0 c.in-Some.ensures.last c.hand_up.new.slots left)
+    (λ left. lost_marks c.args.plan.now c.args.slots.now c.args.self.now c.requires.is_open c.requires.below
+    c.pop.new.self c.in-Some.place.0 c.in-Some.ensures.last c.hand_up.new.slots left)
     c.hand_up.ensures.handed c.hand_up.ensures.left

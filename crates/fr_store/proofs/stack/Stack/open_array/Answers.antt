@@ -1,0 +1,46 @@
+use Rattle.std.specs.Prelude.{Result, Ok, Err, OnErr, OnOk}
+use Rattle.fr_model.specs.Tree.{change_at}
+use Rattle.fr_frame.specs.Bodies.{opened_array}
+use Rattle.fr_frame.specs.Changes.{Shows}
+use Rattle.fr_frame.specs.Heap.{heap_of, with_body}
+use Rattle.fr_store.specs.MoveLaws.{top_in_use}
+use Rattle.fr_store.specs.Moves.{IsOpenAt, around_elements, cursor_in, tree_in_slots}
+use Rattle.fr_store.specs.Stands.{kid_here}
+use Rattle.fr_store.specs.StayLaws.{stay_refused}
+use Rattle.fr_store.specs.Staying.{AllStayPut}
+use Rattle.fr_store.proofs.DynamicLaws.{array_open, array_stay}
+use Rattle.fr_store.proofs.stack.Stack.open_array.Goals as goal
+
+on_ok : {A E : Type 0} (result : Result A E) (So Then : Type 0) → (So → Then) → OnOk result So → OnOk result Then
+on_ok (Ok x) So Then step so = step so
+on_ok (Err e) So Then step so = tt
+
+pub open_array-requires-clause-in_use : goal.open_array-requires-clause-in_use
+open_array-requires-clause-in_use c =
+    top_in_use c.args.plan.now c.args.slots.now c.args.self.now c.requires.is_open c.in-Some.place.0 c.in-Some.ensures.last
+
+pub returns-clause-opened : goal.returns-clause-opened
+returns-clause-opened c =
+    on_ok c.open_array.result
+    (Shows c.open_array.new.slots (with_body (heap_of c.args.slots.now) c.in-Some.place.0 opened_array))
+    (IsOpenAt c.args.plan.now c.open_array.new.slots c.args.self.now (cursor_in c.args.slots.now c.args.self.now)
+    (change_at (cursor_in c.args.slots.now c.args.self.now) around_elements (tree_in_slots c.args.slots.now c.args.self.now)))
+    (λ shows. array_open c.args.plan.now c.args.slots.now c.open_array.new.slots c.args.self.now c.requires.is_open
+    c.in-Some.place.0 c.in-Some.ensures.last shows c.open_array.ensures.tokens)
+    c.open_array.ensures.opened
+
+either_way : {A E : Type 0} (result : Result A E) (So Else Then : Type 0) → (So → Then) → (Else → Then) → OnOk result So
+    → OnErr result Else → Then
+either_way (Ok x) So Else Then step back so refused = step so
+either_way (Err e) So Else Then step back so refused = back refused
+
+pub returns-clause-places : goal.returns-clause-places
+returns-clause-places c =
+    either_way c.open_array.result
+    (Shows c.open_array.new.slots (with_body (heap_of c.args.slots.now) c.in-Some.place.0 opened_array))
+    (Shows c.open_array.new.slots (heap_of c.args.slots.now))
+    (AllStayPut (kid_here c.args.slots.now c.args.self.now) (kid_here c.open_array.new.slots c.args.self.now))
+    (λ shows. array_stay c.args.plan.now c.args.slots.now c.open_array.new.slots c.args.self.now c.requires.is_open
+    c.in-Some.place.0 c.in-Some.ensures.last shows)
+    (λ shows. stay_refused c.args.plan.now c.args.slots.now c.open_array.new.slots c.args.self.now c.requires.is_open shows)
+    c.open_array.ensures.opened c.open_array.ensures.refused

@@ -1,0 +1,53 @@
+use Rattle.std.proofs.Common.{refl}
+use Rattle.fr_model.specs.Tree.{as_dyn_array}
+use Rattle.fr_store.proofs.RestartLaws.{restart_kept, restart_marks, restart_open, restart_stay}
+use Rattle.fr_store.proofs.SetLaws.{top_rooted, prune_room, pruned_in_use, put_room, set_rose}
+use Rattle.fr_store.proofs.stack.Stack.restart_array.Goals as goal
+
+pub prune-requires-clause-rooted : goal.prune-requires-clause-rooted
+prune-requires-clause-rooted c =
+    top_rooted c.args.plan.now c.args.slots.now c.args.self.now c.requires.is_open c.in-Some.place.0 c.in-Some.ensures.last
+
+pub prune-requires-clause-room : goal.prune-requires-clause-room
+prune-requires-clause-room c =
+    prune_room c.args.plan.now c.args.slots.now c.args.self.now c.requires.is_open c.in-Some.place.0 c.in-Some.ensures.last
+    c.args.ledger.now c.requires.room
+
+pub restart_array-requires-clause-in_use : goal.restart_array-requires-clause-in_use
+restart_array-requires-clause-in_use c =
+    pruned_in_use c.args.plan.now c.args.slots.now c.args.self.now c.requires.is_open c.in-Some.place.0
+    c.in-Some.ensures.last c.prune.new.slots c.prune.ensures.pruned
+
+pub restart_array-requires-clause-room : goal.restart_array-requires-clause-room
+restart_array-requires-clause-room c =
+    put_room c.args.plan.now c.args.slots.now c.args.self.now c.requires.is_open c.in-Some.place.0 c.in-Some.ensures.last
+    c.prune.new.slots c.prune.ensures.pruned c.args.ledger.now c.prune.new.ledger c.requires.room c.prune.ensures.released
+
+pub returns-clause-restarted : goal.returns-clause-restarted
+returns-clause-restarted c =
+    restart_open c.args.plan.now c.args.slots.now c.args.self.now c.requires.is_open c.in-Some.place.0 c.in-Some.ensures.last
+    c.prune.new.slots c.prune.ensures.pruned as_dyn_array 0 tt refl c.restart_array.new.slots c.restart_array.ensures.restarted
+    c.prune.ensures.tokens c.restart_array.ensures.tokens
+
+pub returns-clause-places : goal.returns-clause-places
+returns-clause-places c =
+    restart_stay c.args.plan.now c.args.slots.now c.args.self.now c.requires.is_open c.in-Some.place.0 c.in-Some.ensures.last
+    c.prune.new.slots c.prune.ensures.pruned as_dyn_array 0 tt refl c.restart_array.new.slots c.restart_array.ensures.restarted
+
+pub returns-clause-released : goal.returns-clause-released
+returns-clause-released c =
+    set_rose c.args.plan.now c.args.slots.now c.args.self.now c.requires.is_open c.in-Some.place.0 c.in-Some.ensures.last
+    c.prune.new.slots c.prune.ensures.pruned c.args.ledger.now c.prune.new.ledger c.restart_array.new.ledger c.prune.ensures.released
+    c.restart_array.ensures.released
+
+pub returns-clause-kept : goal.returns-clause-kept
+returns-clause-kept c =
+    restart_kept c.args.plan.now c.args.slots.now c.args.self.now c.requires.is_open c.in-Some.place.0 c.in-Some.ensures.last
+    c.prune.new.slots c.prune.ensures.pruned as_dyn_array 0 tt refl c.restart_array.new.slots c.restart_array.ensures.restarted
+    c.prune.new.self c.prune.ensures.kept
+
+pub returns-clause-marks : goal.returns-clause-marks
+returns-clause-marks c =
+    restart_marks c.args.plan.now c.args.slots.now c.args.self.now c.requires.is_open c.in-Some.place.0 c.in-Some.ensures.last
+    c.prune.new.slots c.prune.ensures.pruned as_dyn_array 0 tt refl c.restart_array.new.slots c.restart_array.ensures.restarted
+    c.prune.ensures.marks
