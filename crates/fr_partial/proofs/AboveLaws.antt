@@ -11,7 +11,7 @@ use Rattle.fr_frame.specs.declared.places.FrameOwner.{FrameOwner}
 use Rattle.fr_frame.specs.declared.places.Piece.{Piece}
 use Rattle.fr_frame.specs.declared.places.Place.{Place as Entry}
 use Rattle.fr_frame.specs.declared.places.Slot.{Slot}
-use Rattle.fr_frame.specs.Bodies.{Body, entered_body, whole_body, begun_body}
+use Rattle.fr_frame.specs.Bodies.{Body, begun_body, own_tree}
 use Rattle.fr_frame.specs.Cells.{Cell}
 use Rattle.fr_frame.specs.Heap.{Node, as_form, body_of, node_of, heap_of}
 use Rattle.fr_frame.specs.Kids.{Kid, gone, there, at, Plot, entered_plot, whole_plot, begun_plot, Kids, tree_of, trees_in, cells_in, child_owner, Holds}
@@ -121,55 +121,24 @@ module _ (plan : Plan) (slots : List Slot) (stack : List ℕ) (shown : IsOpen pl
           let same : node_of above ≡ (above_here below).node = cc in
           ap (λ (x : Node). x.body) same ∙ (above_here below).body
 
-      pub never_bare : (above : Entry) → Some (node_of above) ≡ heap_of slots parent.0
-          → body_of above.piece ≡ entered_body → ⊥
-      never_bare above found bare = let no = sym bare ∙ body_told above found in cc
+      -- so it is a set, or a dynamic value, as that place tells
+      pub set_told : (above : Entry) → Some (node_of above) ≡ heap_of slots parent.0
+          → is_set (own_tree (body_of above.piece)) ≡ is_set (tree_at (up (cursor_in slots stack)) (tree_in_slots slots stack))
+      set_told above found =
+          ap (λ (b : Body). is_set (own_tree b)) (body_told above found) ∙ sym (ap is_set (above_here below).stands)
 
-      pub never_whole : (above : Entry) (v : _) → Some (node_of above) ≡ heap_of slots parent.0
-          → body_of above.piece ≡ whole_body v → ⊥
-      never_whole above v found whole = let no = sym whole ∙ body_told above found in cc
+      pub dynamic_told : (above : Entry) → Some (node_of above) ≡ heap_of slots parent.0
+          → is_begun_dynamic (own_tree (body_of above.piece))
+          ≡ is_begun_dynamic (tree_at (up (cursor_in slots stack)) (tree_in_slots slots stack))
+      dynamic_told above found =
+          ap (λ (b : Body). is_begun_dynamic (own_tree b)) (body_told above found)
+          ∙ sym (ap is_begun_dynamic (above_here below).stands)
 
-      pub never_other : (above : Entry) → Some (node_of above) ≡ heap_of slots parent.0
-          → (above.piece ≡ Piece.Entered) ⊎ ((v : Value) × (above.piece ≡ Piece.Whole v)) → ⊥
-      never_other above found (inl e) = never_bare above found (ap body_of e)
-      never_other above found (inr e) = never_whole above _ found (ap body_of e.1)
+-- a place that belongs neither to a set nor to a dynamic value isn't left so
+pub neither : (tree : Tree) → is_set tree ≡ false → is_begun_dynamic tree ≡ false → takes_at_end tree ≡ false
+neither tree set dynamic = rw (set, dynamic) refl
 
-      form_told : (above : Entry) (form : RustForm) (cells : List Cell) → Some (node_of above) ≡ heap_of slots parent.0
-          → body_of above.piece ≡ begun_body (as_form form) cells
-          → tree_at (up (cursor_in slots stack)) (tree_in_slots slots stack) ≡ begun (as_form form) (above_here below).trees
-      form_told above form cells found begun_so =
-          let both : begun_body (as_form form) cells ≡ begun_body (above_here below).form (above_here below).cells
-          = sym begun_so ∙ body_told above found in
-          let same : (above_here below).form ≡ as_form form = cc in
-          (above_here below).stands ∙ ap (λ (f : Form). begun f (above_here below).trees) same
-
-      pub set_told : (above : Entry) (form : RustForm) (cells : List Cell) → Some (node_of above) ≡ heap_of slots parent.0
-          → body_of above.piece ≡ begun_body (as_form form) cells
-          → is_set_form (as_form form) ≡ is_set (tree_at (up (cursor_in slots stack)) (tree_in_slots slots stack))
-      set_told above form cells found begun_so = sym (ap is_set (form_told above form cells found begun_so))
-
-      never_dynamic : (form : RustForm) (ts : Trees) → takes_at_end (begun (as_form form) ts) ≡ is_set_form (as_form form)
-      never_dynamic RustForm.Struct ts = refl
-      never_dynamic RustForm.Array ts = refl
-      never_dynamic (RustForm.Variant k) ts = refl
-      never_dynamic RustForm.Some ts = refl
-      never_dynamic RustForm.Ok ts = refl
-      never_dynamic RustForm.Err ts = refl
-      never_dynamic RustForm.Pointer ts = refl
-      never_dynamic RustForm.List ts = refl
-      never_dynamic RustForm.Slice ts = refl
-      never_dynamic RustForm.ClosedSlice ts = refl
-      never_dynamic RustForm.Set ts = refl
-      never_dynamic (RustForm.Map base) ts = refl
-
-      pub end_told : (above : Entry) (form : RustForm) (cells : List Cell) → Some (node_of above) ≡ heap_of slots parent.0
-          → body_of above.piece ≡ begun_body (as_form form) cells
-          → is_set_form (as_form form) ≡ takes_at_end (tree_at (up (cursor_in slots stack)) (tree_in_slots slots stack))
-      end_told above form cells found begun_so =
-          sym
-          (ap takes_at_end (form_told above form cells found begun_so) ∙ never_dynamic form (above_here below).trees)
-
--- a place that isn't left so belongs neither to a set nor to a dynamic value
+-- and one that isn't left so belongs to neither
 pub no_item : (tree : Tree) → takes_at_end tree ≡ false → is_set tree ≡ false
 no_item tree other = go (is_set tree) (is_begun_dynamic tree) refl refl
   where

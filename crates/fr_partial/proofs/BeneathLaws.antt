@@ -11,7 +11,7 @@ use Rattle.fr_model.specs.Failing.{Failure, failures, first_by_walk}
 use Rattle.fr_model.specs.Finish.{kind_of}
 use Rattle.fr_model.specs.Places.{deferred_column, is_root, Place, up}
 use Rattle.fr_model.specs.Step.{cause_by, or_missing}
-use Rattle.fr_model.specs.Tree.{Tree, change_at, shape_in, tree_at}
+use Rattle.fr_model.specs.Tree.{Tree, whole, change_at, shape_in, tree_at}
 use Rattle.fr_model.specs.Well.{Suits}
 use Rattle.fr_plan.specs.LookupLaws.{LookupsAgree, LookupPathsAgree}
 use Rattle.fr_plan.specs.TypePlan.{Plan}
@@ -27,8 +27,9 @@ use Rattle.fr_store.specs.MoveLaws.{open_top}
 use Rattle.fr_store.specs.Moves.{cursor_in, tree_here, tree_in_slots, IsOpenAt}
 use Rattle.fr_store.specs.Numbers.{IsLast}
 use Rattle.fr_store.specs.Turns.{root_shape}
-use Rattle.fr_partial.specs.Ending.{IsHeldUpAt, IsItemEnded}
+use Rattle.fr_partial.specs.Ending.{IsEnded, IsHeldUpAt, IsItemEnded}
 use Rattle.fr_partial.specs.Underway.{shape_here, IsReady}
+use Rattle.fr_partial.proofs.BodyLaws.{put_twice}
 use Rattle.fr_partial.proofs.EndingLaws.{here_so, own_here, shape_is}
 use Rattle.fr_partial.proofs.FinishLaws.{root_is}
 use Rattle.fr_partial.proofs.HereLaws.{top_body}
@@ -178,5 +179,23 @@ module _ (agree : LookupsAgree) (paths : LookupPathsAgree) (table : Table) (root
           (subst
           (λ (p : Place). IsOpenAt plan slots next (up p)
           (change_at (up p) (with_ended_item (number_in p) ended.value) (tree_in_slots after stack)))
+          done.stands.cursor ended.after);
+    }
+
+    -- or it is left with its value
+    pub left_then : (slots : List Slot) (next : List ℕ)
+        → IsEnded deferred_column means table (shape_here table root.0 after stack) plan slots next
+        (tree_in_slots after stack) (cursor_in after stack)
+        → IsEnded deferred_column means table (shape_here table root.0 before stack) plan slots next
+        (tree_in_slots before stack) (cursor_in before stack)
+    left_then slots next ended = record {
+      value = ended.value;
+      meant = sym completes_same ∙ ended.meant;
+      after =
+          subst (λ (t : Tree). IsOpenAt plan slots next (up (cursor_in before stack)) t)
+          (ap (λ (t : Tree). change_at (cursor_in before stack) (λ old. whole ended.value) t) done.stands.built
+          ∙ put_twice (cursor_in before stack) done.tree (whole ended.value) (tree_in_slots before stack))
+          (subst
+          (λ (p : Place). IsOpenAt plan slots next (up p) (change_at p (λ old. whole ended.value) (tree_in_slots after stack)))
           done.stands.cursor ended.after);
     }

@@ -39,6 +39,7 @@ use Rattle.fr_store.specs.WayLaws.{same_or_other, tree_of_at}
 use Rattle.fr_partial.specs.Ending.{IsEnded, IsItemEnded, IsMadeWhole, WhyNot}
 use Rattle.fr_partial.specs.Filling.{takes_no_memory, has_no_hole}
 use Rattle.fr_partial.specs.Underway.{shape_here, IsReady}
+use Rattle.fr_partial.proofs.BodyLaws.{boxed, full_by, keeps_may, own_occurs, put_twice, why_of}
 use Rattle.fr_partial.proofs.EnterLaws.{changed_at}
 use Rattle.fr_partial.proofs.FitLaws.{is_there}
 use Rattle.fr_store.specs.Ways.{node_along}
@@ -49,146 +50,6 @@ use Rattle.fr_partial.proofs.ReleaseLaws.{room_still}
 use Rattle.fr_partial.proofs.PlaceLaws.{node_here, here_found, here_along, held_is}
 use Rattle.fr_partial.proofs.TreeLaws.{item_over, set_stays}
 use Rattle.fr_store.specs.ShapeLaws.{IsOfShape}
-
--- A place none of whose children is in a slot.
-
-pub count_of : (cells : List Cell) → count_trees (trees_of cells) ≡ length cells
-count_of [] = refl
-count_of (c ∷ cells) = ap suc (count_of cells)
-
--- one that suits its shape has all its children
-full_by : (table : Table) (s : ℕ) (body : Body) → Suits table s (own_tree body) → IsFull table s body
-full_by table s entered_body suits = tt
-full_by table s (whole_body v) suits = tt
-full_by table s (begun_body form cells) suits =
-    subst (λ (count : ℕ). IsFullAs (def_of table s) form count) (count_of cells) suits.0.0
-
--- What takes a template has a hole.
-
-more_none : (v : Val) (values : Option Vals) → is_none (one_more (Some v) values) ≡ true → is_none values ≡ true
-more_none v (Some vs) h = cc
-more_none v None h = refl
-
-has_hole : (cells : List Cell) → is_none (values_of cells) ≡ true → has_no_hole (trees_of cells) ≡ false
-has_hole [] h = cc
-has_hole (absent ∷ cells) h = refl
-has_hole (given v ∷ cells) h = has_hole cells (more_none v (values_of cells) h)
-has_hole (placed n ∷ cells) h = refl
-
-takes : (body : Body) → takes_template body ≡ true → takes_no_memory (own_tree body) ≡ false
-takes entered_body h = refl
-takes (whole_body v) h = cc
-takes (begun_body form cells) h = go (boxes form || gathers form) refl
-  where
-    go : (b : Bool) → (boxes form || gathers form) ≡ b → takes_no_memory (begun form (trees_of cells)) ≡ false
-    go true e = rw e refl
-    go false e = rw e (has_hole cells h)
-
--- What becomes of a place that keeps its form.
-
--- one that comes to take a box took it before
-pub boxed : (was now : Body) → KeepsForm was now → takes_memory now ≡ true → takes_no_memory (own_tree was) ≡ false
-boxed entered_body now keeps h = refl
-boxed (whole_body v) now keeps h = let no : false ≡ true = sym (ap takes_memory keeps) ∙ h in cc
-boxed (begun_body form cells) entered_body keeps h = absurd keeps
-boxed (begun_body form cells) (whole_body v) keeps h = absurd keeps
-boxed (begun_body form cells) (begun_body other others) keeps h =
-    let anew : (boxes form || gathers form) ≡ true = ap (λ (f : Form). boxes f || gathers f) (sym keeps.0) ∙ h in
-    rw anew refl
-
-no_box_of : (form : Form) → (boxes form || gathers form) ≡ false → boxes form ≡ false
-no_box_of form h = go (boxes form) refl
-  where
-    go : (b : Bool) → boxes form ≡ b → boxes form ≡ false
-    go false e = e
-    go true e = let no : true ≡ false = rw e at h in cc
-
--- it has no more children than it may
-many_may : (form : Form) (count : ℕ) → boxes form ≡ false → MayHave form count
-many_may as_struct count h = tt
-many_may as_array count h = tt
-many_may (as_variant k) count h = tt
-many_may as_some count h = cc
-many_may as_ok count h = cc
-many_may as_err count h = cc
-many_may as_pointer count h = cc
-many_may as_list count h = tt
-many_may as_slice count h = cc
-many_may as_closed_slice count h = cc
-many_may as_set count h = tt
-many_may (as_map base) count h = tt
-many_may as_dyn_array count h = tt
-many_may (as_dyn_object keys) count h = tt
-
-keeps_may : (was now : Body) → KeepsForm was now → MayHaveIts was → MayHaveIts now
-keeps_may entered_body entered_body keeps may = tt
-keeps_may entered_body (whole_body v) keeps may = tt
-keeps_may entered_body (begun_body form cells) keeps may = many_may form (length cells) (no_box_of form keeps)
-keeps_may (whole_body v) now keeps may = subst MayHaveIts (sym keeps) tt
-keeps_may (begun_body form cells) entered_body keeps may = absurd keeps
-keeps_may (begun_body form cells) (whole_body v) keeps may = absurd keeps
-keeps_may (begun_body form cells) (begun_body other others) keeps may =
-    subst (λ (f : Form). MayHave f (length others)) (sym keeps.0)
-    (subst (λ (n : ℕ). MayHave form n) (sym keeps.1) may)
-
-why_of : (means : Meanings) (table : Table) (s : ℕ) (body : Body) (kind : ReflectErrorKind) → WhyNotAt means table s body kind
-    → WhyNot means table s (own_tree body) kind
-why_of means table s body kind (inl lacking) = inl (record { incomplete = lacking.incomplete; lacks = lacking.lacks })
-why_of means table s body kind (inr wants) = inr (record { memory = wants.memory; needed = go wants.needed })
-  where
-    go : (IsSome (complete strict_column means table s (own_tree body)) × (takes_template body ≡ true))
-        ⊎ ((complete strict_column means table s (own_tree body) ≡ None) × IsOfValidator (cause means table s (own_tree body)))
-        → (IsSome (complete strict_column means table s (own_tree body)) × (takes_no_memory (own_tree body) ≡ false))
-        ⊎ ((complete strict_column means table s (own_tree body) ≡ None) × IsOfValidator (cause means table s (own_tree body)))
-    go (inl made) = inl (made.0, takes body made.1)
-    go (inr said) = inr said
-
--- What is put at one place twice.
-
-nth_twice : (i : ℕ) (first second both : Tree → Tree) (ts : Trees) → ((t : Tree) → second (first t) ≡ both t)
-    → change_nth i second (change_nth i first ts) ≡ change_nth i both ts
-nth_twice i first second both no_trees same = refl
-nth_twice zero first second both (branch t ts) same = ap (λ (x : Tree). branch x ts) (same t)
-nth_twice (suc i) first second both (branch t ts) same =
-    ap (λ (xs : Trees). branch t xs) (nth_twice i first second both ts same)
-
-put_twice : (place : Place) (old new t : Tree)
-    → change_at place (λ was. new) (change_at place (λ was. old) t) ≡ change_at place (λ was. new) t
-put_twice [] old new t = refl
-put_twice (i ∷ place) old new hole = refl
-put_twice (i ∷ place) old new entered = refl
-put_twice (i ∷ place) old new (whole v) = refl
-put_twice (i ∷ place) old new (begun form ts) =
-    ap (λ (xs : Trees). begun form xs)
-    (nth_twice i (λ child. change_at place (λ was. old) child) (λ child. change_at place (λ was. new) child)
-    (λ child. change_at place (λ was. new) child) ts (λ t. put_twice place old new t))
-
--- How often a token stands there.
-
-cells_own : (cells : List Cell) (t : ℕ) → trees_occur (trees_of cells) t ≡ cells_occur cells t
-cells_own [] t = refl
-cells_own (absent ∷ cells) t = omega (arith, cells_own cells t)
-cells_own (given v ∷ cells) t = omega (arith, cells_own cells t)
-cells_own (placed n ∷ cells) t = omega (arith, cells_own cells t)
-
-own_occurs : (body : Body) (t : ℕ) → tree_occurs (own_tree body) t ≡ body_occurs body t
-own_occurs entered_body t = refl
-own_occurs (whole_body v) t = refl
-own_occurs (begun_body form cells) t = cells_own cells t
-
--- where there was an error, a box was wanted
-pub no_box : {A E : Type 0} (slots : List Slot) (n : ℕ) (result : Result A E) (e : E) → result ≡ Err e
-    → IfInUse slots n (λ (at : Node). takes_memory at.body ≡ false → IsOk result)
-    → IfInUse slots n (λ (at : Node). takes_memory at.body ≡ false → ⊥)
-no_box slots n result e is there = go (heap_of slots n) there
-  where
-    never : IsOk result → ⊥
-    never ok = let no = rw is at ok in cc
-
-    go : (found : Option Node) → IsSomeAnd found (λ (at : Node). takes_memory at.body ≡ false → IsOk result)
-        → IsSomeAnd found (λ (at : Node). takes_memory at.body ≡ false → ⊥)
-    go (Some node) h = λ unboxed. never (h unboxed)
-    go None h = h
 
 body_found : Option Node → Body
 body_found (Some found) = found.body
@@ -431,7 +292,7 @@ module _ (plan : Plan) (before after : List Slot) (stack : List ℕ) (shown : Is
       ap takes_no_memory (sym (own_here plan before stack shown shut))
       ∙ boxed (node_here plan before stack shown).body kept.body keeps h
 
-  -- Filled by the rules of either column, as an item of a set.
+  -- Filled by the rules of either column.
   module _ (column : Column) (means : Meanings) (table : Table) (root : ShapeId) (agree : LookupsAgree)
       (paths : LookupPathsAgree) (ready : IsReady table root plan before stack)
       (filled : IfInUse before n (FillsAt column means table plan before after n)) where
@@ -498,6 +359,34 @@ module _ (plan : Plan) (before after : List Slot) (stack : List ℕ) (shown : Is
               cursor_after now);
         }
 
+    -- the value takes the place of all that stood there
+    pub ended : (slots : List Slot) (next : List ℕ)
+        → AtTop after stack (λ (at : Node). (v : Val) → value_of at.body ≡ Some v
+        → IsOpenAt plan slots next (up (cursor_in after stack))
+        (change_at (cursor_in after stack) (λ old. whole v) (tree_in_slots after stack)))
+        → IsEnded column means table (shape_here table root.0 before stack) plan slots next (tree_in_slots before stack)
+        (cursor_in before stack)
+    ended slots next left =
+        let v : Val = item_fills.filled.value in
+        let now : IsOpenAt plan slots next (up (cursor_in after stack))
+        (change_at (cursor_in after stack) (λ old. whole v) (tree_in_slots after stack))
+        = after_so
+        (λ (at : Node). (v : Val) → value_of at.body ≡ Some v
+        → IsOpenAt plan slots next (up (cursor_in after stack))
+        (change_at (cursor_in after stack) (λ old. whole v) (tree_in_slots after stack)))
+        (left n last) v item_held in
+        record {
+          value = v;
+          meant = item_meant;
+          after =
+              subst (λ (t : Tree). IsOpenAt plan slots next (up (cursor_in before stack)) t)
+              (ap (λ (t : Tree). change_at (cursor_in before stack) (λ old. whole v) t) filled_at.built
+              ∙ put_twice (cursor_in before stack) (own_tree kept.body) (whole v) (tree_in_slots before stack))
+              (subst
+              (λ (p : Place). IsOpenAt plan slots next (up p) (change_at p (λ old. whole v) (tree_in_slots after stack)))
+              cursor_after now);
+        }
+
   -- Filled.
   module _ (means : Meanings) (table : Table) (root : ShapeId) (agree : LookupsAgree) (paths : LookupPathsAgree)
       (ready : IsReady table root plan before stack)
@@ -552,35 +441,6 @@ module _ (plan : Plan) (before after : List Slot) (stack : List ℕ) (shown : Is
         by_box : (b : Bool) → takes_memory kept.body ≡ b → takes_memory kept.body ≡ true
         by_box true e = e
         by_box false e = absurd (after_so (λ (at : Node). takes_memory at.body ≡ false → ⊥) wants e)
-
-    -- and is left with it
-    pub ended : (slots : List Slot) (next : List ℕ) → NothingStored slots
-        → AtTop after stack (λ (at : Node). (v : Val) → value_of at.body ≡ Some v
-        → IsOpenAt plan slots next (up (cursor_in after stack))
-        (change_at (cursor_in after stack) (λ old. whole v) (tree_in_slots after stack)))
-        → IsEnded means table (shape_here table root.0 before stack) plan slots next (tree_in_slots before stack)
-        (cursor_in before stack)
-    ended slots next stores left =
-        let v : Val = fills.filled.value in
-        let now : IsOpenAt plan slots next (up (cursor_in after stack))
-        (change_at (cursor_in after stack) (λ old. whole v) (tree_in_slots after stack))
-        = after_so
-        (λ (at : Node). (v : Val) → value_of at.body ≡ Some v
-        → IsOpenAt plan slots next (up (cursor_in after stack))
-        (change_at (cursor_in after stack) (λ old. whole v) (tree_in_slots after stack)))
-        (left n last) v held in
-        record {
-          value = v;
-          meant = meant;
-          after =
-              subst (λ (t : Tree). IsOpenAt plan slots next (up (cursor_in before stack)) t)
-              (ap (λ (t : Tree). change_at (cursor_in before stack) (λ old. whole v) t) filled_at.built
-              ∙ put_twice (cursor_in before stack) (own_tree kept.body) (whole v) (tree_in_slots before stack))
-              (subst
-              (λ (p : Place). IsOpenAt plan slots next (up p) (change_at p (λ old. whole v) (tree_in_slots after stack)))
-              cursor_after now);
-          stores = stores;
-        }
 
     -- or is whole with it, where it is
     pub made_whole : (slots : List Slot) → NothingStored slots

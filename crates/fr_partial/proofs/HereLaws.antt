@@ -6,7 +6,7 @@ use Rattle.fr_shape.specs.Val.{Val}
 use Rattle.fr_model.specs.Tree.{Form, Tree, whole}
 use Rattle.fr_plan.specs.TypePlan.{Plan}
 use Rattle.fr_frame.specs.declared.places.Slot.{Slot}
-use Rattle.fr_frame.specs.Bodies.{Body, takes_memory, value_of, HoldsSome, MayOpen}
+use Rattle.fr_frame.specs.Bodies.{Body, takes_memory, value_of, HoldsArray, HoldsObject, HoldsSome, MayOpen}
 use Rattle.fr_frame.specs.Changes.{IfInUse}
 use Rattle.fr_frame.specs.Heap.{Node, heap_of}
 use Rattle.fr_frame.specs.Kids.{Plot, entered_plot, whole_plot, begun_plot, tree_in, body_in}
@@ -16,12 +16,24 @@ use Rattle.fr_store.specs.Numbers.{IsLast}
 use Rattle.fr_store.specs.Stands.{IsOpen}
 use Rattle.fr_partial.specs.Beginnings.{IsWholeSome}
 use Rattle.fr_partial.specs.Openings.{MayOpenAs}
+use Rattle.fr_partial.specs.declared.dynamic_places.Parts.{Parts}
+use Rattle.fr_partial.proofs.DynamicLaws.{has_elements, has_entries, IsWholeWith}
 use Rattle.fr_partial.proofs.PlaceLaws.{here_found, plot_here}
 
 some_plot : (plot : Plot) → IsWholeSome (tree_in plot) → HoldsSome (body_in plot)
 some_plot entered_plot h = absurd h
 some_plot (whole_plot v) h = h
 some_plot (begun_plot form kids) h = absurd h
+
+elements_plot : (plot : Plot) → IsWholeWith Parts.Elements (tree_in plot) → HoldsArray (body_in plot)
+elements_plot entered_plot h = absurd h
+elements_plot (whole_plot v) h = has_elements v h
+elements_plot (begun_plot form kids) h = absurd h
+
+entries_plot : (plot : Plot) → IsWholeWith Parts.Entries (tree_in plot) → HoldsObject (body_in plot)
+entries_plot entered_plot h = absurd h
+entries_plot (whole_plot v) h = has_entries v h
+entries_plot (begun_plot form kids) h = absurd h
 
 value_plot : (plot : Plot) (v : Val) → tree_in plot ≡ whole v → value_of (body_in plot) ≡ Some v
 value_plot entered_plot v e = cc
@@ -59,6 +71,20 @@ module _ (plan : Plan) (slots : List Slot) (stack : List ℕ) (shown : IsOpen pl
       here_body HoldsSome
       (some_plot (open_top plan slots stack shown).plot
       (subst IsWholeSome (sym (plot_here plan slots stack shown)) h))
+
+  pub holds_elements : IsWholeWith Parts.Elements (tree_here slots stack) → (n : ℕ) → IsLast stack n
+      → IfInUse slots n (λ (at : Node). HoldsArray at.body)
+  holds_elements h =
+      here_body HoldsArray
+      (elements_plot (open_top plan slots stack shown).plot
+      (subst (IsWholeWith Parts.Elements) (sym (plot_here plan slots stack shown)) h))
+
+  pub holds_entries : IsWholeWith Parts.Entries (tree_here slots stack) → (n : ℕ) → IsLast stack n
+      → IfInUse slots n (λ (at : Node). HoldsObject at.body)
+  holds_entries h =
+      here_body HoldsObject
+      (entries_plot (open_top plan slots stack shown).plot
+      (subst (IsWholeWith Parts.Entries) (sym (plot_here plan slots stack shown)) h))
 
   pub may_open_here : (def : Def) (form : Form) (count : ℕ) → MayOpenAs def form count (tree_here slots stack) → (n : ℕ)
       → IsLast stack n → IfInUse slots n (λ (at : Node). MayOpen form at.body)

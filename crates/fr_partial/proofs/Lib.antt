@@ -2,9 +2,13 @@ pub mod AboveLaws
 pub mod BeginLaws
 pub mod BelowLaws
 pub mod BeneathLaws
+pub mod BodyLaws
 pub mod ChoiceLaws
 pub mod ContentLaws
+pub mod Converted
+pub mod ConvertedLaws
 pub mod DefaultLaws
+pub mod DynamicLaws
 pub mod EndLaws
 pub mod EndingLaws
 pub mod EnterLaws
@@ -20,6 +24,8 @@ pub mod LeftLaws
 pub mod ListLaws
 pub mod LookLaws
 pub mod MapLaws
+pub mod ObjectLaws
+pub mod PartLaws
 pub mod PlaceLaws
 pub mod PutLaws
 pub mod ReachLaws

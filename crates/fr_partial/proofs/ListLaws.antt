@@ -7,6 +7,7 @@ use Rattle.fr_shape.specs.declared.shape.Def.{Def}
 use Rattle.fr_shape.specs.declared.shape.ShapeId.{ShapeId}
 use Rattle.fr_shape.specs.Fits.{fits}
 use Rattle.fr_shape.specs.Look.{Table, def_of, settled}
+use Rattle.fr_shape.specs.Plannable.{is_dynamic}
 use Rattle.fr_shape.specs.Val.{Val, list_of, unit}
 use Rattle.fr_model.specs.Items.{begun_item_refusal, init_array_refusal, item_refusal, unless_list, with_item}
 use Rattle.fr_model.specs.PathLaws.{EnteringAnItemAddsAStep}
@@ -53,10 +54,10 @@ stays_so def place tree is =
 
 -- Which may be opened.
 
-a_list : (s : ℕ) (operation : Operation) (def : Def) → at_shape s (unless_list operation def) ≡ None
+a_list : (s : ℕ) (operation : Operation) (def : Def) → is_dynamic def ≡ false → at_shape s (unless_list operation def) ≡ None
     → (t : ShapeId) × (def ≡ Def.List t)
-a_list s operation (Def.List t) e = (t, refl)
-a_list s operation _ e = cc
+a_list s operation (Def.List t) other e = (t, refl)
+a_list s operation _ other e = cc
 
 settled_list : (table : Table) (s : ℕ) (t : ShapeId) → def_of table s ≡ Def.List t → settled table s ≡ Def.List t
 settled_list [] s t e = cc
@@ -69,16 +70,16 @@ list_items table s t is (list_of vs) h = refl
 list_items table s t is unit h = cc
 list_items table s t is _ h = let no = rw (settled_list table s t is) at h in cc
 
-pub list_opens : (table : Table) (s : ℕ) (tree : Tree) → Suits table s tree
+pub list_opens : (table : Table) (s : ℕ) (tree : Tree) → is_dynamic (def_of table s) ≡ false → Suits table s tree
     → init_list_refusal s (def_of table s) tree ≡ None → MayOpenAs (def_of table s) as_list 0 tree
-list_opens table s hole suits may = tt
-list_opens table s entered suits may =
-    let is = a_list s Operation.InitListOfOther (def_of table s) may in
+list_opens table s hole other suits may = tt
+list_opens table s entered other suits may =
+    let is = a_list s Operation.InitListOfOther (def_of table s) other may in
     (ap form_of (sym is.1), ap count_children (sym is.1))
-list_opens table s (whole v) suits may =
-    let is = a_list s Operation.InitListOfWholeOther (def_of table s) may in
+list_opens table s (whole v) other suits may =
+    let is = a_list s Operation.InitListOfWholeOther (def_of table s) other may in
     (ap form_of (sym is.1), list_items table s is.0 is.1 v suits)
-list_opens table s (begun made ts) suits may = tt
+list_opens table s (begun made ts) other suits may = tt
 
 an_array : (def : Def) (count : ℕ) → HasElements def count → (as_array ≡ form_of def) × (count ≡ count_children def)
 an_array (Def.Array t n) count has = (refl, has)
@@ -188,9 +189,10 @@ item_so table s form count (begun made ts) def has is =
 -- What it means.
 
 module _ {H : Type 0} (builder : Builder H) where
-  pub list_begins : init_list_refusal (here builder) (def_of builder.shapes (here builder)) (cursor_tree builder.state) ≡ None
+  pub list_begins : is_dynamic (def_of builder.shapes (here builder)) ≡ false
+      → init_list_refusal (here builder) (def_of builder.shapes (here builder)) (cursor_tree builder.state) ≡ None
       → init_list builder.shapes (here builder) builder.state ≡ Ok (opens builder.shapes (here builder) builder.state)
-  list_begins e = rw e refl
+  list_begins other e = rw (e, other) refl
 
   pub array_begins : init_array_refusal (def_of builder.shapes (here builder)) (cursor_tree builder.state) ≡ None
       → init_array builder.shapes (here builder) builder.state ≡ Ok (opens builder.shapes (here builder) builder.state)

@@ -6,6 +6,7 @@ use Rattle.fr_shape.specs.declared.shape.Def.{Def}
 use Rattle.fr_shape.specs.declared.shape.ShapeId.{ShapeId}
 use Rattle.fr_shape.specs.Fits.{fits}
 use Rattle.fr_shape.specs.Look.{Table, def_of, settled}
+use Rattle.fr_shape.specs.Plannable.{is_dynamic}
 use Rattle.fr_shape.specs.Val.{Val, map_of, set_of, unit}
 use Rattle.fr_model.specs.Collections.{ends_in_hole, is_hole, is_map, is_map_form, is_set, is_set_form, key_refusal, lacks_value, last_of, set_item_refusal, unless_map, unless_set, value_refusal, with_key}
 use Rattle.fr_model.specs.PathLaws.{EnteringAddsAStep, EnteringAKeyAddsAStep}
@@ -26,10 +27,10 @@ use Rattle.fr_partial.proofs.SeenLaws.{Sees, key_seen, map_seen, set_item_seen, 
 
 -- Which may be opened.
 
-a_map : (s : ℕ) (operation : Operation) (def : Def) → at_shape s (unless_map operation def) ≡ None
+a_map : (s : ℕ) (operation : Operation) (def : Def) → is_dynamic def ≡ false → at_shape s (unless_map operation def) ≡ None
     → (key : ShapeId) × (item : ShapeId) × (def ≡ Def.Map key item)
-a_map s operation (Def.Map key item) e = (key, item, refl)
-a_map s operation _ e = cc
+a_map s operation (Def.Map key item) other e = (key, item, refl)
+a_map s operation _ other e = cc
 
 settled_map : (table : Table) (s : ℕ) (key item : ShapeId) → def_of table s ≡ Def.Map key item
     → settled table s ≡ Def.Map key item
@@ -43,16 +44,16 @@ map_entries table s key item is (map_of es) h = refl
 map_entries table s key item is unit h = cc
 map_entries table s key item is _ h = let no = rw (settled_map table s key item is) at h in cc
 
-pub map_opens : (table : Table) (s : ℕ) (tree : Tree) → Suits table s tree
+pub map_opens : (table : Table) (s : ℕ) (tree : Tree) → is_dynamic (def_of table s) ≡ false → Suits table s tree
     → init_map_refusal s (def_of table s) tree ≡ None → MayOpenAs (def_of table s) (as_map 0) 0 tree
-map_opens table s hole suits may = tt
-map_opens table s entered suits may =
-    let is = a_map s Operation.InitMapOfOther (def_of table s) may in
+map_opens table s hole other suits may = tt
+map_opens table s entered other suits may =
+    let is = a_map s Operation.InitMapOfOther (def_of table s) other may in
     (ap form_of (sym is.2), ap count_children (sym is.2))
-map_opens table s (whole v) suits may =
-    let is = a_map s Operation.InitMapOfOther (def_of table s) may in
+map_opens table s (whole v) other suits may =
+    let is = a_map s Operation.InitMapOfOther (def_of table s) other may in
     (ap form_of (sym is.2), map_entries table s is.0 is.1 is.2 v suits)
-map_opens table s (begun made ts) suits may = tt
+map_opens table s (begun made ts) other suits may = tt
 
 a_set : (s : ℕ) (operation : Operation) (def : Def) → at_shape s (unless_set operation def) ≡ None
     → (t : ShapeId) × (def ≡ Def.Set t)
@@ -220,9 +221,10 @@ value_so table s form i (begun made ts) def has is =
 -- What they mean.
 
 module _ {H : Type 0} (builder : Builder H) where
-  pub map_begins : init_map_refusal (here builder) (def_of builder.shapes (here builder)) (cursor_tree builder.state) ≡ None
+  pub map_begins : is_dynamic (def_of builder.shapes (here builder)) ≡ false
+      → init_map_refusal (here builder) (def_of builder.shapes (here builder)) (cursor_tree builder.state) ≡ None
       → init_map builder.shapes (here builder) builder.state ≡ Ok (opens builder.shapes (here builder) builder.state)
-  map_begins e = rw e refl
+  map_begins other e = rw (e, other) refl
 
   pub set_begins : init_set_refusal (here builder) (def_of builder.shapes (here builder)) (cursor_tree builder.state) ≡ None
       → init_set builder.shapes (here builder) builder.state ≡ Ok (opens builder.shapes (here builder) builder.state)

@@ -3,6 +3,7 @@ use Rattle.std.proofs.Common.{◌≡◌, ℕ, Bool, List, refl, sym, ◌∙◌, 
 use Rattle.fr_shape.specs.declared.shape.Def.{Def}
 use Rattle.fr_shape.specs.declared.shape.ShapeId.{ShapeId}
 use Rattle.fr_shape.specs.Look.{Table, def_of}
+use Rattle.fr_shape.specs.Plannable.{is_dynamic}
 use Rattle.fr_model.specs.Collections.{key_refusal, lacks_value, set_item_refusal, value_refusal}
 use Rattle.fr_model.specs.Items.{init_array_refusal, is_open_slice, item_refusal}
 use Rattle.fr_model.specs.Step.{field_refusal, init_list_refusal, init_map_refusal, init_set_refusal, named_refusal}
@@ -45,6 +46,9 @@ module _ {H : Type 0} {builder : Builder H} {table : Table} {shape : ShapeId} {s
 
   pub def_seen : def_of table shape.0 ≡ def_of builder.shapes (here builder)
   def_seen = ap (λ (t : Table). def_of t shape.0) at.table_is ∙ ap (def_of builder.shapes) at.shape_is
+
+  pub dynamic_seen : is_dynamic (def_of table shape.0) ≡ is_dynamic (def_of builder.shapes (here builder))
+  dynamic_seen = ap is_dynamic def_seen
 
   pub refusal_seen : (i : ℕ) → field_refusal (def_of table shape.0) seen i
       ≡ field_refusal (def_of builder.shapes (here builder)) (cursor_tree builder.state) i

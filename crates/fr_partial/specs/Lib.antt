@@ -2,6 +2,8 @@ pub mod Beginnings
 pub mod Builder
 pub mod BuiltValue
 pub mod Choosing
+pub mod Conversions
+pub mod DynamicBeginnings
 pub mod Ending
 pub mod Entering
 pub mod Entries
@@ -12,5 +14,6 @@ pub mod Looks
 pub mod Meant
 pub mod Modes
 pub mod Openings
+pub mod Setting
 pub mod Starting
 pub mod Underway

@@ -39,7 +39,7 @@ fn element_refusal(item: ShapeId, count: u32, piece: &Piece, i: usize) -> Option
     } else {
         match piece {
             Piece::Whole(_) => Some(Operation::ElementOfWholeArray),
-            Piece::Entered | Piece::Begun(..) => None,
+            Piece::Entered | Piece::Begun(..) | Piece::Object(..) => None,
         }
     }
 }
@@ -52,9 +52,10 @@ pub fn selected(piece: &Piece) -> Option<u32>
         Piece::Begun(form, _) => match *form {
             Form::Variant(k) => Some(k),
             Form::Struct | Form::Array | Form::Some | Form::Ok | Form::Err | Form::Pointer => None,
-            Form::List | Form::Slice | Form::ClosedSlice | Form::Set | Form::Map(_) => None,
+            Form::List | Form::Slice | Form::ClosedSlice => None,
+            Form::Set | Form::Map(_) | Form::DynArray => None,
         },
-        Piece::Entered | Piece::Whole(_) => None,
+        Piece::Entered | Piece::Whole(_) | Piece::Object(..) => None,
     }
 }
 

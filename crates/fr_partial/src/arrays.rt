@@ -24,7 +24,7 @@ fn whole_array_refusal(piece: &Piece) -> Option<Operation>
 {
     match piece {
         Piece::Whole(_) => Some(Operation::InitArrayOfBegun),
-        Piece::Entered | Piece::Begun(..) => None,
+        Piece::Entered | Piece::Begun(..) | Piece::Object(..) => None,
     }
 }
 

@@ -32,7 +32,7 @@ pub fn beginning_so(form: Form, piece: &Piece) -> Beginning
                 Beginning::Anew
             }
         }
-        Piece::Entered | Piece::Whole(_) => Beginning::Anew,
+        Piece::Entered | Piece::Whole(_) | Piece::Object(..) => Beginning::Anew,
     }
 }
 
@@ -87,7 +87,7 @@ pub fn beginning_of_some(
                 Beginning::Anew
             }
         }
-        Piece::Entered | Piece::Whole(_) => Beginning::Anew,
+        Piece::Entered | Piece::Whole(_) | Piece::Object(..) => Beginning::Anew,
         Piece::Begun(_, _) => beginning_in(mode, Form::Some, piece),
     }
 }

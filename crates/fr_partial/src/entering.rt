@@ -121,6 +121,7 @@ pub(crate) fn child_node(plan: &TypePlanCore, node: NodeId, form: Form, i: usize
         Form::Slice | Form::ClosedSlice => slice_item(plan, node),
         Form::Set => plan.set_item_node_id(node),
         Form::Map(_) => entry_node(plan, node, i),
+        Form::DynArray => Some(node),
     };
     match found {
         Some(child) => child,

@@ -16,6 +16,7 @@ ghost use Rattle.fr_partial.specs.Builder.{holds, left, left_built, BuildRefuses
 
 use crate::finishing::{abandon, end_here, take_root};
 use crate::mode::Mode;
+use crate::parts::is_dynamic_part;
 use crate::paths::step_back;
 use crate::placing::place_here;
 use crate::set_items::is_set_item;
@@ -31,8 +32,8 @@ impl<'t, H: Hooks> Partial<'t, H> {
     /// option, a result or a pointer holds, and what a set or a map gathers, need memory, and what is lacking is found before any is made.
     /// In deferred mode it is left as it is, to be entered again or completed by `finish_deferred`; it has to lie deeper than the place at
     /// which deferred mode began. An item of a set is completed in either mode, and in deferred mode with all that lies beneath it: its
-    /// value comes to the set, which leaves it out where it has one that is the same. There, in deferred mode, it may be out of memory
-    /// before it has met the first place that fails. At an open pointer to a slice the builder stays instead: the pointer becomes whole
+    /// value comes to the set, which leaves it out where it has one that is the same. An element or an entry of a dynamic value is
+    /// completed so too. At either, in deferred mode, it may be out of memory before it has met the first place that fails. At an open pointer to a slice the builder stays instead: the pointer becomes whole
     /// in strict mode, and in deferred mode it is closed.
     pub fn end(self, ledger: &mut Ledger) -> Result<Partial<'t, H>, ReflectError>
         requires room { Room (holds self) ledger.old }
@@ -110,9 +111,13 @@ impl<'t, H: Hooks> Partial<'t, H> {
             → RefusesBeforeMemory (H.means self.entry.hooks) self.entry Call.End result }
     {
         let work = &*self.work;
-        let item = is_set_item(work.plan.core(), &work.slots, &work.stack);
+        let plan = work.plan.core();
+        let item = is_set_item(plan, &work.slots, &work.stack);
+        let part = is_dynamic_part(plan, &work.slots, &work.stack);
         if item {
             self.complete_item(ledger)
+        } else if part {
+            self.complete_part(ledger)
         } else {
             self.leave(ledger)
         }
@@ -157,7 +162,7 @@ impl<'t, H: Hooks> Partial<'t, H> {
         }
     }
 
-    /// `end` in deferred mode, below the place at which that began, at no item of a set.
+    /// `end` in deferred mode, below the place at which that began, at no item of a set and at no part of a dynamic value.
     fn leave(mut self, ledger: &mut Ledger) -> Result<Partial<'t, H>, ReflectError>
         requires room { Room (holds self) ledger.old }
         requires not_open { is_open_slice (cursor_tree self.state) ≡ false }

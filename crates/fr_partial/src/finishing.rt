@@ -33,9 +33,10 @@ pub fn end_here<H: Hooks>(
     requires strict { NothingStored slots.old }
     requires below { is_root (cursor_in slots.old stack.old) ≡ false }
     requires room { Room (tree_occurs (tree_in_slots slots.old stack.old)) ledger.old }
-    ensures ended { OnOk result (IsEnded (H.means hooks.now) table.now
+    ensures ended { OnOk result (IsEnded strict_column (H.means hooks.now) table.now
         (shape_here table.now root.0 slots.old stack.old) plan.now slots.new stack.new
         (tree_in_slots slots.old stack.old) (cursor_in slots.old stack.old)) }
+    ensures strict { OnOk result (NothingStored slots.new) }
     ensures why { IfErr result (λ kind. WhyNot (H.means hooks.now) table.now
         (shape_here table.now root.0 slots.old stack.old) (tree_here slots.old stack.old) kind) }
     ensures conserved { Conserved (slots_occur slots.old) ledger.old

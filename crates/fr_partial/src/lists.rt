@@ -12,6 +12,7 @@ ghost use Rattle.fr_partial.specs.Builder.{holds, left, IsNotOutOfMemory, IsStep
 ghost use Rattle.fr_partial.specs.Openings.{is_begun, HasItems};
 
 use crate::admitting::Opening;
+use crate::dynamic_places::{Parts, is_dynamic};
 use crate::placing::place_here;
 use crate::{Partial, ReflectError};
 use fr_frame::{Form, Piece};
@@ -20,12 +21,12 @@ use fr_shape::{
     Def, Hooks, InitCall, Ledger, Operation, ReflectErrorKind, ShapeId, ShapeTable, TrackerKind,
 };
 
-/// Nothing, where the shape is a list; else this refusal.
+/// Nothing, where the shape is a list or a dynamic one; else this refusal.
 fn unless_list(table: &ShapeTable, shape: ShapeId, refusal: Operation) -> Option<Operation>
     ensures { result ≡ unless_list refusal (def_of table.now shape.0) }
 {
     match table.get(shape) {
-        Some(entry) if matches!(&entry.def, Def::List(_)) => None,
+        Some(entry) if matches!(&entry.def, Def::List(_) | Def::Dynamic) => None,
         Some(_) | None => Some(refusal),
     }
 }
@@ -45,6 +46,7 @@ pub fn tracker(form: Form) -> TrackerKind
         Form::Slice | Form::ClosedSlice => TrackerKind::SmartPointerSlice,
         Form::Set => TrackerKind::Set,
         Form::Map(_) => TrackerKind::Map,
+        Form::DynArray => TrackerKind::DynamicValue,
     }
 }
 
@@ -53,7 +55,7 @@ fn is_list_like(form: Form) -> bool
     ensures { result ≡ is_list_like (as_form form) }
 {
     match form {
-        Form::List | Form::Slice | Form::ClosedSlice => true,
+        Form::List | Form::Slice | Form::ClosedSlice | Form::DynArray => true,
         Form::Struct | Form::Array | Form::Variant(_) => false,
         Form::Some | Form::Ok | Form::Err | Form::Pointer => false,
         Form::Set | Form::Map(_) => false,
@@ -73,6 +75,7 @@ fn init_list_refusal(table: &ShapeTable, shape: ShapeId, piece: &Piece) -> Optio
             let (call, current) = (InitCall::List, tracker(*form));
             return Some(ReflectErrorKind::UnexpectedTracker { call, current });
         }
+        Piece::Object(..) => return None,
         Piece::Entered => unless_list(table, shape, Operation::InitListOfOther),
         Piece::Whole(_) => unless_list(table, shape, Operation::InitListOfWholeOther),
     };
@@ -105,7 +108,7 @@ fn item_opening(table: &ShapeTable, shape: ShapeId, piece: &Piece) -> Result<Ope
     };
     let (form, count) = (*made, children.len());
     match form {
-        Form::List | Form::Slice => Ok(Opening { form, count }),
+        Form::List | Form::Slice | Form::DynArray => Ok(Opening { form, count }),
         Form::ClosedSlice => Err(Operation::ItemStillOpen),
         Form::Struct | Form::Array | Form::Variant(_) => Err(unbegun_refusal(table, shape)),
         Form::Some | Form::Ok | Form::Err | Form::Pointer => Err(unbegun_refusal(table, shape)),
@@ -115,7 +118,8 @@ fn item_opening(table: &ShapeTable, shape: ShapeId, piece: &Piece) -> Result<Ope
 
 impl<'t, H: Hooks> Partial<'t, H> {
     /// Begins a list: a whole one keeps its items, in front of those that come. A list that is begun, and a pointer to a slice that
-    /// is, stays as it is. Anything else is refused, and never out of memory.
+    /// is, stays as it is. A dynamic value becomes an array: one that is an array already keeps its elements, and any other starts anew.
+    /// Anything else is refused, and never out of memory.
     #[inline(never)]
     pub fn init_list(self, ledger: &mut Ledger) -> Result<Partial<'t, H>, ReflectError>
         requires room { Room (holds self) ledger.old }
@@ -136,7 +140,14 @@ impl<'t, H: Hooks> Partial<'t, H> {
         let (shape, piece) = place_here(work.table, work.root, plan, slots, stack);
         match init_list_refusal(work.table, shape, piece) {
             Some(kind) => Err(self.refuse(kind, ledger)),
-            None => self.open(Form::List, 0, ledger),
+            None => {
+                let dynamic = is_dynamic(work.table, shape);
+                if dynamic {
+                    self.begin_dynamic(Parts::Elements, ledger)
+                } else {
+                    self.open(Form::List, 0, ledger)
+                }
+            }
         }
     }
 

@@ -14,6 +14,7 @@ ghost use Rattle.fr_partial.specs.Looks.{ends_absent, lacks_last};
 ghost use Rattle.fr_partial.specs.Openings.{is_begun, HasItems};
 
 use crate::admitting::Opening;
+use crate::dynamic_places::{Parts, is_dynamic};
 use crate::lists::tracker;
 use crate::placing::place_here;
 use crate::{Partial, ReflectError};
@@ -21,26 +22,39 @@ use fr_frame::{Children, Form, Piece};
 use fr_model::{law_paths, law_removed};
 use fr_shape::{Def, Hooks, InitCall, Ledger, Operation, ReflectErrorKind, ShapeId, ShapeTable};
 
-/// Nothing, where the shape is a map; else this refusal.
+/// Nothing, where the shape is a map or a dynamic one; else this refusal.
 fn unless_map(table: &ShapeTable, shape: ShapeId, refusal: Operation) -> Option<Operation>
     ensures { result ≡ unless_map refusal (def_of table.now shape.0) }
 {
     match table.get(shape) {
-        Some(entry) if matches!(&entry.def, Def::Map(_, _)) => None,
+        Some(entry) if matches!(&entry.def, Def::Map(_, _) | Def::Dynamic) => None,
         Some(_) | None => Some(refusal),
     }
 }
 
 /// Whether a place that is begun so is a map.
 fn is_map(form: Form) -> bool
-    ensures form { result ≡ is_map_form (as_form form) }
-    ensures like { result ≡ is_map_like (as_form form) }
+    ensures { result ≡ is_map_form (as_form form) }
 {
     match form {
         Form::Map(_) => true,
         Form::Struct | Form::Array | Form::Variant(_) => false,
         Form::Some | Form::Ok | Form::Err | Form::Pointer => false,
         Form::List | Form::Slice | Form::ClosedSlice | Form::Set => false,
+        Form::DynArray => false,
+    }
+}
+
+/// Whether a map may be begun at a place that is begun so.
+fn is_map_like(form: Form) -> bool
+    ensures { result ≡ is_map_like (as_form form) }
+{
+    match form {
+        Form::Map(_) => true,
+        Form::Struct | Form::Array | Form::Variant(_) => false,
+        Form::Some | Form::Ok | Form::Err | Form::Pointer => false,
+        Form::List | Form::Slice | Form::ClosedSlice | Form::Set => false,
+        Form::DynArray => true,
     }
 }
 
@@ -51,12 +65,13 @@ fn init_map_refusal(table: &ShapeTable, shape: ShapeId, piece: &Piece) -> Option
 {
     let refused = match piece {
         Piece::Begun(form, _) => {
-            if is_map(*form) {
+            if is_map_like(*form) {
                 return None;
             }
             let (call, current) = (InitCall::Map, tracker(*form));
             return Some(ReflectErrorKind::UnexpectedTracker { call, current });
         }
+        Piece::Object(..) => return None,
         Piece::Entered | Piece::Whole(_) => unless_map(table, shape, Operation::InitMapOfOther),
     };
     let operation = refused?;
@@ -127,8 +142,9 @@ fn value_opening(piece: &Piece) -> Result<Opening, Operation>
 }
 
 impl<'t, H: Hooks> Partial<'t, H> {
-    /// Begins a map: a whole one keeps its entries, in front of those that come. A map that is begun stays as it is. Anything else is
-    /// refused, and never out of memory.
+    /// Begins a map: a whole one keeps its entries, in front of those that come. A map that is begun stays as it is. A dynamic value
+    /// becomes an object: one that is an object already keeps its entries, and any other starts anew. Anything else is refused, and
+    /// never out of memory.
     #[inline(never)]
     pub fn init_map(self, ledger: &mut Ledger) -> Result<Partial<'t, H>, ReflectError>
         requires room { Room (holds self) ledger.old }
@@ -149,7 +165,14 @@ impl<'t, H: Hooks> Partial<'t, H> {
         let (shape, piece) = place_here(work.table, work.root, plan, slots, stack);
         match init_map_refusal(work.table, shape, piece) {
             Some(kind) => Err(self.refuse(kind, ledger)),
-            None => self.open(Form::Map(0), 0, ledger),
+            None => {
+                let dynamic = is_dynamic(work.table, shape);
+                if dynamic {
+                    self.begin_dynamic(Parts::Entries, ledger)
+                } else {
+                    self.open(Form::Map(0), 0, ledger)
+                }
+            }
         }
     }
 

@@ -28,7 +28,7 @@ fn is_begun(piece: &Piece) -> bool
     ensures { result ≡ is_begun (own_tree (body_of piece.now)) }
 {
     match piece {
-        Piece::Begun(..) => true,
+        Piece::Begun(..) | Piece::Object(..) => true,
         Piece::Entered | Piece::Whole(_) => false,
     }
 }

@@ -4,12 +4,14 @@ ghost use Rattle.fr_shape.specs.declared.error.ReflectErrorKind.{ReflectErrorKin
 ghost use Rattle.fr_shape.specs.Released.{Conserved, Room};
 ghost use Rattle.fr_model.specs.Collections.{is_set};
 ghost use Rattle.fr_model.specs.Commands.{Call};
+ghost use Rattle.fr_model.specs.DynamicPlaces.{is_begun_dynamic};
 ghost use Rattle.fr_model.specs.Items.{is_open_slice};
 ghost use Rattle.fr_model.specs.Places.{deferred_column, is_root, strict_column, up};
 ghost use Rattle.fr_model.specs.Step.{is_set_item};
 ghost use Rattle.fr_model.specs.Tree.{cursor_tree, strict, tree_at, tree_occurs};
-ghost use Rattle.fr_frame.specs.Heap.{slots_occur};
-ghost use Rattle.fr_store.specs.Moves.{cursor_in, takes_at_end, tree_here, tree_in_slots};
+ghost use Rattle.fr_frame.specs.Bodies.{own_tree};
+ghost use Rattle.fr_frame.specs.Heap.{body_of, slots_occur};
+ghost use Rattle.fr_store.specs.Moves.{cursor_in, tree_here, tree_in_slots};
 ghost use Rattle.fr_store.specs.Stands.{IsOpen};
 ghost use Rattle.fr_store.specs.Stored.{IsKept, NothingStored};
 ghost use Rattle.fr_partial.specs.Builder.{holds, left, IsNotOutOfMemory, IsStep, RefusesBeforeMemory, TellsPlaceBefore};
@@ -28,13 +30,15 @@ use fr_plan::{TypePlanCore, law_plan_lookups};
 use fr_shape::{Hooks, Ledger, OutOfMemory, ReflectErrorKind, ShapeId, ShapeTable};
 use fr_store::{FrameStore, Stack};
 
-/// Whether the place on top is an item of a set.
-pub fn is_set_item(plan: &TypePlanCore, slots: &Slots, stack: &Stack) -> bool
+/// What was put at the place above the one on top: whether it is a set or a dynamic value can be told by it.
+pub fn piece_above<'a>(plan: &TypePlanCore, slots: &'a Slots, stack: &Stack) -> &'a Piece
     requires shown { IsOpen plan.now slots.now stack.now }
     requires below { is_root (cursor_in slots.now stack.now) ≡ false }
-    ensures set { result ≡ is_set (tree_at (up (cursor_in slots.now stack.now))
+    ensures set { is_set (own_tree (body_of result.now))
+        ≡ is_set (tree_at (up (cursor_in slots.now stack.now))
         (tree_in_slots slots.now stack.now)) }
-    ensures at_end { result ≡ takes_at_end (tree_at (up (cursor_in slots.now stack.now))
+    ensures dynamic { is_begun_dynamic (own_tree (body_of result.now))
+        ≡ is_begun_dynamic (tree_at (up (cursor_in slots.now stack.now))
         (tree_in_slots slots.now stack.now)) }
 {
     let _plan = plan;
@@ -47,12 +51,22 @@ pub fn is_set_item(plan: &TypePlanCore, slots: &Slots, stack: &Stack) -> bool
     let FrameOwner::Child(parent, _) = &place.owner else {
         unreachable!()
     };
-    let Some(above) = slots.place(*parent) else {
-        unreachable!()
-    };
-    match &above.piece {
+    match slots.place(*parent) {
+        Some(above) => &above.piece,
+        None => unreachable!(),
+    }
+}
+
+/// Whether the place on top is an item of a set.
+pub fn is_set_item(plan: &TypePlanCore, slots: &Slots, stack: &Stack) -> bool
+    requires shown { IsOpen plan.now slots.now stack.now }
+    requires below { is_root (cursor_in slots.now stack.now) ≡ false }
+    ensures { result ≡ is_set (tree_at (up (cursor_in slots.now stack.now))
+        (tree_in_slots slots.now stack.now)) }
+{
+    match piece_above(plan, slots, stack) {
         Piece::Begun(form, _) => is_set(*form),
-        Piece::Entered | Piece::Whole(_) => false,
+        Piece::Entered | Piece::Whole(_) | Piece::Object(..) => false,
     }
 }
 

@@ -17,7 +17,9 @@ use crate::placing::place_here;
 use crate::{Partial, ReflectError};
 use fr_frame::{Form, Piece};
 use fr_model::{law_paths, law_removed};
-use fr_shape::{Def, Hooks, InitCall, Ledger, Operation, ReflectErrorKind, ShapeId, ShapeTable};
+use fr_shape::{
+    Def, Hooks, InitCall, Ledger, Operation, ReflectErrorKind, ShapeId, ShapeTable, TrackerKind,
+};
 
 /// Nothing, where the shape is a set; else this refusal.
 fn unless_set(table: &ShapeTable, shape: ShapeId, refusal: Operation) -> Option<Operation>
@@ -37,7 +39,7 @@ pub fn is_set(form: Form) -> bool
         Form::Set => true,
         Form::Struct | Form::Array | Form::Variant(_) => false,
         Form::Some | Form::Ok | Form::Err | Form::Pointer => false,
-        Form::List | Form::Slice | Form::ClosedSlice | Form::Map(_) => false,
+        Form::List | Form::Slice | Form::ClosedSlice | Form::Map(_) | Form::DynArray => false,
     }
 }
 
@@ -52,6 +54,10 @@ fn init_set_refusal(table: &ShapeTable, shape: ShapeId, piece: &Piece) -> Option
                 return None;
             }
             let (call, current) = (InitCall::Set, tracker(*form));
+            return Some(ReflectErrorKind::UnexpectedTracker { call, current });
+        }
+        Piece::Object(..) => {
+            let (call, current) = (InitCall::Set, TrackerKind::DynamicValue);
             return Some(ReflectErrorKind::UnexpectedTracker { call, current });
         }
         Piece::Entered | Piece::Whole(_) => unless_set(table, shape, Operation::InitSetOfOther),

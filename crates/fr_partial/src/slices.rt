@@ -35,7 +35,7 @@ pub fn is_open_slice(piece: &Piece) -> bool
 {
     match piece {
         Piece::Begun(form, _) => matches!(*form, Form::Slice),
-        Piece::Entered | Piece::Whole(_) => false,
+        Piece::Entered | Piece::Whole(_) | Piece::Object(..) => false,
     }
 }
 
@@ -47,7 +47,7 @@ fn keeps_items(mode: Mode, piece: &Piece) -> bool
         Mode::Strict => false,
         Mode::Deferred(_) => match piece {
             Piece::Begun(form, _) => matches!(*form, Form::Slice | Form::ClosedSlice),
-            Piece::Entered | Piece::Whole(_) => false,
+            Piece::Entered | Piece::Whole(_) | Piece::Object(..) => false,
         },
     }
 }

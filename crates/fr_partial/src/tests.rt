@@ -21,6 +21,7 @@ use std::process::Abort;
 
 mod contents;
 mod deferring;
+mod dynamics;
 mod paths;
 
 fn shape(alloc: Global, name: &str, def: Def, preset: Option<Template>) -> Option<Shape>

@@ -1,9 +1,10 @@
 use Rattle.std.proofs.Common.{ap, refl, ◌∙◌}
 use Rattle.fr_shape.specs.declared.error.ReflectErrorKind.{ReflectErrorKind}
-use Rattle.fr_model.specs.Places.{is_root}
+use Rattle.fr_model.specs.Places.{is_root, strict_column}
 use Rattle.fr_frame.specs.Heap.{slots_occur}
 use Rattle.fr_store.specs.MoveLaws.{closed_open, top_in_use}
-use Rattle.fr_partial.proofs.EndingLaws.{box_wanted, may_complete, no_box, why_here, open_after, cursor_after, value_at_top, ended}
+use Rattle.fr_partial.proofs.BodyLaws.{no_box}
+use Rattle.fr_partial.proofs.EndingLaws.{box_wanted, may_complete, why_here, open_after, cursor_after, value_at_top, ended, marks_after}
 use Rattle.fr_partial.proofs.KeepLaws.{kept_same, kept_through, room_here}
 use Rattle.fr_partial.proofs.ReleaseLaws.{room_still}
 use Rattle.fr_partial.proofs.finishing.end_here.Goals as goal
@@ -48,9 +49,18 @@ returns-in-Ok-end-clause-ended g c =
     (closed_open c.args.plan.now c.args.slots.now c.args.stack.now c.requires.ready.shown c.requires.strict)
     c.in-Some.top.0 c.in-Some.ensures.last c.fill_and_require_fields.ensures.closed c.fill_and_require_fields.ensures.tokens
     c.in-Ok.ensures.form
-    (g.H.Hooks.means c.args.hooks.now) c.args.table.now c.args.root c.law_plan_lookups.ensures.agree
+    strict_column (g.H.Hooks.means c.args.hooks.now) c.args.table.now c.args.root c.law_plan_lookups.ensures.agree
     c.law_plan_lookups.ensures.paths c.requires.ready c.in-Ok.ensures.filled c.end.new.slots c.end.new.self
-    c.in-Ok-end.ensures.strict c.in-Ok-end.ensures.ended
+    c.in-Ok-end.ensures.ended
+
+pub returns-in-Ok-end-clause-strict : goal.returns-in-Ok-end-clause-strict
+returns-in-Ok-end-clause-strict g c n =
+    c.end.ensures.marks n
+    ∙ marks_after c.args.plan.now c.args.slots.now c.fill_and_require_fields.new.slots c.args.stack.now c.requires.ready.shown
+    (closed_open c.args.plan.now c.args.slots.now c.args.stack.now c.requires.ready.shown c.requires.strict)
+    c.in-Some.top.0 c.in-Some.ensures.last c.fill_and_require_fields.ensures.closed c.fill_and_require_fields.ensures.tokens
+    c.in-Ok.ensures.form n
+    ∙ c.requires.strict n
 
 pub returns-in-Err-clause-why : goal.returns-in-Err-clause-why
 returns-in-Err-clause-why g c =

@@ -2,7 +2,8 @@ use Rattle.std.proofs.Common.{refl}
 use Rattle.fr_shape.specs.declared.error.ReflectErrorKind.{ReflectErrorKind}
 use Rattle.fr_shape.specs.View.{view}
 use Rattle.fr_store.specs.MoveLaws.{closed_open}
-use Rattle.fr_partial.proofs.EndingLaws.{box_wanted, may_complete, no_box, room_top, root_conserved, root_value, taken_kept, value_there, why_here, why_root}
+use Rattle.fr_partial.proofs.BodyLaws.{no_box}
+use Rattle.fr_partial.proofs.EndingLaws.{box_wanted, may_complete, room_top, root_conserved, root_value, taken_kept, value_there, why_here, why_root}
 use Rattle.fr_partial.proofs.ReleaseLaws.{released_kept, released_still, room_kept, room_still}
 use Rattle.fr_partial.proofs.finishing.take_root.Goals as goal
 

@@ -3,7 +3,7 @@ use Rattle.fr_frame.specs.declared.places.Piece.{Piece}
 use Rattle.fr_frame.specs.Bodies.{own_tree}
 use Rattle.fr_frame.specs.Heap.{as_form, body_of}
 use Rattle.fr_partial.specs.Openings.{HasItems}
-use Rattle.fr_partial.proofs.EndingLaws.{count_of}
+use Rattle.fr_partial.proofs.BodyLaws.{count_of}
 use Rattle.fr_partial.proofs.lists.item_opening.Goals as goal
 
 pub returns-in-List-clause-items : goal.returns-in-List-clause-items

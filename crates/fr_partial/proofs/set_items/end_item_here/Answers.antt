@@ -3,7 +3,8 @@ use Rattle.fr_shape.specs.declared.error.ReflectErrorKind.{ReflectErrorKind}
 use Rattle.fr_model.specs.Places.{is_root, strict_column}
 use Rattle.fr_frame.specs.Heap.{slots_occur}
 use Rattle.fr_store.specs.MoveLaws.{closed_open, top_in_use}
-use Rattle.fr_partial.proofs.EndingLaws.{box_wanted, may_complete, no_box, why_here, open_after, cursor_after, value_at_top, item_ended, marks_after, set_after}
+use Rattle.fr_partial.proofs.BodyLaws.{no_box}
+use Rattle.fr_partial.proofs.EndingLaws.{box_wanted, may_complete, why_here, open_after, cursor_after, value_at_top, item_ended, marks_after, set_after}
 use Rattle.fr_partial.proofs.KeepLaws.{kept_same, kept_through, room_here}
 use Rattle.fr_partial.proofs.ReleaseLaws.{room_still}
 use Rattle.fr_partial.proofs.set_items.end_item_here.Goals as goal

@@ -2,7 +2,8 @@ use Rattle.std.proofs.Common.{refl}
 use Rattle.fr_shape.specs.declared.error.ReflectErrorKind.{ReflectErrorKind}
 use Rattle.fr_frame.specs.Heap.{slots_occur}
 use Rattle.fr_store.specs.MoveLaws.{closed_open, top_in_use}
-use Rattle.fr_partial.proofs.EndingLaws.{box_wanted, may_complete, no_box, why_here, made_whole, open_after, value_at_top}
+use Rattle.fr_partial.proofs.BodyLaws.{no_box}
+use Rattle.fr_partial.proofs.EndingLaws.{box_wanted, may_complete, why_here, made_whole, open_after, value_at_top}
 use Rattle.fr_partial.proofs.KeepLaws.{kept_same, kept_through, room_here}
 use Rattle.fr_partial.proofs.ReleaseLaws.{room_still}
 use Rattle.fr_partial.proofs.slices.make_whole.Goals as goal

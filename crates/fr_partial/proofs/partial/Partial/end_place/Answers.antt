@@ -51,7 +51,7 @@ invariant_of-self g c =
     (subst (λ (p : Plan). IsOpen p c.end_here.new.slots c.end_here.new.stack) c.core.ensures
     c.in-Ok.ensures.ended.after.open_still)
     (keeps_none (mode_of c.deref_mut-work.result.now.mode) c.deref_mut-work.result.now.store c.end_here.new.slots mode lent.invariant.stores
-    c.in-Ok.ensures.ended.stores)
+    c.in-Ok.ensures.strict)
     lent.invariant.stores
     (state_is _ c.end_here.new.slots c.end_here.new.stack _ _
     (mode_of c.deref_mut-work.result.now.mode) c.saturating_add-work.result _ c.in-Ok.ensures.ended.after

@@ -13,9 +13,9 @@ is_set_item-item-requires-clause-below g c =
 pub end_item-requires-clause-of_set : goal.end_item-requires-clause-of_set
 end_item-requires-clause-of_set g c =
     let lent = works_with c.deref-work.ensures c.self.view_is c.self.invariant in
-    sym (ap (λ (b : Builder _). is_set_item b.state) lent.view_is) ∙ sym c.is_set_item-item.ensures.set ∙ c.if-item.true
+    sym (ap (λ (b : Builder _). is_set_item b.state) lent.view_is) ∙ sym c.is_set_item-item.ensures ∙ c.if-item.true
 
 pub end_place-requires-clause-not_item : goal.end_place-requires-clause-not_item
 end_place-requires-clause-not_item g c =
     let lent = works_with c.deref-work.ensures c.self.view_is c.self.invariant in
-    sym (ap (λ (b : Builder _). is_set_item b.state) lent.view_is) ∙ sym c.is_set_item-item.ensures.set ∙ c.if-item.false
+    sym (ap (λ (b : Builder _). is_set_item b.state) lent.view_is) ∙ sym c.is_set_item-item.ensures ∙ c.if-item.false

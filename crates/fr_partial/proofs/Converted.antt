@@ -1,0 +1,105 @@
+-- Values that fit their shape, as they are converted: numbers are in their kind's range, and lists of bytes have octets.
+use Rattle.std.proofs.Common.{◌≡◌, ℕ, ◌≤◌, Bool, true, false, ◌&&◌, List, [], ◌∷◌, ◌++◌, length, drop, Some, refl, sym, ◌∙◌, ap, subst}
+use Rattle.std.proofs.lemmas.List.{at_drop_all, append-nil}
+use Rattle.fr_shape.specs.declared.error.ReflectErrorKind.{ReflectErrorKind}
+use Rattle.fr_shape.specs.declared.shape.Def.{Def}
+use Rattle.fr_shape.specs.declared.shape.ScalarKind.{ScalarKind}
+use Rattle.fr_shape.specs.declared.shape.ShapeId.{ShapeId}
+use Rattle.fr_shape.specs.declared.value.Value
+use Rattle.fr_shape.specs.declared.value.Value.{Value, fold-roll-Value}
+use Rattle.fr_shape.specs.declared.value.Value.TheVariants.{rolls-List}
+use Rattle.fr_shape.specs.declared.value.Value.TheOpen.{Value-F}
+use Rattle.fr_shape.specs.Fits.{fits, all_fit}
+use Rattle.fr_shape.specs.Look.{Table, def_of, settled}
+use Rattle.fr_shape.specs.Released.{RoseBy}
+use Rattle.fr_shape.specs.TokenLaws.{nothing, RoseBy_nothing, RoseBy_same, occurs_times}
+use Rattle.fr_shape.specs.Tokens.{occurs, times, tokens}
+use Rattle.fr_shape.specs.Val.{Val, Vals, unit, int, nat, list_of, no_vals, first}
+use Rattle.fr_shape.specs.View.{view, vals_view, view_step}
+use Rattle.fr_model.specs.Converting.{bytes_of, from_bytes, is_byte, or_not_dynamic}
+use Rattle.fr_partial.specs.Conversions.{are_octets, has_octets, in_range, is_octet, IsUnconverted}
+
+both_true : (a b : Bool) → a && b ≡ true → (a ≡ true) × (b ≡ true)
+both_true true true e = (refl, refl)
+both_true true false e = cc
+both_true false b e = cc
+
+-- past the end nothing follows the bytes so far
+pub bytes_at_end : (items whole : List Value) (i : ℕ) (bytes : List ℕ) → length items ≤ i
+    → ((rest : List ℕ) → bytes_of (vals_view (drop i items)) ≡ Some rest
+    → bytes_of (vals_view whole) ≡ Some (bytes ++ rest))
+    → bytes_of (vals_view whole) ≡ Some bytes
+bytes_at_end items whole i bytes past follows =
+    follows [] (at_drop_all (λ (left : List Value). bytes_of (vals_view left)) items i past)
+    ∙ ap Some (append-nil bytes)
+
+-- octets are bytes
+octets_read : (vs : Vals) → are_octets vs ≡ true → (bytes : List ℕ) × (bytes_of vs ≡ Some bytes)
+octets_read no_vals e = ([], refl)
+octets_read (first (nat n) vs) e =
+    let others = octets_read vs (both_true (is_octet (nat n)) (are_octets vs) e).1 in
+    (n ∷ others.0, rw others.1 refl)
+octets_read (first _ vs) e = cc
+
+-- the value of a list
+list_value : (items : List Value) → view (Value.List items) ≡ list_of (vals_view items)
+list_value items = ap view (sym (rolls-List items)) ∙ fold-roll-Value Val view_step (Value-F.List items)
+
+-- so a copy of them can only want memory
+pub octets_want_memory : (value : Value) (items : List Value) (given : ℕ) → value ≡ Value.List items
+    → has_octets (view value) ≡ true
+    → IsUnconverted (or_not_dynamic (from_bytes (view value))) given ReflectErrorKind.OutOfMemory
+octets_want_memory value items given is octets =
+    let shown : view value ≡ list_of (vals_view items) = ap view is ∙ list_value items in
+    let known = octets_read (vals_view items) (subst (λ (v : Val). has_octets v ≡ true) shown octets) in
+    rw shown (rw known.1 refl)
+
+-- Definitions that stand for themselves
+
+settled_scalar : (table : Table) (s : ℕ) (kind : ScalarKind) → def_of table s ≡ Def.Scalar kind
+    → settled table s ≡ Def.Scalar kind
+settled_scalar [] s kind e = cc
+settled_scalar (shape ∷ shapes) s kind e = rw e refl
+
+settled_list : (table : Table) (s : ℕ) (t : ShapeId) → def_of table s ≡ Def.List t → settled table s ≡ Def.List t
+settled_list [] s t e = cc
+settled_list (shape ∷ shapes) s t e = rw e refl
+
+-- a number that fits a kind is in its range
+pub fits_in_range : (table : Table) (s : ℕ) (kind : ScalarKind) (v : Val) → def_of table s ≡ Def.Scalar kind
+    → fits table s v ≡ true → in_range kind v ≡ true
+fits_in_range table s kind (int z) e fit = rw (settled_scalar table s kind e) at fit
+fits_in_range table s kind (nat n) e fit = rw (settled_scalar table s kind e) at fit
+fits_in_range table s kind _ e fit = refl
+
+byte_is : (def : Def) → is_byte def ≡ true → def ≡ Def.Scalar ScalarKind.U8
+byte_is (Def.Scalar ScalarKind.U8) e = refl
+byte_is _ e = cc
+
+fits_octet : (table : Table) (s : ℕ) (v : Val) → settled table s ≡ Def.Scalar ScalarKind.U8 → fits table s v ≡ true
+    → is_octet v ≡ true
+fits_octet table s (nat n) e fit = rw e at fit
+fits_octet table s unit e fit = cc
+fits_octet table s _ e fit =
+    let never = rw e at fit in cc
+
+fit_octets : (table : Table) (s : ℕ) (vs : Vals) → settled table s ≡ Def.Scalar ScalarKind.U8
+    → all_fit table s vs ≡ true → are_octets vs ≡ true
+fit_octets table s no_vals e fit = refl
+fit_octets table s (first v vs) e fit =
+    let parts = both_true (fits table s v) (all_fit table s vs) fit in
+    rw (fits_octet table s v e parts.0) (fit_octets table s vs e parts.1)
+
+-- a list that fits has octets where its item's shape is a byte
+pub fits_octets : (table : Table) (s : ℕ) (item : ShapeId) (v : Val) → def_of table s ≡ Def.List item
+    → fits table s v ≡ true → is_byte (def_of table item.0) ≡ true → has_octets v ≡ true
+fits_octets table s item (list_of vs) e fit byte =
+    let items : all_fit table item.0 vs ≡ true = rw (settled_list table s item e) at fit in
+    fit_octets table item.0 vs (settled_scalar table item.0 ScalarKind.U8 (byte_is (def_of table item.0) byte)) items
+fits_octets table s item _ e fit byte = refl
+
+-- where no token is held, a ledger that stays has risen by all
+pub none_released : (v : Val) (ledger : List ℕ) → tokens v ≡ [] → RoseBy (occurs v) ledger ledger
+none_released v ledger none =
+    RoseBy_same nothing (occurs v) ledger ledger
+    (λ t. sym (occurs_times v t ∙ ap (λ (ts : List ℕ). times ts t) none)) (RoseBy_nothing ledger)

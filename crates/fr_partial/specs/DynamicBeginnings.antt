@@ -1,0 +1,24 @@
+-- How a dynamic place comes to be begun as an array or an object: what of it is kept, and what it is then.
+use Rattle.std.specs.Prelude.{Option, is_some, if◌then◌else◌}
+use Rattle.fr_model.specs.DynamicPlaces.{array_anew, kept_array, kept_object, object_anew}
+use Rattle.fr_model.specs.Tree.{Tree, hole, entered, whole, begun}
+use Rattle.fr_partial.specs.declared.beginning.Beginning.{Beginning}
+use Rattle.fr_partial.specs.declared.dynamic_places.Parts.{Parts}
+
+-- what is kept of what stands there
+abbrev pub kept_as : Parts → Tree → Option Tree
+kept_as Parts.Elements tree = kept_array tree
+kept_as Parts.Entries tree = kept_object tree
+
+-- where nothing is kept it has no parts
+abbrev pub anew_as : Parts → Tree
+anew_as Parts.Elements = array_anew
+anew_as Parts.Entries = object_anew
+
+-- what is begun with such parts stays as it is, a whole value that has them keeps them, and anything else starts anew
+abbrev pub beginning_as : Parts → Tree → Beginning
+beginning_as parts hole = Beginning.Anew
+beginning_as parts entered = Beginning.Anew
+beginning_as parts (whole v) = if is_some (kept_as parts (whole v)) then Beginning.InPlace else Beginning.Anew
+beginning_as parts (begun form ts) =
+    if is_some (kept_as parts (begun form ts)) then Beginning.AsItIs else Beginning.Anew

@@ -1,0 +1,197 @@
+//! A dynamic place that is begun as an array or as an object: it keeps the parts that it has, or starts anew.
+ghost use Rattle.std.specs.Prelude.{◌≡◌, IsOk, OnOk, Ok, false, is_some, true, unwrap_or};
+ghost use Rattle.fr_shape.specs.Look.{def_of};
+ghost use Rattle.fr_shape.specs.Plannable.{is_dynamic};
+ghost use Rattle.fr_shape.specs.Released.{Room, Conserved};
+ghost use Rattle.fr_shape.specs.View.{view};
+ghost use Rattle.fr_model.specs.DynamicPlaces.{kept_array, kept_object};
+ghost use Rattle.fr_model.specs.Paths.{path_of};
+ghost use Rattle.fr_model.specs.Step.{becomes};
+ghost use Rattle.fr_model.specs.Tree.{begun, cursor_tree, whole, Trees};
+ghost use Rattle.fr_frame.specs.Bodies.{own_tree};
+ghost use Rattle.fr_frame.specs.Heap.{as_form, body_of, slots_occur};
+ghost use Rattle.fr_store.specs.Moves.{changed_here, cursor_in, tree_here, IsOpenAt};
+ghost use Rattle.fr_store.specs.Stored.{IsKept, StoresNoMore};
+ghost use Rattle.fr_partial.specs.Builder.{holds, left, IsNotOutOfMemory, IsStepTo, TellsPlaceBefore};
+ghost use Rattle.fr_partial.specs.DynamicBeginnings.{anew_as, beginning_as, kept_as};
+ghost use Rattle.fr_partial.specs.Meant.{IsMeant};
+ghost use Rattle.fr_partial.specs.Openings.{is_begun};
+ghost use Rattle.fr_partial.specs.Underway.{IsReady};
+
+use crate::beginning::Beginning;
+use crate::placing::place_here;
+use crate::work::fail;
+use crate::{Partial, ReflectError};
+use fr_frame::{Form, Piece, Slots};
+use fr_model::law_well;
+use fr_plan::TypePlanCore;
+use fr_shape::{
+    Def, Dyn, Hooks, Ledger, OutOfMemory, ReflectErrorKind, ShapeId, ShapeTable, Value,
+};
+use fr_store::{FrameStore, Stack};
+
+/// What a dynamic place is begun with: the elements of an array, or the entries of an object.
+#[derive(Clone, Copy)]
+pub enum Parts {
+    Elements,
+    Entries,
+}
+
+/// Whether the shape is a dynamic one.
+pub fn is_dynamic(table: &ShapeTable, shape: ShapeId) -> bool
+    ensures { result ≡ is_dynamic (def_of table.now shape.0) }
+{
+    match table.get(shape) {
+        Some(entry) => matches!(&entry.def, Def::Dynamic),
+        None => false,
+    }
+}
+
+/// Whether the value has such parts.
+fn has_parts(parts: Parts, value: &Value) -> bool
+    ensures { result ≡ is_some (kept_as parts (whole (view value.now))) }
+{
+    match parts {
+        Parts::Elements => matches!(value, Value::Dyn(Dyn::Array(_))),
+        Parts::Entries => matches!(value, Value::Dyn(Dyn::Object(_))),
+    }
+}
+
+/// Whether a place that is begun so is a dynamic array.
+fn is_array(form: Form) -> bool
+    ensures array { (children : Trees)
+        → result ≡ is_some (kept_array (begun (as_form form) children)) }
+    ensures no_object { (children : Trees)
+        → is_some (kept_object (begun (as_form form) children)) ≡ false }
+{
+    match form {
+        Form::Struct | Form::Array | Form::Variant(_) => false,
+        Form::Some | Form::Ok | Form::Err | Form::Pointer => false,
+        Form::List | Form::Slice | Form::ClosedSlice => false,
+        Form::Set | Form::Map(_) => false,
+        Form::DynArray => true,
+    }
+}
+
+/// Whether a place that is begun so has such parts.
+fn is_begun_with(parts: Parts, form: Form) -> bool
+    ensures { (children : Trees)
+        → result ≡ is_some (kept_as parts (begun (as_form form) children)) }
+{
+    let array = is_array(form);
+    match parts {
+        Parts::Elements => array,
+        Parts::Entries => false,
+    }
+}
+
+/// What of the place is kept where it is begun with such parts.
+fn beginning_as(parts: Parts, piece: &Piece) -> Beginning
+    ensures { result ≡ beginning_as parts (own_tree (body_of piece.now)) }
+{
+    match piece {
+        Piece::Entered => Beginning::Anew,
+        Piece::Whole(value) => {
+            if has_parts(parts, value) {
+                Beginning::InPlace
+            } else {
+                Beginning::Anew
+            }
+        }
+        Piece::Object(..) => match parts {
+            Parts::Elements => Beginning::Anew,
+            Parts::Entries => Beginning::AsItIs,
+        },
+        Piece::Begun(form, _) => {
+            if is_begun_with(parts, *form) {
+                Beginning::AsItIs
+            } else {
+                Beginning::Anew
+            }
+        }
+    }
+}
+
+/// Begins the dynamic place on top with such parts: those that it has stay as they are. Where it has none such, all that was put there
+/// and all that is stored beneath it is released. Only a whole value takes memory for its parts.
+fn begin_parts(
+    table: &ShapeTable,
+    root: ShapeId,
+    plan: &TypePlanCore,
+    slots: &mut Slots,
+    stack: &Stack,
+    store: &mut FrameStore,
+    parts: Parts,
+    ledger: &mut Ledger,
+) -> Result<(), OutOfMemory>
+    requires ready { IsReady table.now root plan.now slots.old stack.now }
+    requires stored { IsKept store.old slots.old }
+    requires room { Room (slots_occur slots.old) ledger.old }
+    ensures begun { OnOk result (IsOpenAt plan.now slots.new stack.now (cursor_in slots.old stack.now)
+        (changed_here (λ old.
+        unwrap_or (kept_as parts (tree_here slots.old stack.now)) (anew_as parts))
+        slots.old stack.now)) }
+    ensures stored { OnOk result (IsKept store.new slots.new) }
+    ensures marks { OnOk result (StoresNoMore slots.old slots.new) }
+    ensures memory { is_begun (tree_here slots.old stack.now) ≡ true → IsOk result }
+    ensures tokens { Conserved (slots_occur slots.old) ledger.old (slots_occur slots.new) ledger.new }
+{
+    let beginning = beginning_as(parts, place_here(table, root, plan, slots, stack).1);
+    match beginning {
+        Beginning::AsItIs => Ok(()),
+        Beginning::InPlace => match parts {
+            Parts::Elements => stack.open_array(slots, plan),
+            Parts::Entries => stack.open_object(slots, plan),
+        },
+        Beginning::Anew => match parts {
+            Parts::Elements => {
+                stack.restart_array(slots, store, plan, ledger);
+                Ok(())
+            }
+            Parts::Entries => {
+                stack.restart_object(slots, store, plan, ledger);
+                Ok(())
+            }
+        },
+    }
+}
+
+impl<'t, H: Hooks> Partial<'t, H> {
+    /// Begins a dynamic place with such parts. One that is begun takes no memory. Where there is no memory, all is released.
+    pub(crate) fn begin_dynamic(
+        mut self,
+        parts: Parts,
+        ledger: &mut Ledger,
+    ) -> Result<Partial<'t, H>, ReflectError>
+        requires room { Room (holds self) ledger.old }
+        requires meant { IsMeant self
+            (becomes self.state (kept_as parts (cursor_tree self.state)) (anew_as parts))
+            (path_of self.state) }
+        ensures step { IsStepTo self.entry (Ok (becomes self.entry.state
+            (kept_as parts (cursor_tree self.entry.state)) (anew_as parts))) result }
+        ensures path { TellsPlaceBefore self.entry result }
+        ensures tokens { Conserved (holds self.entry) ledger.old (left result) ledger.new }
+        ensures memory { is_begun (cursor_tree self.entry.state) ≡ true → IsNotOutOfMemory result }
+    {
+        law_well();
+        let work = &mut *self.work;
+        let table = work.table;
+        let root = work.root;
+        let plan = work.plan.core();
+        let (slots, store) = (&mut work.slots, &mut work.store);
+        match begin_parts(table, root, plan, slots, &work.stack, store, parts, ledger) {
+            Ok(()) => {
+                work.calls = work.calls.saturating_add(1);
+                Ok(self)
+            }
+            Err(OutOfMemory) => {
+                let Partial {
+                    alloc: _,
+                    hooks: _,
+                    work,
+                } = self;
+                Err(fail(work, ReflectErrorKind::OutOfMemory, ledger))
+            }
+        }
+    }
+}
