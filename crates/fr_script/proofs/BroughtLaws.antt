@@ -131,6 +131,7 @@ module _ (ledger : List ℕ) where
     call_meets brought marks Call.BeginValue are = (refl, are)
     call_meets brought marks Call.InitSet are = (refl, are)
     call_meets brought marks Call.BeginSetItem are = (refl, are)
+    call_meets brought marks (Call.BeginObjectEntry key) are = (refl, are)
     call_meets brought marks Call.BeginSome are = (refl, are)
     call_meets brought marks Call.BeginOk are = (refl, are)
     call_meets brought marks Call.BeginErr are = (refl, are)

@@ -85,6 +85,7 @@ module _ (ledger : List ℕ) where
     none_among (Call.BeginValue ∷ calls) before i fitting may = none_among calls before (i + 1) fitting.1 (λ t. fewer before t (brought calls t) (0 + brought calls t) (omega arith) (may t))
     none_among (Call.InitSet ∷ calls) before i fitting may = none_among calls before (i + 1) fitting.1 (λ t. fewer before t (brought calls t) (0 + brought calls t) (omega arith) (may t))
     none_among (Call.BeginSetItem ∷ calls) before i fitting may = none_among calls before (i + 1) fitting.1 (λ t. fewer before t (brought calls t) (0 + brought calls t) (omega arith) (may t))
+    none_among (Call.BeginObjectEntry key ∷ calls) before i fitting may = none_among calls before (i + 1) fitting.1 (λ t. fewer before t (brought calls t) (0 + brought calls t) (omega arith) (may t))
     none_among (Call.BeginSome ∷ calls) before i fitting may = none_among calls before (i + 1) fitting.1 (λ t. fewer before t (brought calls t) (0 + brought calls t) (omega arith) (may t))
     none_among (Call.BeginOk ∷ calls) before i fitting may = none_among calls before (i + 1) fitting.1 (λ t. fewer before t (brought calls t) (0 + brought calls t) (omega arith) (may t))
     none_among (Call.BeginErr ∷ calls) before i fitting may = none_among calls before (i + 1) fitting.1 (λ t. fewer before t (brought calls t) (0 + brought calls t) (omega arith) (may t))

@@ -1,5 +1,5 @@
 -- A command that is admitted: the run goes on behind it, with one call more.
-use Rattle.std.proofs.Common.{◌≡◌, ℕ, ◌+◌, Bool, true, false, if◌then◌else◌, List, length, nat_lt, ◌∷◌, Option, Some, None, Result, Ok, Err, refl, sym, ap, ◌∙◌, subst}
+use Rattle.std.proofs.Common.{◌≡◌, ℕ, ◌+◌, ◌==◌, Bool, true, false, if◌then◌else◌, List, length, nat_lt, ◌∷◌, Option, Some, None, Result, Ok, Err, refl, sym, ap, ◌∙◌, subst}
 use Rattle.fr_shape.specs.declared.error.Expected.{Expected}
 use Rattle.fr_shape.specs.declared.error.Invariant.{Invariant}
 use Rattle.fr_shape.specs.declared.error.Operation.{Operation}
@@ -8,16 +8,19 @@ use Rattle.fr_shape.specs.declared.shape.Field.{Field}
 use Rattle.fr_shape.specs.Fills.{preset_of, is_option}
 use Rattle.fr_shape.specs.Hooks.{Meanings}
 use Rattle.fr_shape.specs.Look.{Table, def_of, field_in, variants_of}
-use Rattle.fr_shape.specs.Val.{Val, list_of, ptr, no_vals}
+use Rattle.fr_shape.specs.Plannable.{is_dynamic}
+use Rattle.fr_shape.specs.Val.{Val, Dynamic, list_of, ptr, no_vals}
 use Rattle.fr_model.specs.Collections.{key_refusal, value_refusal, last_of, set_item_refusal}
 use Rattle.fr_model.specs.Commands.{Call}
 use Rattle.fr_model.specs.Complete.{complete}
+use Rattle.fr_model.specs.Converting.{converted}
+use Rattle.fr_model.specs.DynamicPlaces.{entry_refusal}
 use Rattle.fr_model.specs.Contents.{is_result, pointer_refusal, points_to_slice}
 use Rattle.fr_model.specs.Finish.{finished}
 use Rattle.fr_model.specs.Items.{init_array_refusal, item_refusal, is_open_slice, shared_slice_refusal}
 use Rattle.fr_model.specs.Places.{Column, strict_column, deferred_column, is_root}
 use Rattle.fr_model.specs.Run.{run_from, and_then}
-use Rattle.fr_model.specs.Step.{unless_refused, at_shape, was_not_a, field_refusal, named_refusal, set_refusal, enters, begins_named, puts, puts_default, field_default, puts_child_default, defaults_field, option_kept, content_kept, enters_content, begins_pointer, opens, init_list_refusal, init_map_refusal, init_set_refusal, enters_item, enters_key, is_set_item, item_ended, ends_item, is_dynamic_part, part_ended, leaves_deferred, selects, select_found, ended, leaves, end_in, leaves_place, puts_made, closes_slice, begins_deferred, finishes, finish_in, violates, step_at, step}
+use Rattle.fr_model.specs.Step.{unless_refused, at_shape, was_not_a, field_refusal, named_refusal, set_refusal, enters, begins_named, puts, puts_default, field_default, puts_child_default, defaults_field, puts_dynamic, set_dynamic, begins_list, begins_map, enters_entry, init_list, option_kept, content_kept, enters_content, begins_pointer, opens, init_list_refusal, init_map_refusal, init_set_refusal, enters_item, enters_key, is_set_item, item_ended, ends_item, is_dynamic_part, part_ended, leaves_deferred, selects, select_found, ended, end_in, leaves_place, puts_made, closes_slice, begins_deferred, finishes, finish_in, violates, step_at, step}
 use Rattle.fr_model.specs.Tree.{as_some, as_ok, as_err, selected, Tree, Mode, strict, deferred, State, count_below, cursor_shape, cursor_tree, one_more_call}
 use Rattle.fr_model.specs.Variants.{is_enum, field_found, variant_numbered, variant_named, variant_told_by, selection_refusal}
 
@@ -85,9 +88,37 @@ module _ (hooks : Meanings) (table : Table) (root s : ℕ) (state : State) where
   field_default_counts i None (Some field) = child_default_counts i (field_default table field)
   field_default_counts i None None = tt
 
-  list_counts : Counts (one_more_call state.calls)
-      (unless_refused (init_list_refusal s (def_of table s) (cursor_tree state)) (opens table s state))
-  list_counts = unless_counts (init_list_refusal s (def_of table s) (cursor_tree state)) (opens table s state) refl
+  puts_dynamic_counts : (given : ℕ) (made : Result Dynamic Operation)
+      → Counts (one_more_call state.calls) (puts_dynamic state given made)
+  unfolding Counts
+  puts_dynamic_counts given (Ok d) = refl
+  puts_dynamic_counts given (Err operation) = tt
+
+  own_counts : (own : Bool) (given : ℕ) (v : Val) (made : Result Dynamic Operation)
+      → Counts (one_more_call state.calls) (if own then Ok (puts state v) else puts_dynamic state given made)
+  unfolding Counts
+  own_counts true given v made = refl
+  own_counts false given v made = puts_dynamic_counts given made
+
+  set_counts : (of_dynamic : Bool) (given : ℕ) (v : Val)
+      → Counts (one_more_call state.calls)
+      (if of_dynamic then set_dynamic table s state given v
+      else unless_refused (set_refusal table s given) (puts state v))
+  set_counts true given v = own_counts (s == given) given v (converted table s (def_of table given) v)
+  set_counts false given v = unless_counts (set_refusal table s given) (puts state v) refl
+
+  begins_list_counts : (of_dynamic : Bool) → (begins_list table s state of_dynamic).calls ≡ one_more_call state.calls
+  begins_list_counts true = refl
+  begins_list_counts false = refl
+
+  begins_map_counts : (of_dynamic : Bool) → (begins_map table s state of_dynamic).calls ≡ one_more_call state.calls
+  begins_map_counts true = refl
+  begins_map_counts false = refl
+
+  list_counts : Counts (one_more_call state.calls) (init_list table s state)
+  list_counts =
+      unless_counts (init_list_refusal s (def_of table s) (cursor_tree state))
+      (begins_list table s state (is_dynamic (def_of table s))) (begins_list_counts (is_dynamic (def_of table s)))
 
   pointer_counts : (to_slice : Bool) → (begins_pointer table s state to_slice).calls ≡ one_more_call state.calls
   pointer_counts true = refl
@@ -203,7 +234,7 @@ module _ (hooks : Meanings) (table : Table) (root s : ℕ) (state : State) where
   step_counts (Call.SetNthFieldToDefault i) =
       field_default_counts i (at_shape s (named_refusal (def_of table s) (cursor_tree state)))
       (field_in (def_of table s) (selected (cursor_tree state)) i)
-  step_counts (Call.Set given v) = unless_counts (set_refusal table s given) (puts state v) refl
+  step_counts (Call.Set given v) = set_counts (is_dynamic (def_of table s)) given v
   step_counts Call.SetDefault = default_counts (preset_of table s)
   step_counts Call.SetEmptySharedSlice =
       unless_counts (at_shape s (shared_slice_refusal table (def_of table s))) (puts state (ptr (list_of no_vals))) refl
@@ -214,7 +245,8 @@ module _ (hooks : Meanings) (table : Table) (root s : ℕ) (state : State) where
   step_counts Call.BeginListItem =
       unless_counts (at_shape s (item_refusal (def_of table s) (cursor_tree state))) (enters_item table s state) refl
   step_counts Call.InitMap =
-      unless_counts (init_map_refusal s (def_of table s) (cursor_tree state)) (opens table s state) refl
+      unless_counts (init_map_refusal s (def_of table s) (cursor_tree state))
+      (begins_map table s state (is_dynamic (def_of table s))) (begins_map_counts (is_dynamic (def_of table s)))
   step_counts Call.BeginKey =
       unless_counts (at_shape s (key_refusal (cursor_tree state))) (enters_key table s state) refl
   step_counts Call.BeginValue =
@@ -224,6 +256,8 @@ module _ (hooks : Meanings) (table : Table) (root s : ℕ) (state : State) where
       unless_counts (init_set_refusal s (def_of table s) (cursor_tree state)) (opens table s state) refl
   step_counts Call.BeginSetItem =
       unless_counts (at_shape s (set_item_refusal (def_of table s) (cursor_tree state))) (enters_item table s state) refl
+  step_counts (Call.BeginObjectEntry key) =
+      unless_counts (at_shape s (entry_refusal (def_of table s) (cursor_tree state))) (enters_entry table s state key) refl
   step_counts Call.BeginSome =
       where_counts (is_option (def_of table s)) (enters_content table s state as_some (option_kept table s state))
       (was_not_a Expected.Option s) refl

@@ -34,6 +34,7 @@ call_of_none word =
 unfoldable pub call_of_one : List ℕ → Data → Option Call
 call_of_one word a =
     if bytes_eq word (codes "begin_field") then option_map Call.BeginField (as_str a) else
+    if bytes_eq word (codes "begin_object_entry") then option_map Call.BeginObjectEntry (as_str a) else
     if bytes_eq word (codes "begin_nth_field") then option_map Call.BeginNthField (whole_number a) else
     if bytes_eq word (codes "set_nth_field_to_default") then option_map Call.SetNthFieldToDefault (whole_number a) else
     if bytes_eq word (codes "init_list_with_capacity") then option_map Call.InitListWithCapacity (whole_number a) else

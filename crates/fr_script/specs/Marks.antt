@@ -39,6 +39,7 @@ marked_by table Call.BeginKey marks = Some marks
 marked_by table Call.BeginValue marks = Some marks
 marked_by table Call.InitSet marks = Some marks
 marked_by table Call.BeginSetItem marks = Some marks
+marked_by table (Call.BeginObjectEntry key) marks = Some marks
 marked_by table Call.BeginSome marks = Some marks
 marked_by table Call.BeginOk marks = Some marks
 marked_by table Call.BeginErr marks = Some marks

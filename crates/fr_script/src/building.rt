@@ -129,6 +129,7 @@ fn call<'t, H: Hooks>(
         Command::BeginValue => partial.begin_value(ledger),
         Command::InitSet => partial.init_set(ledger),
         Command::BeginSetItem => partial.begin_set_item(ledger),
+        Command::BeginObjectEntry(key) => partial.begin_object_entry(key.as_str(), ledger),
         Command::BeginSome => partial.begin_some(ledger),
         Command::BeginOk => partial.begin_ok(ledger),
         Command::BeginErr => partial.begin_err(ledger),
@@ -163,7 +164,7 @@ fn release_command(command: Command, ledger: &mut Ledger)
         Command::SetEmptySharedSlice | Command::InitList | Command::InitListWithCapacity(_) => {}
         Command::InitArray | Command::BeginListItem => {}
         Command::InitMap | Command::BeginKey | Command::BeginValue => {}
-        Command::InitSet | Command::BeginSetItem => {}
+        Command::InitSet | Command::BeginSetItem | Command::BeginObjectEntry(_) => {}
         Command::BeginSome | Command::BeginOk | Command::BeginErr | Command::BeginSmartPtr => {}
         Command::SelectNthVariant(_) | Command::SelectVariantNamed(_) => {}
         Command::SelectVariant(_) | Command::End => {}

@@ -100,6 +100,10 @@ fn read_with_one(alloc: Global, word: &str, a: &Json) -> Result<Option<Command>,
             Some(name) => Ok(Some(Command::BeginField(Text::new(alloc, name)?))),
             None => Ok(None),
         },
+        "begin_object_entry" => match a.as_str() {
+            Some(key) => Ok(Some(Command::BeginObjectEntry(Text::new(alloc, key)?))),
+            None => Ok(None),
+        },
         "begin_nth_field" => match count_of(a) {
             Some(i) => Ok(Some(Command::BeginNthField(i))),
             None => Ok(None),

@@ -15,6 +15,8 @@ mod document_laws;
 #[cfg(test)]
 mod document_tests;
 #[cfg(test)]
+mod dynamic_tests;
+#[cfg(test)]
 mod limit_tests;
 #[cfg(test)]
 mod list_tests;

@@ -37,9 +37,9 @@ fn is_served_def(def: &Def) -> bool
         | Def::Array(_, _)
         | Def::Pointer(_)
         | Def::Slice(_)
+        | Def::Dynamic
         | Def::Undefined
         | Def::Other => true,
-        Def::Dynamic => false,
     }
 }
 

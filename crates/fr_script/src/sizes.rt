@@ -114,6 +114,7 @@ fn levels(command: &Command) -> (usize, usize)
         | Command::BeginKey
         | Command::BeginValue
         | Command::BeginSetItem
+        | Command::BeginObjectEntry(_)
         | Command::BeginSome
         | Command::BeginOk
         | Command::BeginErr

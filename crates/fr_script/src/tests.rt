@@ -127,12 +127,12 @@ const FAULTS: [(&str, &str, &str); 17] = [
     ),
     (
         "a shape that isn't built yet",
-        r#"{"shapes":[{"name":"a","def":"u32"},{"name":"b","def":"dynamic"}],"root":0,"commands":[]}"#,
+        r#"{"shapes":[{"name":"a","def":"dynamic"},{"name":"b","def":"u32","parse":0}],"root":0,"commands":[]}"#,
         r#"{"fault":"BadForm","place":"shape 1"}"#,
     ),
     (
         "a shape that isn't built yet, before one that is broken",
-        r#"{"shapes":[{"name":"a","def":"dynamic"},{"name":"b","def":0}],"root":0,"commands":[]}"#,
+        r#"{"shapes":[{"name":"a","def":"u32","parse":0},{"name":"b","def":0}],"root":0,"commands":[]}"#,
         r#"{"fault":"BadForm","place":"shape 0"}"#,
     ),
     (
