@@ -3,6 +3,7 @@ use Rattle.std.proofs.Common.{◌≡◌, inl, inr, ℕ, ◌*◌, min, true, List
 use Rattle.std.specs.Option.{option_or}
 use Rattle.fr_shape.specs.declared.error.ReflectErrorKind.{ReflectErrorKind}
 use Rattle.fr_shape.specs.declared.shape.Def.{Def}
+use Rattle.fr_shape.specs.declared.shape.ScalarKind.{ScalarKind}
 use Rattle.fr_shape.specs.declared.shape.StructDef.{StructDef}
 use Rattle.fr_shape.specs.Checked.{IsChecked}
 use Rattle.fr_shape.specs.Hooks.{no_hooks}
@@ -39,24 +40,26 @@ calls_more pairs pair = omega (arith, length-append pairs (pair ∷ []))
 
 -- a pair more
 put_means : (table : Table) (root string : ℕ) (pairs : List Pair) (pair : Pair) (here : State) → IsChecked table
-    → is_struct (def_of table root) ≡ true → IsFilled table root string pairs here
+    → is_struct (def_of table root) ≡ true → def_of table string ≡ Def.Scalar ScalarKind.String
+    → IsFilled table root string pairs here
     → puts_pair table root string here pair
     ≡ unless_refused (refusal_of table root string pair)
     (filling table root (pairs ++ pair ∷ []) (min (3 * length (pairs ++ pair ∷ [])) most_calls))
-put_means table root string pairs pair here checked struct at =
+put_means table root string pairs pair here checked struct text_shape at =
     let known : (s : StructDef) × (def_of table root ≡ Def.Struct s) = struct_of (def_of table root) struct in
     ap (λ (s : State). puts_pair table root string s pair) at.is
-    ∙ puts_pair_is table root string known.0 pairs pair (min (3 * length pairs) most_calls) checked known.1
+    ∙ puts_pair_is table root string known.0 pairs pair (min (3 * length pairs) most_calls) checked known.1 text_shape
     ∙ ap
     (λ (calls : ℕ). unless_refused (refusal_of table root string pair) (filling table root (pairs ++ pair ∷ []) calls))
     (calls_more pairs pair)
 
 -- it was put
 pub filled_more : (table : Table) (root string : ℕ) (pairs : List Pair) (pair : Pair) (here after : State) → IsChecked table
-    → is_struct (def_of table root) ≡ true → IsFilled table root string pairs here
+    → is_struct (def_of table root) ≡ true → def_of table string ≡ Def.Scalar ScalarKind.String
+    → IsFilled table root string pairs here
     → puts_pair table root string here pair ≡ Ok after → IsFilled table root string (pairs ++ pair ∷ []) after
-filled_more table root string pairs pair here after checked struct at e =
-    go (refusal_of table root string pair) refl (sym (put_means table root string pairs pair here checked struct at) ∙ e)
+filled_more table root string pairs pair here after checked struct text_shape at e =
+    go (refusal_of table root string pair) refl (sym (put_means table root string pairs pair here checked struct text_shape at) ∙ e)
   where
     go : (refusal : Option ReflectErrorKind) → refusal_of table root string pair ≡ refusal
         → unless_refused refusal
@@ -74,15 +77,15 @@ filled_more table root string pairs pair here after checked struct at e =
 -- it was refused, and that is what is meant
 pub put_refused : (table : Table) (root string : ℕ) (pairs : List Pair) (pair : Pair) (others : List Pair) (here : State)
     (kind : ReflectErrorKind) → IsChecked table → is_struct (def_of table root) ≡ true
-    → IsFilled table root string pairs here
+    → def_of table string ≡ Def.Scalar ScalarKind.String → IsFilled table root string pairs here
     → puts_pair table root string here pair ≡ Err kind
     → pairs_meant table root string (pairs ++ pair ∷ others) ≡ Err kind
-put_refused table root string pairs pair others here kind checked struct at e =
+put_refused table root string pairs pair others here kind checked struct text_shape at e =
     ap
     (λ (o : Option ReflectErrorKind). refused_or o (unrefused table root (pairs ++ pair ∷ others)))
     (first_refusal_later table root string pairs (pair ∷ others) at.unrefused
     ∙ ap (λ (o : Option ReflectErrorKind). option_or o (first_refusal table root string others))
-    (go (refusal_of table root string pair) (sym (put_means table root string pairs pair here checked struct at) ∙ e)))
+    (go (refusal_of table root string pair) (sym (put_means table root string pairs pair here checked struct text_shape at) ∙ e)))
   where
     go : (refusal : Option ReflectErrorKind)
         → unless_refused refusal
@@ -94,15 +97,16 @@ put_refused table root string pairs pair others here kind checked struct at e =
 
 -- what the whole loop meets where a pair isn't put
 pub loop_refused : {H : Type 0} (table : Table) (root string : ℕ) (pairs : List Pair) (pair : Pair) (others all : List Pair)
-    (before : Builder H) (error : ReflectError) → IsChecked table → is_struct (def_of table root) ≡ true → before.root ≡ root
+    (before : Builder H) (error : ReflectError) → IsChecked table → is_struct (def_of table root) ≡ true
+    → def_of table string ≡ Def.Scalar ScalarKind.String → before.root ≡ root
     → IsFilled table root string pairs before.state → all ≡ pairs ++ pair ∷ others
     → IsStepTo before (puts_pair table before.root string before.state pair) (Err error)
     → IsMeant (pairs_meant table root string all) (Err error)
-loop_refused table root string pairs pair others all before error checked struct at_root filled are (inl memory) = inl memory
-loop_refused table root string pairs pair others all before error checked struct at_root filled are (inr e) =
+loop_refused table root string pairs pair others all before error checked struct text_shape at_root filled are (inl memory) = inl memory
+loop_refused table root string pairs pair others all before error checked struct text_shape at_root filled are (inr e) =
     inr (
     ap (λ (ps : List Pair). pairs_meant table root string ps) are
-    ∙ put_refused table root string pairs pair others before.state error.kind checked struct filled
+    ∙ put_refused table root string pairs pair others before.state error.kind checked struct text_shape filled
     (ap (λ (r : ℕ). puts_pair table r string before.state pair) (sym at_root) ∙ e)
     )
 

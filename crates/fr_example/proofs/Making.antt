@@ -203,8 +203,8 @@ makes table root struct (pair ∷ pairs) calls served is =
     (complete strict_column no_hooks table root (tree_of table root (pair ∷ pairs)))
     ∙ begun_told root
     (complete_all strict_column no_hooks table root as_struct 0
-    (slots (last_given (def_of table root) (pair ∷ pairs)) (child_count table root) 0))
+    (slots (last_given table root (pair ∷ pairs)) (child_count table root) 0))
     (lack_among no_hooks table root as_struct 0
-    (slots (last_given (def_of table root) (pair ∷ pairs)) (child_count table root) 0))
+    (slots (last_given table root (pair ∷ pairs)) (child_count table root) 0))
     (fields_from root (value_of_field table root (pair ∷ pairs)) (child_count table root) 0)
-    (slots_tell table root struct (last_given (def_of table root) (pair ∷ pairs)) (child_count table root) 0 served is)
+    (slots_tell table root struct (last_given table root (pair ∷ pairs)) (child_count table root) 0 served is)

@@ -3,7 +3,6 @@ use Rattle.std.proofs.Common.{◌≡◌, ℕ, suc, ◌+◌, ◌<◌, Bool, true,
 use Rattle.std.specs.Option.{option_or}
 use Rattle.std.specs.Str.{bytes_eq}
 use Rattle.fr_shape.specs.declared.error.ReflectErrorKind.{ReflectErrorKind}
-use Rattle.fr_shape.specs.declared.shape.Def.{Def}
 use Rattle.fr_shape.specs.declared.shape.Field.{Field}
 use Rattle.fr_shape.specs.Look.{Table}
 use Rattle.fr_shape.specs.Named.{first_declared}
@@ -20,12 +19,12 @@ or_grouped (Some x) b c = refl
 or_grouped None b c = refl
 
 -- what a pair at the end gives comes first
-pub last_given_more : (def : Def) (pairs : List Pair) (pair : Pair) (i : ℕ)
-    → last_given def (pairs ++ pair ∷ []) i ≡ option_or (given def pair i) (last_given def pairs i)
-last_given_more def [] pair i = sym (or_none (given def pair i))
-last_given_more def (p ∷ pairs) pair i =
-    ap (λ (o : Option Val). option_or o (given def p i)) (last_given_more def pairs pair i)
-    ∙ or_grouped (given def pair i) (last_given def pairs i) (given def p i)
+pub last_given_more : (table : Table) (root : ℕ) (pairs : List Pair) (pair : Pair) (i : ℕ)
+    → last_given table root (pairs ++ pair ∷ []) i ≡ option_or (given table root pair i) (last_given table root pairs i)
+last_given_more table root [] pair i = sym (or_none (given table root pair i))
+last_given_more table root (p ∷ pairs) pair i =
+    ap (λ (o : Option Val). option_or o (given table root p i)) (last_given_more table root pairs pair i)
+    ∙ or_grouped (given table root pair i) (last_given table root pairs i) (given table root p i)
 
 -- after pairs that aren't refused, the others decide
 pub first_refusal_later : (table : Table) (root string : ℕ) (pairs others : List Pair)

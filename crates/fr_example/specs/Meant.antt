@@ -1,5 +1,5 @@
 -- What pairs of a field's name and a text make of a struct.
-use Rattle.std.specs.Prelude.{◌≡◌, ◌⊎◌, ◌==◌, ℕ, zero, suc, Bool, true, false, List, [], ◌∷◌, Option, Some, None, Result, Ok, Err, if◌then◌else◌}
+use Rattle.std.specs.Prelude.{◌≡◌, ◌⊎◌, ◌==◌, ◌||◌, ℕ, zero, suc, Bool, true, false, List, [], ◌∷◌, Option, Some, None, Result, Ok, Err, if◌then◌else◌}
 use Rattle.std.specs.Option.{option_or}
 use Rattle.fr_shape.specs.declared.error.AllocError.{AllocError}
 use Rattle.fr_shape.specs.declared.error.PlanError.{PlanError}
@@ -8,7 +8,9 @@ use Rattle.fr_shape.specs.declared.shape.Def.{Def}
 use Rattle.fr_shape.specs.Fills.{is_empty_struct, preset_of}
 use Rattle.fr_shape.specs.Look.{Table, def_of}
 use Rattle.fr_shape.specs.Named.{field_named}
-use Rattle.fr_shape.specs.Val.{Val, Vals, text, product, no_vals, first}
+use Rattle.fr_shape.specs.Plannable.{is_dynamic}
+use Rattle.fr_shape.specs.Val.{Val, Vals, text, product, dyn, no_vals, first}
+use Rattle.fr_shape.specs.Val.{dyn_text}
 use Rattle.fr_model.specs.Complete.{missing_field}
 use Rattle.fr_model.specs.Places.{strict_column, child_count, child_shape, fill_at}
 use Rattle.fr_model.specs.Run.{alloc_refusal}
@@ -36,12 +38,15 @@ is_struct Def.Other = false
 
 -- Refusals
 
--- why a text, whose shape is `string`, can't be put into the field found under a name: there is none, or it has another
--- shape
+-- a field of shape s takes texts of shape `string`: where that is its own shape, and where it is dynamic
+abbrev pub takes_text : Table → (s string : ℕ) → Bool
+takes_text table s string = is_dynamic (def_of table s) || s == string
+
+-- why a text, whose shape is `string`, can't be put into the field found under a name: there is none, or it takes no such text
 abbrev pub refusal_at : Table → (root string : ℕ) → (found : Option ℕ) → Option ReflectErrorKind
 refusal_at table root string None = Some (ReflectErrorKind.FieldError (record { 0 = root }))
 refusal_at table root string (Some i) =
-    if child_shape table root i == string then None
+    if takes_text table (child_shape table root i) string then None
     else Some (ReflectErrorKind.WrongShape (record { 0 = child_shape table root i }) (record { 0 = string }))
 
 -- a name means the first field that is declared under it
@@ -60,18 +65,27 @@ abbrev pub is_found : ℕ → (found : Option ℕ) → Bool
 is_found i (Some found) = i == found
 is_found i None = false
 
--- what a pair gives to field i of a struct of this definition: its text, where its name means that field
-abbrev pub given : Def → Pair → ℕ → Option Val
-given def pair i = if is_found i (field_named pair.name def) then Some (text pair.text) else None
+-- a text in a field of this definition: in a dynamic one it is a dynamic text
+abbrev pub text_in : Def → List ℕ → Val
+text_in def codes = if is_dynamic def then dyn (dyn_text codes) else text codes
+
+-- the same in field i of the struct of shape `root`
+abbrev pub text_at : Table → (root i : ℕ) → List ℕ → Val
+text_at table root i codes = text_in (def_of table (child_shape table root i)) codes
+
+-- what a pair gives to field i of the struct of shape `root`: its text, where its name means that field
+abbrev pub given : Table → (root : ℕ) → Pair → ℕ → Option Val
+given table root pair i =
+    if is_found i (field_named pair.name (def_of table root)) then Some (text_at table root i pair.text) else None
 
 -- what the last of the pairs that gives something to field i gives it
-abbrev pub last_given : Def → List Pair → ℕ → Option Val
-last_given def [] i = None
-last_given def (pair ∷ pairs) i = option_or (last_given def pairs i) (given def pair i)
+abbrev pub last_given : Table → (root : ℕ) → List Pair → ℕ → Option Val
+last_given table root [] i = None
+last_given table root (pair ∷ pairs) i = option_or (last_given table root pairs i) (given table root pair i)
 
 -- the value of field i: the last text given to it, else its fill
 abbrev pub value_of_field : Table → (root : ℕ) → List Pair → ℕ → Option Val
-value_of_field table root pairs i = option_or (last_given (def_of table root) pairs i) (fill_at strict_column table root i)
+value_of_field table root pairs i = option_or (last_given table root pairs i) (fill_at strict_column table root i)
 
 abbrev pub one_more_field : (missing : ReflectErrorKind) → Option Val → Result Vals ReflectErrorKind → Result Vals ReflectErrorKind
 one_more_field missing (Some v) (Ok vs) = Ok (first v vs)

@@ -27,12 +27,12 @@ pub struct Pair {
 }
 
 /// Builds a struct from texts, in whatever order they come. It returns the value exactly where the struct has a plan,
-/// each name is that of a `String` field, and every other field has a fill: each field that was named holds the last
-/// text given for it. Otherwise it returns the first refusal: `Alloc` for a shape that has no plan, `FieldError` for a
-/// name that no field has, `WrongShape` for a field that is no `String`, and last of all `UninitializedField` for a
-/// field that was not named and has no fill. Where there is no pair at all, the struct's own default comes before that.
-/// `root` is the shape of the struct, `string` that of the texts. Out of memory is `OutOfMemory`, at any pair or at the
-/// end.
+/// each name is that of a field that is a `String` or a dynamic value, and every other field has a fill: each field that was
+/// named holds the last text given for it. Otherwise it returns the first refusal: `Alloc` for a shape that has no plan,
+/// `FieldError` for a name that no field has, `WrongShape` for a field that takes no text, and last of all
+/// `UninitializedField` for a field that was not named and has no fill. Where there is no pair at all, the struct's own default
+/// comes before that. `root` is the shape of the struct, `string` that of the texts. Out of memory is `OutOfMemory`, at any pair
+/// or at the end.
 pub fn record_of(
     alloc: Global,
     table: &ShapeTable,

@@ -11,7 +11,7 @@ returns-in_err-partial-clause-meant c =
     (let told : IsMeant (pairs_meant c.args.table.now c.args.root.0 c.args.string.0 c.args.pairs)
     (Err c.in_err-partial.field-0.0)
     = loop_refused c.args.table.now c.args.root.0 c.args.string.0 c.loop-pair.yielded c.in-Some.pair
-    (into_iter_items c.next.new.self) c.args.pairs c.loop-pair.partial c.in_err-partial.field-0.0 c.requires.checked c.requires.root
+    (into_iter_items c.next.new.self) c.args.pairs c.loop-pair.partial c.in_err-partial.field-0.0 c.requires.checked c.requires.root c.requires.string
     c.loop-pair.invariant.root c.loop-pair.invariant.filled
     (c.loop-pair.invariant.pairs
     ∙ ap (λ left. c.loop-pair.yielded ++ left) c.in-Some.ensures.steps.0)
@@ -34,7 +34,7 @@ loop-pair-preserved c = record {
   root = c.in_ok-partial.ensures.put.2 ∙ c.loop-pair.invariant.root;
   filled =
       filled_more c.args.table.now c.args.root.0 c.args.string.0 c.loop-pair.yielded c.in-Some.pair
-      c.loop-pair.partial.state c.in_ok-partial.partial.state c.requires.checked c.requires.root c.loop-pair.invariant.filled
+      c.loop-pair.partial.state c.in_ok-partial.partial.state c.requires.checked c.requires.root c.requires.string c.loop-pair.invariant.filled
       (rw (← c.loop-pair.invariant.root) c.in_ok-partial.ensures.put.0);
   tokens = c.in_ok-partial.ensures.tokens;
   ledger = c.put.ensures.released ∙ c.loop-pair.invariant.ledger;
