@@ -1,20 +1,17 @@
 -- The place above the one at which a builder works: whether it is a set, by the slot that the place on top knows as its owner's.
-use Rattle.std.proofs.Common.{◌≡◌, ◌⊎◌, ◌||◌, ◌+◌, ℕ, inl, inr, length, Bool, true, false, List, [], ◌∷◌, ◌++◌, Option, Some, None, refl, sym, ◌∙◌, ap, subst}
-use Rattle.fr_shape.specs.declared.value.Value.{Value}
-use Rattle.fr_model.specs.Collections.{is_set, is_set_form}
+use Rattle.std.proofs.Common.{◌≡◌, ◌+◌, ℕ, length, Bool, true, false, List, [], ◌∷◌, ◌++◌, Some, None, refl, sym, ◌∙◌, ap, subst}
+use Rattle.fr_model.specs.Collections.{is_set}
 use Rattle.fr_model.specs.DynamicPlaces.{is_begun_dynamic}
 use Rattle.fr_model.specs.Places.{Place, is_root, up}
 use Rattle.fr_model.specs.Tree.{Form, Tree, begun, Trees, tree_at}
 use Rattle.fr_plan.specs.TypePlan.{Plan}
-use Rattle.fr_frame.specs.declared.places.Form.{Form as RustForm}
 use Rattle.fr_frame.specs.declared.places.FrameOwner.{FrameOwner}
-use Rattle.fr_frame.specs.declared.places.Piece.{Piece}
 use Rattle.fr_frame.specs.declared.places.Place.{Place as Entry}
 use Rattle.fr_frame.specs.declared.places.Slot.{Slot}
 use Rattle.fr_frame.specs.Bodies.{Body, begun_body, own_tree}
 use Rattle.fr_frame.specs.Cells.{Cell}
-use Rattle.fr_frame.specs.Heap.{Node, as_form, body_of, node_of, heap_of}
-use Rattle.fr_frame.specs.Kids.{Kid, gone, there, at, Plot, entered_plot, whole_plot, begun_plot, Kids, tree_of, trees_in, cells_in, child_owner, Holds}
+use Rattle.fr_frame.specs.Heap.{Node, body_of, node_of, heap_of}
+use Rattle.fr_frame.specs.Kids.{Kid, gone, there, at, entered_plot, whole_plot, begun_plot, tree_of, trees_in, cells_in, child_owner, Holds}
 use Rattle.fr_store.specs.HoldLaws.{holds_at}
 use Rattle.fr_store.specs.LeaveLaws.{below_root, owner_append, up_append}
 use Rattle.fr_store.specs.Moves.{cursor_in, takes_at_end, tree_in_slots}

@@ -12,7 +12,7 @@ use Rattle.fr_shape.specs.declared.error.ReflectErrorKind.{ReflectErrorKind}
 use Rattle.fr_shape.specs.declared.error.Operation.{Operation}
 use Rattle.fr_shape.specs.Look.{Table, def_of, variants_of}
 use Rattle.fr_shape.specs.Numbered.{field_count, IsNumbered}
-use Rattle.fr_shape.specs.Named.{field_named, first_declared}
+use Rattle.fr_shape.specs.Named.{first_declared}
 use Rattle.fr_model.specs.Tree.{Form, selected, Tree, State, cursor_tree}
 use Rattle.fr_model.specs.Step.{begin_nth_field, begin_field, enters, field_refusal, named_refusal}
 use Rattle.fr_model.specs.Variants.{field_found, variant_fields}

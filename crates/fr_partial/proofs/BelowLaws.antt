@@ -8,7 +8,7 @@ use Rattle.fr_shape.specs.Val.{Val}
 use Rattle.std.proofs.Common.{None}
 use Rattle.fr_model.specs.Collections.{is_map, is_map_form}
 use Rattle.fr_model.specs.Step.{field_refusal, opened_as, put_child}
-use Rattle.fr_model.specs.Tree.{Form, as_struct, as_array, as_variant, as_some, as_ok, as_err, as_pointer, as_list, as_slice, as_closed_slice, as_set, as_map, as_dyn_array, as_dyn_object, base_of_form, Tree, hole, entered, whole, begun, Trees, no_trees, change_child, selected}
+use Rattle.fr_model.specs.Tree.{Form, as_struct, as_array, as_variant, as_some, as_ok, as_err, as_pointer, as_list, as_slice, as_closed_slice, as_set, as_map, as_dyn_array, as_dyn_object, base_of_form, Tree, hole, entered, whole, begun, no_trees, change_child, selected}
 use Rattle.fr_model.specs.Well.{IsFullAs, Suits}
 use Rattle.fr_plan.specs.LookupLaws.{LookupsAgree, LookupPathsAgree}
 use Rattle.fr_plan.specs.TypePlan.{Plan}

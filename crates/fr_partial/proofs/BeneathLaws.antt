@@ -1,5 +1,5 @@
 -- The place on top, once all that was left beneath it is completed: it is what it was, and no child of it is in a slot.
-use Rattle.std.proofs.Common.{◌≡◌, ◌⊎◌, ℕ, false, List, Option, Some, None, inl, inr, refl, sym, ◌∙◌, ap, subst}
+use Rattle.std.proofs.Common.{◌≡◌, ◌⊎◌, ℕ, false, List, inl, inr, sym, ◌∙◌, ap, subst}
 use Rattle.fr_shape.specs.declared.error.ReflectErrorKind.{ReflectErrorKind}
 use Rattle.fr_shape.specs.declared.shape.ShapeId.{ShapeId}
 use Rattle.fr_shape.specs.Hooks.{Meanings}
@@ -26,7 +26,6 @@ use Rattle.fr_store.specs.Beneath.{IsCompleteBeneath, IsHeldUpHere}
 use Rattle.fr_store.specs.MoveLaws.{open_top}
 use Rattle.fr_store.specs.Moves.{cursor_in, tree_here, tree_in_slots, IsOpenAt}
 use Rattle.fr_store.specs.Numbers.{IsLast}
-use Rattle.fr_store.specs.Turns.{root_shape}
 use Rattle.fr_partial.specs.Ending.{IsEnded, IsHeldUpAt, IsItemEnded}
 use Rattle.fr_partial.specs.Underway.{shape_here, IsReady}
 use Rattle.fr_partial.proofs.BodyLaws.{put_twice}

@@ -1,10 +1,7 @@
 -- Entering a content, a side or a pointee: what it means.
-use Rattle.std.proofs.Common.{◌≡◌, ℕ, zero, suc, ◌+◌, ◌<◌, true, false, List, [], ◌∷◌, ◌++◌, Option, None, Ok, refl, sym, ◌∙◌, ap, subst, arith}
-use Rattle.fr_shape.specs.declared.error.Operation.{Operation}
-use Rattle.fr_shape.specs.declared.shape.Def.{Def}
+use Rattle.std.proofs.Common.{◌≡◌, ℕ, zero, suc, ◌+◌, ◌<◌, true, false, [], ◌∷◌, ◌++◌, Option, None, Ok, sym, ◌∙◌, ap, subst, arith}
 use Rattle.fr_shape.specs.Fills.{is_option}
 use Rattle.fr_shape.specs.Look.{Table, def_of}
-use Rattle.fr_path.specs.declared.path_steps.PathStep.{PathStep}
 use Rattle.fr_model.specs.Contents.{is_result, pointer_refusal, points_to_slice}
 use Rattle.fr_model.specs.Paths.{path_of, step_as}
 use Rattle.fr_model.specs.PathLaws.{EnteringContentAddsAStep, EnteringSomeAddsAStep}

@@ -1,9 +1,8 @@
 -- Setting a field to its default: what it means, and what it is refused for.
-use Rattle.std.proofs.Common.{◌≡◌, ℕ, ◌<◌, true, List, [], ◌∷◌, length, Option, Some, None, Result, Ok, Err, nat_lt, slice_get, refl, sym, ◌∙◌, ap, subst}
+use Rattle.std.proofs.Common.{◌≡◌, ℕ, true, [], length, Option, Some, None, Ok, Err, nat_lt, slice_get, refl, ◌∙◌, ap}
 use Rattle.std.proofs.lemmas.Bool.{lt-ltb}
 use Rattle.fr_shape.specs.Checked.{IsChecked}
 use Rattle.fr_shape.specs.declared.error.Operation.{Operation}
-use Rattle.fr_shape.specs.declared.error.ReflectErrorKind.{ReflectErrorKind}
 use Rattle.fr_shape.specs.declared.shape.Def.{Def}
 use Rattle.fr_shape.specs.declared.shape.Field.{Field}
 use Rattle.fr_shape.specs.declared.shape.ShapeId.{ShapeId}
@@ -11,9 +10,8 @@ use Rattle.fr_shape.specs.declared.shape.VariantDef.{VariantDef}
 use Rattle.fr_shape.specs.Look.{Table, def_of, field_in, field_of_variant}
 use Rattle.fr_shape.specs.Tokens.{tokens}
 use Rattle.fr_shape.specs.Val.{Val}
-use Rattle.fr_model.specs.Step.{at_shape, field_default, field_refusal, named_refusal, puts_child, puts_child_default, set_nth_field_to_default}
+use Rattle.fr_model.specs.Step.{at_shape, field_default, field_refusal, named_refusal, puts_child_default, set_nth_field_to_default}
 use Rattle.fr_model.specs.Tree.{cursor_tree, selected, State, Tree}
-use Rattle.fr_model.specs.Variants.{variant_fields}
 use Rattle.fr_partial.specs.Builder.{Builder, here}
 use Rattle.fr_partial.specs.FieldDefaults.{default_in, default_of}
 use Rattle.fr_partial.proofs.FitLaws.{is_there}

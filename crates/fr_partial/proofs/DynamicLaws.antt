@@ -1,5 +1,5 @@
 -- A dynamic place that is begun as an array or as an object: what of it is kept, and what that means.
-use Rattle.std.proofs.Common.{◌≡◌, ℕ, Bool, true, false, Option, Some, None, is_some, IsSome, unwrap_or, Ok, refl, sym, ◌∙◌, ap}
+use Rattle.std.proofs.Common.{◌≡◌, Bool, true, false, Option, Some, None, is_some, IsSome, unwrap_or, Ok, refl, sym, ◌∙◌, ap}
 use Rattle.std.specs.Option.{option_map}
 use Rattle.fr_shape.specs.Look.{def_of}
 use Rattle.fr_shape.specs.Plannable.{is_dynamic}

@@ -1,33 +1,31 @@
 -- Completing the place on top of the stack: whether it may be, the value that it makes, and where the builder is then.
-use Rattle.std.proofs.Common.{◌≡◌, ◌≢◌, ◌⊎◌, ℕ, zero, suc, Bool, true, false, ◌||◌, List, [], ◌∷◌, length, Option, Some, None, Result, Err, ◌+◌, option_map, unwrap_or, inl, inr, refl, sym, ◌∙◌, ap, subst, arith}
-use Rattle.std.specs.Prelude.{IsOk, IsSome, IsSomeAnd, is_none, is_some}
+use Rattle.std.proofs.Common.{◌≡◌, ◌≢◌, ◌⊎◌, ℕ, Bool, true, false, List, [], Option, Some, None, ◌+◌, option_map, unwrap_or, inl, inr, refl, sym, ◌∙◌, ap, subst, arith}
+use Rattle.std.specs.Prelude.{IsSome, IsSomeAnd, is_some}
 use Rattle.fr_shape.specs.declared.error.ReflectErrorKind.{ReflectErrorKind}
 use Rattle.fr_shape.specs.declared.shape.ShapeId.{ShapeId}
 use Rattle.fr_shape.specs.Hooks.{Meanings}
-use Rattle.fr_shape.specs.Look.{Table, def_of}
+use Rattle.fr_shape.specs.Look.{Table}
 use Rattle.fr_shape.specs.Released.{Conserved, Room, RoseBy}
 use Rattle.fr_shape.specs.TokenLaws.{Room_same, RoseBy_same}
 use Rattle.fr_shape.specs.Tokens.{occurs}
-use Rattle.fr_shape.specs.Val.{Val, Vals}
+use Rattle.fr_shape.specs.Val.{Val}
 use Rattle.fr_model.specs.Complete.{complete}
 use Rattle.fr_model.specs.Collections.{is_set, number_in, with_ended_item}
-use Rattle.fr_model.specs.Places.{Column, strict_column, Place, is_root, one_more, up}
-use Rattle.fr_model.specs.Step.{cause}
-use Rattle.fr_model.specs.Tree.{Form, as_struct, as_array, as_variant, as_some, as_ok, as_err, as_pointer, as_list, as_slice, as_closed_slice, as_set, as_map, as_dyn_array, as_dyn_object, Tree, hole, entered, whole, begun, Trees, no_trees, branch, change_at, change_nth, count_trees, shape_in, tree_at, tree_occurs, trees_occur, deferred}
-use Rattle.fr_model.specs.Well.{IsFullAs, Suits}
+use Rattle.fr_model.specs.Places.{Column, strict_column, Place, is_root, up}
+use Rattle.fr_model.specs.Tree.{Tree, whole, change_at, shape_in, tree_at, tree_occurs, deferred}
+use Rattle.fr_model.specs.Well.{Suits}
 use Rattle.fr_plan.specs.declared.nodes.NodeId.{NodeId}
 use Rattle.fr_plan.specs.declared.nodes.TypePlanNode.{TypePlanNode}
 use Rattle.fr_plan.specs.LookupLaws.{LookupsAgree, LookupPathsAgree}
 use Rattle.fr_plan.specs.TypePlan.{Plan}
 use Rattle.fr_frame.specs.declared.places.Slot.{Slot}
-use Rattle.fr_frame.specs.Bodies.{Body, entered_body, whole_body, begun_body, body_occurs, boxes, gathers, own_tree, takes_memory, trees_of, value_of, IsClosed}
+use Rattle.fr_frame.specs.Bodies.{Body, entered_body, body_occurs, own_tree, takes_memory, value_of, IsClosed}
 use Rattle.fr_frame.specs.Defaults.{KeepsForm}
-use Rattle.fr_frame.specs.Cells.{Cell, absent, given, placed, cells_occur, values_of}
 use Rattle.fr_frame.specs.Changes.{IfInUse, SameMarks, SameTokens}
 use Rattle.fr_frame.specs.Closed.{IsClosedAt}
-use Rattle.fr_frame.specs.Completing.{shape_of, takes_template, FillsAt, IsFull, IsOfValidator, IsPlanFor, MayComplete, WhyNot as WhyNotAt}
+use Rattle.fr_frame.specs.Completing.{shape_of, FillsAt, IsFull, IsPlanFor, MayComplete, WhyNot as WhyNotAt}
 use Rattle.fr_frame.specs.Heap.{Node, heap_of, marked, slots_occur, stored_in, with_slot}
-use Rattle.fr_frame.specs.Kids.{MayHave, Plot, tree_of, body_in, plot_occurs}
+use Rattle.fr_frame.specs.Kids.{Plot, tree_of, body_in, plot_occurs}
 use Rattle.fr_store.specs.HereLaws.{body_back, closed_plot, tree_back}
 use Rattle.fr_store.specs.MoveLaws.{open_top, same_last, top_changed}
 use Rattle.fr_store.specs.Moves.{cursor_in, tokens_here, tree_here, tree_in_slots, AtTop, IsOpenAt}
@@ -37,7 +35,7 @@ use Rattle.fr_store.specs.Stored.{NothingStored}
 use Rattle.fr_store.specs.TopLaws.{closed_occur, closed_tree, held_may_have, keeps_closed, loses_none, slot_here, slot_other, MayHaveIts}
 use Rattle.fr_store.specs.WayLaws.{same_or_other, tree_of_at}
 use Rattle.fr_partial.specs.Ending.{IsEnded, IsItemEnded, IsMadeWhole, WhyNot}
-use Rattle.fr_partial.specs.Filling.{takes_no_memory, has_no_hole}
+use Rattle.fr_partial.specs.Filling.{takes_no_memory}
 use Rattle.fr_partial.specs.Underway.{shape_here, IsReady}
 use Rattle.fr_partial.proofs.BodyLaws.{boxed, full_by, keeps_may, own_occurs, put_twice, why_of}
 use Rattle.fr_partial.proofs.EnterLaws.{changed_at}

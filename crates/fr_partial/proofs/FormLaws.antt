@@ -1,6 +1,5 @@
 -- As what a place is begun whose children may be entered.
-use Rattle.std.proofs.Common.{◌≡◌, ℕ, suc, ◌<◌, true, false, Bool, List, length, Option, Some, None, slice_get, nat_lt, refl, sym, ◌∙◌, ap, subst, arith}
-use Rattle.std.proofs.lemmas.Bool.{ltb-true}
+use Rattle.std.proofs.Common.{◌≡◌, ℕ, length, Option, Some, None, slice_get, refl, sym, ◌∙◌, ap, subst}
 use Rattle.fr_shape.specs.declared.error.Operation.{Operation}
 use Rattle.fr_shape.specs.declared.shape.Def.{Def}
 use Rattle.fr_shape.specs.declared.shape.EnumDef.{EnumDef}
@@ -10,7 +9,7 @@ use Rattle.fr_shape.specs.declared.shape.VariantDef.{VariantDef}
 use Rattle.fr_shape.specs.Look.{Table, def_of}
 use Rattle.fr_shape.specs.Val.{Val}
 use Rattle.fr_model.specs.Places.{count_children}
-use Rattle.fr_model.specs.Step.{field_refusal, opened, opened_as, variant_field_refusal}
+use Rattle.fr_model.specs.Step.{field_refusal, opened, opened_as}
 use Rattle.fr_model.specs.Tree.{Form, as_struct, as_array, as_variant, as_some, as_ok, as_err, as_pointer, as_list, as_slice, as_closed_slice, as_set, as_map, as_dyn_array, as_dyn_object, form_at, form_of, over_base, selected, variant_of, Tree, hole, entered, whole, begun, Trees, count_trees}
 use Rattle.fr_model.specs.Variants.{fields_or_none, variant_fields}
 use Rattle.fr_model.specs.Well.{HasFieldsOf, IsFullAs, Suits}

@@ -3,12 +3,12 @@ use Rattle.std.proofs.Common.{◌≡◌, ℕ, false, List, Option, Some, IsSome,
 use Rattle.std.specs.Prelude.{IsSomeAnd}
 use Rattle.fr_shape.specs.declared.shape.Def.{Def}
 use Rattle.fr_shape.specs.Val.{Val}
-use Rattle.fr_model.specs.Tree.{Form, Tree, whole}
+use Rattle.fr_model.specs.Tree.{Form, whole}
 use Rattle.fr_plan.specs.TypePlan.{Plan}
 use Rattle.fr_frame.specs.declared.places.Slot.{Slot}
 use Rattle.fr_frame.specs.Bodies.{Body, takes_memory, value_of, HoldsArray, HoldsObject, HoldsSome, MayOpen}
 use Rattle.fr_frame.specs.Changes.{IfInUse}
-use Rattle.fr_frame.specs.Heap.{Node, heap_of}
+use Rattle.fr_frame.specs.Heap.{Node}
 use Rattle.fr_frame.specs.Kids.{Plot, entered_plot, whole_plot, begun_plot, tree_in, body_in}
 use Rattle.fr_store.specs.MoveLaws.{open_top}
 use Rattle.fr_store.specs.Moves.{tree_here}

@@ -1,9 +1,8 @@
 -- What slots hold and what the ledger counts, together, while the place on top changes.
-use Rattle.std.proofs.Common.{◌≡◌, ℕ, ◌+◌, length, slice_index, List, Result, Ok, Err, OnOk, OnErr, refl, sym, ◌∙◌, ap, arith}
+use Rattle.std.proofs.Common.{◌≡◌, ℕ, List, Result, Ok, Err, OnOk, OnErr, refl, sym, ◌∙◌, ap, arith}
 use Rattle.fr_shape.specs.Released.{Conserved, Room, RoseBy}
 use Rattle.fr_shape.specs.TokenLaws.{Room_fewer}
-use Rattle.fr_model.specs.Places.{Place}
-use Rattle.fr_model.specs.Tree.{Form, Tree, hole, begun, holes, tree_at, tree_occurs, deferred}
+use Rattle.fr_model.specs.Tree.{Form, Tree, hole, begun, holes, tree_occurs, deferred}
 use Rattle.fr_plan.specs.TypePlan.{Plan}
 use Rattle.fr_frame.specs.declared.places.Slot.{Slot}
 use Rattle.fr_frame.specs.Changes.{SameMarks, SameTokens}

@@ -1,5 +1,5 @@
 -- What is kept of a place where it is begun, and what it is then.
-use Rattle.std.proofs.Common.{◌≡◌, ℕ, zero, suc, ◌<◌, ◌≤◌, Bool, true, false, ◌&&◌, length, nat_eq, Option, Some, None, Result, Ok, Err, OnOk, is_some, IsSome, unwrap_or, refl, sym, ◌∙◌, ap, subst, arith}
+use Rattle.std.proofs.Common.{◌≡◌, ℕ, Bool, true, false, ◌&&◌, length, nat_eq, Option, Some, None, Result, Ok, Err, OnOk, is_some, IsSome, unwrap_or, refl, sym, ap, subst, arith}
 use Rattle.std.proofs.lemmas.Bool.{eqb-true}
 use Rattle.fr_shape.specs.declared.shape.Def.{Def}
 use Rattle.fr_shape.specs.Look.{Table, def_of}
@@ -11,7 +11,7 @@ use Rattle.fr_model.specs.Variants.{variant_fields}
 use Rattle.fr_model.specs.Well.{HasContent, HasSide, HasPointee, IsFullAs, IsBegunRightly, IsContent, PointsTo, Suits}
 use Rattle.fr_frame.specs.Bodies.{is_around}
 use Rattle.fr_frame.specs.Kids.{MayHave}
-use Rattle.fr_store.specs.Moves.{around_content, around_some, HasChild}
+use Rattle.fr_store.specs.Moves.{around_content, HasChild}
 use Rattle.fr_store.specs.ShapeLaws.{PointsRightly}
 use Rattle.fr_partial.specs.Beginnings.{kept_by, begun_by, beginning_so, beginning_in, beginning_of_some, IsWholeSome, MayBegin}
 use Rattle.fr_partial.specs.declared.beginning.Beginning.{Beginning}

@@ -1,6 +1,5 @@
 -- What a place keeps as it is filled: children that were there are there still, so that what is never stored isn't.
-use Rattle.std.proofs.Common.{◌≡◌, ◌||◌, ℕ, zero, suc, Bool, true, false, List, [], ◌∷◌, length, refl, sym, ap, subst, arith}
-use Rattle.fr_shape.specs.Val.{Val}
+use Rattle.std.proofs.Common.{◌≡◌, ◌||◌, ℕ, suc, false, List, [], ◌∷◌, length, refl, sym, subst, arith}
 use Rattle.fr_model.specs.Tree.{Form, as_struct, as_array, as_variant, as_some, as_ok, as_err, as_pointer, as_list, as_slice, as_closed_slice, as_set, as_map, as_dyn_array, as_dyn_object, base_of_form}
 use Rattle.fr_frame.specs.Bodies.{Body, entered_body, whole_body, begun_body, boxes, gathers}
 use Rattle.fr_frame.specs.Cells.{Cell, absent, given, placed}

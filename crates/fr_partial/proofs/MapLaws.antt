@@ -1,5 +1,5 @@
 -- Maps and sets: how they come to be begun, what a key, a value and an item add, and what each is refused for.
-use Rattle.std.proofs.Common.{◌≡◌, ℕ, zero, suc, ◌+◌, ◌-◌, ◌%◌, Bool, true, false, List, [], ◌∷◌, ◌++◌, length, slice_get, Option, Some, None, Ok, Err, IsSome, if◌then◌else◌, refl, sym, ◌∙◌, ap, subst, arith}
+use Rattle.std.proofs.Common.{◌≡◌, ℕ, zero, suc, ◌+◌, ◌-◌, ◌%◌, Bool, true, false, List, [], ◌∷◌, ◌++◌, length, slice_get, Some, None, Ok, Err, IsSome, if◌then◌else◌, refl, sym, ◌∙◌, ap, subst, arith}
 use Rattle.fr_shape.specs.declared.error.Operation.{Operation}
 use Rattle.fr_shape.specs.declared.error.ReflectErrorKind.{ReflectErrorKind}
 use Rattle.fr_shape.specs.declared.shape.Def.{Def}
@@ -8,7 +8,7 @@ use Rattle.fr_shape.specs.Fits.{fits}
 use Rattle.fr_shape.specs.Look.{Table, def_of, settled}
 use Rattle.fr_shape.specs.Plannable.{is_dynamic}
 use Rattle.fr_shape.specs.Val.{Val, map_of, set_of, unit}
-use Rattle.fr_model.specs.Collections.{ends_in_hole, is_hole, is_map, is_map_form, is_set, is_set_form, key_refusal, lacks_value, last_of, set_item_refusal, unless_map, unless_set, value_refusal, with_key}
+use Rattle.fr_model.specs.Collections.{ends_in_hole, is_hole, is_map, is_map_form, is_set_form, key_refusal, lacks_value, last_of, set_item_refusal, unless_map, unless_set, value_refusal, with_key}
 use Rattle.fr_model.specs.PathLaws.{EnteringAddsAStep, EnteringAKeyAddsAStep}
 use Rattle.fr_model.specs.Paths.{path_of, step_as}
 use Rattle.fr_model.specs.Places.{count_children, entries_of, entry_of, is_key, set_items_of}

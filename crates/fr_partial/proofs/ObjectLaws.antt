@@ -6,12 +6,12 @@ use Rattle.fr_shape.specs.declared.shape.Def.{Def}
 use Rattle.fr_shape.specs.declared.shape.ShapeId.{ShapeId}
 use Rattle.fr_shape.specs.Look.{Table, def_of}
 use Rattle.fr_path.specs.declared.path_steps.PathStep.{PathStep}
-use Rattle.fr_model.specs.DynamicPlaces.{entry_found, entry_number, entry_refusal, is_begun_object, is_object_form, keys_here, number_or_last, with_entry}
+use Rattle.fr_model.specs.DynamicPlaces.{entry_found, entry_number, entry_refusal, is_begun_object, keys_here, number_or_last, with_entry}
 use Rattle.fr_model.specs.Dynamics.{keys_apart}
 use Rattle.fr_model.specs.PathLaws.{EnteringAnEntryAddsAStep}
 use Rattle.fr_model.specs.Paths.{path_of}
 use Rattle.fr_model.specs.Step.{begin_object_entry, enter, enters_entry}
-use Rattle.fr_model.specs.Tree.{Form, as_dyn_object, Tree, hole, entered, whole, begun, Trees, no_trees, branch, and_last, change_nth, count_below, count_trees, fresh, State, cursor_tree}
+use Rattle.fr_model.specs.Tree.{as_dyn_object, Tree, hole, entered, whole, begun, Trees, no_trees, branch, and_last, change_nth, count_below, count_trees, fresh, State, cursor_tree}
 use Rattle.fr_model.specs.Well.{AreTouched, HasKeys, IsTouched, Leads, Suits}
 use Rattle.fr_store.specs.Moves.{with_entry_of}
 use Rattle.fr_partial.specs.Builder.{Builder, here}

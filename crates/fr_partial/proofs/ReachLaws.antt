@@ -9,7 +9,6 @@ use Rattle.fr_model.specs.Places.{Place}
 use Rattle.fr_model.specs.Tree.{Trees, no_trees, branch, deferred}
 use Rattle.fr_model.specs.Well.{AllOff, OffBut, Leads}
 use Rattle.fr_plan.specs.declared.nodes.NodeId.{NodeId}
-use Rattle.fr_plan.specs.declared.nodes.TypePlanNode.{TypePlanNode}
 use Rattle.fr_plan.specs.declared.outlines.Outline.{Outline}
 use Rattle.fr_plan.specs.Nodes.{IsNode}
 use Rattle.fr_plan.specs.PlanLaws.{PlansAreComplete}

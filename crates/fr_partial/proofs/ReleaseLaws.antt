@@ -1,5 +1,5 @@
 -- What the builder held is what its slots hold, also where they were changed since and no token came or went.
-use Rattle.std.proofs.Common.{◌≡◌, ℕ, ◌+◌, List, sym, ◌∙◌, arith}
+use Rattle.std.proofs.Common.{◌≡◌, ℕ, List, sym, ◌∙◌, arith}
 use Rattle.fr_shape.specs.Released.{Conserved, Room, RoseBy}
 use Rattle.fr_shape.specs.TokenLaws.{Room_conserved, Room_same, RoseBy_same}
 use Rattle.fr_model.specs.Tree.{tree_occurs}

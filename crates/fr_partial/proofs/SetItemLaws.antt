@@ -1,5 +1,5 @@
 -- The end of an item of a set: what it means, what it is refused for, and the path then.
-use Rattle.std.proofs.Common.{◌≡◌, ℕ, suc, true, false, List, [], ◌∷◌, ◌++◌, ◌<◌, length, nat_lt, Option, Some, None, IsSome, IsErr, Ok, Err, refl, sym, ◌∙◌, ap, subst}
+use Rattle.std.proofs.Common.{◌≡◌, ℕ, suc, true, false, List, [], ◌∷◌, ◌++◌, ◌<◌, length, nat_lt, Option, Some, None, IsSome, IsErr, Ok, Err, refl, sym, ◌∙◌, ap}
 use Rattle.std.proofs.lemmas.Bool.{lt-ltb}
 use Rattle.fr_shape.specs.declared.error.ReflectErrorKind.{ReflectErrorKind}
 use Rattle.fr_shape.specs.Hooks.{Meanings}
@@ -14,7 +14,7 @@ use Rattle.fr_model.specs.PathLaws.{LeavingAnItemDropsAStep, PathIsAsDeep}
 use Rattle.fr_model.specs.Paths.{path_of}
 use Rattle.fr_model.specs.Places.{deferred_column, is_root, strict_column}
 use Rattle.fr_model.specs.Step.{cause_by, end, is_set_item, or_missing, takes_item}
-use Rattle.fr_model.specs.Tree.{Form, Mode, strict, deferred, State, Tree, Trees, cursor_tree}
+use Rattle.fr_model.specs.Tree.{Form, Mode, strict, deferred, State, cursor_tree}
 use Rattle.fr_model.specs.Well.{Leads}
 use Rattle.fr_frame.specs.Bodies.{Body, entered_body, whole_body, begun_body, own_tree, trees_of}
 use Rattle.fr_frame.specs.Cells.{Cell, absent, given, placed}

@@ -12,7 +12,7 @@ use Rattle.fr_shape.specs.Val.{list_of, no_vals, ptr}
 use Rattle.fr_model.specs.Contents.{is_slice, kept_slice, pointer_refusal, points_to_slice, slice_anew}
 use Rattle.fr_model.specs.Items.{closed_slice, is_open_slice, shared_slice_behind, shared_slice_by, shared_slice_refusal}
 use Rattle.fr_model.specs.Step.{begin_smart_ptr, begins_pointer, puts, set_empty_shared_slice}
-use Rattle.fr_model.specs.Tree.{Form, as_struct, as_array, as_variant, as_some, as_ok, as_err, as_pointer, as_list, as_slice, as_closed_slice, as_set, as_map, as_dyn_array, as_dyn_object, Tree, hole, entered, whole, begun, change_at, tree_at, Mode, strict, deferred, cursor_tree}
+use Rattle.fr_model.specs.Tree.{as_struct, as_array, as_variant, as_some, as_ok, as_err, as_pointer, as_list, as_slice, as_closed_slice, as_set, as_map, as_dyn_array, as_dyn_object, Tree, hole, entered, whole, begun, change_at, tree_at, Mode, strict, deferred}
 use Rattle.fr_model.specs.Places.{Place}
 use Rattle.fr_plan.specs.TypePlan.{Plan}
 use Rattle.fr_frame.specs.declared.places.Slot.{Slot}

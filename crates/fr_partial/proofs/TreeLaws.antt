@@ -4,7 +4,7 @@ use Rattle.fr_shape.specs.Look.{Table}
 use Rattle.fr_shape.specs.Val.{Val}
 use Rattle.fr_model.specs.Collections.{and_item, is_set, number_in, with_ended_item, without_nth}
 use Rattle.fr_model.specs.Places.{Place, is_root, up}
-use Rattle.fr_model.specs.Tree.{Tree, hole, entered, whole, begun, Trees, no_trees, branch, tree_nth, change_nth, child_tree, tree_at, change_child, change_at, child_as, holes, shape_in, tree_occurs, trees_occur, Mode}
+use Rattle.fr_model.specs.Tree.{Tree, hole, entered, whole, begun, Trees, no_trees, branch, tree_nth, change_nth, tree_at, change_child, change_at, child_as, holes, shape_in, tree_occurs, trees_occur, Mode}
 use Rattle.fr_model.specs.Well.{OffBut, Leads}
 
 nth_same : (i : ℕ) (f : Tree → Tree) → ((t : Tree) → f t ≡ t) → (ts : Trees) → change_nth i f ts ≡ ts

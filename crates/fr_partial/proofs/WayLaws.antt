@@ -1,15 +1,12 @@
 -- The path that a builder keeps, where it goes on and where it goes back.
 use Rattle.std.proofs.Common.{◌≡◌, ℕ, List, [], ◌∷◌, ◌++◌, length, Option, Some, None, IsNone, IfSome, ◌↔◌, refl, sym, ◌∙◌, ap}
-use Rattle.fr_shape.specs.Look.{def_of}
 use Rattle.fr_path.specs.declared.path_steps.PathStep.{PathStep}
 use Rattle.fr_shape.specs.Val.{Val}
-use Rattle.fr_model.specs.PathLaws.{EnteringAddsAStep, LeavingDropsAStep, PathIsAsDeep}
-use Rattle.fr_model.specs.Paths.{step_as, path_of}
-use Rattle.fr_model.specs.Step.{enters, puts_and_leaves}
+use Rattle.fr_model.specs.PathLaws.{LeavingDropsAStep, PathIsAsDeep}
+use Rattle.fr_model.specs.Paths.{path_of}
+use Rattle.fr_model.specs.Step.{puts_and_leaves}
 use Rattle.fr_model.specs.Well.{Leads}
-use Rattle.fr_model.specs.Tree.{Form, form_of, State}
-use Rattle.fr_partial.specs.Builder.{Builder, here}
-use Rattle.fr_partial.proofs.StateLaws.{IsBuilderInOrder}
+use Rattle.fr_model.specs.Tree.{State}
 
 -- a path with a last step isn't empty
 pub never_empty : (before : List PathStep) (last : PathStep) → before ++ last ∷ [] ≡ [] → ⊥

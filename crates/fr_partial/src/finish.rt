@@ -29,12 +29,13 @@ use fr_shape::{Hooks, Invariant, Ledger, ReflectErrorKind};
 
 impl<'t, H: Hooks> Partial<'t, H> {
     /// Leaves the place for the one above. In strict mode it is completed, and its value written there: only copies of templates, what an
-    /// option, a result or a pointer holds, and what a set or a map gathers, need memory, and what is lacking is found before any is made.
-    /// In deferred mode it is left as it is, to be entered again or completed by `finish_deferred`; it has to lie deeper than the place at
-    /// which deferred mode began. An item of a set is completed in either mode, and in deferred mode with all that lies beneath it: its
-    /// value comes to the set, which leaves it out where it has one that is the same. An element or an entry of a dynamic value is
-    /// completed so too. At either, in deferred mode, it may be out of memory before it has met the first place that fails. At an open pointer to a slice the builder stays instead: the pointer becomes whole
-    /// in strict mode, and in deferred mode it is closed.
+    /// option, a result or a pointer holds, and what a set, a map or a dynamic value gathers, need memory, and what is lacking is found
+    /// before any is made. In deferred mode it is left as it is, to be entered again or completed by `finish_deferred`; it has to lie
+    /// deeper than the place at which deferred mode began. An item of a set is completed in either mode, and in deferred mode with all
+    /// that lies beneath it: its value comes to the set, which leaves it out where it has one that is the same. An element or an entry of a
+    /// dynamic value is completed so too. At either, in deferred mode, it may be out of memory before it has met the first place that
+    /// fails. At an open pointer to a slice the builder stays instead: the pointer becomes whole in strict mode, and in deferred mode it is
+    /// closed.
     pub fn end(self, ledger: &mut Ledger) -> Result<Partial<'t, H>, ReflectError>
         requires room { Room (holds self) ledger.old }
         ensures step { IsStep (H.means self.entry.hooks) self.entry Call.End result }
@@ -184,8 +185,9 @@ impl<'t, H: Hooks> Partial<'t, H> {
         Ok(self)
     }
 
-    /// Completes the root and hands its value over. Only copies of templates, what an option, a result or a pointer holds, and what a set
-    /// or a map gathers, need memory, and what is lacking is found before any is made. Refused in deferred mode, and then below the root.
+    /// Completes the root and hands its value over. Only copies of templates, what an option, a result or a pointer holds, and what a set,
+    /// a map or a dynamic value gathers, need memory, and what is lacking is found before any is made. Refused in deferred mode, and then
+    /// below the root.
     pub fn build(self, ledger: &mut Ledger) -> Result<Built, ReflectError>
         requires room { Room (holds self) ledger.old }
         ensures built { IsBuilt (H.means self.entry.hooks) self.entry result }

@@ -1,4 +1,4 @@
-//! `init_list`, `init_list_with_capacity` and `begin_list_item`: a list, or a slice behind a pointer, item by item.
+//! `init_list`, `init_list_with_capacity` and `begin_list_item`: a list, a dynamic array or a slice behind a pointer, item by item.
 ghost use Rattle.std.specs.Prelude.{◌≡◌, ℕ, true, None, Some, IfErr, IfOk, OnOk};
 ghost use Rattle.fr_shape.specs.Look.{def_of};
 ghost use Rattle.fr_shape.specs.Released.{Room, Conserved};
@@ -173,8 +173,8 @@ impl<'t, H: Hooks> Partial<'t, H> {
         self.init_list(ledger)
     }
 
-    /// Enters a new item behind the others, of a list that is begun or of an open pointer to a slice. Where the place takes no items,
-    /// that is the refusal, and never out of memory.
+    /// Enters a new item behind the others, of a list or a dynamic array that is begun or of an open pointer to a slice. Where the place
+    /// takes no items, that is the refusal, and never out of memory.
     pub fn begin_list_item(self, ledger: &mut Ledger) -> Result<Partial<'t, H>, ReflectError>
         requires room { Room (holds self) ledger.old }
         ensures step { IsStep (H.means self.entry.hooks) self.entry Call.BeginListItem result }

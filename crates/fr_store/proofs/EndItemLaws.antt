@@ -1,37 +1,36 @@
 -- Laws of a set's item that ends, for proofs: it is left, and its value comes behind the items that the set has.
-use Rattle.std.proofs.Common.{◌≡◌, ◌≢◌, ◌⊎◌, ℕ, zero, suc, ◌+◌, ◌<◌, ◌≤◌, Bool, true, false, ◌||◌, List, [], ◌∷◌, ◌++◌, append-nil, length, nat_eq, Option, Some, None, inl, inr, refl, sym, ◌∙◌, ap, subst, arith}
+use Rattle.std.proofs.Common.{◌≡◌, ◌≢◌, ◌⊎◌, ℕ, suc, ◌+◌, ◌≤◌, true, false, List, [], ◌∷◌, ◌++◌, append-nil, length, nat_eq, Option, Some, None, inl, inr, refl, sym, ◌∙◌, ap, subst, arith}
 use Rattle.std.specs.Option.{option_and_then}
-use Rattle.std.specs.Prelude.{is_some, IsSome, IsSomeAnd, if◌then◌else◌}
+use Rattle.std.specs.Prelude.{is_some, IsSome, IsSomeAnd}
 use Rattle.fr_shape.specs.Released.{Room}
-use Rattle.fr_shape.specs.Same.{same}
 use Rattle.fr_shape.specs.Val.{Val}
-use Rattle.fr_model.specs.Collections.{and_item, has_same, is_set, is_set_form, number_in, with_ended_item, without_nth}
+use Rattle.fr_model.specs.Collections.{and_item, is_set, number_in, with_ended_item, without_nth}
 use Rattle.fr_model.specs.Places.{Place, is_root, up}
-use Rattle.fr_model.specs.Tree.{Form, as_struct, as_array, as_variant, as_some, as_ok, as_err, as_pointer, as_list, as_slice, as_closed_slice, as_set, as_map, as_dyn_array, as_dyn_object, Tree, begun, whole, Trees, branch, and_last, tree_at, change_at}
+use Rattle.fr_model.specs.Tree.{Form, as_set, begun, Trees, tree_at, change_at}
 use Rattle.fr_plan.specs.TypePlan.{Plan}
 use Rattle.fr_frame.specs.declared.places.FrameOwner.{FrameOwner}
 use Rattle.fr_frame.specs.declared.places.Slot.{Slot}
-use Rattle.fr_frame.specs.Bodies.{Body, begun_body, body_occurs, cell_at, unlinked, value_of, and_item_cell, has_same_cell, is_same_cell, with_ended, without_cell, AreUnplaced, IsClosed, IsSetBody}
-use Rattle.fr_frame.specs.Cells.{Cell, given, placed}
+use Rattle.fr_frame.specs.Bodies.{Body, begun_body, body_occurs, cell_at, unlinked, value_of, and_item_cell, with_ended, AreUnplaced, IsClosed, IsSetBody}
+use Rattle.fr_frame.specs.Cells.{Cell, placed}
 use Rattle.fr_frame.specs.Changes.{IfInUse, SameMarks, Shows}
 use Rattle.fr_frame.specs.Heap.{Node, Heap, ends, held_by, heap_of, marked, stored_in, with_body, with_slot, without, IsItemOf}
-use Rattle.fr_frame.specs.Kids.{Kid, gone, there, at, Plot, begun_plot, Kids, no_kids, kid, MayHave, tree_of, trees_in, cell_of, cells_in, body_in, child_owner, Holds, AreLeftRightly, AreLeftAll}
+use Rattle.fr_frame.specs.Kids.{Kid, gone, at, begun_plot, Kids, MayHave, tree_of, trees_in, cell_of, cells_in, body_in, child_owner, Holds, AreLeftRightly, AreLeftAll}
 use Rattle.fr_store.specs.HereLaws.{value_closed}
-use Rattle.fr_store.specs.HoldLaws.{AgreeBeside, Replaces, holds_at, may_have_all}
-use Rattle.fr_store.specs.LeaveLaws.{above_append, below_root, cells_nth, kid_at_append, owner_append, up_append}
+use Rattle.fr_store.specs.HoldLaws.{AgreeBeside, Replaces, holds_at}
+use Rattle.fr_store.specs.LeaveLaws.{above_append, below_root, cells_nth, owner_append, up_append}
 use Rattle.fr_store.specs.LeftLaws.{at_for_at, left_at}
 use Rattle.fr_store.specs.MoveLaws.{open_at_held, open_top, same_front, same_last, top_node, top_room, top_so as first_so}
 use Rattle.fr_store.specs.Moves.{IsOpenAt, cursor_in, tokens_here, tree_in_slots}
 use Rattle.fr_store.specs.Numbers.{IsLast}
-use Rattle.fr_store.specs.Places.{IsPlaced, slot_at, slot_here}
+use Rattle.fr_store.specs.Places.{IsPlaced, slot_at}
 use Rattle.fr_store.specs.StandLaws.{all_kept_but, kid_is, stands_change, AllServe}
 use Rattle.fr_store.specs.Stands.{Stands, IsOpen, kid_here, kid_shown}
 use Rattle.fr_store.specs.StayLaws.{closed_below, stay_at}
 use Rattle.fr_store.specs.Staying.{StayPutBut, StaysPut}
 use Rattle.fr_store.specs.StoreLaws.{Parent, parent_of}
 use Rattle.fr_store.specs.TopLaws.{Top, body_here, body_other, closed_marked, closed_uses, marked_body, slot_here as there_now, slot_other, top_of, unplaced_holds, unplaced_uses, used_mapped}
-use Rattle.fr_store.specs.Ways.{count_kids, kid_at, kid_nth, put_at, put_nth, slots_above, counts_if, uses, uses_in, uses_among, AllMarkedAmong, StoredBut, Leads, Reaches, node_along, owner_along, owner_below}
-use Rattle.fr_store.specs.WayLaws.{counts_same, counts_other, same_or_other, leads_reach, tree_change_at, tree_of_at, uses_at, uses_nth, uses_put_nth}
+use Rattle.fr_store.specs.Ways.{count_kids, kid_at, kid_nth, put_at, put_nth, slots_above, counts_if, uses, uses_in, uses_among, Leads, Reaches, node_along, owner_along, owner_below}
+use Rattle.fr_store.specs.WayLaws.{counts_same, counts_other, same_or_other, leads_reach, tree_change_at, tree_of_at, uses_at, uses_put_nth}
 use Rattle.fr_store.proofs.SetKidLaws.{beside_unplaced, cells_item, cells_without, kids_and_item, kids_without, others_unplaced, set_form, set_left, trees_item, trees_without, unplaced_item, unplaced_without}
 
 number_append : (above : Place) (i : ℕ) → number_in (above ++ i ∷ []) ≡ i

@@ -14,7 +14,7 @@ use Rattle.fr_frame.specs.Bodies.{Body, begun_body, body_occurs, cell_at, unlink
 use Rattle.fr_frame.specs.Cells.{given, placed}
 use Rattle.fr_frame.specs.Changes.{IfInUse, SameMarks, Shows}
 use Rattle.fr_frame.specs.Heap.{Node, Heap, gives, held_by, heap_of, marked, stored_in, with_body, with_slot, without}
-use Rattle.fr_frame.specs.Kids.{Kid, gone, there, at, Plot, begun_plot, Kids, MayHave, tree_of, cell_of, cells_in, body_in, child_owner, Holds, AreLeftRightly}
+use Rattle.fr_frame.specs.Kids.{Kid, gone, there, at, begun_plot, Kids, MayHave, tree_of, cell_of, cells_in, body_in, child_owner, Holds, AreLeftRightly}
 use Rattle.fr_store.specs.HereLaws.{value_closed}
 use Rattle.fr_store.specs.HoldLaws.{AgreeBeside, Replaces, holds_at, holds_put_nth, may_have_at}
 use Rattle.fr_store.specs.LeaveLaws.{above_append, below_root, cells_nth, may_have_put, owner_append, put_append, unlinked_child, up_append, with_child, within_put}

@@ -6,12 +6,10 @@ use Rattle.std.specs.Str.{bytes_eq}
 use Rattle.fr_shape.specs.declared.shape.Def.{Def}
 use Rattle.fr_model.specs.DynamicPlaces.{entry_found, is_begun_object, is_object_form, keys_here, number_or_last}
 use Rattle.fr_model.specs.Dynamics.{keys_apart}
-use Rattle.fr_model.specs.Places.{Place}
 use Rattle.fr_model.specs.Step.{enter}
-use Rattle.fr_model.specs.Tree.{Form, as_struct, as_array, as_variant, as_some, as_ok, as_err, as_pointer, as_list, as_slice, as_closed_slice, as_set, as_map, as_dyn_array, as_dyn_object, keys_of_form, Tree, hole, entered, whole, begun, Trees, and_last, change_at}
+use Rattle.fr_model.specs.Tree.{Form, as_struct, as_array, as_variant, as_some, as_ok, as_err, as_pointer, as_list, as_slice, as_closed_slice, as_set, as_map, as_dyn_array, as_dyn_object, keys_of_form, Tree, hole, entered, whole, begun, and_last, change_at}
 use Rattle.fr_plan.specs.declared.nodes.NodeId.{NodeId}
 use Rattle.fr_plan.specs.TypePlan.{Plan}
-use Rattle.fr_frame.specs.declared.places.FrameOwner.{FrameOwner}
 use Rattle.fr_frame.specs.declared.places.Slot.{Slot}
 use Rattle.fr_frame.specs.Bodies.{begun_body, count_cells, keys_in, with_entry_for, with_entry_unless as body_unless, AreUnplaced, IsObjectBody, IsUnplaced}
 use Rattle.fr_frame.specs.Changes.{IfInUse, SameMarks, SameTokens, Shows}
@@ -25,10 +23,10 @@ use Rattle.fr_store.specs.Numbers.{IsLast}
 use Rattle.fr_store.specs.Stands.{IsOpen, kid_here}
 use Rattle.fr_store.specs.StayLaws.{stay_same}
 use Rattle.fr_store.specs.Staying.{AllStayPut}
-use Rattle.fr_store.specs.TopLaws.{KeepsChildren, Top, cells_count, keeps_same}
-use Rattle.fr_store.specs.Ways.{count_kids, kid_at, kid_nth, put_nth, AllMarkedIn, AllMarkedAmong}
+use Rattle.fr_store.specs.TopLaws.{cells_count, keeps_same}
+use Rattle.fr_store.specs.Ways.{count_kids, kid_nth, AllMarkedIn, AllMarkedAmong}
 use Rattle.fr_store.specs.WayLaws.{tree_put_nth, tree_of_nth}
-use Rattle.fr_store.proofs.ItemLaws.{Grows, counted, formed, formed_here, gone_unplaced, gone_vacant, grown_stay, holds_and_last, kids_and_last, left_and_last, marked_and_last, marks_item, nth_last, occurs_and_last, open_item, put_last, tree_vacant, trees_and_last, uses_and_last, cells_and_last, count_and_last}
+use Rattle.fr_store.proofs.ItemLaws.{Grows, counted, formed, formed_here, gone_unplaced, grown_stay, holds_and_last, kids_and_last, left_and_last, marked_and_last, marks_item, nth_last, occurs_and_last, open_item, put_last, tree_vacant, trees_and_last, uses_and_last, cells_and_last, count_and_last}
 
 -- Objects.
 

@@ -1,31 +1,30 @@
 -- Laws of items, for proofs: the top has one more child behind the others, which gets a slot and is on top then.
-use Rattle.std.proofs.Common.{◌≡◌, ◌≢◌, ℕ, zero, suc, ◌+◌, ◌<◌, ◌≤◌, true, false, List, [], ◌∷◌, ◌++◌, length, Option, Some, None, refl, sym, ◌∙◌, ap, subst, arith}
-use Rattle.std.specs.Prelude.{IsSome}
+use Rattle.std.proofs.Common.{◌≡◌, ◌≢◌, ℕ, zero, suc, ◌+◌, ◌<◌, true, false, List, [], ◌∷◌, ◌++◌, Option, Some, None, refl, sym, ◌∙◌, ap, subst, arith}
 use Rattle.fr_shape.specs.declared.shape.Def.{Def}
 use Rattle.fr_model.specs.Collections.{is_map, is_map_form}
 use Rattle.fr_model.specs.Places.{Place}
-use Rattle.fr_model.specs.Tree.{Form, as_struct, as_array, as_variant, as_some, as_ok, as_err, as_pointer, as_list, as_slice, as_closed_slice, as_set, as_map, as_dyn_array, as_dyn_object, Tree, hole, entered, whole, Trees, begun, branch, and_last, count_below, count_trees, tree_at, change_at}
+use Rattle.fr_model.specs.Tree.{Form, as_struct, as_array, as_variant, as_some, as_ok, as_err, as_pointer, as_list, as_slice, as_closed_slice, as_set, as_map, as_dyn_array, as_dyn_object, Tree, hole, entered, whole, Trees, begun, branch, and_last, count_below, tree_at, change_at}
 use Rattle.fr_plan.specs.declared.nodes.NodeId.{NodeId}
 use Rattle.fr_plan.specs.TypePlan.{Plan}
 use Rattle.fr_frame.specs.declared.places.FrameOwner.{FrameOwner}
 use Rattle.fr_frame.specs.declared.places.Slot.{Slot}
-use Rattle.fr_frame.specs.Bodies.{Body, begun_body, added, added_entry, count_cells, IsGrowing, IsMapBody, IsUnplaced, TakesItems}
+use Rattle.fr_frame.specs.Bodies.{Body, begun_body, added, added_entry, IsGrowing, IsMapBody, IsUnplaced, TakesItems}
 use Rattle.fr_frame.specs.Cells.{Cell, absent}
 use Rattle.fr_frame.specs.Changes.{IfInUse, SameMarks, SameTokens, Shows}
 use Rattle.fr_frame.specs.Heap.{Node, Heap, depth_above, depth_below, depth_limit, heap_of, item_owner, stored_in, with_body, with_entered}
-use Rattle.fr_frame.specs.Kids.{Kid, gone, there, at, Plot, entered_plot, whole_plot, begun_plot, Kids, no_kids, kid, MayHave, tree_of, tree_in, trees_in, cell_of, cells_in, body_in, kid_occurs, kids_occur, plot_occurs, child_node, child_owner, HoldsAll, IsThere, AreLeftAll}
+use Rattle.fr_frame.specs.Kids.{Kid, gone, at, Plot, begun_plot, Kids, no_kids, kid, MayHave, tree_of, tree_in, trees_in, cell_of, cells_in, body_in, kid_occurs, kids_occur, child_node, child_owner, HoldsAll, IsThere, AreLeftAll}
 use Rattle.fr_store.specs.ChildLaws.{count_kids_trees, plot_formed}
 use Rattle.fr_store.specs.EnterLaws.{all_entered, child_plot, entered_kid, fresh_plot, fresh_tree, stands_entered, stay_entered, tokens_entered}
 use Rattle.fr_store.specs.LeftLaws.{entry_next, left_past}
 use Rattle.fr_store.specs.MoveLaws.{open_at_from, open_reach, open_top, so_top, tokens_kept, top_found, top_node, top_slot, top_so, top_stands_in}
 use Rattle.fr_store.specs.Moves.{HasForm, IsOpenAt, count_here, cursor_in, node_here, tree_here, tree_in_slots, with_item_of, with_key_of}
 use Rattle.fr_store.specs.Numbers.{IsLast}
-use Rattle.fr_store.specs.Places.{IsPlaced, slot_at, slot_here}
+use Rattle.fr_store.specs.Places.{IsPlaced, slot_here}
 use Rattle.fr_store.specs.StandLaws.{all_kept, AllServe}
 use Rattle.fr_store.specs.Stands.{IsOpen, Stands, kid_here}
 use Rattle.fr_store.specs.StayLaws.{stay_all, stay_shown}
 use Rattle.fr_store.specs.Staying.{AllStayPut}
-use Rattle.fr_store.specs.TopLaws.{KeepsChildren, Top, body_here, body_other, cells_count, marked_body, marked_entered, top_of, top_uses, used_mapped}
+use Rattle.fr_store.specs.TopLaws.{KeepsChildren, Top, body_here, body_other, cells_count, marked_body, marked_entered, top_of, used_mapped}
 use Rattle.fr_store.specs.Ways.{count_kids, kid_at, kid_nth, node_along, put_at, put_nth, uses, uses_among, AllMarkedAmong, Reaches}
 use Rattle.fr_store.specs.WayLaws.{kid_put_at, occurs_put_at, put_at_twice, tree_change_at, tree_of_at}
 

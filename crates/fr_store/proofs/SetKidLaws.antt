@@ -1,10 +1,10 @@
 -- Laws of the children of a set, for proofs: one of them goes, and a value comes behind the others unless it is there.
-use Rattle.std.proofs.Common.{◌≡◌, ◌≢◌, ℕ, zero, suc, ◌≤◌, Bool, true, false, ◌||◌, List, [], ◌∷◌, ◌++◌, refl, sym, ◌∙◌, ap, arith}
+use Rattle.std.proofs.Common.{◌≡◌, ◌≢◌, ℕ, zero, suc, Bool, true, false, ◌||◌, List, [], ◌∷◌, ◌++◌, refl, sym, ◌∙◌, ap, arith}
 use Rattle.std.specs.Prelude.{if◌then◌else◌}
 use Rattle.fr_shape.specs.Same.{same}
 use Rattle.fr_shape.specs.Val.{Val}
 use Rattle.fr_model.specs.Collections.{and_item, has_same, is_set_form, without_nth}
-use Rattle.fr_model.specs.Places.{Place, entry_of}
+use Rattle.fr_model.specs.Places.{Place}
 use Rattle.fr_model.specs.Tree.{Form, as_struct, as_array, as_variant, as_some, as_ok, as_err, as_pointer, as_list, as_slice, as_closed_slice, as_set, as_map, as_dyn_array, as_dyn_object, whole, Trees, branch, and_last}
 use Rattle.fr_frame.specs.Bodies.{and_item_cell, has_same_cell, without_cell, AreUnplaced}
 use Rattle.fr_frame.specs.Cells.{Cell, given}

@@ -1,25 +1,24 @@
 -- Laws of the top that becomes whole where it is, for proofs: nothing is stored.
-use Rattle.std.proofs.Common.{◌≡◌, ℕ, ◌+◌, true, false, List, [], ◌∷◌, Option, option_map, Some, None, refl, sym, ◌∙◌, ap, subst, arith}
-use Rattle.std.specs.Prelude.{IsSome, IsSomeAnd}
-use Rattle.fr_shape.specs.Tokens.{occurs}
+use Rattle.std.proofs.Common.{◌≡◌, ℕ, false, List, [], ◌∷◌, Option, option_map, Some, None, refl, sym, ◌∙◌, ap, subst}
+use Rattle.std.specs.Prelude.{IsSome}
 use Rattle.fr_shape.specs.Val.{Val}
 use Rattle.fr_model.specs.Places.{Place}
 use Rattle.fr_model.specs.Tree.{whole, change_at}
 use Rattle.fr_plan.specs.TypePlan.{Plan}
 use Rattle.fr_frame.specs.declared.places.Slot.{Slot}
-use Rattle.fr_frame.specs.Bodies.{whole_body, body_occurs, value_of, IsClosed}
-use Rattle.fr_frame.specs.Changes.{Becomes, IfInUse, SameTokens, Shows}
+use Rattle.fr_frame.specs.Bodies.{whole_body, value_of, IsClosed}
+use Rattle.fr_frame.specs.Changes.{Becomes, IfInUse, Shows}
 use Rattle.fr_frame.specs.Heap.{Node, heap_of, stored_in, with_body, with_slot}
-use Rattle.fr_frame.specs.Kids.{Kid, at, Plot, whole_plot, body_in, plot_occurs}
-use Rattle.fr_store.specs.MoveLaws.{closed_open, open_reach, open_top, so_top, top_changed_held, top_found, top_node, top_slot, top_so, top_stands}
+use Rattle.fr_frame.specs.Kids.{Kid, at, Plot, whole_plot, body_in}
+use Rattle.fr_store.specs.MoveLaws.{closed_open, open_reach, open_top, so_top, top_changed_held, top_found, top_node, top_so, top_stands}
 use Rattle.fr_store.specs.Moves.{AtTop, IsOpenAt, cursor_in, tree_in_slots}
 use Rattle.fr_store.specs.Numbers.{IsLast}
 use Rattle.fr_store.specs.Stands.{IsOpen, kid_here}
 use Rattle.fr_store.specs.StayLaws.{closed_below, stay_all, stay_shown}
 use Rattle.fr_store.specs.Staying.{AllStayPut}
 use Rattle.fr_store.specs.Stored.{NothingStored}
-use Rattle.fr_store.specs.TopLaws.{MayHaveIts, closed_occur, held_may_have, keeps_closed, loses_none, marked_body}
-use Rattle.fr_store.specs.Ways.{node_along, put_at}
+use Rattle.fr_store.specs.TopLaws.{keeps_closed, loses_none, marked_body}
+use Rattle.fr_store.specs.Ways.{put_at}
 
 module _ (plan : Plan) (before after : List Slot) (stack : List ℕ) (open_now : IsOpen plan before stack) (n : ℕ)
     (last : IsLast stack n) (strict : NothingStored before)

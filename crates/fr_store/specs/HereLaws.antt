@@ -6,24 +6,23 @@ use Rattle.fr_shape.specs.Checked.{IsChecked}
 use Rattle.fr_shape.specs.Hooks.{Meanings}
 use Rattle.fr_shape.specs.Look.{Table}
 use Rattle.fr_shape.specs.Fits.{count_vals}
-use Rattle.fr_shape.specs.Tokens.{occurs}
 use Rattle.fr_shape.specs.Val.{Val, Vals, no_vals, first, product, variant, some, ok, err, list_of, ptr}
 use Rattle.fr_model.specs.Complete.{complete, complete_all, failing_child, hole_takes, unless_failing, valid_child, value_as}
 use Rattle.fr_model.specs.Failing.{own_lack}
 use Rattle.fr_model.specs.Finish.{begun_with, finished_here}
 use Rattle.fr_model.specs.Places.{Place, entry_of, deferred_column, one_more, vals_nth}
-use Rattle.fr_model.specs.Tree.{Form, as_struct, as_array, as_variant, as_some, as_ok, as_err, as_pointer, as_list, as_slice, as_closed_slice, as_set, as_map, as_dyn_array, as_dyn_object, base_of_form, Tree, hole, whole, begun, Trees, no_trees, branch, change_at, child_as, count_trees, for_hole, shape_in, tree_at, tree_occurs, wholes}
+use Rattle.fr_model.specs.Tree.{Form, as_struct, as_array, as_variant, as_some, as_ok, as_err, as_pointer, as_list, as_slice, as_closed_slice, as_set, as_map, as_dyn_array, as_dyn_object, base_of_form, Tree, hole, whole, begun, Trees, no_trees, branch, change_at, child_as, count_trees, for_hole, shape_in, tree_at, wholes}
 use Rattle.fr_model.specs.Well.{Suits}
 use Rattle.fr_plan.specs.LookupLaws.{LookupsAgree, LookupPathsAgree}
 use Rattle.fr_plan.specs.TypePlan.{Plan}
 use Rattle.fr_frame.specs.declared.places.Slot.{Slot}
-use Rattle.fr_frame.specs.Bodies.{Body, entered_body, whole_body, begun_body, body_occurs, gathers, own_tree, trees_of, value_of, IsClosed, AreUnplaced}
+use Rattle.fr_frame.specs.Bodies.{Body, entered_body, whole_body, begun_body, gathers, own_tree, trees_of, value_of, IsClosed, AreUnplaced}
 use Rattle.fr_frame.specs.Cells.{Cell, absent, given, placed, values_of}
-use Rattle.fr_frame.specs.Changes.{Becomes, IfInUse, SameTokens, Shows}
+use Rattle.fr_frame.specs.Changes.{Becomes, IfInUse, Shows}
 use Rattle.fr_frame.specs.Completing.{shape_of, FillsAt, IsPlanFor, MayComplete}
 use Rattle.fr_frame.specs.Defaults.{KeepGiven, KeepsForm, WhyNotDefault}
-use Rattle.fr_frame.specs.Heap.{Node, heap_of, marked, slots_occur, stored_in, with_body, with_slot}
-use Rattle.fr_frame.specs.Kids.{Kid, gone, MayHave, Plot, tree_of, tree_in, trees_in, cells_in, body_in, kids_in, plot_in, kid_occurs, plot_occurs, begun_plot, entered_plot, whole_plot, AreLeftRightly, AreLeftIn, AreLeftAll}
+use Rattle.fr_frame.specs.Heap.{Node, heap_of, marked, stored_in, with_body, with_slot}
+use Rattle.fr_frame.specs.Kids.{Kid, gone, MayHave, Plot, tree_of, tree_in, trees_in, cells_in, body_in, kids_in, plot_in, begun_plot, entered_plot, whole_plot, AreLeftRightly, AreLeftIn, AreLeftAll}
 use Rattle.fr_store.specs.ValueLaws.{made_of, made_value, more_is, values_count}
 use Rattle.fr_store.specs.LeftLaws.{left_at, left_end, left_value}
 use Rattle.fr_store.specs.MoveLaws.{closed_open, open_top, so_top, top_changed_held, top_found, top_node, top_so}
@@ -32,12 +31,12 @@ use Rattle.fr_store.specs.Numbers.{IsLast}
 use Rattle.fr_store.specs.ShapeLaws.{Along}
 use Rattle.fr_store.specs.Stands.{IsOpen}
 use Rattle.fr_store.specs.Stored.{NothingStored}
-use Rattle.fr_store.specs.TopLaws.{MayHaveIts, cells_count, closed_occur, held_may_have, closed_tree, keeps_closed, loses_none, slot_here, slot_other}
+use Rattle.fr_store.specs.TopLaws.{MayHaveIts, cells_count, held_may_have, closed_tree, keeps_closed, loses_none, slot_here, slot_other}
 use Rattle.fr_store.specs.TurnedLaws.{along_open, count_of, may_complete, shape_along}
 use Rattle.fr_store.specs.Turning.{FinishedHere, LacksHere, becomes_whole, kid_here}
 use Rattle.fr_store.specs.Turns.{root_shape}
-use Rattle.fr_store.specs.Ways.{kid_at, node_along, Leads, Reaches}
-use Rattle.fr_store.specs.WayLaws.{leads_reach, same_or_other, tree_of_at, tree_tokens}
+use Rattle.fr_store.specs.Ways.{node_along, Leads, Reaches}
+use Rattle.fr_store.specs.WayLaws.{leads_reach, same_or_other, tree_of_at}
 
 -- Places none of whose children is in a slot.
 

@@ -1,5 +1,5 @@
 -- Laws of the steps to places in slots, for proofs: they tell the places, and their order.
-use Rattle.std.proofs.Common.{◌≡◌, ◌≢◌, ◌⊎◌, ℕ, zero, suc, ◌+◌, ◌-◌, ◌<◌, ◌≤◌, Bool, true, false, List, [], ◌∷◌, inl, inr, refl, sym, ◌∙◌, ap, subst, arith}
+use Rattle.std.proofs.Common.{◌≡◌, ◌≢◌, ◌⊎◌, ℕ, zero, suc, ◌+◌, ◌-◌, ◌<◌, ◌≤◌, Bool, true, false, [], ◌∷◌, inl, inr, refl, sym, ◌∙◌, ap, subst, arith}
 use Rattle.std.specs.Prelude.{if◌then◌else◌}
 use Rattle.std.specs.declared.cmp.Ordering.{Ordering}
 use Rattle.std.specs.declared.cmp.Ordering.TheVariants.{Less, Equal}
@@ -10,14 +10,14 @@ use Rattle.std.proofs.lemmas.Grind.{common_steps}
 use Rattle.fr_path.specs.declared.path_steps.PathStep.{PathStep}
 use Rattle.fr_path.specs.Order.{step_order}
 use Rattle.fr_path.specs.OrderLaws.{step_itself}
-use Rattle.fr_model.specs.Paths.{step_as, step_below, steps_in}
+use Rattle.fr_model.specs.Paths.{step_as, steps_in}
 use Rattle.fr_model.specs.Places.{Place, is_key, entry_of}
-use Rattle.fr_model.specs.Tree.{Form, as_struct, as_array, as_variant, as_some, as_ok, as_err, as_pointer, as_list, as_slice, as_closed_slice, as_set, as_map, as_dyn_array, as_dyn_object, base_of_form, Tree, begun, child_tree, tree_nth}
+use Rattle.fr_model.specs.Tree.{Form, as_struct, as_array, as_variant, as_some, as_ok, as_err, as_pointer, as_list, as_slice, as_closed_slice, as_set, as_map, as_dyn_array, as_dyn_object, base_of_form, Tree, tree_nth}
 use Rattle.fr_plan.specs.declared.nodes.NodeId.{NodeId}
 use Rattle.fr_plan.specs.TypePlan.{Plan}
 use Rattle.fr_frame.specs.declared.places.FrameOwner.{FrameOwner}
 use Rattle.fr_frame.specs.Heap.{Heap}
-use Rattle.fr_frame.specs.Kids.{Kid, gone, there, at, Plot, entered_plot, whole_plot, begun_plot, Kids, no_kids, kid, MayHave, is_stored, tree_of, trees_in, child_node, child_owner, Holds, IsThere, IsLeftRightly, AreLeftRightly, AreLeftAll}
+use Rattle.fr_frame.specs.Kids.{Kid, gone, there, at, entered_plot, whole_plot, begun_plot, Kids, no_kids, kid, MayHave, is_stored, tree_of, trees_in, child_node, child_owner, Holds, IsThere, IsLeftRightly, AreLeftRightly, AreLeftAll}
 use Rattle.fr_store.specs.HoldLaws.{holds_nth, may_have_all}
 use Rattle.fr_store.specs.LeftLaws.{left_nth}
 use Rattle.fr_store.specs.Moves.{takes_at_end_as}

@@ -8,18 +8,18 @@ use Rattle.fr_model.specs.Tree.{Form}
 use Rattle.fr_plan.specs.declared.nodes.NodeId.{NodeId}
 use Rattle.fr_plan.specs.TypePlan.{Plan}
 use Rattle.fr_frame.specs.declared.places.FrameOwner.{FrameOwner}
-use Rattle.fr_frame.specs.Bodies.{Body, begun_body, cell_at, with_cell, unlinked, IsClosed}
+use Rattle.fr_frame.specs.Bodies.{Body, begun_body, with_cell, unlinked, IsClosed}
 use Rattle.fr_frame.specs.Cells.{given, placed}
 use Rattle.fr_frame.specs.Heap.{Node, Heap, stored_in, marked, with_slot, with_body, without}
 use Rattle.fr_frame.specs.Kids.{Kid, gone, there, at, Plot, entered_plot, whole_plot, begun_plot, Kids, no_kids, kid, MayHave, cell_of, cells_in, body_in, child_node, child_owner, Holds, HoldsAll}
 use Rattle.fr_store.specs.HoldLaws.{AgreeBeside, Replaces, holds_at, holds_frame, may_have_all, replaces_at}
 use Rattle.fr_store.specs.LeftLaws.{left_put_at, there_for_any}
-use Rattle.fr_store.specs.LeaveLaws.{below_root, cell_of_child, kid_at_append, may_have_put, owner_append, put_append, unlinked_child, with_child, within_put}
+use Rattle.fr_store.specs.LeaveLaws.{below_root, kid_at_append, may_have_put, owner_append, put_append, unlinked_child, with_child, within_put}
 use Rattle.fr_store.specs.OffLaws.{along_off, leads_off, off_stored}
 use Rattle.fr_store.specs.Stands.{Stands}
 use Rattle.fr_store.specs.TopLaws.{body_here, body_other, slot_here, slot_other}
 use Rattle.fr_store.specs.Ways.{count_kids, kid_nth, kid_at, put_nth, put_at, counts_if, uses, uses_in, uses_among, Reaches, node_along, owner_along, owner_below}
-use Rattle.fr_store.specs.WayLaws.{counts_same, nth_put, same_or_other, uses_at, uses_nth, uses_put_at}
+use Rattle.fr_store.specs.WayLaws.{counts_same, same_or_other, uses_at, uses_nth, uses_put_at}
 
 -- One slot after another.
 

@@ -1,12 +1,11 @@
 -- Laws of a turn in slots, for proofs: from what its calls say to what it owes.
-use Rattle.std.proofs.Common.{◌≡◌, ◌≢◌, ◌⊎◌, ℕ, zero, suc, ◌+◌, ◌<◌, true, false, List, [], ◌∷◌, append-nil, length, slice_get, Option, Some, None, option_map, unwrap_or, inl, inr, refl, sym, ◌∙◌, ap, subst, arith}
+use Rattle.std.proofs.Common.{◌≡◌, ◌≢◌, ◌⊎◌, ℕ, zero, suc, ◌<◌, true, false, List, [], ◌∷◌, append-nil, length, slice_get, Option, Some, None, option_map, unwrap_or, inl, inr, refl, sym, ◌∙◌, ap, subst, arith}
 use Rattle.std.specs.Option.{option_and_then}
 use Rattle.std.specs.Prelude.{is_some, IsSome, IsSomeAnd}
 use Rattle.fr_shape.specs.declared.error.ReflectErrorKind.{ReflectErrorKind}
 use Rattle.fr_shape.specs.Checked.{IsChecked}
 use Rattle.fr_shape.specs.Hooks.{Meanings}
 use Rattle.fr_shape.specs.Look.{Table, def_of}
-use Rattle.fr_shape.specs.Tokens.{occurs}
 use Rattle.fr_shape.specs.Val.{Val}
 use Rattle.fr_model.specs.Complete.{complete}
 use Rattle.fr_model.specs.Failing.{own_lack}
@@ -15,7 +14,7 @@ use Rattle.fr_model.specs.FinishLaws.{Closes, closed_at, ClosingKeepsCompletion,
 use Rattle.fr_model.specs.Finishing.{IsOffTheWay}
 use Rattle.fr_model.specs.Places.{Place, deferred_column}
 use Rattle.fr_model.specs.Relation.{HasPlace}
-use Rattle.fr_model.specs.Tree.{Tree, count_trees, shape_in, tree_at, tree_occurs}
+use Rattle.fr_model.specs.Tree.{Tree, count_trees, shape_in, tree_at}
 use Rattle.fr_model.specs.Well.{IsFullAs, Suits}
 use Rattle.fr_plan.specs.declared.nodes.NodeId.{NodeId}
 use Rattle.fr_plan.specs.declared.nodes.TypePlanNode.{TypePlanNode}
@@ -24,12 +23,12 @@ use Rattle.fr_plan.specs.TypePlan.{Plan}
 use Rattle.fr_frame.specs.declared.places.FrameOwner.{FrameOwner}
 use Rattle.fr_frame.specs.declared.places.Slot.{Slot}
 use Rattle.fr_frame.specs.Bodies.{Body, entered_body, whole_body, begun_body, cell_at, own_tree, trees_of, value_of, with_cell, IsClosed}
-use Rattle.fr_frame.specs.Cells.{Cell, absent, given, placed}
-use Rattle.fr_frame.specs.Changes.{IfInUse, IsInUse, SameTokens, Shows}
+use Rattle.fr_frame.specs.Cells.{Cell, given, placed}
+use Rattle.fr_frame.specs.Changes.{IfInUse, IsInUse, Shows}
 use Rattle.fr_frame.specs.Completing.{shape_of, FillsAt, IsFull, IsPlanFor, MayComplete}
 use Rattle.fr_frame.specs.Defaults.{WhyNotDefault}
 use Rattle.fr_frame.specs.Heap.{Node, Heap, gives, held_by, heap_of, slots_occur, with_body, without}
-use Rattle.fr_frame.specs.Kids.{Kid, gone, there, MayHave, tree_of, cell_of, cells_in, kid_occurs, child_owner}
+use Rattle.fr_frame.specs.Kids.{Kid, there, MayHave, tree_of, cell_of, cells_in, kid_occurs, child_owner}
 use Rattle.fr_store.specs.ClosingLaws.{completes_still}
 use Rattle.fr_store.specs.LeaveLaws.{cell_of_child}
 use Rattle.fr_store.specs.Moves.{IsOpenAt, cursor_in, tree_in_slots}
@@ -43,8 +42,8 @@ use Rattle.fr_store.specs.TurnLaws.{Over, due_apart, due_found, due_node, due_of
 use Rattle.fr_store.specs.Turning.{HasTurned, IsLackingAt, KeepsTheRest, MayTurn, kid_here}
 use Rattle.fr_store.specs.Turns.{CompletesAsBefore, root_shape}
 use Rattle.fr_store.specs.Walks.{IsStoredAt}
-use Rattle.fr_store.specs.Ways.{count_kids, kid_at, kid_nth, put_at, put_nth, uses, Leads, Reaches, node_along}
-use Rattle.fr_store.specs.WayLaws.{counts_other, leads_reach, occurs_put_at, same_or_other, tree_of_at, tree_put_at, tree_tokens, uses_put_at}
+use Rattle.fr_store.specs.Ways.{count_kids, kid_nth, put_at, uses, Leads, Reaches, node_along}
+use Rattle.fr_store.specs.WayLaws.{counts_other, leads_reach, same_or_other, tree_of_at, tree_put_at, uses_put_at}
 
 -- A place of a plan.
 

@@ -1,5 +1,5 @@
 -- Laws of the values that places come to, for proofs.
-use Rattle.std.proofs.Common.{◌≡◌, ℕ, suc, Bool, true, false, List, [], ◌∷◌, length, Option, Some, None, refl, sym, ◌∙◌, ap}
+use Rattle.std.proofs.Common.{◌≡◌, suc, Bool, true, false, List, [], ◌∷◌, length, Option, Some, None, refl, sym, ◌∙◌, ap}
 use Rattle.std.specs.Prelude.{if◌then◌else◌}
 use Rattle.fr_shape.specs.Fits.{count_vals}
 use Rattle.fr_shape.specs.Val.{Val, Vals, no_vals, first}

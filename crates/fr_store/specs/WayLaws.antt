@@ -3,8 +3,8 @@ use Rattle.std.proofs.Common.{◌≡◌, ◌≢◌, ◌⊎◌, ℕ, zero, suc, �
 use Rattle.std.proofs.lemmas.Grind.{common_steps}
 use Rattle.std.proofs.lemmas.Bool.Decides.{nat_tests}
 use Rattle.fr_model.specs.Places.{Place}
-use Rattle.fr_model.specs.Tree.{Form, as_struct, as_array, as_variant, as_some, as_ok, as_err, as_pointer, as_list, as_slice, as_closed_slice, Tree, begun, Trees, branch, tree_nth, change_nth, child_tree, tree_at, change_at, tree_occurs, trees_occur}
-use Rattle.fr_frame.specs.Kids.{Kid, gone, there, at, Plot, entered_plot, whole_plot, begun_plot, Kids, no_kids, kid, MayHave, tree_of, tree_in, trees_in, kid_occurs, plot_occurs, kids_occur}
+use Rattle.fr_model.specs.Tree.{Tree, begun, Trees, branch, tree_nth, change_nth, child_tree, tree_at, change_at, tree_occurs, trees_occur}
+use Rattle.fr_frame.specs.Kids.{Kid, gone, there, at, Plot, entered_plot, whole_plot, begun_plot, Kids, no_kids, kid, tree_of, tree_in, trees_in, kid_occurs, plot_occurs, kids_occur}
 use Rattle.fr_store.specs.Ways.{count_kids, kid_nth, kid_below, kid_at, put_nth, put_below, put_at, slots_along, slots_above, counts_if, uses, uses_among, AllMarked, AllMarkedAmong, StoredBut, Leads, Reaches}
 
 -- Numbers of slots.

@@ -1,4 +1,4 @@
-use Rattle.std.proofs.Common.{◌≡◌, ℕ, List, Option, Some, None, sym, ◌∙◌, subst}
+use Rattle.std.proofs.Common.{ℕ, sym, ◌∙◌, subst}
 use Rattle.fr_shape.specs.Plannable.{Reached}
 use Rattle.fr_partial.proofs.BeginLaws.{declared_is}
 use Rattle.fr_partial.proofs.PlaceLaws.{here_along}

@@ -1,5 +1,5 @@
-use Rattle.std.proofs.Common.{◌≡◌, ℕ, ◌<◌, length, ◌++◌, ◌∷◌, [], Option, sym, ap, ◌∙◌, subst, unwrap_or, arith}
-use Rattle.fr_shape.specs.Look.{Table, def_of}
+use Rattle.std.proofs.Common.{ℕ, ◌++◌, ◌∷◌, [], sym, ap, ◌∙◌, subst, unwrap_or, arith}
+use Rattle.fr_shape.specs.Look.{def_of}
 use Rattle.fr_shape.specs.declared.shape.Def.{Def}
 use Rattle.fr_model.specs.Contents.{content_anew}
 use Rattle.fr_model.specs.Places.{Place}
@@ -10,7 +10,7 @@ use Rattle.fr_plan.specs.declared.nodes.NodeId.{NodeId}
 use Rattle.fr_frame.specs.Completing.{shape_of}
 use Rattle.fr_frame.specs.Heap.{as_form, heap_of}
 use Rattle.fr_frame.specs.Kids.{child_node}
-use Rattle.fr_store.specs.Moves.{cursor_in, node_here as node_on_top, tree_in_slots, tree_here, HasChild, IsOpenAt}
+use Rattle.fr_store.specs.Moves.{cursor_in, node_here as node_on_top, tree_in_slots, tree_here, HasChild}
 use Rattle.fr_store.specs.ShapeLaws.{IsOfShape, child_shaped}
 use Rattle.fr_store.specs.Stands.{kid_shown}
 use Rattle.fr_partial.specs.Beginnings.{begun_by, kept_by}

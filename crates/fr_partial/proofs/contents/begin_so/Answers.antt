@@ -1,5 +1,4 @@
 use Rattle.std.proofs.Common.{◌≡◌, refl, sym, subst}
-use Rattle.fr_model.specs.Tree.{Tree, change_at}
 use Rattle.fr_frame.specs.Heap.{as_form}
 use Rattle.fr_store.specs.Moves.{changed_here, cursor_in, tree_in_slots}
 use Rattle.fr_partial.specs.Beginnings.{begun_by}

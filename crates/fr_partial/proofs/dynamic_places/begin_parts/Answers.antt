@@ -1,4 +1,4 @@
-use Rattle.std.proofs.Common.{◌≡◌, ℕ, List, true, refl, sym, ap, ◌∙◌, subst, unwrap_or}
+use Rattle.std.proofs.Common.{◌≡◌, ℕ, List, refl, sym, ap, ◌∙◌, subst, unwrap_or}
 use Rattle.fr_model.specs.DynamicPlaces.{array_anew, object_anew}
 use Rattle.fr_model.specs.Tree.{Tree}
 use Rattle.fr_plan.specs.TypePlan.{Plan}

@@ -1,6 +1,4 @@
-use Rattle.std.proofs.Common.{Bool, Option, ap, sym, ◌∙◌, if◌then◌else◌}
-use Rattle.fr_plan.specs.declared.nodes.NodeId.{NodeId}
-use Rattle.fr_plan.specs.Lookups.{by_id, map_key, map_value}
+use Rattle.std.proofs.Common.{Bool, ap, sym, ◌∙◌}
 use Rattle.fr_frame.specs.Kids.{entry_found}
 use Rattle.fr_partial.proofs.MapLaws.{even_key, odd_value}
 use Rattle.fr_partial.proofs.entering.entry_node.Goals as goal

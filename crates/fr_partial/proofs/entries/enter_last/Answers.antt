@@ -1,8 +1,7 @@
-use Rattle.std.proofs.Common.{◌≡◌, ℕ, suc, ◌<◌, true, length, List, [], ◌∷◌, ◌++◌, refl, sym, ap, ◌∙◌, subst, arith}
+use Rattle.std.proofs.Common.{◌≡◌, ℕ, suc, ◌<◌, true, length, List, [], ◌∷◌, ◌++◌, sym, ap, ◌∙◌, subst, arith}
 use Rattle.fr_shape.specs.declared.shape.ShapeId.{ShapeId}
 use Rattle.fr_shape.specs.Look.{Table, def_of}
 use Rattle.fr_model.specs.Collections.{is_map_form}
-use Rattle.fr_model.specs.Places.{Place}
 use Rattle.fr_model.specs.Step.{enter, enter_child}
 use Rattle.fr_model.specs.Tree.{Form, Tree, child_as, change_at, change_child}
 use Rattle.fr_plan.specs.declared.nodes.NodeId.{NodeId}

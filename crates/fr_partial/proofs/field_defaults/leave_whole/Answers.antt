@@ -1,13 +1,11 @@
-use Rattle.std.proofs.Common.{◌≡◌, ℕ, ◌≤◌, false, true, IsOk, Ok, Err, Some, refl, sym, ap, ◌∙◌, subst}
+use Rattle.std.proofs.Common.{◌≡◌, false, IsOk, Some, subst}
 use Rattle.fr_shape.specs.Val.{Val}
 use Rattle.fr_model.specs.Places.{up}
-use Rattle.fr_model.specs.Tree.{Tree, whole, tree_occurs}
+use Rattle.fr_model.specs.Tree.{Tree, whole}
 use Rattle.fr_frame.specs.Bodies.{Body, takes_memory, value_of}
-use Rattle.fr_frame.specs.Heap.{slots_occur}
 use Rattle.fr_store.specs.Moves.{changed_here, cursor_in, tree_in_slots, IsOpenAt}
 use Rattle.fr_partial.proofs.HereLaws.{holds_value, top_body, unboxed_here, value_here}
 use Rattle.fr_partial.proofs.KeepLaws.{room_here}
-use Rattle.fr_partial.proofs.PlaceLaws.{held_is}
 use Rattle.fr_partial.proofs.TreeLaws.{put_again}
 use Rattle.fr_partial.proofs.field_defaults.leave_whole.Goals as goal
 use Rattle.fr_partial.proofs.field_defaults.leave_whole.Goals.{In-Ok}

@@ -1,6 +1,6 @@
-use Rattle.std.proofs.Common.{◌≡◌, ℕ, ◌+◌, List, [], ◌∷◌, ◌++◌, refl, sym, ap, ◌∙◌, subst}
+use Rattle.std.proofs.Common.{◌≡◌, ℕ, [], ◌∷◌, ◌++◌, sym, ap, ◌∙◌, subst}
 use Rattle.fr_shape.specs.Look.{def_of}
-use Rattle.fr_shape.specs.Released.{Conserved, Room}
+use Rattle.fr_shape.specs.Released.{Conserved}
 use Rattle.fr_shape.specs.TokenLaws.{Room_conserved, Room_same}
 use Rattle.fr_shape.specs.Val.{Val}
 use Rattle.fr_shape.specs.View.{view}
@@ -9,7 +9,7 @@ use Rattle.fr_model.specs.Step.{enter_child, put_child}
 use Rattle.fr_model.specs.Tree.{change_at, change_child, deferred, Tree, tree_at, whole}
 use Rattle.fr_frame.specs.Heap.{heap_of, slots_occur}
 use Rattle.fr_store.specs.LeaveLaws.{up_append}
-use Rattle.fr_store.specs.Moves.{cursor_in, takes_at_end, tree_here, tree_in_slots, IsOpenAt}
+use Rattle.fr_store.specs.Moves.{cursor_in, takes_at_end, tree_in_slots, IsOpenAt}
 use Rattle.fr_store.specs.Stands.{kid_shown}
 use Rattle.fr_partial.specs.Modes.{mode_of}
 use Rattle.fr_partial.specs.Underway.{shape_here}

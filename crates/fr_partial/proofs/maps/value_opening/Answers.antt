@@ -1,4 +1,4 @@
-use Rattle.std.proofs.Common.{◌≡◌, suc, ◌-◌, refl, sym, subst, arith}
+use Rattle.std.proofs.Common.{suc, ◌-◌, refl, sym, subst, arith}
 use Rattle.fr_frame.specs.declared.places.Piece.{Piece}
 use Rattle.fr_frame.specs.Bodies.{own_tree}
 use Rattle.fr_frame.specs.Heap.{as_form, body_of}

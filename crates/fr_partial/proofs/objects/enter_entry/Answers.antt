@@ -1,10 +1,10 @@
-use Rattle.std.proofs.Common.{◌≡◌, ℕ, ◌<◌, length, List, [], ◌∷◌, ◌++◌, sym, ap, ◌∙◌, subst}
+use Rattle.std.proofs.Common.{◌≡◌, ℕ, ◌<◌, length, [], ◌∷◌, ◌++◌, sym, ap, ◌∙◌, subst}
 use Rattle.fr_shape.specs.Look.{def_of}
 use Rattle.fr_model.specs.DynamicPlaces.{entry_number, with_entry}
 use Rattle.fr_model.specs.Tree.{Tree}
 use Rattle.fr_plan.specs.declared.nodes.NodeId.{NodeId}
 use Rattle.fr_frame.specs.Completing.{shape_of}
-use Rattle.fr_store.specs.Moves.{changed_here, cursor_in, node_here as node_on_top, tree_here, tree_in_slots, with_entry_of, IsOpenAt}
+use Rattle.fr_store.specs.Moves.{changed_here, cursor_in, tree_here, tree_in_slots, with_entry_of, IsOpenAt}
 use Rattle.fr_partial.specs.Underway.{shape_here}
 use Rattle.fr_partial.proofs.EndingLaws.{shape_is}
 use Rattle.fr_partial.proofs.FitLaws.{is_there}

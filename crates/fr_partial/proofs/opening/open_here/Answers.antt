@@ -1,4 +1,4 @@
-use Rattle.std.proofs.Common.{◌≡◌, true, refl, sym, ◌∙◌, subst}
+use Rattle.std.proofs.Common.{refl, sym, ◌∙◌, subst}
 use Rattle.fr_shape.specs.Look.{def_of}
 use Rattle.fr_model.specs.Tree.{Tree}
 use Rattle.fr_frame.specs.Bodies.{own_tree}

@@ -1,10 +1,10 @@
-use Rattle.std.proofs.Common.{◌≡◌, ℕ, length, Result, OnOk, Ok, Err, refl, sym, ap, ◌∙◌, subst, unwrap_or}
+use Rattle.std.proofs.Common.{◌≡◌, ℕ, ap, ◌∙◌, subst, unwrap_or}
 use Rattle.fr_shape.specs.Look.{def_of}
 use Rattle.fr_model.specs.Contents.{kept_so, variant_anew}
 use Rattle.fr_model.specs.Tree.{Tree, as_variant}
 use Rattle.fr_frame.specs.Bodies.{own_tree}
 use Rattle.fr_frame.specs.Heap.{body_of}
-use Rattle.fr_store.specs.Moves.{changed_here, cursor_in, tree_here, tree_in_slots, IsOpenAt}
+use Rattle.fr_store.specs.Moves.{cursor_in, tree_here, tree_in_slots, IsOpenAt}
 use Rattle.fr_partial.specs.Beginnings.{begun_by, beginning_so}
 use Rattle.fr_partial.specs.declared.beginning.Beginning.{Beginning}
 use Rattle.fr_partial.specs.Underway.{shape_here}

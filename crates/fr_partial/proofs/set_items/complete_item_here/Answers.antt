@@ -1,7 +1,6 @@
-use Rattle.std.proofs.Common.{◌≡◌, ℕ, sym, ap, ◌∙◌, subst, inl, inr, refl}
+use Rattle.std.proofs.Common.{ap, ◌∙◌, inl, inr}
 use Rattle.fr_model.specs.Places.{deferred_column, is_root}
 use Rattle.fr_frame.specs.Heap.{slots_occur}
-use Rattle.fr_store.specs.MoveLaws.{top_in_use}
 use Rattle.fr_partial.proofs.BeneathLaws.{below_then, ended_then, held_up_here, ready_then, set_then, shut_then, why_then}
 use Rattle.fr_partial.proofs.EndingLaws.{cursor_after, item_ended, item_value, marks_after, may_complete, open_after, set_after}
 use Rattle.fr_partial.proofs.FinishLaws.{suits_root}

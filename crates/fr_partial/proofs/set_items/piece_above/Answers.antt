@@ -1,4 +1,3 @@
-use Rattle.std.proofs.Common.{ap, ◌∙◌, sym}
 use Rattle.fr_partial.proofs.AboveLaws.{dynamic_told, never_free, never_root, set_told}
 use Rattle.fr_partial.proofs.PlaceLaws.{none_found}
 use Rattle.fr_partial.proofs.set_items.piece_above.Goals as goal

@@ -1,4 +1,4 @@
-use Rattle.std.proofs.Common.{◌≡◌, true, false, is_some, refl, sym, ap, ◌∙◌, subst, unwrap_or}
+use Rattle.std.proofs.Common.{sym, ◌∙◌, subst, unwrap_or}
 use Rattle.fr_model.specs.Contents.{kept_slice, slice_anew}
 use Rattle.fr_model.specs.Tree.{as_slice, Tree}
 use Rattle.fr_frame.specs.Bodies.{own_tree}

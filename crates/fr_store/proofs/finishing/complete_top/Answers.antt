@@ -3,8 +3,7 @@ use Rattle.std.proofs.lemmas.Result.{err_from_is_err_and}
 use Rattle.fr_shape.specs.declared.error.ReflectErrorKind.{ReflectErrorKind}
 use Rattle.fr_store.specs.HereLaws.{finished_begun, finished_whole, nothing_begun, nothing_whole, top_may_complete, top_refused}
 use Rattle.fr_store.specs.MoveLaws.{top_in_use}
-use Rattle.fr_store.specs.Stored.{NothingStored}
-use Rattle.fr_store.specs.Turning.{FinishedHere, LacksHere}
+use Rattle.fr_store.specs.Turning.{LacksHere}
 use Rattle.fr_store.proofs.TakenLaws.{closed_room}
 use Rattle.fr_store.proofs.finishing.complete_top.Goals as goal
 

@@ -1,4 +1,4 @@
-use Rattle.std.proofs.Common.{◌≡◌, ◌⊎◌, ◌+◌, ℕ, List, inl, inr, refl, ◌∙◌, get_or, drop, subst}
+use Rattle.std.proofs.Common.{◌≡◌, ◌⊎◌, ◌+◌, ℕ, List, inl, inr, refl, get_or, drop, subst}
 use Rattle.std.proofs.lemmas.List.{drop_more}
 use Rattle.fr_shape.specs.declared.error.ReflectErrorKind.{ReflectErrorKind}
 use Rattle.fr_store.specs.Turning.{Walked, IsLackingAt, StoppedByTurns}

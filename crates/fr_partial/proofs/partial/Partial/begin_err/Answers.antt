@@ -1,10 +1,9 @@
-use Rattle.std.proofs.Common.{◌≡◌, ℕ, true, None, Result, Ok, refl, sym, ap, ◌∙◌, subst, arith}
+use Rattle.std.proofs.Common.{◌≡◌, true, Result, refl, sym, ap, ◌∙◌, subst, arith}
 use Rattle.fr_shape.specs.declared.error.ReflectErrorKind.{ReflectErrorKind}
-use Rattle.fr_shape.specs.declared.shape.Def.{Def}
-use Rattle.fr_shape.specs.Look.{Table, def_of}
+use Rattle.fr_shape.specs.Look.{def_of}
 use Rattle.fr_model.specs.Commands.{Call}
 use Rattle.fr_model.specs.Contents.{is_result}
-use Rattle.fr_model.specs.Tree.{as_err, cursor_tree, Mode, State}
+use Rattle.fr_model.specs.Tree.{as_err, cursor_tree, State}
 use Rattle.fr_frame.specs.Bodies.{own_tree}
 use Rattle.fr_frame.specs.Heap.{body_of}
 use Rattle.fr_partial.specs.Beginnings.{beginning_in, MayBegin}

@@ -1,13 +1,13 @@
-use Rattle.std.proofs.Common.{◌≡◌, None, Some, List, Result, Ok, Err, inr, sym, ap, ◌∙◌, subst, arith, true, false}
+use Rattle.std.proofs.Common.{◌≡◌, None, Some, Result, Err, inr, sym, ap, ◌∙◌, subst, arith, true, false}
 use Rattle.fr_shape.specs.declared.error.ReflectErrorKind.{ReflectErrorKind}
 use Rattle.fr_shape.specs.Look.{def_of}
 use Rattle.fr_model.specs.Commands.{Call}
 use Rattle.fr_model.specs.Step.{field_refusal}
-use Rattle.fr_model.specs.Tree.{selected, State, cursor_tree}
+use Rattle.fr_model.specs.Tree.{selected, State}
 use Rattle.fr_model.specs.Variants.{field_found}
 use Rattle.fr_frame.specs.Bodies.{own_tree}
 use Rattle.fr_frame.specs.Heap.{body_of}
-use Rattle.fr_partial.specs.Builder.{here, holds, IsStepTo}
+use Rattle.fr_partial.specs.Builder.{holds, IsStepTo}
 use Rattle.fr_partial.proofs.BeginLaws.{named_admitted, named_refused, named_within}
 use Rattle.fr_partial.proofs.RemovedLaws.{rises_by_removed, all_released}
 use Rattle.fr_partial.proofs.SeenLaws.{refusal_seen, Sees, sees}

@@ -1,4 +1,4 @@
-use Rattle.std.proofs.Common.{◌≡◌, length, slice_index, true, false, IsErr, Ok, Err, inl, inr, sym, ap, ◌∙◌, subst, arith}
+use Rattle.std.proofs.Common.{◌≡◌, true, false, IsErr, Ok, Err, inl, inr, sym, ap, ◌∙◌, subst}
 use Rattle.fr_shape.specs.declared.error.Invariant.{Invariant}
 use Rattle.fr_shape.specs.declared.error.ReflectErrorKind.{ReflectErrorKind}
 use Rattle.fr_shape.specs.Fits.{fits}
@@ -7,7 +7,7 @@ use Rattle.fr_shape.specs.Tokens.{occurs}
 use Rattle.fr_shape.specs.View.{view}
 use Rattle.fr_model.specs.Places.{strict_column}
 use Rattle.fr_model.specs.Step.{violates}
-use Rattle.fr_model.specs.Tree.{cursor_tree, tree_occurs}
+use Rattle.fr_model.specs.Tree.{cursor_tree}
 use Rattle.fr_store.specs.Moves.{tree_in_slots}
 use Rattle.fr_partial.specs.Builder.{Builder, holds, meaning_of_build}
 use Rattle.fr_partial.specs.Filling.{takes_no_memory}

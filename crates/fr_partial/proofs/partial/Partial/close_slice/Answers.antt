@@ -1,11 +1,11 @@
-use Rattle.std.proofs.Common.{◌≡◌, ℕ, true, Ok, sym, ap, ◌∙◌, subst}
+use Rattle.std.proofs.Common.{◌≡◌, ℕ, true, sym, ap, ◌∙◌, subst}
 use Rattle.fr_shape.specs.Hooks.{no_hooks}
 use Rattle.fr_model.specs.Commands.{Call}
 use Rattle.fr_model.specs.Items.{is_open_slice}
 use Rattle.fr_model.specs.Step.{closes}
-use Rattle.fr_model.specs.Tree.{strict, State, Tree, cursor_tree}
+use Rattle.fr_model.specs.Tree.{State, cursor_tree}
 use Rattle.fr_plan.specs.TypePlan.{Plan}
-use Rattle.fr_store.specs.Moves.{cursor_in, tree_in_slots, IsOpenAt}
+use Rattle.fr_store.specs.Moves.{cursor_in, tree_in_slots}
 use Rattle.fr_store.specs.Stands.{IsOpen}
 use Rattle.fr_partial.specs.Builder.{Builder}
 use Rattle.fr_partial.specs.Modes.{mode_of}

@@ -1,12 +1,11 @@
-use Rattle.std.proofs.Common.{◌≡◌, ◌≤◌, length, true, false, Result, IsErr, Ok, Err, inr, refl, sym, ap, ◌∙◌, subst, arith}
+use Rattle.std.proofs.Common.{◌≡◌, ◌≤◌, length, true, false, Ok, Err, inr, refl, sym, ap, ◌∙◌, subst, arith}
 use Rattle.fr_shape.specs.declared.error.ReflectErrorKind.{ReflectErrorKind}
-use Rattle.fr_shape.specs.Released.{Conserved}
 use Rattle.fr_model.specs.Commands.{Call}
 use Rattle.fr_model.specs.Places.{is_root}
 use Rattle.fr_model.specs.Tree.{deferred, strict, State, cursor_shape}
 use Rattle.fr_frame.specs.Bodies.{own_tree}
 use Rattle.fr_frame.specs.Heap.{body_of}
-use Rattle.fr_partial.specs.Builder.{Builder, holds, IsStepTo}
+use Rattle.fr_partial.specs.Builder.{Builder, holds}
 use Rattle.fr_partial.specs.Modes.{mode_of}
 use Rattle.fr_partial.proofs.EndLaws.{as_deep, closes_it, ends_at_root, ends_at_start, far_below, none_above, some_above}
 use Rattle.fr_partial.proofs.RemovedLaws.{rises_by_removed, all_released}

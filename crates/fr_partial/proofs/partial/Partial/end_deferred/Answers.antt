@@ -3,9 +3,8 @@ use Rattle.fr_shape.specs.declared.error.ReflectErrorKind.{ReflectErrorKind}
 use Rattle.fr_model.specs.Places.{is_root, up}
 use Rattle.fr_model.specs.Step.{is_dynamic_part, is_set_item}
 use Rattle.fr_model.specs.Tree.{Mode, strict, deferred, State, cursor_shape, tree_at}
-use Rattle.fr_store.specs.Moves.{takes_at_end}
 use Rattle.fr_partial.specs.Builder.{Builder, IsStepTo}
-use Rattle.fr_partial.specs.Ending.{completes_beneath, completes_in}
+use Rattle.fr_partial.specs.Ending.{completes_in}
 use Rattle.fr_partial.specs.Modes.{IsBelowStart}
 use Rattle.fr_partial.proofs.AboveLaws.{neither}
 use Rattle.fr_partial.proofs.EndLaws.{ends_below, not_root}

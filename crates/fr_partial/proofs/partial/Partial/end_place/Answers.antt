@@ -1,13 +1,12 @@
-use Rattle.std.proofs.Common.{◌≡◌, ℕ, ◌+◌, length, slice_index, List, true, false, IsErr, Ok, Err, inl, inr, refl, sym, ap, ◌∙◌, subst, arith}
+use Rattle.std.proofs.Common.{◌≡◌, ℕ, true, false, IsErr, Ok, Err, inl, inr, refl, sym, ap, ◌∙◌, subst}
 use Rattle.fr_shape.specs.declared.error.ReflectErrorKind.{ReflectErrorKind}
 use Rattle.fr_shape.specs.Released.{Conserved, Room, RoseBy}
 use Rattle.fr_model.specs.Commands.{Call}
 use Rattle.fr_model.specs.Items.{is_open_slice}
 use Rattle.fr_model.specs.Places.{is_root}
 use Rattle.fr_model.specs.Step.{is_set_item, puts_and_leaves}
-use Rattle.fr_model.specs.Tree.{strict, Tree, State, cursor_tree, tree_occurs}
+use Rattle.fr_model.specs.Tree.{strict, State, cursor_tree, tree_occurs}
 use Rattle.fr_plan.specs.TypePlan.{Plan}
-use Rattle.fr_frame.specs.Heap.{slots_occur}
 use Rattle.fr_store.specs.Moves.{cursor_in, tree_in_slots}
 use Rattle.fr_store.specs.Stands.{IsOpen}
 use Rattle.fr_partial.specs.Builder.{Builder, holds, meaning}

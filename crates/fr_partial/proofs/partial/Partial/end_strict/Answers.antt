@@ -1,4 +1,4 @@
-use Rattle.std.proofs.Common.{◌≡◌, sym, ap, ◌∙◌}
+use Rattle.std.proofs.Common.{sym, ap, ◌∙◌}
 use Rattle.fr_model.specs.Places.{is_root}
 use Rattle.fr_model.specs.Step.{is_set_item}
 use Rattle.fr_partial.specs.Builder.{Builder}

@@ -1,25 +1,22 @@
-use Rattle.std.proofs.Common.{◌≡◌, ℕ, List, [], ◌∷◌, ◌++◌, Ok, Option, refl, sym, ap, ◌∙◌, subst}
+use Rattle.std.proofs.Common.{ℕ, List, [], ◌∷◌, ◌++◌, Ok, sym, ap, ◌∙◌, subst}
 use Rattle.fr_shape.specs.Hooks.{no_hooks}
-use Rattle.fr_shape.specs.Look.{def_of}
 use Rattle.fr_shape.specs.Released.{Conserved, Room, RoseBy}
 use Rattle.fr_path.specs.declared.path_steps.PathStep.{PathStep}
 use Rattle.fr_model.specs.Paths.{step_as, path_of}
 use Rattle.fr_model.specs.Step.{enters_content}
-use Rattle.fr_model.specs.Tree.{Tree, State, cursor_tree, tree_occurs}
-use Rattle.fr_model.specs.Well.{IsFullAs, IsInOrder}
+use Rattle.fr_model.specs.Tree.{State, cursor_tree, tree_occurs}
 use Rattle.fr_plan.specs.TypePlan.{Plan}
 use Rattle.fr_frame.specs.Heap.{as_form}
 use Rattle.fr_store.specs.Moves.{tree_in_slots}
 use Rattle.fr_store.specs.Stands.{IsOpen}
-use Rattle.fr_partial.specs.Beginnings.{kept_by, MayBegin}
+use Rattle.fr_partial.specs.Beginnings.{kept_by}
 use Rattle.fr_partial.specs.Builder.{Builder, here, holds}
-use Rattle.fr_partial.specs.HeldPlan.{plan_in}
 use Rattle.fr_partial.specs.Meant.{IsMeant}
 use Rattle.fr_partial.specs.Modes.{mode_of}
-use Rattle.fr_partial.specs.Underway.{shape_here, state_of, IsUnderway}
+use Rattle.fr_partial.specs.Underway.{shape_here, state_of}
 use Rattle.fr_partial.proofs.ReleaseLaws.{held_kept, released_kept, room_kept, room_slots}
 use Rattle.fr_partial.proofs.RemovedLaws.{all_released}
-use Rattle.fr_partial.proofs.StateLaws.{builder_of, state_is, stores_after, underway_after, order_after}
+use Rattle.fr_partial.proofs.StateLaws.{state_is, stores_after, underway_after, order_after}
 use Rattle.fr_partial.proofs.WorkLaws.{works_with}
 use Rattle.fr_partial.proofs.partial.Partial.enter_content.Goals as goal
 

@@ -1,11 +1,10 @@
-use Rattle.std.proofs.Common.{◌≡◌, ℕ, List, [], ◌∷◌, ◌++◌, None, Ok, refl, sym, ap, ◌∙◌, subst, arith}
+use Rattle.std.proofs.Common.{◌≡◌, ℕ, List, [], ◌∷◌, ◌++◌, None, Ok, sym, ap, ◌∙◌, subst}
 use Rattle.fr_shape.specs.Hooks.{no_hooks}
 use Rattle.fr_shape.specs.Released.{Conserved, Room, RoseBy}
 use Rattle.fr_path.specs.declared.path_steps.PathStep.{PathStep}
 use Rattle.fr_model.specs.Commands.{Call}
 use Rattle.fr_shape.specs.Look.{def_of}
 use Rattle.fr_model.specs.DynamicPlaces.{entry_refusal, is_begun_object}
-use Rattle.fr_model.specs.Paths.{path_of}
 use Rattle.fr_model.specs.Step.{enters_entry}
 use Rattle.fr_model.specs.Tree.{State, cursor_tree, tree_occurs}
 use Rattle.fr_plan.specs.TypePlan.{Plan}

@@ -1,10 +1,10 @@
-use Rattle.std.proofs.Common.{◌≡◌, ℕ, List, [], ◌∷◌, ◌++◌, None, Ok, refl, sym, ap, ◌∙◌, subst, arith}
+use Rattle.std.proofs.Common.{◌≡◌, ℕ, List, [], ◌∷◌, ◌++◌, None, Ok, sym, ap, ◌∙◌, subst, arith}
 use Rattle.fr_shape.specs.Hooks.{no_hooks}
 use Rattle.fr_shape.specs.Released.{Conserved, Room, RoseBy}
 use Rattle.fr_path.specs.declared.path_steps.PathStep.{PathStep}
 use Rattle.fr_model.specs.Commands.{Call}
 use Rattle.fr_model.specs.Collections.{key_refusal}
-use Rattle.fr_model.specs.Paths.{step_as, path_of}
+use Rattle.fr_model.specs.Paths.{step_as}
 use Rattle.fr_model.specs.Step.{enters_key}
 use Rattle.fr_model.specs.Tree.{State, cursor_tree, tree_occurs}
 use Rattle.fr_plan.specs.TypePlan.{Plan}

@@ -1,7 +1,7 @@
-use Rattle.std.proofs.Common.{◌≡◌, ◌+◌, length, slice_index, Ok, Err, inl, inr, refl, sym, ap, ◌∙◌, subst, arith}
+use Rattle.std.proofs.Common.{◌≡◌, Ok, Err, inl, inr, refl, sym, ap, ◌∙◌, subst}
 use Rattle.fr_shape.specs.Released.{Conserved, Room, RoseBy}
 use Rattle.fr_model.specs.Commands.{Call}
-use Rattle.fr_model.specs.Tree.{strict, Tree, State, tree_occurs}
+use Rattle.fr_model.specs.Tree.{strict, State, tree_occurs}
 use Rattle.fr_model.specs.Well.{Suits}
 use Rattle.fr_plan.specs.TypePlan.{Plan}
 use Rattle.fr_store.specs.Moves.{cursor_in, tree_in_slots}

@@ -1,4 +1,4 @@
-use Rattle.std.proofs.Common.{◌≡◌, ℕ, None, true, false, Result, Ok, Err, inr, refl, sym, ap, ◌∙◌, subst, arith}
+use Rattle.std.proofs.Common.{◌≡◌, None, true, false, Result, Err, inr, sym, ap, ◌∙◌, subst, arith}
 use Rattle.fr_shape.specs.declared.error.ReflectErrorKind.{ReflectErrorKind}
 use Rattle.fr_shape.specs.Look.{def_of}
 use Rattle.fr_model.specs.Commands.{Call}

@@ -1,4 +1,4 @@
-use Rattle.std.proofs.Common.{◌≡◌, ℕ, ◌+◌, true, refl, sym, ◌∙◌, ap, subst, arith}
+use Rattle.std.proofs.Common.{◌≡◌, ℕ, ◌+◌, true, sym, ◌∙◌, ap, subst, arith}
 use Rattle.fr_shape.specs.Fits.{fits}
 use Rattle.fr_shape.specs.Hooks.{no_hooks}
 use Rattle.fr_shape.specs.TokenLaws.{Room_fewer}

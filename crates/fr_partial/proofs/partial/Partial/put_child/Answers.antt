@@ -1,6 +1,5 @@
-use Rattle.std.proofs.Common.{◌≡◌, ℕ, List, None, Ok, refl, sym, ap, ◌∙◌, subst}
+use Rattle.std.proofs.Common.{◌≡◌, ℕ, Ok, sym, ap, ◌∙◌, subst}
 use Rattle.fr_shape.specs.Hooks.{no_hooks}
-use Rattle.fr_shape.specs.Look.{def_of}
 use Rattle.fr_shape.specs.Numbered.{IsNumbered}
 use Rattle.fr_shape.specs.Released.{Conserved, Room, RoseBy}
 use Rattle.fr_shape.specs.View.{view}

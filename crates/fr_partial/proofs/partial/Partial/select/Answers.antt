@@ -1,9 +1,8 @@
-use Rattle.std.proofs.Common.{◌≡◌, ℕ, List, None, Ok, refl, sym, ap, ◌∙◌, subst}
+use Rattle.std.proofs.Common.{◌≡◌, ℕ, None, Ok, sym, ap, ◌∙◌, subst}
 use Rattle.fr_shape.specs.Hooks.{no_hooks}
 use Rattle.fr_shape.specs.Look.{def_of}
 use Rattle.fr_shape.specs.Released.{Conserved, Room, RoseBy}
 use Rattle.fr_model.specs.Commands.{Call}
-use Rattle.fr_model.specs.Paths.{path_of}
 use Rattle.fr_model.specs.Step.{selects}
 use Rattle.fr_model.specs.Tree.{as_variant, State, tree_occurs}
 use Rattle.fr_model.specs.Variants.{selection_refusal}

@@ -1,11 +1,11 @@
-use Rattle.std.proofs.Common.{◌≡◌, ℕ, List, Result, Ok, Err, inr, sym, ap, ◌∙◌, subst, arith}
+use Rattle.std.proofs.Common.{◌≡◌, ℕ, Result, Ok, Err, inr, sym, ap, ◌∙◌, subst, arith}
 use Rattle.fr_shape.specs.declared.error.Operation.{Operation}
 use Rattle.fr_shape.specs.declared.error.ReflectErrorKind.{ReflectErrorKind}
-use Rattle.fr_shape.specs.Look.{Table, def_of}
+use Rattle.fr_shape.specs.Look.{def_of}
 use Rattle.fr_model.specs.Commands.{Call}
 use Rattle.fr_model.specs.Step.{select, selects}
 use Rattle.fr_model.specs.Tree.{as_variant, State}
-use Rattle.fr_model.specs.Variants.{variant_numbered, selection_refusal}
+use Rattle.fr_model.specs.Variants.{variant_numbered}
 use Rattle.fr_model.specs.Well.{IsFullAs}
 use Rattle.fr_partial.specs.Builder.{Builder, here, holds, IsStepTo}
 use Rattle.fr_partial.specs.Choosing.{choice}

@@ -1,12 +1,12 @@
-use Rattle.std.proofs.Common.{◌≡◌, ℕ, ℤ, w64, List, Result, Ok, Err, inr, sym, ap, ◌∙◌, subst, arith}
+use Rattle.std.proofs.Common.{◌≡◌, ℕ, ℤ, w64, Result, Ok, Err, inr, sym, ap, ◌∙◌, subst, arith}
 use Rattle.std.proofs.lemmas.Int.{to_z-of_z}
 use Rattle.fr_shape.specs.declared.error.Operation.{Operation}
 use Rattle.fr_shape.specs.declared.error.ReflectErrorKind.{ReflectErrorKind}
-use Rattle.fr_shape.specs.Look.{Table, def_of}
+use Rattle.fr_shape.specs.Look.{def_of}
 use Rattle.fr_model.specs.Commands.{Call}
 use Rattle.fr_model.specs.Step.{select, selects}
 use Rattle.fr_model.specs.Tree.{as_variant, State}
-use Rattle.fr_model.specs.Variants.{variant_told_by, selection_refusal}
+use Rattle.fr_model.specs.Variants.{variant_told_by}
 use Rattle.fr_model.specs.Well.{IsFullAs}
 use Rattle.fr_partial.specs.Builder.{Builder, here, holds, IsStepTo}
 use Rattle.fr_partial.specs.Choosing.{choice}

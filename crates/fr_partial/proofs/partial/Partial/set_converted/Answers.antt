@@ -1,11 +1,11 @@
-use Rattle.std.proofs.Common.{◌≡◌, ◌⊎◌, ℕ, ◌+◌, List, true, Ok, Err, inl, inr, slice_index, refl, sym, ap, ◌∙◌, subst, arith}
+use Rattle.std.proofs.Common.{◌≡◌, ℕ, ◌+◌, List, Ok, Err, inl, inr, slice_index, refl, sym, ap, ◌∙◌, subst, arith}
 use Rattle.fr_shape.specs.declared.error.ReflectErrorKind.{ReflectErrorKind}
 use Rattle.fr_shape.specs.Fits.{fits}
 use Rattle.fr_shape.specs.Look.{Table, def_of}
-use Rattle.fr_shape.specs.Released.{Conserved, Room, RoseBy}
+use Rattle.fr_shape.specs.Released.{Conserved, Room}
 use Rattle.fr_shape.specs.TokenLaws.{Room_fewer, Conserved_same}
 use Rattle.fr_shape.specs.Tokens.{occurs}
-use Rattle.fr_shape.specs.Val.{Val, Dynamic, dyn}
+use Rattle.fr_shape.specs.Val.{Val}
 use Rattle.fr_shape.specs.View.{dyn_view, view}
 use Rattle.fr_model.specs.Converting.{converted}
 use Rattle.fr_model.specs.Step.{puts}

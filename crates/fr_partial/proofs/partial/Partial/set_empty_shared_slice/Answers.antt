@@ -3,7 +3,7 @@ use Rattle.fr_shape.specs.Fits.{fits}
 use Rattle.fr_shape.specs.Look.{def_of}
 use Rattle.fr_shape.specs.TokenLaws.{Room_same, Conserved_same}
 use Rattle.fr_shape.specs.Tokens.{occurs}
-use Rattle.fr_shape.specs.Val.{Val, list_of, no_vals, ptr}
+use Rattle.fr_shape.specs.Val.{Val}
 use Rattle.fr_shape.specs.View.{view}
 use Rattle.fr_model.specs.Commands.{Call}
 use Rattle.fr_model.specs.Items.{shared_slice_refusal}

@@ -1,11 +1,10 @@
-use Rattle.std.proofs.Common.{◌≡◌, None, true, false, List, [], refl, Result, Ok, Err, inl, inr, sym, ap, ◌∙◌, subst, arith}
+use Rattle.std.proofs.Common.{◌≡◌, true, false, [], refl, Result, Ok, Err, inr, sym, ap, ◌∙◌, subst, arith}
 use Rattle.fr_shape.specs.declared.error.ReflectErrorKind.{ReflectErrorKind}
-use Rattle.fr_shape.specs.Look.{def_of}
 use Rattle.fr_shape.specs.Tokens.{tokens}
 use Rattle.fr_shape.specs.Val.{Val}
 use Rattle.fr_shape.specs.View.{view}
 use Rattle.fr_model.specs.Commands.{Call}
-use Rattle.fr_model.specs.Step.{field_refusal, puts_child, puts_child_default, set_nth_field_to_default}
+use Rattle.fr_model.specs.Step.{puts_child, puts_child_default, set_nth_field_to_default}
 use Rattle.fr_model.specs.Tree.{State, cursor_tree}
 use Rattle.fr_frame.specs.Bodies.{own_tree}
 use Rattle.fr_frame.specs.Heap.{body_of}
@@ -13,7 +12,7 @@ use Rattle.fr_partial.specs.Builder.{here, holds, IsStepTo}
 use Rattle.fr_partial.specs.FieldDefaults.{default_in}
 use Rattle.fr_partial.proofs.DefaultLaws.{default_admitted, default_empty, default_means, default_seen}
 use Rattle.fr_partial.proofs.RemovedLaws.{rises_by_removed, all_released}
-use Rattle.fr_partial.proofs.SeenLaws.{refusal_seen, Sees, sees}
+use Rattle.fr_partial.proofs.SeenLaws.{Sees, sees}
 use Rattle.fr_partial.proofs.StateLaws.{in_order}
 use Rattle.fr_partial.proofs.WorkLaws.{works_with}
 use Rattle.fr_partial.proofs.partial.Partial.set_nth_field_to_default.Goals as goal

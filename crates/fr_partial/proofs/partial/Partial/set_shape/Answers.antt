@@ -1,6 +1,5 @@
-use Rattle.std.proofs.Common.{◌≡◌, ℕ, Bool, ◌+◌, true, false, Ok, Err, inr, refl, sym, ap, ◌∙◌}
+use Rattle.std.proofs.Common.{◌≡◌, ℕ, ◌+◌, true, false, Ok, Err, inr, refl, sym, ap, ◌∙◌}
 use Rattle.fr_shape.specs.Fits.{fits}
-use Rattle.fr_shape.specs.Look.{def_of}
 use Rattle.fr_shape.specs.Val.{Val}
 use Rattle.fr_shape.specs.View.{view}
 use Rattle.fr_model.specs.Commands.{Call}
@@ -8,7 +7,6 @@ use Rattle.fr_model.specs.Step.{set, puts, takes_shape}
 use Rattle.fr_model.specs.Tree.{State}
 use Rattle.fr_shape.specs.Tokens.{occurs}
 use Rattle.fr_partial.specs.Builder.{Builder, here, holds}
-use Rattle.fr_partial.specs.Conversions.{copies_to_convert}
 use Rattle.fr_partial.specs.Setting.{converts}
 use Rattle.fr_partial.proofs.PutLaws.{only_copies, set_admitted, set_refused, taken_fits}
 use Rattle.fr_partial.proofs.RemovedLaws.{rises_by_removed, both_released}

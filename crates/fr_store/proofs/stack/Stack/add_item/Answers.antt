@@ -1,7 +1,6 @@
-use Rattle.std.proofs.Common.{◌≡◌, ◌∙◌, ap}
 use Rattle.fr_shape.specs.Look.{def_of}
 use Rattle.fr_frame.specs.Completing.{shape_of}
-use Rattle.fr_frame.specs.Heap.{as_form, stored_in}
+use Rattle.fr_frame.specs.Heap.{as_form}
 use Rattle.fr_store.proofs.ItemLaws.{item_entered, item_marks, item_stay, takes_item}
 use Rattle.fr_store.proofs.stack.Stack.add_item.Goals as goal
 

@@ -1,4 +1,3 @@
-use Rattle.std.proofs.Common.{◌≡◌, ◌∙◌, ap}
 use Rattle.fr_shape.specs.Look.{def_of}
 use Rattle.fr_frame.specs.Completing.{shape_of}
 use Rattle.fr_store.proofs.ItemLaws.{key_entered, key_marks, key_stay, takes_key}

@@ -1,4 +1,4 @@
-use Rattle.std.specs.Prelude.{◌≡◌, IsSome, Result, Ok, Err, OnErr, OnOk, Some}
+use Rattle.std.specs.Prelude.{◌≡◌, Result, Ok, Err, OnErr, OnOk, Some}
 use Rattle.fr_shape.specs.Val.{Val}
 use Rattle.fr_frame.specs.Bodies.{value_of}
 use Rattle.fr_frame.specs.Changes.{IfInUse, SameMarks, Shows}

@@ -1,4 +1,4 @@
-use Rattle.std.proofs.Common.{◌≡◌, ◌<◌, ◌∙◌, ◌++◌, ℕ, List, [], ◌∷◌, true, false, Some, refl, sym, ap, subst}
+use Rattle.std.proofs.Common.{◌≡◌, ◌∙◌, ◌++◌, ℕ, List, [], ◌∷◌, true, false, refl, sym, subst}
 use Rattle.fr_shape.specs.Look.{def_of}
 use Rattle.fr_model.specs.Step.{enter}
 use Rattle.fr_model.specs.Tree.{change_child}
@@ -6,15 +6,14 @@ use Rattle.fr_frame.specs.declared.places.FrameOwner.{FrameOwner}
 use Rattle.fr_frame.specs.declared.places.Slot.{Slot}
 use Rattle.fr_frame.specs.Changes.{IsInUse}
 use Rattle.fr_frame.specs.Completing.{shape_of}
-use Rattle.fr_frame.specs.Heap.{as_form, depth_below, depth_limit, heap_of, with_entered}
-use Rattle.fr_frame.specs.Kids.{child_owner}
+use Rattle.fr_frame.specs.Heap.{as_form, heap_of}
 use Rattle.fr_store.specs.AgainLaws.{open_again}
 use Rattle.fr_store.specs.EnterLaws.{kept_entered, open_entered_from}
 use Rattle.fr_store.specs.MoveLaws.{top_in_use}
 use Rattle.fr_store.specs.Moves.{changed_here, cursor_in, IsOpenAt}
 use Rattle.fr_store.specs.Stands.{kid_here}
 use Rattle.fr_store.specs.Staying.{AllStayPut}
-use Rattle.fr_store.specs.Stored.{child_slot, IsStoredChild}
+use Rattle.fr_store.specs.Stored.{IsStoredChild}
 use Rattle.fr_store.proofs.stack.Stack.enter.Goals as goal
 
 pub enter-requires-clause-owner : goal.enter-requires-clause-owner

@@ -1,4 +1,3 @@
-use Rattle.std.proofs.Common.{◌≡◌, ◌∙◌, ap}
 use Rattle.fr_shape.specs.Look.{def_of}
 use Rattle.fr_frame.specs.Completing.{shape_of}
 use Rattle.fr_store.proofs.EntryLaws.{entry_entered, entry_marks, entry_stay, object_apart, object_parent}
