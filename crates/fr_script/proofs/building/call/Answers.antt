@@ -18,3 +18,10 @@ returns-in-SelectVariant-clause-step g c =
     subst (λ (meant : Call). IsStep (g.H.Hooks.means c.args.partial.hooks) c.args.partial meant c.select_variant.result)
     (ap Call.SelectVariant (to_z-of_z w64 discriminant fits) ∙ sym (ap call_of c.in-SelectVariant.is))
     c.select_variant.ensures.step
+
+pub returns-in-BeginObjectEntry-clause-step : goal.returns-in-BeginObjectEntry-clause-step
+returns-in-BeginObjectEntry-clause-step g c =
+    subst
+    (λ (meant : Call). IsStep (g.H.Hooks.means c.args.partial.hooks) c.args.partial meant c.begin_object_entry.result)
+    (ap Call.BeginObjectEntry c.as_str-in-BeginObjectEntry.ensures.bytes ∙ sym (ap call_of c.in-BeginObjectEntry.is))
+    c.begin_object_entry.ensures.step
