@@ -133,7 +133,7 @@ abbrev pub unexpected_unless : Bool → InitCall → Form → Option ReflectErro
 unexpected_unless true call form = None
 unexpected_unless false call form = Some (ReflectErrorKind.UnexpectedTracker call (tracker_of form))
 
--- init_list is refused but at a list, and at what is begun as a list or as a pointer to a slice
+-- init_list is refused but at a list or a dynamic value, and at what is begun as one of these or as a pointer to a slice
 abbrev pub init_list_refusal : ℕ → Def → Tree → Option ReflectErrorKind
 init_list_refusal s def (whole v) = at_shape s (unless_list Operation.InitListOfWholeOther def)
 init_list_refusal s def (begun form children) = unexpected_unless (is_list_like form) InitCall.List form

@@ -243,7 +243,7 @@ opens table s state = record state {
   calls = one_more_call state.calls;
 }
 
--- a list is begun, or a dynamic array, which starts anew where the place is another dynamic value
+-- a list is begun, or a dynamic array, which starts anew unless one is there
 abbrev pub begins_list : Table → ℕ → State → (of_dynamic : Bool) → State
 begins_list table s state of_dynamic =
     if of_dynamic then becomes state (kept_array (cursor_tree state)) array_anew else opens table s state
@@ -273,7 +273,7 @@ begin_list_item table s state =
 
 -- Sets and maps
 
--- a map is begun, or a dynamic object, which starts anew where the place is another dynamic value
+-- a map is begun, or a dynamic object, which starts anew unless one is there
 abbrev pub begins_map : Table → ℕ → State → (of_dynamic : Bool) → State
 begins_map table s state of_dynamic =
     if of_dynamic then becomes state (kept_object (cursor_tree state)) object_anew else opens table s state

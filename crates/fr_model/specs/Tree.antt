@@ -11,9 +11,10 @@ use Rattle.fr_model.specs.Places.{Place, child_shape, shape_of_field, content_sh
 
 -- As what a place is begun: as a struct or an array, as the variant of this number of an enum, as an option with a content, as
 -- either side of a result, as a pointer with what it points to, as a list, as a pointer to a slice, which is open for more items or
--- closed, as a set, as a map over a base of so many entries, or as a dynamic value that is an array or an object with these keys. The children are the fields,
--- elements or items, those that were there when the place was begun in front; of a map the key and the value of each entry in turn, a
--- hole where an entry has no value yet; of an object the value under each key; a content, a side or a pointee is the one child.
+-- closed, as a set, as a map over a base of so many entries, or as a dynamic value that is an array or an object with these keys. The
+-- children are the fields, elements or items, those that were there when the place was begun in front; of a map the key and the value of
+-- each entry in turn, a hole where an entry has no value yet; of an object the value under each key; a content, a side or a pointee is the
+-- one child.
 pub data Form : Type 0 where
   as_struct : Form
   as_array : Form

@@ -76,8 +76,8 @@ IsPointer (Def.Pointer pointer) = Unit {0}
 IsPointer _ = ⊥
 
 -- a place of this definition has all its children, begun so: a struct or a variant one for each field, an array one for each
--- element, an option, a result or a pointer one, a map two for each entry, a dynamic object one for each key; a list, a set, a pointer to a slice and a dynamic array as many as
--- there are
+-- element, an option, a result or a pointer one, a map two for each entry, a dynamic object one for each key; a list, a set, a pointer to
+-- a slice and a dynamic array as many as there are
 abbrev pub IsFullAs : Def → Form → ℕ → Type 0
 IsFullAs def as_struct count = HasFields def count
 IsFullAs def as_array count = HasElements def count

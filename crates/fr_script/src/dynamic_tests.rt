@@ -6,7 +6,7 @@ use std::test::Fail;
 /// The shapes u32, String, Any (dynamic) and Blob (dynamic, and takes bytes), the other scalars, a shape or two of each other
 /// definition, and places with dynamic values in them, before the root.
 const SHAPES: &str =
-    r#"{"shapes":[{"name":"u32","def":"u32"},{"name":"String","def":"String"},{"name":"Any","def":"dynamic"},{"name":"Blob","def":"dynamic","bytes_ok":true},{"name":"bool","def":"bool"},{"name":"char","def":"char"},{"name":"i8","def":"i8"},{"name":"i16","def":"i16"},{"name":"i32","def":"i32"},{"name":"i64","def":"i64"},{"name":"isize","def":"isize"},{"name":"i128","def":"i128"},{"name":"u8","def":"u8"},{"name":"u16","def":"u16"},{"name":"u64","def":"u64"},{"name":"usize","def":"usize"},{"name":"u128","def":"u128"},{"name":"str","def":"str"},{"name":"CowStr","def":"CowStr"},{"name":"Bytes","def":{"list":12}},{"name":"Numbers","def":{"list":0}},{"name":"Res","def":"opaque"},{"name":"Nothing","def":{"unit":[]}},{"name":"Pick","def":{"enum":{"repr":"U8","variants":[{"name":"A","fields":[],"discriminant":0}]}}},{"name":"Maybe","def":{"option":0}},{"name":"Either","def":{"result":[0,1]}},{"name":"Names","def":{"map":[1,0]}},{"name":"Nums","def":{"set":0}},{"name":"Pair","def":{"array":[0,2]}},{"name":"Link","def":{"pointer":{"known":"Box","pointee":0}}},{"name":"Slice","def":{"slice":12}},{"name":"Unknown","def":"undefined"},{"name":"Holder","def":{"struct":[{"name":"n","shape":0},{"name":"d","shape":2}]}},{"name":"MaybeAny","def":{"option":2}},{"name":"Anys","def":{"list":2}},{"name":"Kept","def":{"struct":[{"name":"r","shape":21},{"name":"d","shape":2}]}}],"#;
+    r#"{"shapes":[{"name":"u32","def":"u32"},{"name":"String","def":"String"},{"name":"Any","def":"dynamic"},{"name":"Blob","def":"dynamic","bytes_ok":true},{"name":"bool","def":"bool"},{"name":"char","def":"char"},{"name":"i8","def":"i8"},{"name":"i16","def":"i16"},{"name":"i32","def":"i32"},{"name":"i64","def":"i64"},{"name":"isize","def":"isize"},{"name":"i128","def":"i128"},{"name":"u8","def":"u8"},{"name":"u16","def":"u16"},{"name":"u64","def":"u64"},{"name":"usize","def":"usize"},{"name":"u128","def":"u128"},{"name":"str","def":"str"},{"name":"CowStr","def":"CowStr"},{"name":"Bytes","def":{"list":12}},{"name":"Numbers","def":{"list":0}},{"name":"Res","def":"opaque"},{"name":"Nothing","def":{"unit":[]}},{"name":"Pick","def":{"enum":{"repr":"U8","variants":[{"name":"A","fields":[],"discriminant":0}]}}},{"name":"Maybe","def":{"option":0}},{"name":"Either","def":{"result":[0,1]}},{"name":"Names","def":{"map":[1,0]}},{"name":"Nums","def":{"set":0}},{"name":"Pair","def":{"array":[0,2]}},{"name":"Link","def":{"pointer":{"known":"Box","pointee":0}}},{"name":"Slice","def":{"slice":12}},{"name":"Unknown","def":"undefined"},{"name":"Holder","def":{"struct":[{"name":"n","shape":0},{"name":"d","shape":2}]}},{"name":"MaybeAny","def":{"option":2}},{"name":"Anys","def":{"list":2}},{"name":"Kept","def":{"struct":[{"name":"r","shape":21},{"name":"d","shape":2}]}},{"name":"AnySet","def":{"set":2}}],"#;
 
 /// What is put at an Any, and the dynamic value that comes of it.
 const CONVERTED: [(&str, &str, &str); 15] = [
@@ -113,7 +113,7 @@ const NOT_CONVERTED: [(&str, &str, &str); 14] = [
     ),
 ];
 
-const BUILT: [(&str, &str, u8, &str); 26] = [
+const BUILT: [(&str, &str, u8, &str); 30] = [
     (
         "an object of a number and an array",
         r#""root":2,"commands":[["init_map"],["begin_object_entry","a"],["set",0,5],["end"],["begin_object_entry","b"],["init_list"],["begin_list_item"],["set",1,"x"],["end"],["end"]]}"#,
@@ -270,9 +270,33 @@ const BUILT: [(&str, &str, u8, &str); 26] = [
         0,
         r#"{"ok":{"d":{"o":[["a",{"b":[0]}]]}},"released":[]}"#,
     ),
+    (
+        "a set keeps equal arrays once",
+        r#""root":36,"commands":[["begin_deferred"],["init_set"],["begin_set_item"],["init_list"],["begin_list_item"],["set",0,1],["end"],["end"],["begin_set_item"],["set",2,{"d":[1]}],["end"],["finish_deferred"]]}"#,
+        0,
+        r#"{"ok":{"e":[{"d":[1]}]},"released":[]}"#,
+    ),
+    (
+        "an object in a list",
+        r#""root":34,"commands":[["init_list"],["begin_list_item"],["init_map"],["begin_object_entry","k"],["set",1,"x"],["end"],["end"]]}"#,
+        0,
+        r#"{"ok":{"l":[{"d":{"o":[["k","x"]]}}]},"released":[]}"#,
+    ),
+    (
+        "an object that becomes an array in deferred mode",
+        r#""root":2,"commands":[["begin_deferred"],["init_map"],["begin_object_entry","a"],["set",0,5],["end"],["init_list"],["begin_list_item"],["set",0,1],["end"],["finish_deferred"]]}"#,
+        0,
+        r#"{"ok":{"d":[1]},"released":[]}"#,
+    ),
+    (
+        "deferred mode that ends at an element",
+        r#""root":2,"commands":[["begin_deferred"],["init_list"],["begin_list_item"],["set",0,1],["finish_deferred"],["end"]]}"#,
+        0,
+        r#"{"ok":{"d":[1]},"released":[]}"#,
+    ),
 ];
 
-const REFUSED: [(&str, &str, u8, &str); 29] = [
+const REFUSED: [(&str, &str, u8, &str); 33] = [
     (
         "nothing is put there",
         r#""root":2,"commands":[]}"#,
@@ -446,6 +470,30 @@ const REFUSED: [(&str, &str, u8, &str); 29] = [
         r#""root":2,"tokens":1,"commands":[["set",31,{"t":0}]]}"#,
         1,
         r#"{"error":{"command":0,"detail":"cannot convert this type to dynamic value","kind":"OperationFailed","path":""},"released":[0]}"#,
+    ),
+    (
+        "an element of an array that is whole",
+        r#""root":2,"commands":[["set",2,{"d":[1]}],["begin_list_item"]]}"#,
+        1,
+        r#"{"error":{"command":1,"detail":"push can only be called on List or DynamicValue types","kind":"OperationFailed","path":""},"released":[]}"#,
+    ),
+    (
+        "a field of a dynamic value",
+        r#""root":2,"commands":[["begin_nth_field",0]]}"#,
+        1,
+        r#"{"error":{"command":0,"detail":"cannot select a field from this type","kind":"OperationFailed","path":""},"released":[]}"#,
+    ),
+    (
+        "too wide a number in an entry",
+        r#""root":2,"commands":[["init_map"],["begin_object_entry","a"],["set",11,{"i":1}]]}"#,
+        1,
+        r#"{"error":{"command":2,"detail":"unsupported signed integer size for dynamic value","kind":"OperationFailed","path":"[a]"},"released":[]}"#,
+    ),
+    (
+        "the end of the entry at which deferred mode began",
+        r#""root":2,"commands":[["init_map"],["begin_object_entry","a"],["begin_deferred"],["set",0,1],["end"]]}"#,
+        1,
+        r#"{"error":{"command":4,"detail":"Partial::end() called but would pop below deferred start depth","kind":"InvariantViolation","path":"[a]"},"released":[]}"#,
     ),
 ];
 
