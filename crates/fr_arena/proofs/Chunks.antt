@@ -1,12 +1,14 @@
--- Chunks that are filled from the front: their items, their number, and one more item.
-use Rattle.std.proofs.Common.{◌≡◌, ℕ, suc, ◌+◌, ◌-◌, ◌*◌, ◌<◌, ◌≤◌, true, false, ltb, List, [], ◌∷◌, ◌++◌, length, get_or, sym, ap, ◌∙◌, subst, append_assoc, length-append, arith}
+-- Chunks that are filled from the front: their items, their number, one more item, and an item by its number.
+use Rattle.std.proofs.Common.{◌≡◌, ℕ, zero, suc, ◌+◌, ◌-◌, ◌*◌, ◌/◌, ◌%◌, ◌<◌, ◌≤◌, true, false, ltb, List, [], ◌∷◌, ◌++◌, length, get_or, Some, refl, sym, ap, ◌∙◌, subst, append_assoc, length-append, arith}
 use Rattle.std.specs.Int.{div_ceil}
-use Rattle.std.specs.List.{FoldsTo, slice_set as set_at}
+use Rattle.std.specs.List.{FoldsTo, slice_get, slice_set as set_at}
 use Rattle.std.specs.Vec.{vec_capacity}
 use Rattle.std.proofs.Math.Nat.{suc-mul, lt_of_mul-lt-mul_right}
 use Rattle.std.proofs.lemmas.Bool.{ltb-true, ltb-false}
 use Rattle.std.proofs.lemmas.Grind.{div_ceil_times}
-use Rattle.std.proofs.lemmas.List.{append-nil}
+use Rattle.std.proofs.lemmas.List.{append-nil, get_or_append_left, get_or-append_right}
+use Rattle.std.proofs.lemmas.Nat.{div-add-mod', mod_below}
+use Rattle.std.proofs.lemmas.Option.{slice_get_read}
 use Rattle.fr_arena.specs.Chunks.{Chunk, EndsWithChunk, items_of, is_open, AreFilled}
 use Rattle.fr_arena.specs.Ropes.{Rope, rope_of, with_item}
 
@@ -17,6 +19,12 @@ one_cover a b count size a_up a_low b_up b_low =
     let next_a : suc a * size ≡ a * size + size = suc-mul a size in
     let below : a < suc b = lt_of_mul-lt-mul_right size (omega arith) in
     let above : b < suc a = lt_of_mul-lt-mul_right size (omega arith) in
+    omega arith
+
+-- an item behind the first part lies in the parts that follow
+more_left : (size q r count : ℕ) → suc q * size + r < count → q * size + r < count - size
+more_left size q r count below =
+    let more : suc q * size ≡ q * size + size = suc-mul q size in
     omega arith
 
 module _ {T : Type 0} where
@@ -152,6 +160,65 @@ module _ {T : Type 0} (size : ℕ) (positive : 0 < size) where
   grown_new count marked chunks new before item view filled counted full ends =
       let put = put_new count chunks ends.chunk item filled full ends.holds ends.room in
       subst (λ cs. Grown count marked cs before item) (sym ends.added) (grown count marked chunks _ before item view counted put)
+
+  -- ---- an item by its number: the item number q * size + r is item r of chunk q
+
+  chunk_there : (q r count : ℕ) (chunks : List (Chunk T)) → AreFilled size count chunks → q * size + r < count → q < length chunks
+  chunk_there q r count [] filled below = absurd (omega arith)
+  chunk_there zero r count (first ∷ chunks) filled below = omega arith
+  chunk_there (suc q) r count (first ∷ chunks) filled below =
+      let rest : q < length chunks = chunk_there q r (count - size) chunks filled.3 (more_left size q r count below) in
+      omega arith
+
+  item_there : (q r count : ℕ) (chunks : List (Chunk T)) (chunk : Chunk T) → AreFilled size count chunks → r < size → q * size + r < count
+      → chunk ≡ get_or chunks q chunk → r < length chunk.items
+  item_there q r count [] chunk filled within below is = absurd (omega arith)
+  item_there zero r count (first ∷ chunks) chunk filled within below is =
+      let long : r < length first.items = omega (arith, filled.1) in
+      subst (λ (c : Chunk T). r < length c.items) (sym is) long
+  item_there (suc q) r count (first ∷ chunks) chunk filled within below is =
+      item_there q r (count - size) chunks chunk filled.3 within (more_left size q r count below) is
+
+  item_at : (q r count : ℕ) (chunks : List (Chunk T)) (chunk : Chunk T) (d : T) → AreFilled size count chunks → r < size → q * size + r < count
+      → chunk ≡ get_or chunks q chunk → get_or (items_of chunks) (q * size + r) d ≡ get_or chunk.items r d
+  item_at q r count [] chunk d filled within below is = absurd (omega arith)
+  item_at zero r count (first ∷ chunks) chunk d filled within below is =
+      let long : r < length first.items = omega (arith, filled.1) in
+      let at : zero * size + r ≡ r = omega arith in
+      ap (λ k. get_or (first.items ++ items_of chunks) k d) at ∙ get_or_append_left first.items (items_of chunks) d r long ∙ ap (λ (c : Chunk T). get_or c.items r d) (sym is)
+  item_at (suc q) r count (first ∷ chunks) chunk d filled within below is =
+      let more : suc q * size ≡ q * size + size = suc-mul q size in
+      let full : length first.items ≡ size = omega (arith, filled.1) in
+      let at : suc q * size + r - size ≡ q * size + r = omega arith in
+      get_or-append_right first.items (items_of chunks) size (suc q * size + r) d full (omega arith) ∙ ap (λ k. get_or (items_of chunks) k d) at
+      ∙ item_at q r (count - size) chunks chunk d filled.3 within (more_left size q r count below) is
+
+  -- ---- what `get` finds
+
+  module _ (count marked i : ℕ) (chunks : List (Chunk T)) (rope : Rope T) (view : rope_of (items_of chunks) marked size ≡ rope)
+      (filled : AreFilled size count chunks) (counted : count ≡ length (items_of chunks)) (inside : i < length rope.items) where
+    within : i % size < size
+    within = mod_below i size positive
+
+    below : i / size * size + i % size < count
+    below =
+        let split : i / size * size + i % size ≡ i = div-add-mod' i size in
+        let long : length (items_of chunks) ≡ length rope.items = ap (λ (r : Rope T). length r.items) view in
+        omega arith
+
+    pub chunk_of_item : i / size < length chunks
+    chunk_of_item = chunk_there (i / size) (i % size) count chunks filled below
+
+    pub place_of_item : (chunk : Chunk T) → chunk ≡ get_or chunks (i / size) chunk → i % size < length chunk.items
+    place_of_item chunk is = item_there (i / size) (i % size) count chunks chunk filled within below is
+
+    pub found_item : (chunk : Chunk T) (item : T) → chunk ≡ get_or chunks (i / size) chunk → item ≡ get_or chunk.items (i % size) item
+        → slice_get rope.items i ≡ Some item
+    found_item chunk item is found =
+        let here : get_or (items_of chunks) (i / size * size + i % size) item ≡ get_or chunk.items (i % size) item = item_at (i / size) (i % size) count chunks chunk item filled within below is in
+        let there : get_or (items_of chunks) i item ≡ get_or (items_of chunks) (i / size * size + i % size) item = ap (λ k. get_or (items_of chunks) k item) (sym (div-add-mod' i size)) in
+        let same : get_or (items_of chunks) i item ≡ get_or rope.items i item = ap (λ (r : Rope T). get_or r.items i item) view in
+        slice_get_read rope.items (length rope.items) i item refl inside (found ∙ sym here ∙ sym there ∙ same)
 
 -- ---- the calls at the items of one chunk after another
 

@@ -1,5 +1,5 @@
 //! A rope: a list that grows by chunks, so that no item moves before the rope is drained.
-ghost use Rattle.std.specs.Prelude.{◌≡◌, ◌+◌, ◌<◌, ◌≤◌, ◌==◌, ◌++◌, length, take, IfErr, IfSome, OnOk, OnErr};
+ghost use Rattle.std.specs.Prelude.{◌≡◌, ◌+◌, ◌<◌, ◌≤◌, ◌==◌, ◌++◌, length, take, slice_get, Some, IfErr, IfSome, OnOk, OnErr};
 ghost use Rattle.std.specs.Int.{div_ceil};
 ghost use Rattle.std.specs.Iterator.SizeHint.{IsWithinCount};
 ghost use Rattle.std.specs.Iterator.{YieldsFirst, YieldsFirstRef, UpTo, at_most, item_count};
@@ -122,6 +122,14 @@ impl<T> ListRope<T> {
         ensures chunks { result ≡ div_ceil (length self.now.items) self.now.chunk_size }
     {
         self.chunks.len()
+    }
+
+    /// The item of this number, found in constant time.
+    pub fn get(&self, i: usize) -> &T
+        requires inside { i < length self.now.items }
+        ensures item { slice_get self.now.items i ≡ Some result.now }
+    {
+        &self.chunks[i / self.chunk_capacity][i % self.chunk_capacity]
     }
 
     /// The marked items, in order.

@@ -136,3 +136,15 @@ fn a_rope_shows_its_marked_items(rt: HostRuntime) -> Result<(), Fail> {
     assert_eq!(rt; rope.len(), 3);
     Ok(())
 }
+
+#[test]
+fn a_rope_finds_an_item_by_its_number(rt: HostRuntime) -> Result<(), Fail> {
+    let mut rope = ListRope::with_chunk_capacity(rt.alloc(), 4);
+    for item in 0..10u32 {
+        rope.push(item).ok().ok_or("no memory")?;
+    }
+    assert!(rt; 9 < rope.len());
+    assert_eq!(rt; *rope.get(5), 5);
+    assert_eq!(rt; *rope.get(9), 9);
+    Ok(())
+}

@@ -25,11 +25,7 @@ mod proxy_form;
 mod read_error;
 mod schedule;
 mod shape_form;
-#[cfg(test)]
-mod shape_tests;
 mod tag;
-#[cfg(test)]
-mod tests;
 mod validator_form;
 mod value_form;
 mod value_json;

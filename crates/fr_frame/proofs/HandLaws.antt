@@ -236,7 +236,7 @@ ended_unlinked n i v (begun_body form cells) = go (slice_get cells i)
     go (Some (placed m)) = by (nat_eq m n)
 
 -- one change after another of the same place
-with_body_twice : (heap : Heap) (p : ℕ) (first then_next both_in_one : Body → Body)
+pub with_body_twice : (heap : Heap) (p : ℕ) (first then_next both_in_one : Body → Body)
     → ((body : Body) → then_next (first body) ≡ both_in_one body)
     → Alike (with_body (with_body heap p first) p then_next) (with_body heap p both_in_one)
 with_body_twice heap p first then_next both_in_one same m = go (number_cases m p)

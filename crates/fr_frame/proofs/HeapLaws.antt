@@ -5,7 +5,6 @@ use Rattle.std.specs.Prelude.{if◌then◌else◌}
 use Rattle.std.proofs.lemmas.Grind.{common_steps}
 use Rattle.std.proofs.lemmas.Bool.Decides.{nat_tests}
 use Rattle.fr_frame.specs.declared.places.Slot.{Slot}
-use Rattle.fr_frame.specs.declared.places.SlotId.{SlotId}
 use Rattle.fr_frame.specs.Bodies.{Body}
 use Rattle.fr_frame.specs.Heap.{Node, Heap, node_in, heap_of, slot_occurs, slots_occur, with_slot, with_body}
 use Rattle.fr_frame.specs.Changes.{Shows, IsInUse}
@@ -41,15 +40,15 @@ occur_set (s ∷ slots) zero old new t e =
     option_occurs None t = 0
 occur_set (s ∷ slots) (suc n) old new t e = omega (arith, occur_set slots n old new t e)
 
-pub heap_append : (slots : List Slot) (next : Option SlotId) → Shows (slots ++ Slot.Free next ∷ []) (heap_of slots)
-heap_append [] next zero = refl
-heap_append [] next (suc m) = refl
-heap_append (s ∷ slots) next zero = refl
-heap_append (s ∷ slots) next (suc m) = heap_append slots next m
+pub heap_append : (slots : List Slot) → Shows (slots ++ Slot.Reserved ∷ []) (heap_of slots)
+heap_append [] zero = refl
+heap_append [] (suc m) = refl
+heap_append (s ∷ slots) zero = refl
+heap_append (s ∷ slots) (suc m) = heap_append slots m
 
-pub occur_append : (slots : List Slot) (next : Option SlotId) (t : ℕ) → slots_occur (slots ++ Slot.Free next ∷ []) t ≡ slots_occur slots t
-occur_append [] next t = refl
-occur_append (s ∷ slots) next t = ap (λ (n : ℕ). slot_occurs s t + n) (occur_append slots next t)
+pub occur_append : (slots : List Slot) (t : ℕ) → slots_occur (slots ++ Slot.Reserved ∷ []) t ≡ slots_occur slots t
+occur_append [] t = refl
+occur_append (s ∷ slots) t = ap (λ (n : ℕ). slot_occurs s t + n) (occur_append slots t)
 
 pub past_end : (slots : List Slot) (n : ℕ) → length slots ≤ n → heap_of slots n ≡ None
 past_end [] n h = refl
@@ -69,10 +68,13 @@ got [] n x h e = absurd (omega arith)
 got (y ∷ xs) zero x h e = ap (λ z. Some z) (sym e)
 got (y ∷ xs) (suc n) x h e = got xs n x (omega arith) e
 
--- a free slot holds nothing
+-- a slot that no place is in holds nothing
 pub free_holds : (slot : Slot) (t : ℕ) → node_in slot ≡ None → slot_occurs slot t ≡ 0
 free_holds (Slot.Free next) t e = refl
+free_holds Slot.Reserved t e = refl
 free_holds (Slot.Used place) t e = cc
+free_holds (Slot.List place items) t e = cc
+free_holds (Slot.Item item) t e = refl
 
 -- Heaps that are alike.
 

@@ -20,6 +20,20 @@ set_other (s ∷ slots) zero now (suc m) ne = refl
 set_other (s ∷ slots) (suc n) now zero ne = refl
 set_other (s ∷ slots) (suc n) now (suc m) ne = set_other slots n now m (λ (e : m ≡ n). ne (ap (λ (k : ℕ). suc k) e))
 
+-- a slot that is given something else
+pub shows_set : (slots : List Slot) (n : ℕ) (was now : Slot) → slice_get slots n ≡ Some was
+    → Shows (set slots n now) (with_slot (heap_of slots) n (node_in now))
+shows_set slots n was now e m = go (number_cases m n)
+  where
+    after : List Slot
+    after = set slots n now
+
+    go : (m ≡ n) ⊎ (m ≢ n) → heap_of after m ≡ with_slot (heap_of slots) n (node_in now) m
+    go (inl same) =
+        ap (heap_of after) same ∙ set_here slots n was now e
+        ∙ sym (with_here (heap_of slots) n (node_in now)) ∙ sym (ap (with_slot (heap_of slots) n (node_in now)) same)
+    go (inr ne) = set_other slots n now m ne ∙ sym (with_other (heap_of slots) n (node_in now) m ne)
+
 -- a slot that is given what it had
 pub set_as_was : (slots : List Slot) (n : ℕ) (slot : Slot) → slice_get slots n ≡ Some slot → set slots n slot ≡ slots
 set_as_was [] n slot e = refl
@@ -45,16 +59,7 @@ module _ (slots : List Slot) (n : ℕ) (at : Place) (was : slice_get slots n ≡
   of_place So so = of_node (heap_of slots n) (node_of at) So (free_there slots n (Slot.Used at) was) so
 
   pub changes : (now : Place) → Shows (set slots n (Slot.Used now)) (with_slot (heap_of slots) n (Some (node_of now)))
-  changes now m = go (number_cases m n)
-    where
-      after : List Slot
-      after = set slots n (Slot.Used now)
-
-      go : (m ≡ n) ⊎ (m ≢ n) → heap_of after m ≡ with_slot (heap_of slots) n (Some (node_of now)) m
-      go (inl same) =
-          ap (heap_of after) same ∙ set_here slots n (Slot.Used at) (Slot.Used now) was
-          ∙ sym (with_here (heap_of slots) n (Some (node_of now))) ∙ sym (ap (with_slot (heap_of slots) n (Some (node_of now))) same)
-      go (inr ne) = set_other slots n (Slot.Used now) m ne ∙ sym (with_other (heap_of slots) n (Some (node_of now)) m ne)
+  changes now = shows_set slots n (Slot.Used at) (Slot.Used now) was
 
   pub becomes : (piece : Piece) → Becomes slots (set slots n (Slot.Used (repieced at piece))) n (node_of at) (body_of piece)
   becomes piece = changes (repieced at piece)

@@ -1,68 +1,88 @@
 -- Releasing what is in slots, one slot after the other.
-use Rattle.std.proofs.Common.{◌≡◌, ℕ, zero, suc, ◌+◌, ◌<◌, ◌≤◌, List, [], ◌∷◌, length, length-set, Some, None, slice_get, set, refl, sym, ◌∙◌, subst, arith}
+use Rattle.std.proofs.Common.{◌≡◌, ◌≢◌, ◌⊎◌, ℕ, suc, ◌+◌, ◌<◌, ◌≤◌, List, [], ◌∷◌, length, None, inl, inr, refl, ◌∙◌, ap, arith}
+use Rattle.std.proofs.lemmas.Bool.{cases_lt}
 use Rattle.std.specs.Prelude.{slice_index}
 use Rattle.fr_shape.specs.Released.{Room, RoseBy}
 use Rattle.fr_shape.specs.TokenLaws.{both, Room_fewer, Room_same, Room_risen}
 use Rattle.fr_frame.specs.declared.places.Slot.{Slot}
-use Rattle.fr_frame.specs.Heap.{heap_of, slot_occurs, slots_occur}
-use Rattle.fr_frame.proofs.HeapLaws.{occur_set, free_holds}
+use Rattle.fr_frame.specs.Changes.{Shows}
+use Rattle.fr_frame.specs.Heap.{heap_of, slot_occurs, slots_occur, with_slot}
+use Rattle.fr_frame.proofs.HeapLaws.{free_holds, number_cases, past_end, with_here, with_other}
 
--- no place is in the first n slots
-abbrev pub AreFree : List Slot → ℕ → Type 0
-AreFree slots n = (k : ℕ) → k < n → heap_of slots k ≡ None
+-- of so many slots no place is in the first n, nor in any behind the last
+abbrev pub AreFree : List Slot → (count n : ℕ) → Type 0
+AreFree slots count n = (k : ℕ) → (k < n) ⊎ (count ≤ k) → heap_of slots k ≡ None
 
-none_left : (slots : List Slot) (t : ℕ) → AreFree slots (length slots) → slots_occur slots t ≡ 0
+none_left : (slots : List Slot) (t : ℕ) → ((k : ℕ) → heap_of slots k ≡ None) → slots_occur slots t ≡ 0
 none_left [] t free = refl
 none_left (slot ∷ slots) t free =
-    let here : slot_occurs slot t ≡ 0 = free_holds slot t (free 0 (omega arith)) in
-    let rest : slots_occur slots t ≡ 0 = none_left slots t (λ k h. free (suc k) (omega arith)) in
+    let here : slot_occurs slot t ≡ 0 = free_holds slot t (free 0) in
+    let rest : slots_occur slots t ≡ 0 = none_left slots t (λ k. free (suc k)) in
     omega arith
-
-free_more : (slots : List Slot) (n : ℕ) → n < length slots → AreFree slots n → AreFree (set slots n (Slot.Free None)) (n + 1)
-free_more [] n h free k l = absurd (omega arith)
-free_more (slot ∷ slots) zero h free zero l = refl
-free_more (slot ∷ slots) zero h free (suc k) l = absurd (omega arith)
-free_more (slot ∷ slots) (suc n) h free zero l = free 0 (omega arith)
-free_more (slot ∷ slots) (suc n) h free (suc k) l =
-    free_more slots n (omega arith) (λ j m. free (suc j) (omega arith)) k (omega arith)
 
 -- what was in the first n slots is released
 pub record Releasing (all now : List Slot) (before ledger : List ℕ) (n : ℕ) : Type 0 where
-  pub count : length now ≡ length all
   pub same_length : length ledger ≡ length before
   pub released : (t : ℕ) → slice_index ledger t + slots_occur now t ≡ slice_index before t + slots_occur all t
   pub room : Room (slots_occur now) ledger
-  pub free : AreFree now n
+  pub free : AreFree now (length all) n
 
-module _ (all now : List Slot) (before ledger : List ℕ) (n : ℕ) (so_far : Releasing all now before ledger n) (slot : Slot)
-    (there : slice_get now n ≡ Some slot) where
-  taken_out : (t : ℕ) → slots_occur (set now n (Slot.Free None)) t + slot_occurs slot t ≡ slots_occur now t
-  taken_out t = omega (arith, occur_set now n slot (Slot.Free None) t there)
+pub releasing_starts : (all : List Slot) (ledger : List ℕ) → Room (slots_occur all) ledger → Releasing all all ledger ledger 0
+releasing_starts all ledger room = record {
+  same_length = refl;
+  released = λ t. refl;
+  room = room;
+  free = λ k h. go k h;
+}
+  where
+    go : (k : ℕ) → (k < 0) ⊎ (length all ≤ k) → heap_of all k ≡ None
+    go k (inl h) = absurd (omega arith)
+    go k (inr h) = past_end all k h
 
-  pub releasing_room : Room (slot_occurs slot) ledger
-  releasing_room = Room_fewer (slot_occurs slot) (slots_occur now) ledger (λ t. omega (arith, taken_out t)) so_far.room
+module _ (all now : List Slot) (before ledger : List ℕ) (n : ℕ) (so_far : Releasing all now before ledger n) where
+  -- the slot is free already
+  pub releasing_none : heap_of now n ≡ None → Releasing all now before ledger (n + 1)
+  releasing_none none = record {
+    same_length = so_far.same_length;
+    released = so_far.released;
+    room = so_far.room;
+    free = λ k h. go k h (number_cases k n);
+  }
+    where
+      go : (k : ℕ) → (k < n + 1) ⊎ (length all ≤ k) → (k ≡ n) ⊎ (k ≢ n) → heap_of now k ≡ None
+      go k h (inl same) = ap (heap_of now) same ∙ none
+      go k (inl h) (inr ne) = so_far.free k (inl (omega (arith, ne)))
+      go k (inr h) (inr ne) = so_far.free k (inr h)
 
-  pub releasing_step : (next : List Slot) (after : List ℕ) → n < length now → next ≡ set now n (Slot.Free None)
-      → RoseBy (slot_occurs slot) ledger after → Releasing all next before after (n + 1)
-  releasing_step next after h e rose =
-      subst (λ (slots : List Slot). Releasing all slots before after (n + 1)) (sym e)
-      (record {
-        count = length-set now n (Slot.Free None) ∙ so_far.count;
-        same_length = rose.same_length ∙ so_far.same_length;
-        released = λ t. omega (arith, taken_out t, rose.each t, so_far.released t);
-        room =
-            Room_risen (slot_occurs slot) (slots_occur (set now n (Slot.Free None))) ledger after
-            (Room_same (slots_occur now) (both (slot_occurs slot) (slots_occur (set now n (Slot.Free None)))) ledger
-            (λ t. omega (arith, taken_out t)) so_far.room)
-            rose;
-        free = free_more now n h so_far.free;
-      })
+  module _ (next : List Slot) (gone : ℕ → ℕ) (left : (t : ℕ) → slots_occur now t ≡ slots_occur next t + gone t) where
+    pub releasing_room : Room gone ledger
+    releasing_room = Room_fewer gone (slots_occur now) ledger (λ t. omega (arith, left t)) so_far.room
+
+    pub releasing_step : (after : List ℕ) → Shows next (with_slot (heap_of now) n None) → RoseBy gone ledger after
+        → Releasing all next before after (n + 1)
+    releasing_step after rest rose = record {
+      same_length = rose.same_length ∙ so_far.same_length;
+      released = λ t. omega (arith, left t, rose.each t, so_far.released t);
+      room =
+          Room_risen gone (slots_occur next) ledger after
+          (Room_same (slots_occur now) (both gone (slots_occur next)) ledger (λ t. omega (arith, left t)) so_far.room) rose;
+      free = λ k h. go k h (number_cases k n);
+    }
+      where
+        go : (k : ℕ) → (k < n + 1) ⊎ (length all ≤ k) → (k ≡ n) ⊎ (k ≢ n) → heap_of next k ≡ None
+        go k h (inl same) = ap (heap_of next) same ∙ rest n ∙ with_here (heap_of now) n None
+        go k (inl h) (inr ne) = rest k ∙ with_other (heap_of now) n None k ne ∙ so_far.free k (inl (omega (arith, ne)))
+        go k (inr h) (inr ne) = rest k ∙ with_other (heap_of now) n None k ne ∙ so_far.free k (inr h)
 
 pub releasing_ends : (all now : List Slot) (before ledger : List ℕ) (n : ℕ) → Releasing all now before ledger n → length all ≤ n
     → RoseBy (slots_occur all) before ledger
 releasing_ends all now before ledger n so_far h = record {
   same_length = so_far.same_length;
   each = λ t.
-      let none : slots_occur now t ≡ 0 = none_left now t (λ k l. so_far.free k (omega (arith, so_far.count))) in
+      let none : slots_occur now t ≡ 0 = none_left now t (λ k. so_far.free k (side k (cases_lt k n))) in
       omega (arith, so_far.released t);
 }
+  where
+    side : (k : ℕ) → (k < n) ⊎ (n ≤ k) → (k < n) ⊎ (length all ≤ k)
+    side k (inl l) = inl l
+    side k (inr l) = inr (omega arith)

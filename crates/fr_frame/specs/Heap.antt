@@ -76,7 +76,10 @@ node_of place = record {
 
 abbrev pub node_in : Slot → Option Node
 node_in (Slot.Free next) = None
+node_in Slot.Reserved = None
 node_in (Slot.Used place) = Some (node_of place)
+node_in (Slot.List place items) = Some (node_of place)
+node_in (Slot.Item item) = None
 
 -- what is known of the places in these slots
 abbrev pub heap_of : List Slot → Heap
@@ -85,7 +88,10 @@ heap_of slots n = option_and_then node_in (slice_get slots n)
 -- how often a token stands in all of them
 abbrev pub slot_occurs : Slot → ℕ → ℕ
 slot_occurs (Slot.Free next) t = 0
+slot_occurs Slot.Reserved t = 0
 slot_occurs (Slot.Used place) t = body_occurs (body_of place.piece) t
+slot_occurs (Slot.List place items) t = body_occurs (body_of place.piece) t
+slot_occurs (Slot.Item item) t = 0
 
 abbrev pub slots_occur : List Slot → ℕ → ℕ
 slots_occur [] t = 0

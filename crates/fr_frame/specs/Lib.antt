@@ -9,6 +9,11 @@ pub mod FieldDefaults
 pub mod Filling
 pub mod Heap
 pub mod Indexing
+pub mod Items
 pub mod KeyNames
 pub mod KeyPlaces
 pub mod Kids
+pub mod OutlineLaws
+pub mod Outlines
+pub mod RawItems
+pub mod RawSlots

@@ -43,6 +43,9 @@ impl SlotId {
         ensures refused { OnErr result (Shows slots.new (heap_of slots.old)) }
         ensures tokens { SameTokens slots.old slots.new }
     {
+        if slots.is_begun(self) {
+            return Ok(());
+        }
         let alloc = slots.alloc();
         let place = slots.place_mut(self);
         open(alloc, &mut place.piece, form, count)

@@ -2,7 +2,6 @@
 //! fields' validators run.
 ghost use Rattle.std.specs.Prelude.{◌≡◌, ◌≢◌, ◌⊎◌, ℕ, None, Some, true, IfErr, OnOk};
 ghost use Rattle.fr_shape.specs.Checked.{IsChecked};
-ghost use Rattle.fr_shape.specs.Hooks.{Meanings};
 ghost use Rattle.fr_shape.specs.Look.{Table};
 ghost use Rattle.fr_shape.specs.declared.error.ReflectErrorKind.{ReflectErrorKind as Kind};
 ghost use Rattle.fr_model.specs.Places.{deferred_column};
@@ -17,6 +16,7 @@ ghost use Rattle.fr_frame.specs.Heap.{heap_of};
 
 use crate::default_filling::default_piece;
 use crate::leftovers::test_full;
+use crate::pieces::is_list;
 use crate::places::SlotId;
 use crate::slots::Slots;
 use crate::validating::test_valid;
@@ -76,14 +76,13 @@ impl SlotId {
         ensures unchanged { slots.new ≡ slots.old }
     {
         let _hooks = hooks;
-        match slots.place(self) {
-            Some(place) => test_full(table, plan, place.node, &place.piece),
-            None => unreachable!(),
-        }
+        let place = slots.place_mut(self);
+        test_full(table, plan, place.node, &place.piece)
     }
 
     /// Runs the validators of the fields of a begun struct or variant whose children are all there, in index order. Any other place,
-    /// be it entered, whole, an array, or begun around one child, has none to run, and passes. Only what is said of a value that fails takes memory.
+    /// be it entered, whole, an array, or begun around one child, has none to run, and passes. Only what is said of a value that fails
+    /// takes memory.
     pub fn run_validators<H: Hooks>(
         self,
         slots: &Slots,
@@ -103,7 +102,13 @@ impl SlotId {
             kind)) }
     {
         match slots.place(self) {
-            Some(place) => test_valid(slots.alloc(), plan, hooks, place.node, &place.piece),
+            Some(place) => {
+                // What is told of a list doesn't say whether its items are there, and it has no fields.
+                if is_list(&place.piece) {
+                    return Ok(());
+                }
+                test_valid(slots.alloc(), plan, hooks, place.node, &place.piece)
+            }
             None => unreachable!(),
         }
     }

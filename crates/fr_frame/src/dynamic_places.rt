@@ -8,6 +8,7 @@ ghost use Rattle.fr_model.specs.Tree.{as_dyn_array, as_dyn_object};
 ghost use Rattle.fr_frame.specs.Bodies.{body_occurs, count_cells, entry_in, keys_in, opened_array, opened_object, restarted, with_entry_for, HoldsArray, HoldsObject, IsObjectBody};
 ghost use Rattle.fr_frame.specs.Changes.{IfInUse, IsInUse, SameTokens, Shows};
 ghost use Rattle.fr_frame.specs.Completing.{shape_of};
+ghost use Rattle.fr_frame.specs.Items.{KeepsReserved};
 ghost use Rattle.fr_frame.specs.Heap.{body_of, depth_below, depth_limit, entry_owner, heap_of, item_owner, slots_occur, with_body, with_entered};
 ghost use Rattle.fr_frame.specs.Kids.{child_owner};
 
@@ -127,7 +128,7 @@ impl Slots {
             (with_body (heap_of self.old) parent.0 (with_entry_for key))) }
         ensures refused { OnErr result (Shows self.new (heap_of self.old)) }
         ensures tokens { SameTokens self.old self.new }
-        ensures length { length self.new ≡ length self.old }
+        ensures reserved { KeepsReserved self.old self.new }
     {
         let alloc = self.alloc();
         let place = self.place_mut(parent);

@@ -1,8 +1,9 @@
 //! Entering a place.
-ghost use Rattle.std.specs.Prelude.{◌≡◌, ℕ, ◌<◌, length, IfOk, OnOk, OnErr, None};
+ghost use Rattle.std.specs.Prelude.{◌≡◌, ◌<◌, length, IfOk, OnOk, OnErr, None};
 ghost use Rattle.fr_shape.specs.Look.{def_of};
 ghost use Rattle.fr_frame.specs.Changes.{IsOwnerInUse, SameTokens, Shows};
 ghost use Rattle.fr_frame.specs.Completing.{shape_of};
+ghost use Rattle.fr_frame.specs.Items.{IsReserved};
 ghost use Rattle.fr_frame.specs.Heap.{depth_below, depth_limit, heap_of, with_entered};
 
 use crate::pieces::fresh;
@@ -26,8 +27,7 @@ impl Slots {
         requires owner { IsOwnerInUse self.old owner }
         requires planned { node.0 < length plan.now.nodes }
         requires depth { depth ≡ depth_below (heap_of self.old) owner }
-        requires inside { id.0 < length self.old }
-        requires vacant { heap_of self.old id.0 ≡ None }
+        requires reserved { IsReserved self.old id.0 }
         ensures entered { Shows self.new (with_entered
             (def_of table.now (shape_of plan.now node)) (heap_of self.old) node owner id.0) }
         ensures tokens { SameTokens self.old self.new }

@@ -1,16 +1,38 @@
 //! Places that take items, as a list, a set or a pointer to a slice, and maps, which take entries.
-ghost use Rattle.std.specs.Prelude.{◌≡◌, ℕ, ◌<◌, ◌^◌, length, IfOk, IfSome, OnErr, OnOk, None};
+ghost use Rattle.std.specs.Prelude.{◌≡◌, ◌<◌, ◌^◌, length, false, true, IfOk, IfSome, OnErr, OnOk, None};
 ghost use Rattle.fr_shape.specs.Look.{def_of};
 ghost use Rattle.fr_frame.specs.Bodies.{added, added_entry, count_cells, reformed, IsGrowing, IsMapBody};
 ghost use Rattle.fr_frame.specs.Changes.{IfInUse, IsInUse, SameTokens, Shows};
 ghost use Rattle.fr_frame.specs.Completing.{shape_of};
+ghost use Rattle.fr_frame.specs.Outlines.{is_begun_body, is_list_body};
+ghost use Rattle.fr_frame.specs.Items.{KeepsReserved};
+ghost use Rattle.fr_frame.specs.RawSlots.{stays_list, IsReformed};
 ghost use Rattle.fr_frame.specs.Heap.{as_form, depth_below, depth_limit, heap_of, item_owner, with_body, with_entered};
 
-use crate::pieces::{add_child, add_entry, count_children, reform};
-use crate::places::{Form, FrameOwner, SlotId};
+use crate::pieces::{add_child, add_entry, count_children, fresh, is_begun, is_list, reform};
+use crate::places::{Form, FrameOwner, Place, Slot, SlotId};
 use crate::slots::Slots;
 use fr_plan::{NodeId, TypePlanCore};
 use fr_shape::{OutOfMemory, ShapeTable};
+
+/// Lets a list that has its items in slots of their own be begun so instead, and leaves them there. False, and nothing is changed, where
+/// no such list is in the slot, or where a place that is begun so has no items in slots.
+fn reform_list(slot: &mut Slot, form: Form) -> bool
+    ensures reformed { result ≡ true → IsReformed form slot.old slot.new }
+    ensures kept { result ≡ false → slot.new ≡ slot.old }
+    ensures told { result ≡ stays_list form slot.old }
+{
+    match slot {
+        Slot::List(place, _) => {
+            if form.keeps_items() && is_list(&place.piece) {
+                reform(&mut place.piece, form);
+                return true;
+            }
+            false
+        }
+        Slot::Free(_) | Slot::Reserved | Slot::Used(_) | Slot::Item(_) => false,
+    }
+}
 
 impl SlotId {
     /// Lets a begun place be begun so instead, with the children that it has: so an open pointer to a slice is closed, or opened
@@ -21,12 +43,37 @@ impl SlotId {
             (with_body (heap_of slots.old) self.0 (reformed (as_form form))) }
         ensures tokens { SameTokens slots.old slots.new }
     {
+        if reform_list(slots.entries.get_mut(self.idx()), form) {
+            return;
+        }
         let place = slots.place_mut(self);
         reform(&mut place.piece, form);
     }
 }
 
 impl Slots {
+    /// Whether the place is begun as a list or as a pointer to a slice.
+    fn is_list(&self, id: SlotId) -> bool
+        requires { IsInUse self.now id.0 }
+        ensures { IfInUse self.now id.0 (λ at. result ≡ is_list_body at.body) }
+    {
+        match self.place(id) {
+            Some(place) => is_list(&place.piece),
+            None => unreachable!(),
+        }
+    }
+
+    /// Whether the place is begun.
+    pub(crate) fn is_begun(&self, id: SlotId) -> bool
+        requires { IsInUse self.now id.0 }
+        ensures { IfInUse self.now id.0 (λ at. result ≡ is_begun_body at.body) }
+    {
+        match self.place(id) {
+            Some(place) => is_begun(&place.piece),
+            None => unreachable!(),
+        }
+    }
+
     /// Where an item belongs that comes behind all children of a place, unless there are too many.
     pub(crate) fn item_owner(&self, parent: SlotId) -> Option<FrameOwner>
         requires { IsInUse self.now parent.0 }
@@ -35,10 +82,10 @@ impl Slots {
         ensures narrow { IfSome result (λ owner. IfInUse self.now parent.0 (λ above.
             count_cells above.body < 2 ^ 32)) }
     {
-        let count = match self.place(parent) {
-            Some(above) => count_children(&above.piece),
-            None => unreachable!(),
+        let Some(above) = self.place(parent) else {
+            unreachable!()
         };
+        let count = count_children(&above.piece);
         if count > u32::MAX as usize {
             return None;
         }
@@ -52,7 +99,7 @@ impl Slots {
             (with_body (heap_of self.old) parent.0 added)) }
         ensures refused { OnErr result (Shows self.new (heap_of self.old)) }
         ensures tokens { SameTokens self.old self.new }
-        ensures length { length self.new ≡ length self.old }
+        ensures reserved { KeepsReserved self.old self.new }
     {
         let alloc = self.alloc();
         let place = self.place_mut(parent);
@@ -66,16 +113,64 @@ impl Slots {
             (with_body (heap_of self.old) parent.0 added_entry)) }
         ensures refused { OnErr result (Shows self.new (heap_of self.old)) }
         ensures tokens { SameTokens self.old self.new }
-        ensures length { length self.new ≡ length self.old }
+        ensures reserved { KeepsReserved self.old self.new }
     {
         let alloc = self.alloc();
         let place = self.place_mut(parent);
         add_entry(alloc, &mut place.piece)
     }
 
-    /// A slot for a new item of this node, which the place that takes items, a list, a set or an open pointer to a slice, has
-    /// behind its other children from then on.
-    pub fn enter_item(
+    /// A slot for a new item of this node, which the list or open pointer to a slice has behind its other children from then on, in the
+    /// slot where it stays when it completes.
+    fn enter_list_item(
+        &mut self,
+        table: &ShapeTable,
+        plan: &TypePlanCore,
+        node: NodeId,
+        parent: SlotId,
+    ) -> Result<SlotId, OutOfMemory>
+        requires parent { IfInUse self.old parent.0 (λ above. IsGrowing above.body) }
+        requires list { IfInUse self.old parent.0 (λ above. is_list_body above.body ≡ true) }
+        requires planned { node.0 < length plan.now.nodes }
+        ensures vacant { IfOk result (λ id. heap_of self.old id.0 ≡ None) }
+        ensures entered { IfOk result (λ id. IfInUse self.old parent.0 (λ above.
+            Shows self.new (with_entered (def_of table.now (shape_of plan.now node))
+            (with_body (heap_of self.old) parent.0 added) node (item_owner parent.0 above.body)
+            id.0))) }
+        ensures limit { OnOk result (IfInUse self.old parent.0 (λ above.
+            depth_below (heap_of self.old) (item_owner parent.0 above.body) < depth_limit)) }
+        ensures narrow { OnOk result (IfInUse self.old parent.0 (λ above.
+            count_cells above.body < 2 ^ 32)) }
+        ensures tokens { SameTokens self.old self.new }
+        ensures refused { OnErr result (Shows self.new (heap_of self.old)) }
+    {
+        let Some(owner) = self.item_owner(parent) else {
+            return Err(OutOfMemory);
+        };
+        let Some(depth) = self.depth_below(&owner) else {
+            return Err(OutOfMemory);
+        };
+        let id = self.vacant()?;
+        let Ok(()) = self.add_item(parent, id) else {
+            self.give_back(id);
+            return Err(OutOfMemory);
+        };
+        let piece = fresh(self.alloc(), table, plan.node(node).shape);
+        self.lower(
+            id,
+            Place {
+                node,
+                owner,
+                stored: false,
+                depth,
+                piece,
+            },
+        );
+        Ok(id)
+    }
+
+    /// A slot for a new item of this node, which the place that takes items has behind its other children from then on.
+    fn enter_new_item(
         &mut self,
         table: &ShapeTable,
         plan: &TypePlanCore,
@@ -109,6 +204,36 @@ impl Slots {
         };
         self.settle(table, plan, node, owner, depth, id);
         Ok(id)
+    }
+
+    /// A slot for a new item of this node, which the place that takes items, a list, a set or an open pointer to a slice, has
+    /// behind its other children from then on.
+    pub fn enter_item(
+        &mut self,
+        table: &ShapeTable,
+        plan: &TypePlanCore,
+        node: NodeId,
+        parent: SlotId,
+    ) -> Result<SlotId, OutOfMemory>
+        requires parent { IfInUse self.old parent.0 (λ above. IsGrowing above.body) }
+        requires planned { node.0 < length plan.now.nodes }
+        ensures vacant { IfOk result (λ id. heap_of self.old id.0 ≡ None) }
+        ensures entered { IfOk result (λ id. IfInUse self.old parent.0 (λ above.
+            Shows self.new (with_entered (def_of table.now (shape_of plan.now node))
+            (with_body (heap_of self.old) parent.0 added) node (item_owner parent.0 above.body)
+            id.0))) }
+        ensures limit { OnOk result (IfInUse self.old parent.0 (λ above.
+            depth_below (heap_of self.old) (item_owner parent.0 above.body) < depth_limit)) }
+        ensures narrow { OnOk result (IfInUse self.old parent.0 (λ above.
+            count_cells above.body < 2 ^ 32)) }
+        ensures tokens { SameTokens self.old self.new }
+        ensures refused { OnErr result (Shows self.new (heap_of self.old)) }
+    {
+        if self.is_list(parent) {
+            self.enter_list_item(table, plan, node, parent)
+        } else {
+            self.enter_new_item(table, plan, node, parent)
+        }
     }
 
     /// A slot for the key of a new entry, which is of this node and which the begun map has behind its other children from

@@ -9,6 +9,7 @@ ghost use Rattle.fr_frame.specs.Cells.{absent, placed};
 ghost use Rattle.fr_frame.specs.Changes.{IfInUse, IsInUse, Shows};
 ghost use Rattle.fr_frame.specs.Heap.{body_of, ends, gives, heap_of, held_by, slots_occur, with_body, with_slot, without, IsItemOf};
 
+use crate::items::is_in_list;
 use crate::making::value_of;
 use crate::pieces::{end_child, release_piece};
 use crate::places::{FrameOwner, Piece, Place, SlotId};
@@ -113,10 +114,8 @@ impl SlotId {
         value_of(alloc, piece, ledger)
     }
 
-    /// Hands the value of a place that is whole, or begun with each child there, to its owner, which has the place in this slot.
-    /// The slot is then free. What a set or a map leaves out of its value, as it is there twice, is released. Where there is
-    /// no memory for making the value, what was put at the place is released.
-    pub fn hand_up(self, slots: &mut Slots, ledger: &mut Ledger) -> Result<(), OutOfMemory>
+    /// Hands the value of a place to its owner, and the slot is then free, as `hand_up` says, but at an item that keeps its slot.
+    fn hand_over(self, slots: &mut Slots, ledger: &mut Ledger) -> Result<(), OutOfMemory>
         requires complete { IfInUse slots.old self.0 (λ at. IsSome (value_of at.body)) }
         requires owned { IfInUse slots.old self.0 (λ at.
             held_by (heap_of slots.old) at.owner ≡ Some (placed self.0)) }
@@ -136,6 +135,33 @@ impl SlotId {
         let value = value_of(alloc, piece, ledger)?;
         slots.give(&owner, value);
         Ok(())
+    }
+
+    /// Hands the value of a place that is whole, or begun with each child there, to its owner, which has the place in this slot.
+    /// The slot is then free. What a set or a map leaves out of its value, as it is there twice, is released. Where there is
+    /// no memory for making the value, what was put at the place is released.
+    pub fn hand_up(self, slots: &mut Slots, ledger: &mut Ledger) -> Result<(), OutOfMemory>
+        requires complete { IfInUse slots.old self.0 (λ at. IsSome (value_of at.body)) }
+        requires owned { IfInUse slots.old self.0 (λ at.
+            held_by (heap_of slots.old) at.owner ≡ Some (placed self.0)) }
+        requires room { IfInUse slots.old self.0 (λ at. Room (body_occurs at.body) ledger.old) }
+        ensures handed { OnOk result (IfInUse slots.old self.0 (λ at. (v : Val)
+            → value_of at.body ≡ Some v → Shows slots.new
+            (gives at.owner v (without (heap_of slots.old) self.0 at.owner)))) }
+        ensures memory { IfInUse slots.old self.0 (λ at.
+            takes_memory at.body ≡ false → IsOk result) }
+        ensures left { OnErr result (IfInUse slots.old self.0 (λ at.
+            Shows slots.new (without (heap_of slots.old) self.0 at.owner))) }
+        ensures conserved { Conserved (slots_occur slots.old) ledger.old (slots_occur slots.new)
+            ledger.new }
+    {
+        if !is_in_list(&slots.entries, self) {
+            return self.hand_over(slots, ledger);
+        }
+        match slots.complete_item(self, ledger) {
+            Some(completed) => completed,
+            None => self.hand_over(slots, ledger),
+        }
     }
 
     /// Puts the value of a set's item that is whole, or begun with each child there, behind the set's other items, unless

@@ -1,14 +1,15 @@
 //! Slots and their owners: a child that gets a slot, and one that leaves it.
-ghost use Rattle.std.specs.Prelude.{◌≡◌, ℕ, ◌+◌, ◌<◌, length, IfSome};
+ghost use Rattle.std.specs.Prelude.{◌≡◌, ℕ, ◌+◌, ◌<◌, IfSome};
 ghost use Rattle.std.specs.Option.{option_map, option_and_then};
 ghost use Rattle.fr_shape.specs.View.{view};
 ghost use Rattle.fr_frame.specs.Bodies.{cell_at, linked};
 ghost use Rattle.fr_frame.specs.Cells.{held_value, value_occurs};
 ghost use Rattle.fr_frame.specs.Changes.{IsInUse, IsOwnerInUse, SameTokens, Shows};
+ghost use Rattle.fr_frame.specs.Items.{KeepsReserved};
 ghost use Rattle.fr_frame.specs.Heap.{Node, depth_below, depth_limit, heap_of, held_by, links, slots_occur, unlinks, with_body};
 
 use crate::pieces::{link, unlink};
-use crate::places::{FrameOwner, Slot, SlotId};
+use crate::places::{FrameOwner, SlotId};
 use crate::slots::Slots;
 use fr_shape::Value;
 
@@ -50,7 +51,7 @@ impl Slots {
             (λ (at : Node). cell_at at.body i) (heap_of self.old parent.0)) }
         ensures tokens { (t : ℕ) → slots_occur self.old t
             ≡ slots_occur self.new t + value_occurs (option_map view result) t }
-        ensures length { length self.new ≡ length self.old }
+        ensures reserved { KeepsReserved self.old self.new }
     {
         let place = self.place_mut(parent);
         link(&mut place.piece, i, id)
@@ -64,7 +65,7 @@ impl Slots {
             ≡ held_value (held_by (heap_of self.old) owner.now) }
         ensures tokens { (t : ℕ) → slots_occur self.old t
             ≡ slots_occur self.new t + value_occurs (option_map view result) t }
-        ensures length { length self.new ≡ length self.old }
+        ensures reserved { KeepsReserved self.old self.new }
     {
         match owner {
             FrameOwner::Root => None,
@@ -80,13 +81,10 @@ impl Slots {
         let FrameOwner::Child(parent, i) = owner else {
             return;
         };
-        if parent.0 >= self.len() {
+        if self.place(*parent).is_none() {
             return;
         }
-        let slot = self.slot_mut(*parent);
-        match slot {
-            Slot::Used(place) => unlink(&mut place.piece, *i, id),
-            Slot::Free(_) => {}
-        }
+        let place = self.place_mut(*parent);
+        unlink(&mut place.piece, *i, id);
     }
 }

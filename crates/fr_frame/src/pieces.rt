@@ -12,6 +12,7 @@ ghost use Rattle.fr_model.specs.Tree.{Form as TreeForm};
 ghost use Rattle.fr_frame.specs.Bodies.{added, added_entry, begun_body, body_occurs, cell_at, count_cells, fresh_body, linked, opened, opened_some, reformed, unlinked, whole_body, with_cell, with_ended, HoldsSome, IsGrowing, IsMapBody, IsSetBody, MayOpen};
 ghost use Rattle.fr_frame.specs.Cells.{absent, given, cells_occur, held_value, slot_of_cell, value_occurs};
 ghost use Rattle.fr_frame.specs.Heap.{as_form, body_of};
+ghost use Rattle.fr_frame.specs.Outlines.{is_begun_body, is_list_body};
 ghost use Rattle.fr_frame.specs.declared.places.SlotId.{SlotId as Number};
 
 use crate::children::Children;
@@ -22,20 +23,16 @@ use std::alloc::Global;
 
 /// The number of a child, where the place has it.
 #[inline]
-fn child_at(children: &Children, i: u32) -> Option<usize>
+fn child_at(children: &Children, i: usize) -> Option<usize>
     ensures cell { slice_get children.now i ≡ option_and_then (slice_get children.now) result }
     ensures number { IfSome result (λ at. at ≡ i) }
     ensures inside { IfSome result (λ at. at < length children.now) }
 {
-    if (i as usize) < children.len() {
-        Some(i as usize)
-    } else {
-        None
-    }
+    if i < children.len() { Some(i) } else { None }
 }
 
 /// The slot of child `i`, where there is that child, and it is in a slot.
-fn slot_of_child(children: &Children, i: u32) -> Option<SlotId>
+fn slot_of_child(children: &Children, i: usize) -> Option<SlotId>
     ensures { option_map (λ (child : Number). child.0) result
         ≡ option_and_then slot_of_cell (slice_get children.now i) }
 {
@@ -43,7 +40,7 @@ fn slot_of_child(children: &Children, i: u32) -> Option<SlotId>
 }
 
 /// The slot of child `i`, where the place has that child, and has it in a slot.
-pub(crate) fn slot_at(piece: &Piece, i: u32) -> Option<SlotId>
+pub(crate) fn slot_at(piece: &Piece, i: usize) -> Option<SlotId>
     ensures { option_map (λ (child : Number). child.0) result
         ≡ option_and_then slot_of_cell (cell_at (body_of piece.now) i) }
 {
@@ -62,7 +59,7 @@ fn link_child(children: &mut Children, i: u32, slot: SlotId) -> Option<Value>
     ensures tokens { (t : ℕ) → cells_occur children.old t
         ≡ cells_occur children.new t + value_occurs (option_map view result) t }
 {
-    let at = child_at(children, i)?;
+    let at = child_at(children, i as usize)?;
     if children.slot(at).is_some() {
         return None;
     }
@@ -89,7 +86,7 @@ fn unlink_child(children: &mut Children, i: u32, slot: SlotId)
         begun_body form children.new ≡ unlinked slot.0 i (begun_body form children.old) }
     ensures tokens { (t : ℕ) → cells_occur children.new t ≡ cells_occur children.old t }
 {
-    let Some(at) = child_at(children, i) else {
+    let Some(at) = child_at(children, i as usize) else {
         return;
     };
     let Some(held) = children.slot(at) else {
@@ -120,7 +117,7 @@ fn put_at(children: &mut Children, i: u32, value: Value)
     ensures tokens { (t : ℕ) →
         cells_occur children.new t ≡ cells_occur children.old t + occurs (view value) t }
 {
-    match child_at(children, i) {
+    match child_at(children, i as usize) {
         Some(at) => children.put(at, value),
         None => unreachable!(),
     }
@@ -217,6 +214,26 @@ pub(crate) fn open_some(alloc: Global, piece: &mut Piece) -> Result<(), OutOfMem
     Ok(())
 }
 
+/// Whether a place is begun as a list or as a pointer to a slice.
+pub(crate) fn is_list(piece: &Piece) -> bool
+    ensures { result ≡ is_list_body (body_of piece.now) }
+{
+    match piece {
+        Piece::Begun(form, _) => form.keeps_items(),
+        Piece::Object(..) | Piece::Entered | Piece::Whole(_) => false,
+    }
+}
+
+/// Whether a place is begun.
+pub(crate) fn is_begun(piece: &Piece) -> bool
+    ensures { result ≡ is_begun_body (body_of piece.now) }
+{
+    match piece {
+        Piece::Begun(..) | Piece::Object(..) => true,
+        Piece::Entered | Piece::Whole(_) => false,
+    }
+}
+
 /// One child more at a begun place, behind the others, which isn't there yet.
 pub(crate) fn add_child(alloc: Global, piece: &mut Piece) -> Result<(), OutOfMemory>
     requires { IsGrowing (body_of piece.old) }
@@ -258,7 +275,7 @@ pub(crate) fn end_child(piece: &mut Piece, i: u32, value: Value, ledger: &mut Le
     let Piece::Begun(_, children) = piece else {
         unreachable!()
     };
-    match child_at(children, i) {
+    match child_at(children, i as usize) {
         Some(at) => children.end_item(at, value, ledger),
         None => unreachable!(),
     }

@@ -1,12 +1,12 @@
 //! The places in slots.
 ghost use Rattle.std.specs.Borrow.{Lends, sem};
-ghost use Rattle.std.specs.Prelude.{◌≡◌, IsSome, Some, None};
+ghost use Rattle.std.specs.Prelude.{◌≡◌, Some, None};
 ghost use Rattle.fr_model.specs.Paths.{step_as};
 ghost use Rattle.fr_model.specs.Tree.{as_map};
 
 use crate::children::Children;
 use crate::keys::Keys;
-use fr_arena::Idx;
+use fr_arena::{Idx, ListRope};
 use fr_path::PathStep;
 use fr_plan::NodeId;
 use fr_shape::Value;
@@ -84,6 +84,8 @@ impl Form {
     ghost use Rattle.fr_model.specs.Tree.{base_of_form, form_number, same_form};
     ghost use Rattle.fr_frame.specs.Bodies.{boxes, gathers};
     ghost use Rattle.fr_frame.specs.Heap.{as_form, parts_in};
+    ghost use Rattle.fr_frame.specs.Items.{keeps_items};
+    ghost use Rattle.fr_frame.specs.Outlines.{has_items};
 
     /// The step to child `i` of a place that is begun so. A content, a side or a pointee is child 0; of a map's children each other
     /// one is a key, before its value.
@@ -167,6 +169,18 @@ impl Form {
         }
     }
 
+    /// Whether the items of a place that is begun so keep their slots: it is a list or a pointer to a slice.
+    pub(crate) fn keeps_items(self) -> bool
+        ensures told { result ≡ has_items (as_form self) }
+        ensures kept { result ≡ keeps_items self }
+    {
+        match self {
+            Form::List | Form::Slice | Form::ClosedSlice => true,
+            Form::Struct | Form::Array | Form::Variant(_) | Form::Set | Form::Map(_) => false,
+            Form::Some | Form::Ok | Form::Err | Form::Pointer | Form::DynArray => false,
+        }
+    }
+
     /// What the children of a place are that is begun so.
     pub(crate) fn parts(self) -> Parts
         ensures { result ≡ parts_in (as_form self) }
@@ -201,29 +215,43 @@ pub struct Place {
     pub piece: Piece,
 }
 
-/// A slot: free, with the free one that comes after it, or in use.
+/// An item of the list in a slot that has completed: its value, and its number among the list's children.
+#[derive(Drop)]
+pub struct Item {
+    pub value: Value,
+    pub list: SlotId,
+    pub number: u32,
+}
+
+/// A slot: free, with the free one that comes after it; kept for a place that is about to come; in use; in use by a list, or a
+/// pointer to a slice, whose last children are items that lie in these slots; or with an item that has completed, which keeps its
+/// slot until its list completes, starts anew or is released. In the list's piece an item isn't there, but has its room, so that the
+/// list needs no memory to complete.
 #[derive(Drop)]
 pub enum Slot {
     Free(Option<SlotId>),
+    Reserved,
     Used(Place),
+    List(Place, Box<ListRope<SlotId>>),
+    Item(Item),
 }
 
 impl Slot {
     ghost use Rattle.fr_frame.specs.contracts.places.Slot.{the_row};
     ghost use Rattle.fr_frame.specs.contracts.places.Place as place;
     ghost use Rattle.fr_frame.specs.declared.places.Slot.{Slot as Entry};
-    ghost use Rattle.fr_frame.specs.Heap.{node_in};
+    ghost use Rattle.fr_frame.specs.Items.{IsPlain};
 
-    /// The place in a slot that is in use, for writing.
+    /// The place in a slot that is in use, but by no list with items, for writing.
     pub(crate) fn place_mut(&mut self) -> &mut Place
-        requires { IsSome (node_in self.old) }
+        requires { IsPlain self.old }
         ensures* writes_back { sem 𝓛 (Lends the_row place.the_row self.entry result
             (λ new. Entry.Used new)) }
         ensures value { self.old ≡ Entry.Used result.now }
     {
         match self {
             Slot::Used(place) => place,
-            Slot::Free(_) => unreachable!(),
+            Slot::Free(_) | Slot::Reserved | Slot::List(..) | Slot::Item(_) => unreachable!(),
         }
     }
 }

@@ -1,17 +1,22 @@
 //! Places that are left half done and entered again: their mark, and the slot that a child is in.
-ghost use Rattle.std.specs.Prelude.{◌≡◌, ℕ, false, IsOk, IsSome, OnErr, OnOk, Some};
-ghost use Rattle.std.specs.Option.{option_map};
+ghost use Rattle.std.specs.Prelude.{◌≡◌, false, true, IsOk, IsSome, OnErr, OnOk, Some};
+ghost use Rattle.std.specs.Option.{option_and_then, option_map};
 ghost use Rattle.fr_shape.specs.Released.{Conserved, Room, RoseBy};
 ghost use Rattle.fr_shape.specs.Val.{Val};
-ghost use Rattle.fr_frame.specs.Bodies.{body_occurs, takes_memory, value_of, whole_body};
+ghost use Rattle.fr_frame.specs.Bodies.{body_occurs, cell_at, takes_memory, value_of, whole_body};
+ghost use Rattle.fr_frame.specs.Cells.{slot_of_cell};
 ghost use Rattle.fr_frame.specs.Changes.{Becomes, IfInUse, IsInUse, SameTokens, Shows};
-ghost use Rattle.fr_frame.specs.Heap.{child_slot, heap_of, marked, slot_occurs, slots_occur, with_mark};
+ghost use Rattle.fr_frame.specs.Heap.{body_of, child_slot, heap_of, marked, slots_occur, with_mark};
+ghost use Rattle.fr_frame.specs.Items.{is_used, items_of};
+ghost use Rattle.fr_frame.specs.RawSlots.{body_with, with_stored};
 ghost use Rattle.fr_frame.specs.declared.places.SlotId.{SlotId as Number};
 
+use crate::draining::holds_item;
 use crate::making::make_whole;
-use crate::pieces::{release_piece, slot_at};
-use crate::places::{Slot, SlotId};
+use crate::pieces::{count_children, is_list, release_piece, slot_at};
+use crate::places::{Piece, Slot, SlotId};
 use crate::slots::Slots;
+use fr_arena::{Arena, ListRope};
 use fr_shape::{Ledger, OutOfMemory};
 
 impl SlotId {
@@ -21,8 +26,7 @@ impl SlotId {
         ensures marked { Shows slots.new (with_mark (heap_of slots.old) self.0 stored) }
         ensures tokens { SameTokens slots.old slots.new }
     {
-        let place = slots.place_mut(self);
-        place.stored = stored;
+        mark_slot(slots.entries.get_mut(self.idx()), stored);
     }
 
     /// Whether a place is in the slot, and stored.
@@ -40,7 +44,7 @@ impl SlotId {
         ensures slot { option_map (λ (child : Number). child.0) result
             ≡ child_slot (heap_of slots.now) self.0 i }
     {
-        slot_at(&slots.place(self)?.piece, i)
+        slots.child_slot(self, i as usize)
     }
 
     /// Lets a place that is whole, or begun with each child there, be whole with its value. It stays as it was where there is no
@@ -63,15 +67,46 @@ impl SlotId {
     }
 }
 
-/// Records the tokens of what is in a slot as released.
-fn release_slot(slot: Slot, ledger: &mut Ledger)
-    requires { Room (slot_occurs slot) ledger.old }
-    ensures { RoseBy (slot_occurs slot) ledger.old ledger.new }
+/// Marks the place in a slot as stored, or as not stored.
+fn mark_slot(slot: &mut Slot, stored: bool)
+    requires { is_used slot.old ≡ true }
+    ensures { slot.new ≡ with_stored stored slot.old }
 {
     match slot {
-        Slot::Used(place) => release_piece(place.piece, ledger),
-        Slot::Free(_) => {}
+        Slot::Used(place) => place.stored = stored,
+        Slot::List(place, _) => place.stored = stored,
+        Slot::Free(_) | Slot::Reserved | Slot::Item(_) => unreachable!(),
     }
+}
+
+/// The slot that child `i` of a list is in: an item that has completed is in none.
+fn slot_of_item(
+    entries: &Arena<Slot>,
+    list: SlotId,
+    piece: &Piece,
+    items: &ListRope<SlotId>,
+    i: usize,
+) -> Option<SlotId>
+    ensures { option_map (λ (child : Number). child.0) result
+        ≡ option_and_then slot_of_cell (cell_at
+        (body_with (items_of entries.now) list.0 items.now.items (body_of piece.now)) i) }
+{
+    let count = count_children(piece);
+    let before = count.saturating_sub(items.len());
+    if i >= count {
+        return None;
+    }
+    if !is_list(piece) {
+        return slot_at(piece, i);
+    }
+    if i < before {
+        return slot_at(piece, i);
+    }
+    let slot = *items.get(i - before);
+    if holds_item(entries, slot, list, i) {
+        return None;
+    }
+    Some(slot)
 }
 
 impl Slots {
@@ -81,7 +116,26 @@ impl Slots {
         ensures released { RoseBy (slots_occur self) ledger.old ledger.new }
     {
         for i in 0..self.len() {
-            release_slot(self.swap(SlotId(i), Slot::Free(None)), ledger);
+            if self.place(SlotId(i)).is_none() {
+                continue;
+            }
+            let place = self.leave(SlotId(i));
+            release_piece(place.piece, ledger);
+        }
+    }
+
+    /// The slot of a child, where the place is begun, has that child, and has it in a slot.
+    pub fn child_slot(&self, id: SlotId, i: usize) -> Option<SlotId>
+        ensures slot { option_map (λ (child : Number). child.0) result
+            ≡ child_slot (heap_of self.now) id.0 i }
+    {
+        if (id.0 as usize) >= self.entries.len() {
+            return None;
+        }
+        match self.entries.get(id.idx()) {
+            Slot::Used(place) => slot_at(&place.piece, i),
+            Slot::List(place, items) => slot_of_item(&self.entries, id, &place.piece, items, i),
+            Slot::Free(_) | Slot::Reserved | Slot::Item(_) => None,
         }
     }
 }

@@ -1,5 +1,5 @@
 -- The place above the one at which a builder works: whether it is a set, by the slot that the place on top knows as its owner's.
-use Rattle.std.proofs.Common.{◌≡◌, ◌+◌, ℕ, length, Bool, true, false, List, [], ◌∷◌, ◌++◌, Some, None, refl, sym, ◌∙◌, ap, subst}
+use Rattle.std.proofs.Common.{◌≡◌, ◌+◌, ℕ, length, Bool, true, false, List, [], ◌∷◌, ◌++◌, Some, None, option_map, refl, sym, ◌∙◌, ap, subst}
 use Rattle.fr_model.specs.Collections.{is_set}
 use Rattle.fr_model.specs.DynamicPlaces.{is_begun_dynamic}
 use Rattle.fr_model.specs.Places.{Place, is_root, up}
@@ -8,9 +8,11 @@ use Rattle.fr_plan.specs.TypePlan.{Plan}
 use Rattle.fr_frame.specs.declared.places.FrameOwner.{FrameOwner}
 use Rattle.fr_frame.specs.declared.places.Place.{Place as Entry}
 use Rattle.fr_frame.specs.declared.places.Slot.{Slot}
-use Rattle.fr_frame.specs.Bodies.{Body, begun_body, own_tree}
+use Rattle.fr_frame.specs.Bodies.{Body, entered_body, whole_body, begun_body, own_tree}
 use Rattle.fr_frame.specs.Cells.{Cell}
 use Rattle.fr_frame.specs.Heap.{Node, body_of, node_of, heap_of}
+use Rattle.fr_frame.specs.Outlines.{outline, outlined}
+use Rattle.fr_frame.specs.OutlineLaws.{found_outline, none_found as no_outline}
 use Rattle.fr_frame.specs.Kids.{Kid, gone, there, at, entered_plot, whole_plot, begun_plot, tree_of, trees_in, cells_in, child_owner, Holds}
 use Rattle.fr_store.specs.HoldLaws.{holds_at}
 use Rattle.fr_store.specs.LeaveLaws.{below_root, owner_append, up_append}
@@ -19,7 +21,27 @@ use Rattle.fr_store.specs.Numbers.{IsLast}
 use Rattle.fr_store.specs.Stands.{IsOpen, kid_shown}
 use Rattle.fr_store.specs.Ways.{Leads, kid_at, node_along, owner_along, owner_below}
 use Rattle.fr_store.specs.WayLaws.{leads_at, leads_reach, tree_of_at}
-use Rattle.fr_partial.proofs.PlaceLaws.{found_is}
+use Rattle.fr_partial.proofs.PlaceLaws.{found_is, Tells}
+
+-- whether a place is a set, or a dynamic value, is told by its outline
+
+set_outlined : (body : Body) → is_set (own_tree (outline body)) ≡ is_set (own_tree body)
+set_outlined entered_body = refl
+set_outlined (whole_body v) = refl
+set_outlined (begun_body form cells) = refl
+
+dynamic_outlined : (body : Body) → is_begun_dynamic (own_tree (outline body)) ≡ is_begun_dynamic (own_tree body)
+dynamic_outlined entered_body = refl
+dynamic_outlined (whole_body v) = refl
+dynamic_outlined (begun_body form cells) = refl
+
+set_by_outline : (one other : Body) → outline one ≡ outline other → is_set (own_tree one) ≡ is_set (own_tree other)
+set_by_outline one other is = sym (set_outlined one) ∙ ap (λ (b : Body). is_set (own_tree b)) is ∙ set_outlined other
+
+dynamic_by_outline : (one other : Body) → outline one ≡ outline other
+    → is_begun_dynamic (own_tree one) ≡ is_begun_dynamic (own_tree other)
+dynamic_by_outline one other is =
+    sym (dynamic_outlined one) ∙ ap (λ (b : Body). is_begun_dynamic (own_tree b)) is ∙ dynamic_outlined other
 
 -- it is begun, and lies in this slot
 pub record IsAbove (slots : List Slot) (owner : FrameOwner) (tree : Tree) : Type 0 where
@@ -92,7 +114,7 @@ module _ (plan : Plan) (slots : List Slot) (stack : List ℕ) (shown : IsOpen pl
       way last.0 last.1 last.2
 
   -- by the place that is found on top
-  module _ (n : ℕ) (last : IsLast stack n) (place : Entry) (is : Some (node_of place) ≡ heap_of slots n)
+  module _ (n : ℕ) (last : IsLast stack n) (place : Entry) (is : Tells slots n place)
       (below : is_root (cursor_in slots stack) ≡ false) where
     owner_told : place.owner ≡ child_owner (above_here below).slot (above_here below).number
     owner_told =
@@ -108,27 +130,29 @@ module _ (plan : Plan) (slots : List Slot) (stack : List ℕ) (shown : IsOpen pl
       parent_found : heap_of slots parent.0 ≡ Some (above_here below).node
       parent_found = ap (heap_of slots) slot_is ∙ (above_here below).found
 
-      pub never_free : None ≡ heap_of slots parent.0 → ⊥
-      never_free none = let no = none ∙ parent_found in cc
+      pub never_free : None ≡ option_map outlined (heap_of slots parent.0) → ⊥
+      never_free none = let no : None ≡ Some (above_here below).node = sym (no_outline (heap_of slots parent.0) none) ∙ parent_found in cc
 
-      body_told : (above : Entry) → Some (node_of above) ≡ heap_of slots parent.0
-          → body_of above.piece ≡ begun_body (above_here below).form (above_here below).cells
+      body_told : (above : Entry) → Tells slots parent.0 above
+          → outline (body_of above.piece) ≡ outline (begun_body (above_here below).form (above_here below).cells)
       body_told above found =
-          let both : Some (node_of above) ≡ Some (above_here below).node = found ∙ parent_found in
-          let same : node_of above ≡ (above_here below).node = cc in
-          ap (λ (x : Node). x.body) same ∙ (above_here below).body
+          ap (λ (x : Node). x.body)
+          (found_outline (node_of above) (heap_of slots parent.0) (above_here below).node found parent_found)
+          ∙ ap outline (above_here below).body
 
       -- so it is a set, or a dynamic value, as that place tells
-      pub set_told : (above : Entry) → Some (node_of above) ≡ heap_of slots parent.0
+      pub set_told : (above : Entry) → Tells slots parent.0 above
           → is_set (own_tree (body_of above.piece)) ≡ is_set (tree_at (up (cursor_in slots stack)) (tree_in_slots slots stack))
       set_told above found =
-          ap (λ (b : Body). is_set (own_tree b)) (body_told above found) ∙ sym (ap is_set (above_here below).stands)
+          set_by_outline (body_of above.piece) (begun_body (above_here below).form (above_here below).cells) (body_told above found)
+          ∙ sym (ap is_set (above_here below).stands)
 
-      pub dynamic_told : (above : Entry) → Some (node_of above) ≡ heap_of slots parent.0
+      pub dynamic_told : (above : Entry) → Tells slots parent.0 above
           → is_begun_dynamic (own_tree (body_of above.piece))
           ≡ is_begun_dynamic (tree_at (up (cursor_in slots stack)) (tree_in_slots slots stack))
       dynamic_told above found =
-          ap (λ (b : Body). is_begun_dynamic (own_tree b)) (body_told above found)
+          dynamic_by_outline (body_of above.piece) (begun_body (above_here below).form (above_here below).cells)
+          (body_told above found)
           ∙ sym (ap is_begun_dynamic (above_here below).stands)
 
 -- a place that belongs neither to a set nor to a dynamic value isn't left so

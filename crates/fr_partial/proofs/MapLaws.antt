@@ -288,7 +288,8 @@ module _ {H : Type 0} {builder : Builder H} {table : Table} {shape : ShapeId} {s
       rw (sym (set_item_seen at) ∙ e)
       (ap (λ (s : ShapeId). Err (ReflectErrorKind.OperationFailed s operation)) (shape_seen at))
 
-  module _ (lacks : Bool) (told : lacks ≡ lacks_value (cursor_tree builder.state)) (operation : Operation) where
+  module _ (lacks : Bool)
+      (told : is_map (cursor_tree builder.state) ≡ true → lacks ≡ lacks_value (cursor_tree builder.state)) (operation : Operation) where
     pub key_refused : key_refusal_by seen lacks ≡ Some operation
         → begin_key builder.shapes (here builder) builder.state ≡ Err (ReflectErrorKind.OperationFailed shape operation)
     key_refused e =

@@ -1,18 +1,21 @@
 -- The place on top of the stack: its shape, and what stands there.
-use Rattle.std.proofs.Common.{◌≡◌, ℕ, suc, ◌<◌, false, List, [], length, append-nil, Option, Some, None, refl, sym, ◌∙◌, ap, subst}
-use Rattle.std.specs.Prelude.{IsSome}
+use Rattle.std.proofs.Common.{◌≡◌, ℕ, zero, suc, ◌<◌, Bool, true, false, List, [], ◌∷◌, length, append-nil, Option, Some, None, option_map, refl, sym, ◌∙◌, ap, subst}
+use Rattle.std.specs.Prelude.{IsSome, replicate, if◌then◌else◌}
 use Rattle.fr_shape.specs.declared.shape.ShapeId.{ShapeId}
 use Rattle.fr_shape.specs.Look.{Table}
-use Rattle.fr_model.specs.Collections.{ends_in_hole, is_hole, lacks_value}
+use Rattle.fr_model.specs.Collections.{ends_in_hole, is_hole, is_map, is_map_form, lacks_value}
 use Rattle.fr_model.specs.Places.{Place}
-use Rattle.fr_model.specs.Tree.{begun, holes, count_trees, tree_occurs}
+use Rattle.fr_model.specs.Tree.{Form, as_struct, as_array, as_variant, as_some, as_ok, as_err, as_pointer, as_list, as_slice, as_closed_slice, as_set, as_map, as_dyn_array, as_dyn_object, begun, holes, count_trees, tree_occurs}
 use Rattle.fr_plan.specs.declared.nodes.TypePlanNode.{TypePlanNode}
 use Rattle.fr_plan.specs.Lookups.{node_at}
 use Rattle.fr_plan.specs.LookupLaws.{LookupsAgree, LookupPathsAgree}
 use Rattle.fr_plan.specs.TypePlan.{Plan}
 use Rattle.fr_frame.specs.declared.places.Place.{Place as Entry}
 use Rattle.fr_frame.specs.declared.places.Slot.{Slot}
-use Rattle.fr_frame.specs.Bodies.{own_tree, trees_of}
+use Rattle.fr_frame.specs.Bodies.{Body, entered_body, whole_body, begun_body, own_tree, trees_of}
+use Rattle.fr_frame.specs.Cells.{Cell, absent}
+use Rattle.fr_frame.specs.Outlines.{has_items, is_list_body, outline, outlined}
+use Rattle.fr_frame.specs.OutlineLaws.{found_outline, same_plain, none_found as no_outline}
 use Rattle.fr_frame.specs.Heap.{Node, body_of, node_of, heap_of, slots_occur}
 use Rattle.fr_frame.specs.declared.places.FrameOwner.{FrameOwner}
 use Rattle.fr_frame.specs.Changes.{SameTokens, Shows}
@@ -30,6 +33,10 @@ use Rattle.fr_partial.specs.Underway.{shape_here, IsReady}
 use Rattle.fr_partial.proofs.FitLaws.{is_there}
 use Rattle.fr_store.specs.ShapeLaws.{IsOfShape, Along, along, root_shaped}
 
+-- what was put at a place tells what is in the slot, but of a list not what its children are
+abbrev pub Tells : List Slot → ℕ → Entry → Type 0
+Tells slots n place = Some (outlined (node_of place)) ≡ option_map outlined (heap_of slots n)
+
 -- what is in the last slot of the stack
 abbrev pub node_here : (plan : Plan) (slots : List Slot) (stack : List ℕ) → IsOpen plan slots stack → Node
 node_here plan slots stack shown = record {
@@ -46,18 +53,57 @@ module _ (plan : Plan) (slots : List Slot) (stack : List ℕ) (shown : IsOpen pl
   here_found = ap (heap_of slots) (sym (top_slot plan slots stack shown n last)) ∙ (open_top plan slots stack shown).here
 
   -- the place that is found there
-  pub found_is : (place : Entry) → Some (node_of place) ≡ heap_of slots n → node_of place ≡ node_here plan slots stack shown
+  pub found_is : (place : Entry) → Tells slots n place → outlined (node_of place) ≡ outlined (node_here plan slots stack shown)
   found_is place is =
-      let both : Some (node_of place) ≡ Some (node_here plan slots stack shown) = is ∙ here_found in
-      cc
+      found_outline (node_of place) (heap_of slots n) (node_here plan slots stack shown) is here_found
 
   -- there is one
-  pub none_found : None ≡ heap_of slots n → ⊥
+  pub none_found : None ≡ option_map outlined (heap_of slots n) → ⊥
   none_found is =
-      let both : None ≡ Some (node_here plan slots stack shown) = is ∙ here_found in
+      let both : None ≡ Some (node_here plan slots stack shown) = sym (no_outline (heap_of slots n) is) ∙ here_found in
       cc
 
 -- Where a child is in a slot, what was put at the place above doesn't tell it; but it looks like what stands there.
+
+as_many : (cells : List Cell) → count_trees (trees_of cells) ≡ length cells
+as_many [] = refl
+as_many (c ∷ cells) = ap suc (as_many cells)
+
+none_many : (n : ℕ) → count_trees (trees_of (replicate n absent)) ≡ n
+none_many zero = refl
+none_many (suc n) = ap suc (none_many n)
+
+bare_outline : (body : Body) → bare (own_tree (outline body)) ≡ bare (own_tree body)
+bare_outline entered_body = refl
+bare_outline (whole_body v) = refl
+bare_outline (begun_body form cells) = ap (λ (n : ℕ). begun form (holes n)) (go (has_items form))
+  where
+    go : (b : Bool) → count_trees (trees_of (if b then replicate (length cells) absent else cells)) ≡ count_trees (trees_of cells)
+    go true = none_many (length cells) ∙ sym (as_many cells)
+    go false = refl
+
+-- a map is told whole
+
+map_has_none : (form : Form) → is_map_form form ≡ true → has_items form ≡ false
+map_has_none as_struct is = refl
+map_has_none as_array is = refl
+map_has_none (as_variant k) is = refl
+map_has_none as_some is = refl
+map_has_none as_ok is = refl
+map_has_none as_err is = refl
+map_has_none as_pointer is = refl
+map_has_none as_list is = absurd (cc)
+map_has_none as_slice is = absurd (cc)
+map_has_none as_closed_slice is = absurd (cc)
+map_has_none as_set is = refl
+map_has_none (as_map base) is = refl
+map_has_none as_dyn_array is = refl
+map_has_none (as_dyn_object keys) is = refl
+
+map_lists_not : (plot : Plot) → is_map (tree_in plot) ≡ true → is_list_body (body_in plot) ≡ false
+map_lists_not entered_plot is = refl
+map_lists_not (whole_plot v) is = refl
+map_lists_not (begun_plot form kids) is = map_has_none form is
 
 count_told : (kids : Kids) → count_trees (trees_of (cells_in kids)) ≡ count_trees (trees_in kids)
 count_told no_kids = refl
@@ -70,11 +116,13 @@ own_looks (begun_plot form kids) = ap (λ (n : ℕ). begun form (holes n)) (coun
 
 -- what was put there looks like what stands at the place at which the builder works
 pub looks_found : (plan : Plan) (slots : List Slot) (stack : List ℕ) (shown : IsOpen plan slots stack) (n : ℕ)
-    (last : IsLast stack n) → (place : Entry) → Some (node_of place) ≡ heap_of slots n
+    (last : IsLast stack n) → (place : Entry) → Tells slots n place
     → LooksLike (own_tree (body_of place.piece)) (tree_here slots stack)
 looks_found plan slots stack shown n last place is =
     let top = open_top plan slots stack shown in
-    ap (λ (found : Node). bare (own_tree found.body)) (found_is plan slots stack shown n last place is)
+    sym (bare_outline (body_of place.piece))
+    ∙ ap (λ (found : Node). bare (own_tree found.body)) (found_is plan slots stack shown n last place is)
+    ∙ bare_outline (body_in top.plot)
     ∙ own_looks top.plot
     ∙ ap bare (ap tree_of (sym top.is) ∙ tree_of_at (cursor_in slots stack) (kid_shown (heap_of slots) stack))
 
@@ -98,13 +146,17 @@ plot_told (whole_plot v) = refl
 plot_told (begun_plot form kids) = last_told kids
 
 pub lacks_found : (plan : Plan) (slots : List Slot) (stack : List ℕ) (shown : IsOpen plan slots stack) (n : ℕ)
-    (last : IsLast stack n) → (place : Entry) → Some (node_of place) ≡ heap_of slots n
+    (last : IsLast stack n) → (place : Entry) → Tells slots n place → is_map (tree_here slots stack) ≡ true
     → lacks_last (body_of place.piece) ≡ lacks_value (tree_here slots stack)
-lacks_found plan slots stack shown n last place is =
+lacks_found plan slots stack shown n last place is of_map =
     let top = open_top plan slots stack shown in
-    ap (λ (found : Node). lacks_last found.body) (found_is plan slots stack shown n last place is)
-    ∙ plot_told top.plot
-    ∙ ap lacks_value (ap tree_of (sym top.is) ∙ tree_of_at (cursor_in slots stack) (kid_shown (heap_of slots) stack))
+    let here : tree_in top.plot ≡ tree_here slots stack
+    = ap tree_of (sym top.is) ∙ tree_of_at (cursor_in slots stack) (kid_shown (heap_of slots) stack) in
+    let same : body_of place.piece ≡ body_in top.plot
+    = same_plain (body_of place.piece) (body_in top.plot)
+    (ap (λ (found : Node). found.body) (found_is plan slots stack shown n last place is))
+    (map_lists_not top.plot (ap is_map here ∙ of_map)) in
+    ap lacks_last same ∙ plot_told top.plot ∙ ap lacks_value here
 
 module _ (agree : LookupsAgree) (paths : LookupPathsAgree) (table : Table) (root : ShapeId) (plan : Plan) (slots : List Slot)
     (stack : List ℕ) (ready : IsReady table root plan slots stack) where
@@ -119,19 +171,19 @@ module _ (agree : LookupsAgree) (paths : LookupPathsAgree) (table : Table) (root
       (subst (λ (p : Place). Leads p (kid_shown (heap_of slots) stack)) (sym (append-nil (cursor_in slots stack)))
       ready.shown.stands.leads))
 
-  pub found_shaped : (n : ℕ) (last : IsLast stack n) (place : Entry) → Some (node_of place) ≡ heap_of slots n
+  pub found_shaped : (n : ℕ) (last : IsLast stack n) (place : Entry) → Tells slots n place
       → IsOfShape plan place.node (shape_here table root.0 slots stack)
   found_shaped n last place is =
       subst (λ (found : Node). IsOfShape plan found.node (shape_here table root.0 slots stack))
       (sym (found_is plan slots stack ready.shown n last place is)) here_along.node_is
 
-  pub found_inside : (n : ℕ) (last : IsLast stack n) (place : Entry) → Some (node_of place) ≡ heap_of slots n
+  pub found_inside : (n : ℕ) (last : IsLast stack n) (place : Entry) → Tells slots n place
       → place.node.0 < length plan.nodes
   found_inside n last place is =
       let shaped = found_shaped n last place is in
       is_there plan.nodes place.node.0 shaped.found shaped.there
 
-  pub found_shape : (n : ℕ) (last : IsLast stack n) (place : Entry) → Some (node_of place) ≡ heap_of slots n
+  pub found_shape : (n : ℕ) (last : IsLast stack n) (place : Entry) → Tells slots n place
       → (found : TypePlanNode) → node_at plan place.node ≡ Some found → found.shape.0 ≡ shape_here table root.0 slots stack
   found_shape n last place is found met =
       let shaped = found_shaped n last place is in

@@ -1,10 +1,12 @@
 -- What a builder sees of the place at which it works, as its table and its slots tell it.
-use Rattle.std.proofs.Common.{◌≡◌, ℕ, Bool, List, sym, ◌∙◌, ap}
+use Rattle.std.proofs.Common.{◌≡◌, ℕ, Bool, true, false, List, Some, None, refl, sym, ◌∙◌, ap}
+use Rattle.std.specs.Prelude.{if◌then◌else◌}
+use Rattle.fr_shape.specs.declared.error.Operation.{Operation}
 use Rattle.fr_shape.specs.declared.shape.Def.{Def}
 use Rattle.fr_shape.specs.declared.shape.ShapeId.{ShapeId}
 use Rattle.fr_shape.specs.Look.{Table, def_of}
 use Rattle.fr_shape.specs.Plannable.{is_dynamic}
-use Rattle.fr_model.specs.Collections.{key_refusal, lacks_value, set_item_refusal, value_refusal}
+use Rattle.fr_model.specs.Collections.{is_map, key_refusal, lacks_value, set_item_refusal, value_refusal}
 use Rattle.fr_model.specs.Items.{init_array_refusal, is_open_slice, item_refusal}
 use Rattle.fr_model.specs.Step.{field_refusal, init_list_refusal, init_map_refusal, init_set_refusal, named_refusal}
 use Rattle.fr_model.specs.Tree.{Form, Mode, selected, Tree, cursor_tree}
@@ -18,6 +20,12 @@ use Rattle.fr_partial.specs.Openings.{HasItems}
 use Rattle.fr_partial.specs.Underway.{shape_here}
 use Rattle.fr_partial.proofs.LookLaws.{array_alike, in_alike, init_alike, item_alike, items_alike, key_alike, map_alike, named_alike, open_alike, refusal_alike, selected_alike, set_alike, set_item_alike, so_alike, some_alike, value_alike}
 use Rattle.fr_partial.proofs.StateLaws.{builder_of}
+
+-- of a map it is known whether its last child is there; where there is no map, that doesn't matter
+where_map : {X : Type 0} (of_map lacks there : Bool) (by_child : Bool → X) (otherwise : X) → (of_map ≡ true → lacks ≡ there)
+    → (if of_map then by_child lacks else otherwise) ≡ (if of_map then by_child there else otherwise)
+where_map true lacks there by_child otherwise told = ap by_child (told refl)
+where_map false lacks there by_child otherwise told = refl
 
 -- its table, the shape of the place, and how the place looks
 pub record Sees {H : Type 0} (builder : Builder H) (table : Table) (shape : ShapeId) (seen : Tree) : Type 0 where
@@ -115,16 +123,18 @@ module _ {H : Type 0} {builder : Builder H} {table : Table} {shape : ShapeId} {s
       ∙ ap (λ (def : Def). set_item_refusal def (cursor_tree builder.state)) def_seen
 
   -- where it is known whether the last child is there
-  module _ (lacks : Bool) (told : lacks ≡ lacks_value (cursor_tree builder.state)) where
+  module _ (lacks : Bool) (told : is_map (cursor_tree builder.state) ≡ true → lacks ≡ lacks_value (cursor_tree builder.state)) where
     pub key_seen : key_refusal_by seen lacks ≡ key_refusal (cursor_tree builder.state)
     key_seen =
         key_alike seen (cursor_tree builder.state) at.looks lacks
-        ∙ ap (key_refusal_by (cursor_tree builder.state)) told
+        ∙ where_map (is_map (cursor_tree builder.state)) lacks (lacks_value (cursor_tree builder.state))
+        (λ (b : Bool). if b then Some Operation.KeyBeforeValue else None) (Some Operation.KeyBeforeInitMap) told
 
     pub value_seen : value_refusal_by seen lacks ≡ value_refusal (cursor_tree builder.state)
     value_seen =
         value_alike seen (cursor_tree builder.state) at.looks lacks
-        ∙ ap (value_refusal_by (cursor_tree builder.state)) told
+        ∙ where_map (is_map (cursor_tree builder.state)) lacks (lacks_value (cursor_tree builder.state))
+        (λ (b : Bool). if b then None else Some Operation.ValueBeforeKey) (Some Operation.ValueBeforeKey) told
 
   pub items_seen : (form : Form) (count : ℕ) → HasItems form count seen → HasItems form count (cursor_tree builder.state)
   items_seen form count has = items_alike seen (cursor_tree builder.state) at.looks form count has

@@ -48,11 +48,13 @@ pub fn begin_so(
     requires base { base_of_form (as_form form) ≡ 0 }
     requires some { beginning ≡ Onset.InPlace → IsWholeSome (tree_here slots.old stack.now) }
     requires room { Room (slots_occur slots.old) ledger.old }
-    ensures begun { OnOk result (IsOpenAt plan.now slots.new stack.now (cursor_in slots.old stack.now)
+    ensures begun { OnOk result (IsOpenAt plan.now slots.new stack.now
+        (cursor_in slots.old stack.now)
         (changed_here (begun_by beginning (as_form form) count) slots.old stack.now)) }
     ensures stored { OnOk result (IsKept store.new slots.new) }
     ensures marks { OnOk result (StoresNoMore slots.old slots.new) }
-    ensures tokens { Conserved (slots_occur slots.old) ledger.old (slots_occur slots.new) ledger.new }
+    ensures tokens { Conserved (slots_occur slots.old) ledger.old
+        (slots_occur slots.new) ledger.new }
 {
     match beginning {
         Beginning::AsItIs => Ok(()),
@@ -87,7 +89,8 @@ fn begin_content(
         slots.old stack.old)) }
     ensures stored { OnOk result (IsKept store.new slots.new) }
     ensures marks { OnOk result (StoresNoMore slots.old slots.new) }
-    ensures tokens { Conserved (slots_occur slots.old) ledger.old (slots_occur slots.new) ledger.new }
+    ensures tokens { Conserved (slots_occur slots.old) ledger.old
+        (slots_occur slots.new) ledger.new }
 {
     law_plan_lookups();
     let _root = root;

@@ -33,7 +33,8 @@ pub(crate) fn converted(
     requires fits { fits table.now given.0 (view value) ≡ true }
     requires room { Room (occurs (view value)) ledger.old }
     ensures made { IfOk result
-        (λ d. converted table.now place.0 (def_of table.now given.0) (view value) ≡ Ok (dyn_view d)) }
+        (λ d. converted table.now place.0 (def_of table.now given.0) (view value)
+        ≡ Ok (dyn_view d)) }
     ensures refused { IfErr result (IsUnconverted
         (converted table.now place.0 (def_of table.now given.0) (view value)) given.0) }
     ensures memory { copies_to_convert (def_of table.now given.0) ≡ false
@@ -169,7 +170,8 @@ fn list_copied(
     given: ShapeId,
     value: &Value,
 ) -> Result<Dyn, ReflectErrorKind>
-    requires octets { is_byte (def_of table.now item.0) ≡ true → has_octets (view value.now) ≡ true }
+    requires octets { is_byte (def_of table.now item.0) ≡ true
+        → has_octets (view value.now) ≡ true }
     ensures made { IfOk result (λ d. converted table.now place.0 (Described.List item)
         (view value.now) ≡ Ok (dyn_view d)) }
     ensures refused { IfErr result (IsUnconverted

@@ -127,14 +127,16 @@ fn begin_parts(
     requires ready { IsReady table.now root plan.now slots.old stack.now }
     requires stored { IsKept store.old slots.old }
     requires room { Room (slots_occur slots.old) ledger.old }
-    ensures begun { OnOk result (IsOpenAt plan.now slots.new stack.now (cursor_in slots.old stack.now)
+    ensures begun { OnOk result (IsOpenAt plan.now slots.new stack.now
+        (cursor_in slots.old stack.now)
         (changed_here (λ old.
         unwrap_or (kept_as parts (tree_here slots.old stack.now)) (anew_as parts))
         slots.old stack.now)) }
     ensures stored { OnOk result (IsKept store.new slots.new) }
     ensures marks { OnOk result (StoresNoMore slots.old slots.new) }
     ensures memory { is_begun (tree_here slots.old stack.now) ≡ true → IsOk result }
-    ensures tokens { Conserved (slots_occur slots.old) ledger.old (slots_occur slots.new) ledger.new }
+    ensures tokens { Conserved (slots_occur slots.old) ledger.old
+        (slots_occur slots.new) ledger.new }
 {
     let beginning = beginning_as(parts, place_here(table, root, plan, slots, stack).1);
     match beginning {

@@ -12,7 +12,7 @@ ghost use Rattle.fr_frame.specs.Bodies.{own_tree};
 ghost use Rattle.fr_frame.specs.Heap.{body_of, slots_occur};
 ghost use Rattle.fr_store.specs.Moves.{changed_here, cursor_in, takes_at_end, tree_here, tree_in_slots, IsOpenAt};
 ghost use Rattle.fr_store.specs.Stands.{IsOpen};
-ghost use Rattle.fr_store.specs.Stored.{IsKept, StoresNoMore};
+ghost use Rattle.fr_store.specs.Stored.{IsKept};
 ghost use Rattle.fr_partial.specs.Builder.{here, holds, left, IsStepTo, TellsPlaceBefore};
 ghost use Rattle.fr_partial.specs.Entering.{Describes};
 ghost use Rattle.fr_partial.specs.FieldDefaults.{default_in};
@@ -149,7 +149,8 @@ fn put_in_child(
         slots.old stack.old)) }
     ensures stored { OnOk result (IsKept store.new slots.new) }
     ensures mode { OnOk result (StoresNothing (mode_of mode) store.new) }
-    ensures tokens { Conserved (slots_occur slots.old) ledger.old (slots_occur slots.new) ledger.new }
+    ensures tokens { Conserved (slots_occur slots.old) ledger.old
+        (slots_occur slots.new) ledger.new }
 {
     law_plan_lookups();
     enter_child(table, root, plan, slots, stack, store, i, opening)?;

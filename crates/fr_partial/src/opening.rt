@@ -45,7 +45,8 @@ fn open_here(
     count: usize,
 ) -> Result<(), OutOfMemory>
     requires ready { IsReady table.now root plan.now slots.old stack.now }
-    requires may_open { MayOpenAs (def_of table.now (shape_here table.now root.0 slots.old stack.now))
+    requires may_open { MayOpenAs
+        (def_of table.now (shape_here table.now root.0 slots.old stack.now))
         (as_form form) count (tree_here slots.old stack.now) }
     requires many { TakesMany (as_form form) }
     requires base { base_of_form (as_form form) ≡ 0 }

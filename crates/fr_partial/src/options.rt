@@ -16,7 +16,8 @@ use fr_shape::{Def, Expected, Hooks, Ledger, ReflectErrorKind, ShapeId, ShapeTab
 
 /// What an option of this shape holds, if it is one.
 fn content_of(table: &ShapeTable, shape: ShapeId) -> Option<ShapeId>
-    ensures content { IfSome result (λ content. content.0 ≡ content_shape (def_of table.now shape.0)) }
+    ensures content { IfSome result (λ content.
+        content.0 ≡ content_shape (def_of table.now shape.0)) }
     ensures some { IfSome result (λ content. is_option (def_of table.now shape.0) ≡ true) }
     ensures none { IfNone result (is_option (def_of table.now shape.0) ≡ false) }
 {

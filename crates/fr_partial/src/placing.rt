@@ -4,7 +4,7 @@ ghost use Rattle.fr_shape.specs.Fits.{fits};
 ghost use Rattle.fr_shape.specs.Released.{Room, Conserved};
 ghost use Rattle.fr_shape.specs.Tokens.{occurs};
 ghost use Rattle.fr_shape.specs.View.{view};
-ghost use Rattle.fr_model.specs.Collections.{lacks_value};
+ghost use Rattle.fr_model.specs.Collections.{is_map, lacks_value};
 ghost use Rattle.fr_model.specs.Step.{puts};
 ghost use Rattle.fr_frame.specs.Bodies.{own_tree};
 ghost use Rattle.fr_frame.specs.Heap.{body_of};
@@ -21,7 +21,7 @@ use fr_shape::{Hooks, Ledger, ShapeId, ShapeTable, Value};
 use fr_store::Stack;
 
 /// The shape of the place on top of the stack, as the plan has it, and what was put there, in which a child that is stored isn't
-/// told, but whether the last one is there.
+/// told, but of a map whether the last one is there.
 pub fn place_here<'a>(
     table: &ShapeTable,
     root: ShapeId,
@@ -32,7 +32,8 @@ pub fn place_here<'a>(
     requires { IsReady table.now root plan.now slots.now stack.now }
     ensures shape { result.0.0 ≡ shape_here table.now root.0 slots.now stack.now }
     ensures piece { LooksLike (own_tree (body_of result.1.now)) (tree_here slots.now stack.now) }
-    ensures last { lacks_last (body_of result.1.now) ≡ lacks_value (tree_here slots.now stack.now) }
+    ensures last { is_map (tree_here slots.now stack.now) ≡ true
+        → lacks_last (body_of result.1.now) ≡ lacks_value (tree_here slots.now stack.now) }
 {
     law_plan_lookups();
     let _table = table;

@@ -1,5 +1,5 @@
 //! `begin_smart_ptr`: on to what a pointer points to; and `set_empty_shared_slice`.
-ghost use Rattle.std.specs.Prelude.{◌≡◌, IfOk, IfSome, IfNone, None, Some};
+ghost use Rattle.std.specs.Prelude.{◌≡◌, IfOk, None, Some};
 ghost use Rattle.fr_shape.specs.Look.{def_of};
 ghost use Rattle.fr_shape.specs.Released.{Room, Conserved};
 ghost use Rattle.fr_model.specs.Commands.{Call};
@@ -197,7 +197,8 @@ impl<'t, H: Hooks> Partial<'t, H> {
         ledger: &mut Ledger,
     ) -> Result<Partial<'t, H>, ReflectError>
         requires room { Room (holds self) ledger.old }
-        ensures step { IsStep (H.means self.entry.hooks) self.entry Call.SetEmptySharedSlice result }
+        ensures step { IsStep (H.means self.entry.hooks) self.entry Call.SetEmptySharedSlice
+            result }
         ensures path { TellsPlaceBefore self.entry result }
         ensures tokens { Conserved (holds self.entry) ledger.old (left result) ledger.new }
         ensures removed { RisesByRemoved (H.means self.entry.hooks) self.entry

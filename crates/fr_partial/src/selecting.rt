@@ -41,14 +41,16 @@ fn begin_variant(
     requires count { IsFullAs (def_of table.now (shape_here table.now root.0 slots.old stack.now))
         (as_variant chosen.variant) chosen.count }
     requires room { Room (slots_occur slots.old) ledger.old }
-    ensures begun { OnOk result (IsOpenAt plan.now slots.new stack.now (cursor_in slots.old stack.now)
+    ensures begun { OnOk result (IsOpenAt plan.now slots.new stack.now
+        (cursor_in slots.old stack.now)
         (changed_here (λ old.
         unwrap_or (kept_so (as_variant chosen.variant) (tree_here slots.old stack.now))
         (variant_anew (def_of table.now (shape_here table.now root.0 slots.old stack.now))
         chosen.variant)) slots.old stack.now)) }
     ensures stored { OnOk result (IsKept store.new slots.new) }
     ensures marks { OnOk result (StoresNoMore slots.old slots.new) }
-    ensures tokens { Conserved (slots_occur slots.old) ledger.old (slots_occur slots.new) ledger.new }
+    ensures tokens { Conserved (slots_occur slots.old) ledger.old
+        (slots_occur slots.new) ledger.new }
 {
     let form = Form::Variant(chosen.variant);
     let (_, piece) = place_here(table, root, plan, slots, stack);

@@ -1,6 +1,5 @@
 //! Pointers to slices: opened for items, and closed again.
 ghost use Rattle.std.specs.Prelude.{◌≡◌, ◌≢◌, Ok, IfErr, OnOk, true, is_some, unwrap_or};
-ghost use Rattle.fr_shape.specs.Look.{def_of};
 ghost use Rattle.fr_shape.specs.Released.{Room, Conserved};
 ghost use Rattle.fr_model.specs.Commands.{Call};
 ghost use Rattle.fr_model.specs.Contents.{kept_slice, slice_anew};
@@ -66,13 +65,15 @@ fn begin_slice(
     requires ready { IsReady table.now root plan.now slots.old stack.now }
     requires stored { IsKept store.old slots.old }
     requires room { Room (slots_occur slots.old) ledger.old }
-    ensures begun { OnOk result (IsOpenAt plan.now slots.new stack.now (cursor_in slots.old stack.now)
+    ensures begun { OnOk result (IsOpenAt plan.now slots.new stack.now
+        (cursor_in slots.old stack.now)
         (changed_here (λ old.
         unwrap_or (kept_slice (mode_of mode) (tree_here slots.old stack.now)) slice_anew)
         slots.old stack.now)) }
     ensures stored { OnOk result (IsKept store.new slots.new) }
     ensures marks { OnOk result (StoresNoMore slots.old slots.new) }
-    ensures tokens { Conserved (slots_occur slots.old) ledger.old (slots_occur slots.new) ledger.new }
+    ensures tokens { Conserved (slots_occur slots.old) ledger.old
+        (slots_occur slots.new) ledger.new }
 {
     let kept = keeps_items(mode, place_here(table, root, plan, slots, stack).1);
     if kept {

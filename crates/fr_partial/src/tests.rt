@@ -22,7 +22,9 @@ use std::process::Abort;
 mod contents;
 mod deferring;
 mod dynamics;
+mod lists;
 mod paths;
+mod validators;
 
 fn shape(alloc: Global, name: &str, def: Def, preset: Option<Template>) -> Option<Shape>
     ensures def { IfSome result (λ shape. shape.def ≡ def) }

@@ -57,7 +57,8 @@ fn validators_of(
     field: &Field,
     lists: &mut PlanLists,
 ) -> Result<ValidatorRange, OutOfMemory>
-    ensures added { IfOk result (λ range. Names lists.new.validators range (validators_of table.now field.now)) }
+    ensures added { IfOk result (λ range.
+        Names lists.new.validators range (validators_of table.now field.now)) }
     ensures grown { ListsGrow lists.old lists.new }
 {
     let kind = kind_of(table, field.shape);

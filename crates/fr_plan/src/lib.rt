@@ -13,8 +13,6 @@ mod plans;
 mod shape_fields;
 mod strategies;
 mod telling;
-#[cfg(test)]
-mod tests;
 mod type_plan;
 mod variants;
 mod walking;

@@ -142,7 +142,8 @@ fn proxies_of(
     table: &ShapeTable,
     outline: &Outline,
 ) -> Result<ProxyNodes, OutOfMemory>
-    ensures { IfOk result (AreProxyNodes (proxies_in table.now outline.now outline.now.role) outline.now.sources) }
+    ensures { IfOk result
+        (AreProxyNodes (proxies_in table.now outline.now outline.now.role) outline.now.sources) }
 {
     let nodes = outline.sources.as_slice();
     match outline.role {

@@ -55,7 +55,8 @@ fn variant_plan(
     lists: &mut PlanLists,
 ) -> Result<VariantPlanMeta, OutOfMemory>
     requires fields { AreFieldsOf table.now id (Some number) variant.now.fields }
-    ensures told { IfOk result (IsVariantPlan table.now lists.new id (record { number = number; variant = variant.now; nodes = nodes.now })) }
+    ensures told { IfOk result (IsVariantPlan table.now lists.new id
+        (record { number = number; variant = variant.now; nodes = nodes.now })) }
     ensures grown { ListsGrow lists.old lists.new }
 {
     let of = Container {
@@ -83,7 +84,8 @@ fn variant_plans(
     lists: &mut PlanLists,
 ) -> Result<VariantRange, OutOfMemory>
     requires described { def_of table.now id.0 ≡ TheDef.Enum enumeration.now }
-    ensures told { IfOk result (NamesVariants table.now lists.new id (variants_from 0 nodes.now enumeration.now.variants)) }
+    ensures told { IfOk result (NamesVariants table.now lists.new id
+        (variants_from 0 nodes.now enumeration.now.variants)) }
     ensures grown { ListsGrow lists.old lists.new }
 {
     law_lookups_stay();

@@ -79,7 +79,8 @@ pub(crate) fn finish(
     sources: Items<NodeId>,
     children: Items<NodeId>,
 ) -> Result<NodeId, PlanError>
-    ensures { Gives (finish id shape.now sources (record { walk = walk.old; nodes = children })) result walk.new }
+    ensures { Gives (finish id shape.now sources (record { walk = walk.old; nodes = children }))
+        result walk.new }
 {
     if let Some(operation) = refusal_of(shape) {
         return Err(PlanError::Alloc(AllocError {
@@ -130,7 +131,8 @@ pub(crate) fn sources_of(
     proxy: &Option<ProxyDef>,
     format_proxies: &Items<FormatProxy>,
 ) -> Result<Items<ShapeId>, OutOfMemory>
-    ensures { IfOk result (λ sources. sources ≡ map (λ (proxy : Proxy). proxy.source) (proxies_of proxy.now format_proxies.now)) }
+    ensures { IfOk result (λ sources. sources
+        ≡ map (λ (proxy : Proxy). proxy.source) (proxies_of proxy.now format_proxies.now)) }
 {
     let mut sources = Items::new(alloc);
     if let Some(proxy) = proxy {

@@ -11,7 +11,7 @@ use std::test::Fail;
 const LISTS: &str =
     r#"{"shapes":[{"name":"u32","def":"u32"},{"name":"Nums","def":{"list":0}},{"name":"Res","def":"opaque"},{"name":"Items","def":{"list":2}},{"name":"A3","def":{"array":[0,3]}},{"name":"A5000","def":{"array":[0,5000]}},{"name":"Sl","def":{"slice":0}},{"name":"ArcSlice","def":{"pointer":{"known":"Arc","pointee":6}}},{"name":"ResSl","def":{"slice":2}},{"name":"BoxRes","def":{"pointer":{"known":"Box","pointee":8}}},{"name":"RefRes","def":{"pointer":{"known":"SharedReference","pointee":8}}},{"name":"LooseSlice","def":{"pointer":{"pointee":6}}},{"name":"RefU32","def":{"pointer":{"known":"SharedReference","pointee":0}}},{"name":"RefAny","def":{"pointer":{"known":"SharedReference"}}},{"name":"Pair","def":{"struct":[{"name":"nums","shape":1},{"name":"slice","shape":7}]}},{"name":"Pairs","def":{"list":14}}],"#;
 
-const BUILT: [(&str, &str, u8, &str); 13] = [
+const BUILT: [(&str, &str, u8, &str); 14] = [
     (
         "a pointer to a slice is made of its items",
         r#""root":7,"commands":[["begin_smart_ptr"],["init_list"],["begin_list_item"],["set",0,1],["end"],["begin_list_item"],["set",0,2],["end"],["end"]]}"#,
@@ -90,9 +90,15 @@ const BUILT: [(&str, &str, u8, &str); 13] = [
         0,
         r#"{"ok":{"p":{"l":[]}},"released":[0]}"#,
     ),
+    (
+        "forty items keep their order",
+        r#""root":1,"commands":[["init_list"],["begin_list_item"],["set",0,0],["end"],["begin_list_item"],["set",0,7],["end"],["begin_list_item"],["set",0,14],["end"],["begin_list_item"],["set",0,21],["end"],["begin_list_item"],["set",0,5],["end"],["begin_list_item"],["set",0,12],["end"],["begin_list_item"],["set",0,19],["end"],["begin_list_item"],["set",0,3],["end"],["begin_list_item"],["set",0,10],["end"],["begin_list_item"],["set",0,17],["end"],["begin_list_item"],["set",0,1],["end"],["begin_list_item"],["set",0,8],["end"],["begin_list_item"],["set",0,15],["end"],["begin_list_item"],["set",0,22],["end"],["begin_list_item"],["set",0,6],["end"],["begin_list_item"],["set",0,13],["end"],["begin_list_item"],["set",0,20],["end"],["begin_list_item"],["set",0,4],["end"],["begin_list_item"],["set",0,11],["end"],["begin_list_item"],["set",0,18],["end"],["begin_list_item"],["set",0,2],["end"],["begin_list_item"],["set",0,9],["end"],["begin_list_item"],["set",0,16],["end"],["begin_list_item"],["set",0,0],["end"],["begin_list_item"],["set",0,7],["end"],["begin_list_item"],["set",0,14],["end"],["begin_list_item"],["set",0,21],["end"],["begin_list_item"],["set",0,5],["end"],["begin_list_item"],["set",0,12],["end"],["begin_list_item"],["set",0,19],["end"],["begin_list_item"],["set",0,3],["end"],["begin_list_item"],["set",0,10],["end"],["begin_list_item"],["set",0,17],["end"],["begin_list_item"],["set",0,1],["end"],["begin_list_item"],["set",0,8],["end"],["begin_list_item"],["set",0,15],["end"],["begin_list_item"],["set",0,22],["end"],["begin_list_item"],["set",0,6],["end"],["begin_list_item"],["set",0,13],["end"],["begin_list_item"],["set",0,20],["end"]]}"#,
+        0,
+        r#"{"ok":{"l":[0,7,14,21,5,12,19,3,10,17,1,8,15,22,6,13,20,4,11,18,2,9,16,0,7,14,21,5,12,19,3,10,17,1,8,15,22,6,13,20]},"released":[]}"#,
+    ),
 ];
 
-const LEFT: [(&str, &str, u8, &str); 8] = [
+const LEFT: [(&str, &str, u8, &str); 11] = [
     (
         "a pointer to a slice is made of its items",
         r#""root":7,"commands":[["begin_deferred"],["begin_smart_ptr"],["init_list"],["begin_list_item"],["set",0,1],["end"],["begin_list_item"],["set",0,2],["end"],["end"],["finish_deferred"]]}"#,
@@ -140,6 +146,24 @@ const LEFT: [(&str, &str, u8, &str); 8] = [
         r#""root":3,"tokens":2,"commands":[["begin_deferred"],["init_list"],["begin_list_item"],["set",2,{"t":0}],["end"],["begin_list_item"],["set",2,{"t":1}],["end"],["set",3,{"l":[]}],["finish_deferred"]]}"#,
         0,
         r#"{"ok":{"l":[]},"released":[0,1]}"#,
+    ),
+    (
+        "items come before, in and behind deferred mode",
+        r#""root":3,"tokens":4,"commands":[["init_list"],["begin_list_item"],["set",2,{"t":0}],["end"],["begin_deferred"],["begin_list_item"],["set",2,{"t":1}],["end"],["begin_list_item"],["set",2,{"t":2}],["end"],["finish_deferred"],["begin_list_item"],["set",2,{"t":3}],["end"]]}"#,
+        0,
+        r#"{"ok":{"l":[{"t":0},{"t":1},{"t":2},{"t":3}]},"released":[]}"#,
+    ),
+    (
+        "what is set releases an item that had completed and one that was left",
+        r#""root":3,"tokens":3,"commands":[["init_list"],["begin_list_item"],["set",2,{"t":0}],["end"],["begin_deferred"],["begin_list_item"],["set",2,{"t":1}],["end"],["set",3,{"l":[{"t":2}]}],["finish_deferred"]]}"#,
+        0,
+        r#"{"ok":{"l":[{"t":2}]},"released":[0,1]}"#,
+    ),
+    (
+        "a refusal releases items that had completed and those that were left",
+        r#""root":3,"tokens":3,"commands":[["init_list"],["begin_list_item"],["set",2,{"t":0}],["end"],["begin_deferred"],["begin_list_item"],["set",2,{"t":1}],["end"],["begin_list_item"],["set",2,{"t":2}],["init_list"]]}"#,
+        1,
+        r#"{"error":{"command":10,"detail":"init_list can only be called on List types or DynamicValue","kind":"OperationFailed","path":"[2]"},"released":[0,1,2]}"#,
     ),
 ];
 

@@ -56,7 +56,9 @@ impl ShapeTable {
 fn first_fault(table: &ShapeTable, rule: u8) -> Option<u32>
     requires few { length table.now < 2 ^ 32 }
     requires known { (1 ≤ rule) × (rule ≤ 9) }
-    ensures broken { MatchOption result (EachKeeps table.now (keeps table.now rule)) (λ entry. IsBrokenAt table.now rule entry) }
+    ensures broken { MatchOption result
+        (EachKeeps table.now (keeps table.now rule))
+        (λ entry. IsBrokenAt table.now rule entry) }
     ensures first { IfSome result (λ entry. EarlierEntriesKeep table.now rule entry) }
 {
     if rule == 2 && is_long(table.len()) {

@@ -13,8 +13,11 @@ use crate::{Items, OutOfMemory, Shape, ShapeTable, Text, VariantDef};
 /// The first shape whose name an earlier one has, by its number.
 pub(crate) fn first_taken_name(table: &ShapeTable) -> Result<Option<u32>, OutOfMemory>
     requires few { length table.now < 2 ^ 32 }
-    ensures taken { IfOk result (λ taken. MatchOption taken (EachKeeps table.now (keeps table.now 2)) (λ entry. IsBrokenAt table.now 2 entry)) }
-    ensures first { IfOk result (λ taken. IfSome taken (λ entry. EarlierEntriesKeep table.now 2 entry)) }
+    ensures taken { IfOk result (λ taken. MatchOption taken
+        (EachKeeps table.now (keeps table.now 2))
+        (λ entry. IsBrokenAt table.now 2 entry)) }
+    ensures first { IfOk result (λ taken.
+        IfSome taken (λ entry. EarlierEntriesKeep table.now 2 entry)) }
 {
     match first_repeated_name(table.shapes())? {
         Some(i) => Ok(Some(i as u32)),
@@ -23,7 +26,9 @@ pub(crate) fn first_taken_name(table: &ShapeTable) -> Result<Option<u32>, OutOfM
 }
 
 fn first_repeated_name(shapes: &Items<Shape>) -> Result<Option<usize>, OutOfMemory>
-    ensures { IfOk result (λ found. MatchOption found (distinct bytes_eq (map (λ s. s.name) shapes.now) ≡ true) (IsFirstRepeated bytes_eq (map (λ s. s.name) shapes.now))) }
+    ensures { IfOk result (λ found. MatchOption found
+        (distinct bytes_eq (map (λ s. s.name) shapes.now) ≡ true)
+        (IsFirstRepeated bytes_eq (map (λ s. s.name) shapes.now))) }
 {
     let mut names = Vec::with_capacity(shapes.alloc(), shapes.len())?;
     for shape in shapes.as_slice() {

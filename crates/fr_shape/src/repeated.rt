@@ -11,7 +11,8 @@ pub(crate) fn first_repeated<K: Ord + Copy + Drop>(
     alloc: Global,
     keys: &[K],
 ) -> Result<Option<usize>, OutOfMemory>
-    ensures { IfOk result (λ found. MatchOption found (distinct K.eq keys.now ≡ true) (IsFirstRepeated K.eq keys.now)) }
+    ensures { IfOk result (λ found.
+        MatchOption found (distinct K.eq keys.now ≡ true) (IsFirstRepeated K.eq keys.now)) }
 {
     let mut earlier = BTreeSet::new(alloc);
     for i in 0..keys.len() {

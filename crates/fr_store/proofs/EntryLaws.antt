@@ -11,7 +11,7 @@ use Rattle.fr_model.specs.Tree.{Form, as_struct, as_array, as_variant, as_some, 
 use Rattle.fr_plan.specs.declared.nodes.NodeId.{NodeId}
 use Rattle.fr_plan.specs.TypePlan.{Plan}
 use Rattle.fr_frame.specs.declared.places.Slot.{Slot}
-use Rattle.fr_frame.specs.Bodies.{begun_body, count_cells, keys_in, with_entry_for, with_entry_unless as body_unless, AreUnplaced, IsObjectBody, IsUnplaced}
+use Rattle.fr_frame.specs.Bodies.{begun_body, keys_in, with_entry_for, with_entry_unless as body_unless, AreUnplaced, IsObjectBody, IsUnplaced}
 use Rattle.fr_frame.specs.Changes.{IfInUse, SameMarks, SameTokens, Shows}
 use Rattle.fr_frame.specs.Heap.{Node, Heap, depth_below, depth_limit, entry_owner, heap_of, with_body, with_entered}
 use Rattle.fr_frame.specs.Kids.{Kid, gone, there, at, Plot, begun_plot, Kids, no_kids, kid, trees_in, cell_of, cells_in, child_owner, HoldsAll, AreLeftRightly, AreLeftAll, AreLeftIn}
@@ -177,13 +177,6 @@ module _ (plan : Plan) (before : List Slot) (stack : List ℕ) (open_now : IsOpe
   object_apart apart =
       formed_here plan before stack open_now p last (as_dyn_object keys) has_object (λ body. keys_apart (keys_in body) ≡ true)
       (ap keys_apart (sym keys_are) ∙ apart)
-
-  pub object_counted : length (keys_here (tree_here before stack)) ≡ count_here before stack
-      → IfInUse before p (λ (found : Node). length (keys_in found.body) ≡ count_cells found.body)
-  object_counted many =
-      formed_here plan before stack open_now p last (as_dyn_object keys) has_object
-      (λ body. length (keys_in body) ≡ count_cells body)
-      (ap length (sym keys_are) ∙ many ∙ count_is ∙ sym (cells_count its))
 
   its_unplaced : AreUnplaced (cells_in its)
   its_unplaced =

@@ -10,7 +10,6 @@ pub mod EarlierLaws
 pub mod EndItemLaws
 pub mod EndLaws
 pub mod EntryLaws
-pub mod FinishTests
 pub mod IndexLaws
 pub mod ItemLaws
 pub mod KeptLaws
@@ -18,6 +17,7 @@ pub mod LastLaws
 pub mod NoteLaws
 pub mod OpenLaws
 pub mod OrderLaws
+pub mod OutlineUses
 pub mod PairLaws
 pub mod PathOrder
 pub mod PlaceLaws

@@ -24,7 +24,14 @@ pub held_in : (slots : List Slot) (n : ℕ) (found : Node) (t : ℕ) → heap_of
     → body_occurs found.body t ≤ slots_occur slots t
 held_in [] n found t is = absurd (cc)
 held_in (Slot.Free next ∷ slots) zero found t is = absurd (cc)
+held_in (Slot.Reserved ∷ slots) zero found t is = absurd (cc)
+held_in (Slot.Item item ∷ slots) zero found t is = absurd (cc)
 held_in (Slot.Used place ∷ slots) zero found t is =
+    let same : node_of place ≡ found = cc in
+    let own : body_occurs (node_of place).body t ≡ body_occurs found.body t
+    = ap (λ (x : Node). body_occurs x.body t) same in
+    omega (arith, own)
+held_in (Slot.List place items ∷ slots) zero found t is =
     let same : node_of place ≡ found = cc in
     let own : body_occurs (node_of place).body t ≡ body_occurs found.body t
     = ap (λ (x : Node). body_occurs x.body t) same in

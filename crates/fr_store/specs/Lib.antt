@@ -6,7 +6,6 @@ pub mod ChildLaws
 pub mod ClosingLaws
 pub mod EnterLaws
 pub mod FailLaws
-pub mod FinishTests
 pub mod FinishedLaws
 pub mod HeadLaws
 pub mod HeldLaws

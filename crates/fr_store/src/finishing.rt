@@ -6,7 +6,7 @@ ghost use Rattle.fr_shape.specs.declared.error.ReflectErrorKind.{ReflectErrorKin
 ghost use Rattle.fr_model.specs.Well.{Suits};
 ghost use Rattle.fr_frame.specs.Changes.{IfInUse, IsInUse};
 ghost use Rattle.fr_frame.specs.Completing.{IsPlanFor};
-ghost use Rattle.fr_frame.specs.Heap.{slots_occur};
+ghost use Rattle.fr_frame.specs.Heap.{body_of, slots_occur};
 ghost use Rattle.fr_store.specs.Moves.{cursor_in, tokens_in, tree_in_slots};
 ghost use Rattle.fr_store.specs.Stands.{IsOpen};
 ghost use Rattle.fr_store.specs.Stored.{IsKept, NothingStored};
@@ -94,16 +94,12 @@ fn take_turns<H: Hooks>(
     Ok(())
 }
 
-/// Whether the place becomes whole where the builder works: it was only entered, or is a closed pointer to a slice. A dynamic value
-/// that is begun stays so, as a list does.
-fn becomes_whole(slots: &Slots, place: SlotId) -> bool
-    requires { IsInUse slots.now place.0 }
-    ensures { IfInUse slots.now place.0 (λ at. result ≡ becomes_whole at.body) }
+/// Whether a place becomes whole where the builder works, by what was put at it: it was only entered, or is a closed pointer to a
+/// slice. A dynamic value that is begun stays so, as a list does.
+fn becomes_whole_by(piece: &Piece) -> bool
+    ensures { result ≡ becomes_whole (body_of piece.now) }
 {
-    let Some(found) = slots.place(place) else {
-        unreachable!()
-    };
-    match &found.piece {
+    match piece {
         Piece::Entered | Piece::Begun(Form::ClosedSlice, _) => true,
         Piece::Whole(_) | Piece::Object(_, _) => false,
         Piece::Begun(
@@ -121,6 +117,17 @@ fn becomes_whole(slots: &Slots, place: SlotId) -> bool
             | Form::DynArray,
             _,
         ) => false,
+    }
+}
+
+/// Whether the place becomes whole where the builder works.
+fn becomes_whole(slots: &Slots, place: SlotId) -> bool
+    requires { IsInUse slots.now place.0 }
+    ensures { IfInUse slots.now place.0 (λ at. result ≡ becomes_whole at.body) }
+{
+    match slots.place(place) {
+        Some(found) => becomes_whole_by(&found.piece),
+        None => unreachable!(),
     }
 }
 

@@ -19,8 +19,3 @@ mod walking;
 
 pub use stack::Stack;
 pub use store::FrameStore;
-
-#[cfg(test)]
-mod finish_tests;
-#[cfg(test)]
-mod tests;

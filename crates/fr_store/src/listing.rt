@@ -1,8 +1,8 @@
 //! All places that lie in slots beneath one.
 ghost use Rattle.std.specs.Prelude.{◌≡◌, ◌<◌, ◌++◌, length, IfOk, OnOk};
 ghost use Rattle.fr_model.specs.Places.{entry_of};
-ghost use Rattle.fr_frame.specs.Heap.{heap_of};
-ghost use Rattle.fr_store.specs.Beneath.{from_last, is_map_found, kid_on_top, slotted};
+ghost use Rattle.fr_frame.specs.Heap.{body_of, heap_of};
+ghost use Rattle.fr_store.specs.Beneath.{from_last, is_map_body, is_map_found, kid_on_top, slotted};
 ghost use Rattle.fr_store.specs.Numbers.{IsLast};
 ghost use Rattle.fr_store.specs.Prunes.{cells_found};
 ghost use Rattle.fr_store.specs.Stands.{IsOpen};
@@ -39,14 +39,11 @@ fn child_from_last(of_map: bool, count: usize, i: usize) -> usize
     }
 }
 
-/// Whether a place is begun as a map. An object, whose entries have their values alone as children, is none.
-fn is_map(slots: &Slots, place: SlotId) -> bool
-    ensures { result ≡ is_map_found (heap_of slots.now place.0) }
+/// Whether a place is begun as a map, by what was put at it. An object, whose entries have their values alone as children, is none.
+fn is_map_piece(piece: &Piece) -> bool
+    ensures { result ≡ is_map_body (body_of piece.now) }
 {
-    let Some(found) = slots.place(place) else {
-        return false;
-    };
-    match &found.piece {
+    match piece {
         Piece::Entered | Piece::Whole(_) | Piece::Object(_, _) => false,
         Piece::Begun(Form::Map(_), _) => true,
         Piece::Begun(
@@ -64,6 +61,16 @@ fn is_map(slots: &Slots, place: SlotId) -> bool
             | Form::DynArray,
             _,
         ) => false,
+    }
+}
+
+/// Whether a place is begun as a map.
+fn is_map(slots: &Slots, place: SlotId) -> bool
+    ensures { result ≡ is_map_found (heap_of slots.now place.0) }
+{
+    match slots.place(place) {
+        Some(found) => is_map_piece(&found.piece),
+        None => false,
     }
 }
 

@@ -3,37 +3,33 @@ ghost use Rattle.std.specs.Prelude.{◌≡◌, ℕ, ◌+◌, length};
 ghost use Rattle.std.specs.Option.{option_map};
 ghost use Rattle.fr_shape.specs.Released.{Room, RoseBy};
 ghost use Rattle.fr_frame.specs.Cells.{slot_at};
-ghost use Rattle.fr_frame.specs.Heap.{heap_of, slots_occur};
+ghost use Rattle.fr_frame.specs.Heap.{body_of, heap_of, slots_occur};
 ghost use Rattle.fr_frame.specs.declared.places.SlotId.{SlotId as Number};
-ghost use Rattle.fr_store.specs.Prunes.{beneath, cells_found, pruned, slotted_occur, IsPruned, IsRooted};
+ghost use Rattle.fr_store.specs.Prunes.{beneath, cells_found, cells_in_body, pruned, slotted_occur, IsPruned, IsRooted};
 ghost use Rattle.fr_store.specs.Stored.{IsKept, StoresNoMore};
 
 use crate::FrameStore;
-use fr_frame::{Children, Piece, SlotId, Slots};
+use fr_frame::{Piece, SlotId, Slots};
 use fr_shape::Ledger;
 
-/// How many children a place has.
-pub(crate) fn count_children(slots: &Slots, place: SlotId) -> usize
-    ensures { result ≡ length (cells_found (heap_of slots.now place.0)) }
+/// How many children a place has, by what was put at it.
+fn count_among(piece: &Piece) -> usize
+    ensures { result ≡ length (cells_in_body (body_of piece.now)) }
 {
-    let Some(found) = slots.place(place) else {
-        return 0;
-    };
-    match &found.piece {
+    match piece {
         Piece::Begun(_, children) => children.len(),
         Piece::Object(_, children) => children.len(),
         Piece::Entered | Piece::Whole(_) => 0,
     }
 }
 
-/// The slot of one of these children, where there is that one, and it is in a slot.
-fn slot_among(children: &Children, i: usize) -> Option<SlotId>
-    ensures { option_map (λ (slot : Number). slot.0) result ≡ slot_at children.now i }
+/// How many children a place has.
+pub(crate) fn count_children(slots: &Slots, place: SlotId) -> usize
+    ensures { result ≡ length (cells_found (heap_of slots.now place.0)) }
 {
-    if i < children.len() {
-        children.slot(i)
-    } else {
-        None
+    match slots.place(place) {
+        Some(found) => count_among(&found.piece),
+        None => 0,
     }
 }
 
@@ -42,12 +38,7 @@ pub(crate) fn slot_of_child(slots: &Slots, place: SlotId, i: usize) -> Option<Sl
     ensures { option_map (λ (slot : Number). slot.0) result
         ≡ slot_at (cells_found (heap_of slots.now place.0)) i }
 {
-    let found = slots.place(place)?;
-    match &found.piece {
-        Piece::Begun(_, children) => slot_among(children, i),
-        Piece::Object(_, children) => slot_among(children, i),
-        Piece::Entered | Piece::Whole(_) => None,
-    }
+    slots.child_slot(place, i)
 }
 
 impl FrameStore {

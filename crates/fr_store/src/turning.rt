@@ -1,12 +1,12 @@
 //! Where stored places belong, and where they come among the children of the place above.
-ghost use Rattle.std.specs.Prelude.{◌≡◌, All, IfOk, IsPermutation};
+ghost use Rattle.std.specs.Prelude.{◌≡◌, All, IsPermutation};
 ghost use Rattle.std.specs.List.Sorted.{IsNonDecreasingBy};
 ghost use Rattle.fr_model.specs.Tree.{as_map};
 ghost use Rattle.fr_frame.specs.Changes.{IfInUse};
-ghost use Rattle.fr_frame.specs.Heap.{as_form, heap_of};
+ghost use Rattle.fr_frame.specs.Heap.{as_form, body_of, heap_of};
 ghost use Rattle.fr_store.specs.Moves.{HasOwner};
 ghost use Rattle.fr_store.specs.Numbers.{slots_of};
-ghost use Rattle.fr_store.specs.Places.{key_of, order_as, order_at, BelongsTo, IsNarrow, IsNoted};
+ghost use Rattle.fr_store.specs.Places.{key_of, order_as, order_at, order_in, BelongsTo, IsNarrow, IsNoted};
 
 use fr_frame::{Form, FrameOwner, Piece, SlotId, Slots};
 
@@ -43,16 +43,23 @@ fn order_of(form: &Form, i: u32) -> u32
     }
 }
 
+/// Where child `i` of a place comes among its children, by what was put at it.
+fn order_among(piece: &Piece, i: u32) -> u32
+    ensures { result ≡ order_in (body_of piece.now) i }
+{
+    match piece {
+        Piece::Begun(form, _) => order_of(form, i),
+        Piece::Entered | Piece::Whole(_) | Piece::Object(_, _) => i,
+    }
+}
+
 /// Where child `i` of the place in a slot comes among its children.
 fn order_below(slots: &Slots, parent: SlotId, i: u32) -> u32
     ensures { result ≡ order_at (heap_of slots.now parent.0) i }
 {
-    let Some(above) = slots.place(parent) else {
-        return i;
-    };
-    match &above.piece {
-        Piece::Begun(form, _) => order_of(form, i),
-        Piece::Entered | Piece::Whole(_) | Piece::Object(_, _) => i,
+    match slots.place(parent) {
+        Some(above) => order_among(&above.piece, i),
+        None => i,
     }
 }
 

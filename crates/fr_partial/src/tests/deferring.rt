@@ -7,7 +7,7 @@ use crate::Partial;
 use fr_shape::{Ledger, NoHooks, Value};
 use std::process::Abort;
 
-fn defer<'t>(
+pub(super) fn defer<'t>(
     rt: &impl Abort,
     partial: Partial<'t, NoHooks>,
     ledger: &mut Ledger,
@@ -21,7 +21,7 @@ fn defer<'t>(
     }
 }
 
-fn finish<'t>(
+pub(super) fn finish<'t>(
     rt: &impl Abort,
     partial: Partial<'t, NoHooks>,
     ledger: &mut Ledger,

@@ -84,7 +84,7 @@ fn table(alloc: Global) -> Option<ShapeTable>
     Some(ShapeTable::new(alloc, Items::from_vec(shapes)))
 }
 
-fn checked(rt: &impl Abort, alloc: Global) -> ShapeTable
+pub(super) fn checked(rt: &impl Abort, alloc: Global) -> ShapeTable
     ensures count { length result ≡ 5 }
     ensures served { IsServed result }
     ensures numbered { IsNumbered result }
@@ -193,7 +193,7 @@ fn two_bytes(rt: &impl Abort, alloc: Global) -> Value
     Value::List(Items::from_vec(bytes))
 }
 
-fn put_bytes<'t>(
+pub(super) fn put_bytes<'t>(
     rt: &impl Abort,
     alloc: Global,
     partial: Partial<'t, NoHooks>,

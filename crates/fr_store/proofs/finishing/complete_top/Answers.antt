@@ -4,7 +4,7 @@ use Rattle.fr_shape.specs.declared.error.ReflectErrorKind.{ReflectErrorKind}
 use Rattle.fr_store.specs.HereLaws.{finished_begun, finished_whole, nothing_begun, nothing_whole, top_may_complete, top_refused}
 use Rattle.fr_store.specs.MoveLaws.{top_in_use}
 use Rattle.fr_store.specs.Turning.{LacksHere}
-use Rattle.fr_store.proofs.TakenLaws.{closed_room}
+use Rattle.fr_store.proofs.TakenLaws.{closed_room, filled_valued}
 use Rattle.fr_store.proofs.finishing.complete_top.Goals as goal
 
 pub becomes_whole-whole-requires : goal.becomes_whole-whole-requires
@@ -16,6 +16,11 @@ complete_by_defaults-requires-clause-place g c =
     top_may_complete c.args.plan.now c.args.slots.now c.args.stack.now c.requires.is_open c.in-Some.top.0 c.in-Some.ensures.last
     c.requires.strict c.law_plan_lookups.ensures.agree c.law_plan_lookups.ensures.paths c.args.table.now c.requires.checked
     c.requires.plan c.requires.suits
+
+pub make_whole-requires-clause-complete : goal.make_whole-requires-clause-complete
+make_whole-requires-clause-complete g c =
+    filled_valued (g.H.Hooks.means c.args.hooks.now) c.args.table.now c.args.plan.now c.args.slots.now
+    c.complete_by_defaults.new.slots c.in-Some.top.0 c.in_ok-complete_by_defaults.ensures.filled
 
 pub returns-in_err-complete_by_defaults-clause-why : goal.returns-in_err-complete_by_defaults-clause-why
 returns-in_err-complete_by_defaults-clause-why g c =

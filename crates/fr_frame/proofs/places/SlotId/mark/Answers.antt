@@ -1,17 +1,25 @@
-use Rattle.std.proofs.Common.{arith}
-use Rattle.fr_frame.specs.declared.places.Slot.{Slot}
-use Rattle.fr_frame.proofs.HeapLaws.{occur_set}
-use Rattle.fr_frame.proofs.PlaceLaws.{marks}
+use Rattle.std.proofs.Common.{ℕ, ◌<◌, length, sym, subst}
+use Rattle.fr_frame.proofs.RawLaws.{mark_shows, mark_tokens, slot_used, used_inside}
 use Rattle.fr_frame.proofs.places.SlotId.mark.Goals as goal
+
+pub get_mut-requires : goal.get_mut-requires
+get_mut-requires c = record {
+  inside =
+      subst (λ (at : ℕ). at < length c.slots.inside.entries) (sym c.idx.ensures.number)
+      (used_inside c.slots.inside.entries c.args.slots.now c.args.self.0 c.slots.view_is c.requires.in_use);
+}
+
+pub mark_slot-requires : goal.mark_slot-requires
+mark_slot-requires c =
+    slot_used c.slots.inside.entries c.args.slots.now c.slots.view_is c.args.self.0 c.idx.result c.get_mut.result.now
+    c.get_mut.result.now c.idx.ensures.number c.requires.in_use c.get_mut.ensures.value
 
 pub returns-clause-marked : goal.returns-clause-marked
 returns-clause-marked c =
-    marks c.args.slots.now c.args.self.0 c.place_mut-place.result.now c.place_mut-place.ensures.value c.args.stored
+    mark_shows c.slots.inside.entries c.args.slots.now c.slots.view_is c.args.self.0 c.idx.result c.get_mut.result.now
+    c.mark_slot.new.slot c.idx.ensures.number c.requires.in_use c.get_mut.ensures.value c.args.stored c.mark_slot.ensures
 
 pub returns-clause-tokens : goal.returns-clause-tokens
-returns-clause-tokens c t =
-    omega (
-      arith,
-      occur_set c.args.slots.now c.args.self.0 (Slot.Used c.place_mut-place.result.now)
-          (Slot.Used (record c.place_mut-place.result.now { stored = c.args.stored })) t c.place_mut-place.ensures.value,
-    )
+returns-clause-tokens c =
+    mark_tokens c.slots.inside.entries c.args.slots.now c.slots.view_is c.args.self.0 c.idx.result c.get_mut.result.now
+    c.mark_slot.new.slot c.idx.ensures.number c.requires.in_use c.get_mut.ensures.value c.args.stored c.mark_slot.ensures

@@ -1,6 +1,8 @@
 use Rattle.std.proofs.Common.{arith}
+use Rattle.fr_frame.specs.declared.places.Slot.{Slot}
 use Rattle.fr_frame.specs.Bodies.{linked}
-use Rattle.fr_frame.proofs.PlaceLaws.{shows, occur_change}
+use Rattle.fr_frame.proofs.PlaceLaws.{repieced, shows, occur_change}
+use Rattle.fr_frame.proofs.ReservedLaws.{keeps_reserved}
 use Rattle.fr_frame.proofs.slots.Slots.link_child.Goals as goal
 
 pub returns-clause-rest : goal.returns-clause-rest
@@ -15,3 +17,8 @@ returns-clause-tokens c t =
       occur_change c.args.self.now c.args.parent.0 c.place_mut-place.result.now c.place_mut-place.ensures.value c.link.new.piece t,
       c.link.ensures.tokens t,
     )
+
+pub returns-clause-reserved : goal.returns-clause-reserved
+returns-clause-reserved c =
+    keeps_reserved c.args.self.now c.args.parent.0 c.place_mut-place.result.now
+    (Slot.Used (repieced c.place_mut-place.result.now c.link.new.piece)) c.place_mut-place.ensures.value

@@ -1,14 +1,23 @@
-use Rattle.std.proofs.Common.{List, ap, sym, ◌∙◌, arith}
+use Rattle.std.proofs.Common.{List, refl, ap, ◌∙◌}
 use Rattle.fr_frame.specs.declared.places.Slot.{Slot}
-use Rattle.fr_frame.specs.Heap.{slots_occur}
-use Rattle.fr_frame.proofs.HeapLaws.{occur_set, free_holds, free_there}
+use Rattle.fr_frame.specs.Heap.{heap_of, slots_occur}
+use Rattle.fr_frame.specs.Items.{slots_seen}
+use Rattle.fr_frame.proofs.SlotLaws.{filled_occur, reserved_in, set_shows}
 use Rattle.fr_frame.proofs.slots.Slots.lower.Goals as goal
+
+pub put-requires : goal.put-requires
+put-requires c = record {
+  reserved = reserved_in c.self.inside.entries c.args.self.now c.self.view_is c.args.id.0 c.requires.reserved;
+}
+
+pub returns-clause-rest : goal.returns-clause-rest
+returns-clause-rest c n =
+    ap (λ (raw : List Slot). heap_of (slots_seen raw) n) c.put.ensures.now
+    ∙ set_shows c.self.inside.entries c.args.self.now c.self.view_is c.args.id.0 Slot.Reserved (Slot.Used c.args.place)
+    (reserved_in c.self.inside.entries c.args.self.now c.self.view_is c.args.id.0 c.requires.reserved) refl refl n
 
 pub returns-clause-tokens : goal.returns-clause-tokens
 returns-clause-tokens c t =
-    omega (
-      arith,
-      occur_set c.args.self.now c.args.id.0 c.swap.result (Slot.Used c.args.place) t c.swap.ensures.was,
-      ap (λ (slots : List Slot). slots_occur slots t) c.swap.ensures.now,
-      free_holds c.swap.result t (sym (free_there c.args.self.now c.args.id.0 c.swap.result c.swap.ensures.was) ∙ c.requires.free),
-    )
+    ap (λ (raw : List Slot). slots_occur (slots_seen raw) t) c.put.ensures.now
+    ∙ filled_occur c.self.inside.entries c.args.self.now c.self.view_is c.args.id.0 c.args.place
+    (reserved_in c.self.inside.entries c.args.self.now c.self.view_is c.args.id.0 c.requires.reserved) t

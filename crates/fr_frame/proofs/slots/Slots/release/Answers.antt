@@ -1,17 +1,16 @@
 use Rattle.std.proofs.Common.{arith}
-use Rattle.fr_frame.proofs.ReleaseLaws.{releasing_room, releasing_step, releasing_ends}
+use Rattle.fr_frame.specs.Bodies.{body_occurs}
+use Rattle.fr_frame.specs.Heap.{body_of}
+use Rattle.fr_frame.proofs.ReleaseLaws.{releasing_starts, releasing_room, releasing_ends}
 use Rattle.fr_frame.proofs.slots.Slots.release.Goals as goal
 
-pub release_slot-requires : goal.release_slot-requires
-release_slot-requires c =
-    releasing_room c.args.self c.loop-i.self c.args.ledger.now c.loop-i.ledger c.loop-i.i c.loop-i.invariant c.swap.result
-    c.swap.ensures.was
+pub loop-i-init : goal.loop-i-init
+loop-i-init c = releasing_starts c.args.self c.args.ledger.now c.requires.room
 
-pub loop-i-preserved : goal.loop-i-preserved
-loop-i-preserved c =
-    releasing_step c.args.self c.loop-i.self c.args.ledger.now c.loop-i.ledger c.loop-i.i c.loop-i.invariant c.swap.result
-    c.swap.ensures.was c.swap.new.self c.release_slot.new.ledger (omega (arith, c.loop-i.invariant.count)) c.swap.ensures.now
-    c.release_slot.ensures
+pub release_piece-requires : goal.release_piece-requires
+release_piece-requires c =
+    releasing_room c.args.self c.loop-i.self c.args.ledger.now c.loop-i.ledger c.loop-i.i c.loop-i.invariant c.leave-place.new.self
+    (body_occurs (body_of c.leave-place.result.piece)) c.leave-place.ensures.tokens
 
 pub returns : goal.returns
 returns c = record {

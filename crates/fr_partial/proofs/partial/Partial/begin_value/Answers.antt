@@ -1,6 +1,6 @@
 use Rattle.std.proofs.Common.{◌≡◌, None, true, false, Result, Err, inr, sym, ap, ◌∙◌, subst, arith}
 use Rattle.fr_shape.specs.declared.error.ReflectErrorKind.{ReflectErrorKind}
-use Rattle.fr_model.specs.Collections.{value_refusal, lacks_value}
+use Rattle.fr_model.specs.Collections.{is_map, lacks_value, value_refusal}
 use Rattle.fr_model.specs.Commands.{Call}
 use Rattle.fr_model.specs.Tree.{State, cursor_tree}
 use Rattle.fr_frame.specs.Bodies.{own_tree}
@@ -23,10 +23,12 @@ seen g c =
     sees c.deref-work.result.now.slots c.deref-work.result.now.stack lent.view_is c.place_here.result.0
     (own_tree (body_of c.place_here.result.1.now)) c.place_here.ensures.shape c.place_here.ensures.piece
 
-told : (g : Over) (c : In-Ok g) → lacks_last (body_of c.place_here.result.1.now) ≡ lacks_value (cursor_tree c.args.self.state)
-told g c =
+told : (g : Over) (c : In-Ok g) → is_map (cursor_tree c.args.self.state) ≡ true
+    → lacks_last (body_of c.place_here.result.1.now) ≡ lacks_value (cursor_tree c.args.self.state)
+told g c of_map =
     let lent = works_with c.deref-work.ensures c.self.view_is c.self.invariant in
-    c.place_here.ensures.last ∙ ap (λ (b : Builder _). lacks_value (cursor_tree b.state)) lent.view_is
+    c.place_here.ensures.last (ap (λ (b : Builder _). is_map (cursor_tree b.state)) lent.view_is ∙ of_map)
+    ∙ ap (λ (b : Builder _). lacks_value (cursor_tree b.state)) lent.view_is
 
 seen_refused : (g : Over) (c : In-Err g)
     → Sees c.args.self c.deref-work.result.now.table.now c.place_here.result.0 (own_tree (body_of c.place_here.result.1.now))
@@ -35,11 +37,12 @@ seen_refused g c =
     sees c.deref-work.result.now.slots c.deref-work.result.now.stack lent.view_is c.place_here.result.0
     (own_tree (body_of c.place_here.result.1.now)) c.place_here.ensures.shape c.place_here.ensures.piece
 
-told_refused : (g : Over) (c : In-Err g)
+told_refused : (g : Over) (c : In-Err g) → is_map (cursor_tree c.args.self.state) ≡ true
     → lacks_last (body_of c.place_here.result.1.now) ≡ lacks_value (cursor_tree c.args.self.state)
-told_refused g c =
+told_refused g c of_map =
     let lent = works_with c.deref-work.ensures c.self.view_is c.self.invariant in
-    c.place_here.ensures.last ∙ ap (λ (b : Builder _). lacks_value (cursor_tree b.state)) lent.view_is
+    c.place_here.ensures.last (ap (λ (b : Builder _). is_map (cursor_tree b.state)) lent.view_is ∙ of_map)
+    ∙ ap (λ (b : Builder _). lacks_value (cursor_tree b.state)) lent.view_is
 
 admitted : (g : Over) (c : In-Ok g) → value_refusal (cursor_tree c.args.self.state) ≡ None
 admitted g c =

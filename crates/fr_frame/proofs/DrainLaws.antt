@@ -1,0 +1,346 @@
+-- Lists whose items go into them, out of slots that are free then.
+use Rattle.std.proofs.Common.{◌≡◌, ◌≢◌, ◌⊎◌, ℕ, zero, suc, ◌+◌, ◌<◌, ◌≤◌, Bool, true, false, ◌&&◌, List, [], ◌∷◌, length, Option, Some, None, IsSomeAnd, slice_get, set, get_or, is_some, nat_eq, option_map, length-set, inl, inr, refl, sym, ◌∙◌, ap, subst, arith, add-one}
+use Rattle.std.specs.Option.{option_and_then}
+use Rattle.std.specs.Prelude.{if◌then◌else◌}
+use Rattle.std.specs.declared.alloc.Global.{Global}
+use Rattle.std.specs.declared.boxed.Box.{Box}
+use Rattle.std.proofs.lemmas.Bool.{eq-eqb, false≢true}
+use Rattle.std.proofs.lemmas.Bool.Decides.{eqb_tells}
+use Rattle.std.proofs.lemmas.Option.{get_or_from_slice_get, slice_get_read}
+use Rattle.fr_arena.specs.Ropes.{Rope}
+use Rattle.fr_shape.specs.Val.{Val}
+use Rattle.fr_shape.specs.View.{view}
+use Rattle.fr_frame.specs.declared.places.Item.{Item}
+use Rattle.fr_frame.specs.declared.places.Piece.{Piece}
+use Rattle.fr_frame.specs.declared.places.Place.{Place}
+use Rattle.fr_frame.specs.declared.places.Slot.{Slot}
+use Rattle.fr_frame.specs.declared.places.SlotId.{SlotId}
+use Rattle.fr_frame.specs.Cells.{Cell}
+use Rattle.fr_frame.specs.Items.{Held, is_list, item_in, items_of, value_held, item_or, item_cell, piece_with, slot_seen, slots_seen, with_items, FreesItem, FreesItems, IsItemFreed, IsListAt, IsPlain, IsPlainAt}
+use Rattle.fr_frame.proofs.SeenLaws.{HoldSame, items_set, seen_as_same, slot_seen_same}
+
+-- Children that are filled in, from number `at` on.
+
+pub filled_past : (held : Held) (n i at : ℕ) (cells : List Cell) (items : List SlotId) → length cells ≤ at
+    → with_items held n i at cells items ≡ cells
+filled_past held n i at [] items h = refl
+filled_past held n i zero (c ∷ cells) items h = absurd (omega arith)
+filled_past held n i (suc at) (c ∷ cells) items h =
+    ap (λ (l : List Cell). c ∷ l) (filled_past held n (suc i) at cells items (omega arith))
+
+pub none_to_come : (held : Held) (n i at : ℕ) (cells : List Cell) → with_items held n i at cells [] ≡ cells
+none_to_come held n i at [] = refl
+none_to_come held n i zero (c ∷ cells) = refl
+none_to_come held n i (suc at) (c ∷ cells) = ap (λ (l : List Cell). c ∷ l) (none_to_come held n (suc i) at cells)
+
+filled_from : (held : Held) (n i at k : ℕ) (cells : List Cell) (slot : SlotId) (items : List SlotId) → k ≡ i + at → at < length cells
+    → with_items held n i (suc at) (set cells at (item_cell held n k slot)) items ≡ with_items held n i at cells (slot ∷ items)
+filled_from held n i at k [] slot items e h = absurd (omega arith)
+filled_from held n i zero k (c ∷ cells) slot items e h =
+    let same : k ≡ i = omega arith in
+    ap (λ (j : ℕ). item_cell held n j slot ∷ with_items held n (suc i) zero cells items) same
+filled_from held n i (suc at) k (c ∷ cells) slot items e h =
+    ap (λ (l : List Cell). c ∷ l) (filled_from held n (suc i) at k cells slot items (omega arith) (omega arith))
+
+filled_next : (held : Held) (n at : ℕ) (cells now : List Cell) (slot : SlotId) (items : List SlotId) → at < length cells
+    → now ≡ set cells at (item_cell held n at slot)
+    → with_items held n 0 (at + 1) now items ≡ with_items held n 0 at cells (slot ∷ items)
+filled_next held n at cells now slot items h is =
+    rw (add-one, is) (filled_from held n 0 at at cells slot items (omega arith) h)
+
+-- Slots.
+
+pub set_gets : {X : Type 0} (xs : List X) (i : ℕ) (x y : X) → slice_get xs i ≡ Some x → slice_get (set xs i y) i ≡ Some y
+set_gets [] i x y e = cc
+set_gets (z ∷ xs) zero x y e = refl
+set_gets (z ∷ xs) (suc i) x y e = set_gets xs i x y e
+
+pub set_keeps : {X : Type 0} (xs : List X) (i : ℕ) (y : X) (j : ℕ) → j ≢ i → slice_get (set xs i y) j ≡ slice_get xs j
+set_keeps [] i y j ne = refl
+set_keeps (z ∷ xs) zero y zero ne = absurd (ne refl)
+set_keeps (z ∷ xs) zero y (suc j) ne = refl
+set_keeps (z ∷ xs) (suc i) y zero ne = refl
+set_keeps (z ∷ xs) (suc i) y (suc j) ne = set_keeps xs i y j (λ (e : j ≡ i). ne (ap (λ (k : ℕ). suc k) e))
+
+-- an item of another list, or with another number
+other_list : (n i : ℕ) (item : Item) → item.list.0 ≢ n → value_held n i (Some item) ≡ None
+other_list n i item ne = go (eqb_tells item.list.0 n)
+  where
+    go : ((nat_eq item.list.0 n ≡ true) × (item.list.0 ≡ n)) ⊎ ((nat_eq item.list.0 n ≡ false) × (item.list.0 ≢ n))
+        → value_held n i (Some item) ≡ None
+    go (inl same) = absurd (ne same.1)
+    go (inr other) = rw other.0 refl
+
+other_item : (n i : ℕ) (item : Item) → item.number ≢ i → value_held n i (Some item) ≡ None
+other_item n i item ne = go (eqb_tells item.number i) (nat_eq item.list.0 n)
+  where
+    held : (of_list is_number : Bool) → Option Val
+    held of_list is_number = if of_list && is_number then Some (view item.value) else None
+
+    go : ((nat_eq item.number i ≡ true) × (item.number ≡ i)) ⊎ ((nat_eq item.number i ≡ false) × (item.number ≢ i))
+        → (of_list : Bool) → held of_list (nat_eq item.number i) ≡ None
+    go (inl same) b = absurd (ne same.1)
+    go (inr other) true = rw other.0 refl
+    go (inr other) false = refl
+
+-- An item that is sought where it is: it is there, and its slot is free once it was taken out.
+
+abbrev ItemThere : (slots : List Slot) (m n i : ℕ) → Type 0
+ItemThere slots m n i = (item : Item) × (slice_get slots m ≡ Some (Slot.Item item)) × (item.list.0 ≡ n) × (item.number ≡ i)
+
+item_there : (slots : List Slot) (m n i : ℕ) → is_some (value_held n i (items_of slots m)) ≡ true → ItemThere slots m n i
+item_there slots m n i e = go (slice_get slots m) refl e
+  where
+    numbered : (item : Item) → slice_get slots m ≡ Some (Slot.Item item) → is_some (value_held n i (Some item)) ≡ true
+        → ((nat_eq item.list.0 n ≡ true) × (item.list.0 ≡ n)) ⊎ ((nat_eq item.list.0 n ≡ false) × (item.list.0 ≢ n))
+        → ((nat_eq item.number i ≡ true) × (item.number ≡ i)) ⊎ ((nat_eq item.number i ≡ false) × (item.number ≢ i))
+        → ItemThere slots m n i
+    numbered item at h (inl same) (inl number) = (item, at, same.1, number.1)
+    numbered item at h (inl same) (inr other) =
+        absurd (false≢true (sym (ap (λ (o : Option Val). is_some o) (other_item n i item other.1)) ∙ h))
+    numbered item at h (inr other) number =
+        absurd (false≢true (sym (ap (λ (o : Option Val). is_some o) (other_list n i item other.1)) ∙ h))
+
+    go : (o : Option Slot) → slice_get slots m ≡ o → is_some (value_held n i (option_and_then item_in o)) ≡ true
+        → ItemThere slots m n i
+    go None at h = absurd (false≢true h)
+    go (Some (Slot.Free next)) at h = absurd (false≢true h)
+    go (Some Slot.Reserved) at h = absurd (false≢true h)
+    go (Some (Slot.Used place)) at h = absurd (false≢true h)
+    go (Some (Slot.List place items)) at h = absurd (false≢true h)
+    go (Some (Slot.Item item)) at h = numbered item at h (eqb_tells item.list.0 n) (eqb_tells item.number i)
+
+module _ (slots : List Slot) (n i m at : ℕ) (slot : Slot) (is : is_some (value_held n i (items_of slots m)) ≡ true) (same : at ≡ m) (read : slot ≡ get_or slots at slot) where
+  there : ItemThere slots m n i
+  there = item_there slots m n i is
+
+  is_there : slot ≡ Slot.Item there.0
+  is_there =
+      read ∙ ap (λ (k : ℕ). get_or slots k slot) same ∙ get_or_from_slice_get slots m (Slot.Item there.0) slot there.1
+
+  pub taken_is : (item : Item) × (slot ≡ Slot.Item item)
+  taken_is = (there.0, is_there)
+
+  pub taken_value : (item : Item) → slot ≡ Slot.Item item → Some (view item.value) ≡ value_held n i (items_of slots m)
+  taken_value item e =
+      let both : Slot.Item item ≡ Slot.Item there.0 = sym e ∙ is_there in
+      let one : item ≡ there.0 = cc in
+      sym (ap (λ (o : Option Slot). value_held n i (option_and_then item_in o)) there.1 ∙ held ∙ ap (λ (x : Item). Some (view x.value)) (sym one))
+    where
+      held : value_held n i (Some there.0) ≡ Some (view there.0.value)
+      held =
+          let of_list : nat_eq there.0.list.0 n ≡ true = eq-eqb there.0.list.0 n there.2 in
+          let numbered : nat_eq there.0.number i ≡ true = eq-eqb there.0.number i there.3 in
+          rw (of_list, numbered) refl
+
+  pub taken_freed : (now : Slot) (next : Option SlotId) → now ≡ Slot.Free next → IsItemFreed slots (set slots at now) m n i
+  taken_freed now next e = record {
+    item = there.0;
+    held = there.1;
+    of_list = there.2;
+    number = there.3;
+    next = next;
+    now = rw (e, same) refl;
+  }
+
+-- Slots out of which one item more was taken, or none.
+
+frees_more : (n i m : ℕ) (a b c : List Slot) → FreesItems n a b → IsItemFreed b c m n i → FreesItems n a c
+frees_more n i m a b c before next =
+    record { as_many = ap length next.now ∙ length-set b m (Slot.Free next.next) ∙ before.as_many; each = each }
+  where
+    each : (k : ℕ) → FreesItem n (slice_get a k) (slice_get c k)
+    each k = go (eqb_tells k m)
+      where
+        after : Slot
+        after = Slot.Free next.next
+
+        here : FreesItem n (slice_get a m) (slice_get b m) → FreesItem n (slice_get a m) (slice_get c m)
+        here (inl same) =
+            inr (next.item, next.next, same ∙ next.held, next.of_list, ap (λ (l : List Slot). slice_get l m) next.now ∙ set_gets b m (Slot.Item next.item) after next.held)
+        here (inr freed) =
+            let e : Some (Slot.Free freed.1) ≡ Some (Slot.Item next.item) = sym freed.4 ∙ next.held in cc
+
+        go : ((nat_eq k m ≡ true) × (k ≡ m)) ⊎ ((nat_eq k m ≡ false) × (k ≢ m)) → FreesItem n (slice_get a k) (slice_get c k)
+        go (inl same) = subst (λ (j : ℕ). FreesItem n (slice_get a j) (slice_get c j)) (sym same.1) (here (before.each m))
+        go (inr other) =
+            subst (λ (o : Option Slot). FreesItem n (slice_get a k) o)
+            (sym (ap (λ (l : List Slot). slice_get l k) next.now ∙ set_keeps b m after k other.1)) (before.each k)
+
+pub frees_on : (n i m : ℕ) (a b c : List Slot) → FreesItems n a b → (c ≡ b) ⊎ IsItemFreed b c m n i → FreesItems n a c
+frees_on n i m a b c before (inl same) = subst (λ (slots : List Slot). FreesItems n a slots) (sym same) before
+frees_on n i m a b c before (inr next) = frees_more n i m a b c before next
+
+-- what is held of the items from number `i` on is as it was
+abbrev pub HoldsFrom : (n i : ℕ) (a b : List Slot) → Type 0
+HoldsFrom n i a b = (j m : ℕ) → i ≤ j → value_held n j (items_of b m) ≡ value_held n j (items_of a m)
+
+holds_more : (n i m : ℕ) (a b c : List Slot) → HoldsFrom n i a b → IsItemFreed b c m n i → HoldsFrom n (i + 1) a c
+holds_more n i m a b c before next j k h = go (eqb_tells k m) ∙ before j k (omega arith)
+  where
+    go : ((nat_eq k m ≡ true) × (k ≡ m)) ⊎ ((nat_eq k m ≡ false) × (k ≢ m))
+        → value_held n j (items_of c k) ≡ value_held n j (items_of b k)
+    go (inl same) =
+        let after = ap (λ (l : List Slot). slice_get l m) next.now ∙ set_gets b m (Slot.Item next.item) (Slot.Free next.next) next.held in
+        let none : value_held n j (items_of c m) ≡ None = ap (λ (o : Option Slot). value_held n j (option_and_then item_in o)) after in
+        let was : value_held n j (items_of b m) ≡ value_held n j (Some next.item) = ap (λ (o : Option Slot). value_held n j (option_and_then item_in o)) next.held in
+        let other : next.item.number ≢ j = λ (e : next.item.number ≡ j). absurd (omega (arith, next.number)) in
+        subst (λ (x : ℕ). value_held n j (items_of c x) ≡ value_held n j (items_of b x)) (sym same.1)
+        (none ∙ sym (other_item n j next.item other) ∙ sym was)
+    go (inr other) =
+        ap (λ (o : Option Slot). value_held n j (option_and_then item_in o))
+        (ap (λ (l : List Slot). slice_get l k) next.now ∙ set_keeps b m (Slot.Free next.next) k other.1)
+
+pub holds_on : (n i m : ℕ) (a b c : List Slot) → HoldsFrom n i a b → (c ≡ b) ⊎ IsItemFreed b c m n i → HoldsFrom n (i + 1) a c
+holds_on n i m a b c before (inl same) j k h =
+    ap (λ (slots : List Slot). value_held n j (items_of slots k)) same ∙ before j k (omega arith)
+holds_on n i m a b c before (inr next) j k h = holds_more n i m a b c before next j k h
+
+-- the next item goes in
+pub filled_on : (start now : List Slot) (n at : ℕ) (cells after : List Cell) (slot : SlotId) (items : List SlotId) → at < length cells
+    → HoldsFrom n at start now → after ≡ set cells at (item_cell (items_of now) n at slot)
+    → with_items (items_of start) n 0 (at + 1) after items ≡ with_items (items_of start) n 0 at cells (slot ∷ items)
+filled_on start now n at cells after slot items h held is =
+    let as_held : item_cell (items_of now) n at slot ≡ item_cell (items_of start) n at slot = ap (item_or slot.0) (held at slot.0 (omega arith)) in
+    filled_next (items_of start) n at cells after slot items h (is ∙ ap (λ (c : Cell). set cells at c) as_held)
+
+-- Slots whose items went into a list, as they are seen.
+
+-- what is held of another list's items is as it was
+others_hold : (n : ℕ) (a b : List Slot) (l : ℕ) → l ≢ n → ((m : ℕ) → m ≢ n → FreesItem n (slice_get a m) (slice_get b m))
+    → items_of a n ≡ items_of b n → HoldSame (items_of a) (items_of b) l
+others_hold n a b l ne each here m i = go (eqb_tells m n)
+  where
+    held : Option Slot → Option Val
+    held o = value_held l i (option_and_then item_in o)
+
+    freed : FreesItem n (slice_get a m) (slice_get b m) → held (slice_get a m) ≡ held (slice_get b m)
+    freed (inl same) = ap held same
+    freed (inr item) =
+        ap held item.2
+        ∙ other_list l i item.0 (λ (e : item.0.list.0 ≡ l). ne (sym e ∙ item.3))
+        ∙ sym (ap held item.4)
+
+    go : ((nat_eq m n ≡ true) × (m ≡ n)) ⊎ ((nat_eq m n ≡ false) × (m ≢ n)) → held (slice_get a m) ≡ held (slice_get b m)
+    go (inl same) =
+        subst (λ (k : ℕ). held (slice_get a k) ≡ held (slice_get b k)) (sym same.1) (ap (value_held l i) here)
+    go (inr other) = freed (each m other.1)
+
+-- all slots are seen as they were where the list's own is
+drained_seen : (n : ℕ) (a b : List Slot) → ((m : ℕ) → m ≢ n → FreesItem n (slice_get a m) (slice_get b m))
+    → items_of a n ≡ items_of b n
+    → option_map (slot_seen (items_of a) n) (slice_get a n) ≡ option_map (slot_seen (items_of b) n) (slice_get b n)
+    → slots_seen a ≡ slots_seen b
+drained_seen n a b each here is = seen_as_same a b (λ (m : ℕ). go m (eqb_tells m n))
+  where
+    SeenSame : ℕ → Type 0
+    SeenSame m = option_map (slot_seen (items_of a) m) (slice_get a m) ≡ option_map (slot_seen (items_of b) m) (slice_get b m)
+
+    seen : (m : ℕ) (o : Option Slot) → m ≢ n
+        → option_map (slot_seen (items_of a) m) o ≡ option_map (slot_seen (items_of b) m) o
+    seen m None ne = refl
+    seen m (Some slot) ne = ap (λ (x : Slot). Some x) (slot_seen_same (items_of a) (items_of b) m slot (others_hold n a b m ne each here))
+
+    freed : (m : ℕ) → m ≢ n → FreesItem n (slice_get a m) (slice_get b m) → SeenSame m
+    freed m ne (inl same) = seen m (slice_get a m) ne ∙ ap (option_map (slot_seen (items_of b) m)) same
+    freed m ne (inr item) =
+        ap (option_map (slot_seen (items_of a) m)) item.2 ∙ sym (ap (option_map (slot_seen (items_of b) m)) item.4)
+
+    go : (m : ℕ) → ((nat_eq m n ≡ true) × (m ≡ n)) ⊎ ((nat_eq m n ≡ false) × (m ≢ n)) → SeenSame m
+    go m (inl same) = subst SeenSame (sym same.1) is
+    go m (inr other) = freed m other.1 (each m other.1)
+
+-- A list's place, taken out of its slot, in which it is again with its items.
+module _ (n : ℕ) (a b : List Slot) (place : Place) (items : Box (Rope SlotId) Global) (piece : Piece) (was : slice_get a n ≡ Some (Slot.List place items)) (frees : FreesItems n (set a n Slot.Reserved) b) (put : piece ≡ piece_with (items_of (set a n Slot.Reserved)) n items.value.items place.piece) where
+  abbrev drained : List Slot
+  drained = set b n (Slot.Used (record place { piece = piece }))
+
+  reserved : slice_get (set a n Slot.Reserved) n ≡ Some Slot.Reserved
+  reserved = set_gets a n (Slot.List place items) Slot.Reserved was
+
+  still_reserved : slice_get b n ≡ Some Slot.Reserved
+  still_reserved = go (frees.each n)
+    where
+      go : FreesItem n (slice_get (set a n Slot.Reserved) n) (slice_get b n) → slice_get b n ≡ Some Slot.Reserved
+      go (inl same) = sym same ∙ reserved
+      go (inr item) = let e : Some Slot.Reserved ≡ Some (Slot.Item item.0) = sym reserved ∙ item.2 in cc
+
+  used : slice_get drained n ≡ Some (Slot.Used (record place { piece = piece }))
+  used = set_gets b n Slot.Reserved (Slot.Used (record place { piece = piece })) still_reserved
+
+  drain_others : (m : ℕ) → m ≢ n → FreesItem n (slice_get a m) (slice_get drained m)
+  drain_others m ne =
+      rw (set_keeps b n (Slot.Used (record place { piece = piece })) m ne, ← set_keeps a n Slot.Reserved m ne) (frees.each m)
+
+  drain_as_many : length drained ≡ length a
+  drain_as_many =
+      length-set b n (Slot.Used (record place { piece = piece })) ∙ frees.as_many ∙ length-set a n Slot.Reserved
+
+  drain_plain : IsPlainAt drained n
+  drain_plain = subst (λ (o : Option Slot). IsSomeAnd o IsPlain) (sym used) tt
+
+  drain_seen : slots_seen drained ≡ slots_seen a
+  drain_seen = sym (drained_seen n a drained drain_others none same)
+    where
+      none : items_of a n ≡ items_of drained n
+      none = ap (option_and_then item_in) was ∙ sym (ap (option_and_then item_in) used)
+
+      as_was : HoldSame (items_of a) (items_of (set a n Slot.Reserved)) n
+      as_was m i = ap (value_held n i) (sym (items_set a n (Slot.List place items) Slot.Reserved was refl m))
+
+      same : option_map (slot_seen (items_of a) n) (slice_get a n)
+          ≡ option_map (slot_seen (items_of drained) n) (slice_get drained n)
+      same =
+          ap (option_map (slot_seen (items_of a) n)) was
+          ∙ ap (λ (x : Slot). Some x) (slot_seen_same (items_of a) (items_of (set a n Slot.Reserved)) n (Slot.List place items) as_was)
+          ∙ ap (λ (p : Piece). Some (Slot.Used (record place { piece = p }))) (sym put)
+          ∙ sym (ap (option_map (slot_seen (items_of drained) n)) used)
+
+-- slots where a list's items went into it
+pub record IsDrained (n : ℕ) (before after : List Slot) : Type 0 where
+  pub seen : slots_seen after ≡ slots_seen before
+  pub plain : IsPlainAt after n
+  pub others : (m : ℕ) → m ≢ n → FreesItem n (slice_get before m) (slice_get after m)
+  pub as_many : length after ≡ length before
+
+pub is_drained : (n : ℕ) (a b : List Slot) (at to : ℕ) (slot kept : Slot) (place : Place) (items : Box (Rope SlotId) Global) (piece : Piece)
+    → at < length a → at ≡ n → slot ≡ get_or a at slot → slot ≡ Slot.List place items → kept ≡ Slot.Reserved
+    → FreesItems n (set a at kept) b → piece ≡ piece_with (items_of (set a at kept)) n items.value.items place.piece → to ≡ n
+    → IsDrained n a (set b to (Slot.Used (record place { piece = piece })))
+is_drained n a b at to slot kept place items piece h at_is read is kept_is frees put to_is = rw to_is (record {
+  seen = drain_seen n a b place items piece was freed filled;
+  plain = drain_plain n a b place items piece was freed filled;
+  others = drain_others n a b place items piece was freed filled;
+  as_many = drain_as_many n a b place items piece was freed filled;
+})
+  where
+    was : slice_get a n ≡ Some (Slot.List place items)
+    was =
+        ap (slice_get a) (sym at_is) ∙ slice_get_read a (length a) at slot refl h read
+        ∙ ap (λ (x : Slot). Some x) is
+
+    freed : FreesItems n (set a n Slot.Reserved) b
+    freed = rw (at_is, kept_is) at frees
+
+    filled : piece ≡ piece_with (items_of (set a n Slot.Reserved)) n items.value.items place.piece
+    filled = rw (at_is, kept_is) at put
+
+-- a list's slot is one of them
+pub list_inside : (slots : List Slot) (n : ℕ) → IsListAt slots n → n < length slots
+list_inside [] n list = absurd list
+list_inside (s ∷ slots) zero list = omega arith
+list_inside (s ∷ slots) (suc n) list = let k : n < length slots = list_inside slots n list in omega arith
+
+-- what is read at a list's slot is a list
+pub list_read : (slots : List Slot) (n at : ℕ) (slot : Slot) → at ≡ n → slot ≡ get_or slots at slot → IsListAt slots n → is_list slot ≡ true
+list_read slots n at slot e read list =
+    subst (λ (o : Option Slot). IsSomeAnd o (λ (s : Slot). is_list s ≡ true))
+    (ap (slice_get slots) (sym e) ∙ slice_get_read slots (length slots) at slot refl (omega (arith, list_inside slots n list, e)) read) list
+
+-- the list with its items
+pub list_in : (slot : Slot) → is_list slot ≡ true → (place : Place) × (items : Box (Rope SlotId) Global) × (slot ≡ Slot.List place items)
+list_in (Slot.Free next) e = cc
+list_in Slot.Reserved e = cc
+list_in (Slot.Used place) e = cc
+list_in (Slot.List place items) e = (place, items, refl)
+list_in (Slot.Item item) e = cc

@@ -1,0 +1,351 @@
+-- One slot that is changed where a list's items lie in slots of their own, and what contracts see of that.
+use Rattle.std.proofs.Common.{◌≡◌, ℕ, zero, suc, ◌+◌, ◌-◌, ◌<◌, ◌≤◌, Bool, true, false, List, [], ◌∷◌, length, Option, Some, None, IsSome, is_some, get_or, slice_get, set, option_map, refl, sym, ◌∙◌, ap, ap₂, subst, arith}
+use Rattle.std.specs.Option.{option_and_then}
+use Rattle.std.specs.Prelude.{if◌then◌else◌}
+use Rattle.std.specs.declared.alloc.Global.{Global}
+use Rattle.std.specs.declared.boxed.Box.{Box}
+use Rattle.fr_arena.specs.Ropes.{Rope}
+use Rattle.fr_shape.specs.Val.{Val}
+use Rattle.fr_model.specs.Tree.{Form as TreeForm}
+use Rattle.fr_frame.specs.declared.places.Form.{Form}
+use Rattle.fr_frame.specs.declared.places.Piece.{Piece}
+use Rattle.fr_frame.specs.declared.places.Place.{Place}
+use Rattle.fr_frame.specs.declared.places.Slot.{Slot}
+use Rattle.fr_frame.specs.declared.places.SlotId.{SlotId}
+use Rattle.fr_frame.specs.Bodies.{Body, entered_body, whole_body, begun_body, body_occurs, cell_at, count_cells, reformed}
+use Rattle.fr_frame.specs.Cells.{Cell, slot_of_cell}
+use Rattle.fr_frame.specs.Changes.{IsInUse, SameTokens, Shows}
+use Rattle.fr_frame.specs.Heap.{Node, as_form, body_of, child_slot, heap_of, node_in, slots_occur, with_body, with_mark}
+use Rattle.fr_frame.specs.Items.{Held, children_with, is_used, item_cell, item_or, items_of, keeps_items, piece_with, place_with, slot_seen, slots_seen, value_held, with_items}
+use Rattle.fr_frame.specs.Outlines.{has_items, is_list_body}
+use Rattle.fr_frame.specs.RawSlots.{body_with, with_stored, IsReformed}
+use Rattle.fr_frame.proofs.HeapLaws.{inside, occur_set, past_end}
+use Rattle.fr_frame.proofs.PlaceLaws.{marks, occur_change, set_as_was, shows}
+use Rattle.fr_frame.proofs.SeenLaws.{seen_get, seen_length, seen_set}
+use Rattle.fr_frame.proofs.SlotLaws.{read}
+
+-- What was put at a place.
+
+pub keeps_same : (form : Form) → keeps_items form ≡ has_items (as_form form)
+keeps_same Form.Struct = refl
+keeps_same Form.Array = refl
+keeps_same (Form.Variant k) = refl
+keeps_same Form.Some = refl
+keeps_same Form.Ok = refl
+keeps_same Form.Err = refl
+keeps_same Form.Pointer = refl
+keeps_same Form.List = refl
+keeps_same Form.Slice = refl
+keeps_same Form.ClosedSlice = refl
+keeps_same Form.Set = refl
+keeps_same (Form.Map base) = refl
+keeps_same Form.DynArray = refl
+
+pub body_of_with : (held : Held) (n : ℕ) (items : List SlotId) (piece : Piece)
+    → body_of (piece_with held n items piece) ≡ body_with held n items (body_of piece)
+body_of_with held n items Piece.Entered = refl
+body_of_with held n items (Piece.Whole v) = refl
+body_of_with held n items (Piece.Begun form children) =
+    ap (λ (kept : Bool). begun_body (as_form form) (if kept then children_with held n children items else children)) (keeps_same form)
+body_of_with held n items (Piece.Object keys children) = refl
+
+reformed_with : (held : Held) (n : ℕ) (items : List SlotId) (form : TreeForm) (body : Body) → has_items form ≡ true
+    → is_list_body body ≡ true → body_with held n items (reformed form body) ≡ reformed form (body_with held n items body)
+reformed_with held n items form entered_body kept list = refl
+reformed_with held n items form (whole_body v) kept list = refl
+reformed_with held n items form (begun_body before cells) kept list =
+    ap (λ (has : Bool). begun_body form (if has then children_with held n cells items else cells)) (kept ∙ sym list)
+
+reformed_occurs : (form : TreeForm) (body : Body) (t : ℕ) → body_occurs (reformed form body) t ≡ body_occurs body t
+reformed_occurs form entered_body t = refl
+reformed_occurs form (whole_body v) t = refl
+reformed_occurs form (begun_body before cells) t = refl
+
+-- Children.
+
+below : (held : Held) (n i before : ℕ) (cells : List Cell) (items : List SlotId) (k : ℕ) → k < before
+    → slice_get (with_items held n i before cells items) k ≡ slice_get cells k
+below held n i before [] items k h = refl
+below held n i zero (c ∷ cells) items k h = absurd (omega arith)
+below held n i (suc before) (c ∷ cells) items zero h = refl
+below held n i (suc before) (c ∷ cells) items (suc k) h = below held n (suc i) before cells items k (omega arith)
+
+past : (cells : List Cell) (k : ℕ) → length cells ≤ k → slice_get cells k ≡ None
+past [] k h = refl
+past (c ∷ cells) zero h = absurd (omega arith)
+past (c ∷ cells) (suc k) h = past cells k (omega arith)
+
+behind : (held : Held) (n i before : ℕ) (cells : List Cell) (items : List SlotId) (k : ℕ) → length cells ≤ k
+    → slice_get (with_items held n i before cells items) k ≡ None
+behind held n i before [] items k h = refl
+behind held n i zero (c ∷ cells) items zero h = absurd (omega arith)
+behind held n i zero (c ∷ cells) [] (suc k) h = past cells k (omega arith)
+behind held n i zero (c ∷ cells) (slot ∷ items) (suc k) h = behind held n (suc i) zero cells items k (omega arith)
+behind held n i (suc before) (c ∷ cells) items zero h = absurd (omega arith)
+behind held n i (suc before) (c ∷ cells) items (suc k) h = behind held n (suc i) before cells items k (omega arith)
+
+-- item j is the child of this number
+among : (held : Held) (n i before : ℕ) (cells : List Cell) (items : List SlotId) (j k m : ℕ) (slot : SlotId) → k ≡ before + j
+    → k < length cells → m ≡ i + k → slice_get items j ≡ Some slot
+    → slice_get (with_items held n i before cells items) k ≡ Some (item_cell held n m slot)
+among held n i before [] items j k m slot at h number e = absurd (omega arith)
+among held n i (suc before) (c ∷ cells) items j zero m slot at h number e = absurd (omega arith)
+among held n i (suc before) (c ∷ cells) items j (suc k) m slot at h number e =
+    among held n (suc i) before cells items j k m slot (omega arith) (omega arith) (omega arith) e
+among held n i zero (c ∷ cells) [] j k m slot at h number e = cc
+among held n i zero (c ∷ cells) (s ∷ items) zero zero m slot at h number e =
+    let here : i ≡ m = omega arith in
+    let same : s ≡ slot = cc in
+    ap (λ (x : ℕ). Some (item_cell held n x s)) here ∙ ap (λ (x : SlotId). Some (item_cell held n m x)) same
+among held n i zero (c ∷ cells) (s ∷ items) (suc j) zero m slot at h number e = absurd (omega arith)
+among held n i zero (c ∷ cells) (s ∷ items) zero (suc k) m slot at h number e = absurd (omega arith)
+among held n i zero (c ∷ cells) (s ∷ items) (suc j) (suc k) m slot at h number e =
+    among held n (suc i) zero cells items j k m slot (omega arith) (omega arith) (omega arith) e
+
+-- The child of a place that is no item of it, and one that is.
+module _ (held : Held) (n : ℕ) (items : List SlotId) (body : Body) (k : ℕ) where
+  pub cell_no_list : is_list_body body ≡ false → cell_at (body_with held n items body) k ≡ cell_at body k
+  cell_no_list = go body
+    where
+      go : (b : Body) → is_list_body b ≡ false → cell_at (body_with held n items b) k ≡ cell_at b k
+      go entered_body plain = refl
+      go (whole_body v) plain = refl
+      go (begun_body form cells) plain =
+          ap (λ (has : Bool). slice_get (if has then children_with held n cells items else cells) k) plain
+
+  either : (form : TreeForm) (cells : List Cell) → slice_get (children_with held n cells items) k ≡ slice_get cells k
+      → slice_get (if has_items form then children_with held n cells items else cells) k ≡ slice_get cells k
+  either form cells same = go (has_items form)
+    where
+      go : (has : Bool) → slice_get (if has then children_with held n cells items else cells) k ≡ slice_get cells k
+      go true = same
+      go false = refl
+
+  pub cell_before : k < count_cells body - length items → cell_at (body_with held n items body) k ≡ cell_at body k
+  cell_before = go body
+    where
+      go : (b : Body) → k < count_cells b - length items → cell_at (body_with held n items b) k ≡ cell_at b k
+      go entered_body h = refl
+      go (whole_body v) h = refl
+      go (begun_body form cells) h = either form cells (below held n 0 (length cells - length items) cells items k h)
+
+  pub cell_past : count_cells body ≤ k → cell_at (body_with held n items body) k ≡ None
+  cell_past = go body
+    where
+      both : (form : TreeForm) (cells : List Cell) → length cells ≤ k
+          → slice_get (if has_items form then children_with held n cells items else cells) k ≡ None
+      both form cells h = by (has_items form)
+        where
+          by : (has : Bool) → slice_get (if has then children_with held n cells items else cells) k ≡ None
+          by true = behind held n 0 (length cells - length items) cells items k h
+          by false = past cells k h
+
+      go : (b : Body) → count_cells b ≤ k → cell_at (body_with held n items b) k ≡ None
+      go entered_body h = refl
+      go (whole_body v) h = refl
+      go (begun_body form cells) h = both form cells h
+
+  pub cell_item : (slot : SlotId) → is_list_body body ≡ true → count_cells body - length items ≤ k → k < count_cells body
+      → slice_get items (k - (count_cells body - length items)) ≡ Some slot
+      → cell_at (body_with held n items body) k ≡ Some (item_cell held n k slot)
+  cell_item slot = go body
+    where
+      go : (b : Body) → is_list_body b ≡ true → count_cells b - length items ≤ k → k < count_cells b
+          → slice_get items (k - (count_cells b - length items)) ≡ Some slot
+          → cell_at (body_with held n items b) k ≡ Some (item_cell held n k slot)
+      go entered_body list from to e = cc
+      go (whole_body v) list from to e = cc
+      go (begun_body form cells) list from to e =
+          ap (λ (has : Bool). slice_get (if has then children_with held n cells items else cells) k) list
+          ∙ among held n 0 (length cells - length items) cells items (k - (length cells - length items)) k k slot (omega arith) to
+          (omega arith) e
+
+-- One slot of many.
+
+module _ (raw : List Slot) (n : ℕ) (slot : Slot) (there : slice_get raw n ≡ Some slot) where
+  pub seen_there : slice_get (slots_seen raw) n ≡ Some (slot_seen (items_of raw) n slot)
+  seen_there = seen_get raw n ∙ ap (option_map (slot_seen (items_of raw) n)) there
+
+  pub heap_there : heap_of (slots_seen raw) n ≡ node_in (slot_seen (items_of raw) n slot)
+  heap_there = ap (option_and_then node_in) seen_there
+
+module _ (raw : List Slot) (n : ℕ) (stored : Bool) where
+  by_mark : (slot : Slot) (place : Place) → slice_get (slots_seen raw) n ≡ Some (Slot.Used place)
+      → slots_seen (set raw n (with_stored stored slot)) ≡ set (slots_seen raw) n (Slot.Used (record place { stored = stored }))
+      → Shows (slots_seen (set raw n (with_stored stored slot))) (with_mark (heap_of (slots_seen raw)) n stored)
+      × SameTokens (slots_seen raw) (slots_seen (set raw n (with_stored stored slot)))
+  by_mark slot place was is = (
+    (λ m. ap (λ (slots : List Slot). heap_of slots m) is ∙ marks (slots_seen raw) n place was stored m),
+    (λ t.
+        let changed : slots_occur (set (slots_seen raw) n (Slot.Used (record place { stored = stored }))) t
+        ≡ slots_occur (slots_seen raw) t
+        = omega (arith, occur_set (slots_seen raw) n (Slot.Used place) (Slot.Used (record place { stored = stored })) t was) in
+        ap (λ (slots : List Slot). slots_occur slots t) is ∙ changed),
+  )
+
+  mark_seen : (slot : Slot) → slice_get raw n ≡ Some slot → is_used slot ≡ true
+      → Shows (slots_seen (set raw n (with_stored stored slot))) (with_mark (heap_of (slots_seen raw)) n stored)
+      × SameTokens (slots_seen raw) (slots_seen (set raw n (with_stored stored slot)))
+  mark_seen (Slot.Free next) there used = cc
+  mark_seen Slot.Reserved there used = cc
+  mark_seen (Slot.Item item) there used = cc
+  mark_seen (Slot.Used place) there used =
+      by_mark (Slot.Used place) place (seen_there raw n (Slot.Used place) there)
+      (seen_set raw n (Slot.Used place) (Slot.Used (record place { stored = stored })) there refl refl)
+  mark_seen (Slot.List place items) there used =
+      by_mark (Slot.List place items) (place_with (items_of raw) n place items.value.items)
+      (seen_there raw n (Slot.List place items) there)
+      (seen_set raw n (Slot.List place items) (Slot.List (record place { stored = stored }) items) there refl refl)
+
+-- a list whose form keeps items gets another form that keeps them
+module _ (raw : List Slot) (n : ℕ) (form : Form) (was now : Slot) (there : slice_get raw n ≡ Some was)
+    (made : IsReformed form was now) where
+  abbrev before : Place
+  before = place_with (items_of raw) n made.place made.items.value.items
+
+  abbrev piece : Piece
+  piece = piece_with (items_of raw) n made.items.value.items made.piece
+
+  was_there : slice_get (slots_seen raw) n ≡ Some (Slot.Used before)
+  was_there = seen_there raw n was there ∙ ap (λ (slot : Slot). Some (slot_seen (items_of raw) n slot)) made.was
+
+  seen_now : slots_seen (set raw n now) ≡ set (slots_seen raw) n (Slot.Used (record before { piece = piece }))
+  seen_now =
+      ap (λ (slot : Slot). slots_seen (set raw n slot)) made.now
+      ∙ seen_set raw n (Slot.List made.place made.items) (Slot.List (record made.place { piece = made.piece }) made.items)
+      (there ∙ ap (λ (slot : Slot). Some slot) made.was) refl refl
+
+  body_is : body_of piece ≡ reformed (as_form form) (body_of before.piece)
+  body_is =
+      body_of_with (items_of raw) n made.items.value.items made.piece
+      ∙ ap (body_with (items_of raw) n made.items.value.items) made.body
+      ∙ reformed_with (items_of raw) n made.items.value.items (as_form form) (body_of made.place.piece) (sym (keeps_same form) ∙ made.keeps) made.list
+      ∙ ap (reformed (as_form form)) (sym (body_of_with (items_of raw) n made.items.value.items made.place.piece))
+
+  reform_seen : Shows (slots_seen (set raw n now)) (with_body (heap_of (slots_seen raw)) n (reformed (as_form form)))
+  reform_seen m =
+      ap (λ (slots : List Slot). heap_of slots m) seen_now
+      ∙ shows (slots_seen raw) n before was_there piece (reformed (as_form form)) body_is m
+
+  reform_tokens : SameTokens (slots_seen raw) (slots_seen (set raw n now))
+  reform_tokens t =
+      let same : body_occurs (body_of piece) t ≡ body_occurs (body_of before.piece) t
+      = ap (λ (b : Body). body_occurs b t) body_is ∙ reformed_occurs (as_form form) (body_of before.piece) t in
+      let changed : slots_occur (set (slots_seen raw) n (Slot.Used (record before { piece = piece }))) t ≡ slots_occur (slots_seen raw) t
+      = omega (arith, occur_change (slots_seen raw) n before was_there piece t, same) in
+      ap (λ (slots : List Slot). slots_occur slots t) seen_now ∙ changed
+
+-- A slot that is in use as contracts see it.
+
+pub used_inside : (raw seen : List Slot) (n : ℕ) → slots_seen raw ≡ seen → IsInUse seen n → n < length raw
+used_inside raw seen n same used =
+    let within : n < length seen = inside seen n used in
+    let as_many : length seen ≡ length raw = sym (ap (λ (slots : List Slot). length slots) same) ∙ seen_length raw in
+    omega arith
+
+pub used_there : (raw seen : List Slot) (n : ℕ) (slot : Slot) → slots_seen raw ≡ seen → slice_get raw n ≡ Some slot → IsInUse seen n
+    → is_used slot ≡ true
+used_there raw seen n slot same there used =
+    go slot (heap_there raw n slot there) (subst (λ (slots : List Slot). IsInUse slots n) (sym same) used)
+  where
+    absent : (found : Option Node) → found ≡ None → IsSome found → ⊥
+    absent (Some at) e some = cc
+    absent None e some = cc
+
+    go : (s : Slot) → heap_of (slots_seen raw) n ≡ node_in (slot_seen (items_of raw) n s) → IsInUse (slots_seen raw) n
+        → is_used s ≡ true
+    go (Slot.Free next) e some = absurd (absent (heap_of (slots_seen raw) n) e some)
+    go Slot.Reserved e some = absurd (absent (heap_of (slots_seen raw) n) e some)
+    go (Slot.Item item) e some = absurd (absent (heap_of (slots_seen raw) n) e some)
+    go (Slot.Used place) e some = refl
+    go (Slot.List place items) e some = refl
+
+-- The slot of a child.
+
+item_slot : (slot : ℕ) (value : Option Val) → is_some value ≡ false → slot_of_cell (item_or slot value) ≡ Some slot
+item_slot slot (Some v) e = cc
+item_slot slot None e = refl
+
+no_item_slot : (slot : ℕ) (value : Option Val) → is_some value ≡ true → slot_of_cell (item_or slot value) ≡ None
+no_item_slot slot (Some v) e = refl
+no_item_slot slot None e = cc
+
+module _ (held : Held) (n : ℕ) (items : List SlotId) (body : Body) (k : ℕ) (slot : SlotId) (list : is_list_body body ≡ true)
+    (from : count_cells body - length items ≤ k) (to : k < count_cells body)
+    (there : slice_get items (k - (count_cells body - length items)) ≡ Some slot) where
+  pub slot_taken : is_some (value_held n k (held slot.0)) ≡ true
+      → option_and_then slot_of_cell (cell_at (body_with held n items body) k) ≡ None
+  slot_taken completed =
+      ap (option_and_then slot_of_cell) (cell_item held n items body k slot list from to there)
+      ∙ no_item_slot slot.0 (value_held n k (held slot.0)) completed
+
+  pub slot_kept : is_some (value_held n k (held slot.0)) ≡ false
+      → option_and_then slot_of_cell (cell_at (body_with held n items body) k) ≡ Some slot.0
+  slot_kept completed =
+      ap (option_and_then slot_of_cell) (cell_item held n items body k slot list from to there)
+      ∙ item_slot slot.0 (value_held n k (held slot.0)) completed
+
+-- the slot of child i of what is in one slot
+module _ (raw seen : List Slot) (n i : ℕ) (is : slots_seen raw ≡ seen) where
+  abbrev slot_in : Option Node → Option ℕ
+  slot_in found = option_and_then slot_of_cell (option_and_then (λ (at : Node). cell_at at.body i) found)
+
+  pub child_seen : (slot : Slot) → slice_get raw n ≡ Some slot
+      → child_slot (heap_of seen) n i ≡ slot_in (node_in (slot_seen (items_of raw) n slot))
+  child_seen slot there = ap (λ (slots : List Slot). child_slot (heap_of slots) n i) (sym is) ∙ ap slot_in (heap_there raw n slot there)
+
+  pub child_of_none : (slot : Slot) → slice_get raw n ≡ Some slot → node_in (slot_seen (items_of raw) n slot) ≡ None
+      → child_slot (heap_of seen) n i ≡ None
+  child_of_none slot there none = child_seen slot there ∙ ap slot_in none
+
+  pub child_of_list : (place : Place) (items : Box (Rope SlotId) Global) → slice_get raw n ≡ Some (Slot.List place items)
+      → child_slot (heap_of seen) n i
+      ≡ option_and_then slot_of_cell (cell_at (body_with (items_of raw) n items.value.items (body_of place.piece)) i)
+  child_of_list place items there =
+      child_seen (Slot.List place items) there
+      ∙ ap (λ (body : Body). option_and_then slot_of_cell (cell_at body i)) (body_of_with (items_of raw) n items.value.items place.piece)
+
+  pub child_past : length raw ≤ n → child_slot (heap_of seen) n i ≡ None
+  child_past past =
+      let as_many : length seen ≡ length raw = sym (ap (λ (slots : List Slot). length slots) is) ∙ seen_length raw in
+      ap slot_in (past_end seen n (omega arith))
+
+-- Where it is read at an index, and changed.
+module _ (raw seen : List Slot) (is : slots_seen raw ≡ seen) (n at : ℕ) (slot now : Slot) (number : at ≡ n) (used : IsInUse seen n)
+    (is_there : slot ≡ get_or raw at slot) where
+  slot_there : slice_get raw n ≡ Some slot
+  slot_there = read raw n at slot number (used_inside raw seen n is used) is_there
+
+  pub slot_used : is_used slot ≡ true
+  slot_used = used_there raw seen n slot is slot_there used
+
+  pub stays_seen : now ≡ slot → slots_seen (set raw at now) ≡ seen
+  stays_seen same =
+      ap₂ (λ (k : ℕ) (s : Slot). slots_seen (set raw k s)) number same
+      ∙ ap (λ (slots : List Slot). slots_seen slots) (set_as_was raw n slot slot_there) ∙ is
+
+  module _ (stored : Bool) (marked : now ≡ with_stored stored slot) where
+    pub mark_shows : Shows (slots_seen (set raw at now)) (with_mark (heap_of seen) n stored)
+    mark_shows m =
+        ap₂ (λ (k : ℕ) (s : Slot). heap_of (slots_seen (set raw k s)) m) number marked
+        ∙ (mark_seen raw n stored slot slot_there slot_used).0 m
+        ∙ ap (λ (slots : List Slot). with_mark (heap_of slots) n stored m) is
+
+    pub mark_tokens : SameTokens seen (slots_seen (set raw at now))
+    mark_tokens t =
+        ap₂ (λ (k : ℕ) (s : Slot). slots_occur (slots_seen (set raw k s)) t) number marked
+        ∙ (mark_seen raw n stored slot slot_there slot_used).1 t
+        ∙ ap (λ (slots : List Slot). slots_occur slots t) is
+
+  module _ (form : Form) (made : IsReformed form slot now) where
+    pub reform_shows : Shows (slots_seen (set raw at now)) (with_body (heap_of seen) n (reformed (as_form form)))
+    reform_shows m =
+        ap (λ (k : ℕ). heap_of (slots_seen (set raw k now)) m) number
+        ∙ reform_seen raw n form slot now slot_there made m
+        ∙ ap (λ (slots : List Slot). with_body (heap_of slots) n (reformed (as_form form)) m) is
+
+    pub reform_same : SameTokens seen (slots_seen (set raw at now))
+    reform_same t =
+        ap (λ (k : ℕ). slots_occur (slots_seen (set raw k now)) t) number
+        ∙ reform_tokens raw n form slot now slot_there made t
+        ∙ ap (λ (slots : List Slot). slots_occur slots t) is

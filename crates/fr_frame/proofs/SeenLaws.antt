@@ -1,0 +1,139 @@
+-- Slots as contracts see them: what one change of a slot does to that.
+use Rattle.std.proofs.Common.{◌≡◌, ℕ, zero, suc, ◌+◌, ◌-◌, List, [], ◌∷◌, ◌++◌, length, Option, Some, None, slice_get, set, option_map, if◌then◌else◌, refl, sym, ◌∙◌, ap, ap₂, add-zero, zero-add, arith}
+use Rattle.std.specs.Option.{option_and_then}
+use Rattle.fr_frame.specs.declared.places.Piece.{Piece}
+use Rattle.fr_frame.specs.declared.places.Slot.{Slot}
+use Rattle.fr_frame.specs.declared.places.SlotId.{SlotId}
+use Rattle.fr_frame.specs.Cells.{Cell}
+use Rattle.fr_frame.specs.Heap.{heap_of, node_in}
+use Rattle.fr_frame.specs.Items.{Held, item_in, item_or, items_of, keeps_items, piece_with, seen_from, slot_seen, slots_seen, value_held, with_items}
+
+-- what two hold of the items of the list in slot n is the same
+abbrev pub HoldSame : (a b : Held) → (n : ℕ) → Type 0
+HoldSame a b n = (m i : ℕ) → value_held n i (a m) ≡ value_held n i (b m)
+
+cells_same : (a b : Held) (n : ℕ) → HoldSame a b n → (i before : ℕ) (cells : List Cell) (items : List SlotId)
+    → with_items a n i before cells items ≡ with_items b n i before cells items
+cells_same a b n same i before [] items = refl
+cells_same a b n same i (suc before) (c ∷ cells) items = ap (λ (l : List Cell). c ∷ l) (cells_same a b n same (suc i) before cells items)
+cells_same a b n same i zero (c ∷ cells) [] = refl
+cells_same a b n same i zero (c ∷ cells) (slot ∷ items) =
+    ap₂ (λ (x : Cell) (l : List Cell). x ∷ l) (ap (item_or slot.0) (same slot.0 i)) (cells_same a b n same (suc i) zero cells items)
+
+piece_same : (a b : Held) (n : ℕ) (items : List SlotId) (piece : Piece) → HoldSame a b n
+    → piece_with a n items piece ≡ piece_with b n items piece
+piece_same a b n items Piece.Entered same = refl
+piece_same a b n items (Piece.Whole v) same = refl
+piece_same a b n items (Piece.Begun form children) same =
+    ap (λ (l : List Cell). Piece.Begun form (if keeps_items form then l else children))
+    (cells_same a b n same 0 (length children - length items) children items)
+piece_same a b n items (Piece.Object keys children) same = refl
+
+pub slot_seen_same : (a b : Held) (n : ℕ) (slot : Slot) → HoldSame a b n → slot_seen a n slot ≡ slot_seen b n slot
+slot_seen_same a b n (Slot.Free next) same = refl
+slot_seen_same a b n Slot.Reserved same = refl
+slot_seen_same a b n (Slot.Used place) same = refl
+slot_seen_same a b n (Slot.List place items) same =
+    ap (λ (piece : Piece). Slot.Used (record place { piece = piece })) (piece_same a b n items.value.items place.piece same)
+slot_seen_same a b n (Slot.Item item) same = refl
+
+-- From a slot on.
+
+from_same : (a b : Held) → ((m : ℕ) → a m ≡ b m) → (k : ℕ) (raw : List Slot) → seen_from a k raw ≡ seen_from b k raw
+from_same a b same k [] = refl
+from_same a b same k (slot ∷ raw) =
+    ap₂ (λ (x : Slot) (l : List Slot). x ∷ l) (slot_seen_same a b k slot (λ m i. ap (value_held k i) (same m)))
+    (from_same a b same (suc k) raw)
+
+from_length : (held : Held) (k : ℕ) (raw : List Slot) → length (seen_from held k raw) ≡ length raw
+from_length held k [] = refl
+from_length held k (slot ∷ raw) = ap (λ (n : ℕ). suc n) (from_length held (suc k) raw)
+
+further : (k n : ℕ) → suc k + n ≡ k + suc n
+further k n = omega arith
+
+from_get : (held : Held) (k : ℕ) (raw : List Slot) (n : ℕ)
+    → slice_get (seen_from held k raw) n ≡ option_map (slot_seen held (k + n)) (slice_get raw n)
+from_get held k [] n = refl
+from_get held k (slot ∷ raw) zero = ap (λ (m : ℕ). Some (slot_seen held m slot)) (sym (add-zero k))
+from_get held k (slot ∷ raw) (suc n) =
+    from_get held (suc k) raw n ∙ ap (λ (m : ℕ). option_map (slot_seen held m) (slice_get raw n)) (further k n)
+
+from_set : (held : Held) (k : ℕ) (raw : List Slot) (n : ℕ) (now : Slot)
+    → seen_from held k (set raw n now) ≡ set (seen_from held k raw) n (slot_seen held (k + n) now)
+from_set held k [] n now = refl
+from_set held k (slot ∷ raw) zero now =
+    ap (λ (m : ℕ). slot_seen held m now ∷ seen_from held (suc k) raw) (sym (add-zero k))
+from_set held k (slot ∷ raw) (suc n) now =
+    ap (λ (l : List Slot). slot_seen held k slot ∷ l)
+    (from_set held (suc k) raw n now
+    ∙ ap (λ (m : ℕ). set (seen_from held (suc k) raw) n (slot_seen held m now)) (further k n))
+
+from_append : (held : Held) (k : ℕ) (raw : List Slot) (slot : Slot)
+    → seen_from held k (raw ++ slot ∷ []) ≡ seen_from held k raw ++ slot_seen held (k + length raw) slot ∷ []
+from_append held k [] slot = ap (λ (m : ℕ). slot_seen held m slot ∷ []) (sym (add-zero k))
+from_append held k (first ∷ raw) slot =
+    ap (λ (l : List Slot). slot_seen held k first ∷ l)
+    (from_append held (suc k) raw slot
+    ∙ ap (λ (m : ℕ). seen_from held (suc k) raw ++ slot_seen held m slot ∷ []) (further k (length raw)))
+
+pub seen_length : (raw : List Slot) → length (slots_seen raw) ≡ length raw
+seen_length raw = from_length (items_of raw) 0 raw
+
+pub seen_get : (raw : List Slot) (n : ℕ) → slice_get (slots_seen raw) n ≡ option_map (slot_seen (items_of raw) n) (slice_get raw n)
+seen_get raw n =
+    from_get (items_of raw) 0 raw n ∙ ap (λ (m : ℕ). option_map (slot_seen (items_of raw) m) (slice_get raw n)) (zero-add n)
+
+pub heap_seen : (raw : List Slot) (n : ℕ)
+    → heap_of (slots_seen raw) n ≡ option_and_then (λ (slot : Slot). node_in (slot_seen (items_of raw) n slot)) (slice_get raw n)
+heap_seen raw n = ap (option_and_then node_in) (seen_get raw n) ∙ go (slice_get raw n)
+  where
+    go : (found : Option Slot) → option_and_then node_in (option_map (slot_seen (items_of raw) n) found)
+        ≡ option_and_then (λ (slot : Slot). node_in (slot_seen (items_of raw) n slot)) found
+    go (Some slot) = refl
+    go None = refl
+
+-- lists that have the same under each number
+pub same_slots : (a b : List Slot) → ((n : ℕ) → slice_get a n ≡ slice_get b n) → a ≡ b
+same_slots [] [] same = refl
+same_slots [] (y ∷ b) same = let e : None ≡ Some y = same zero in cc
+same_slots (x ∷ a) [] same = let e : Some x ≡ None = same zero in cc
+same_slots (x ∷ a) (y ∷ b) same =
+    let e : Some x ≡ Some y = same zero in
+    let first : x ≡ y = cc in
+    ap₂ (λ (s : Slot) (l : List Slot). s ∷ l) first (same_slots a b (λ n. same (suc n)))
+
+-- slots that are seen as the same, one by one
+pub seen_as_same : (a b : List Slot)
+    → ((n : ℕ) → option_map (slot_seen (items_of a) n) (slice_get a n) ≡ option_map (slot_seen (items_of b) n) (slice_get b n))
+    → slots_seen a ≡ slots_seen b
+seen_as_same a b same = same_slots (slots_seen a) (slots_seen b) (λ n. seen_get a n ∙ same n ∙ sym (seen_get b n))
+
+-- a slot that holds no item gets something that is no item either
+pub items_set : (raw : List Slot) (n : ℕ) (was now : Slot) → slice_get raw n ≡ Some was → item_in was ≡ item_in now
+    → (m : ℕ) → items_of (set raw n now) m ≡ items_of raw m
+items_set [] n was now e same m = cc
+items_set (slot ∷ raw) zero was now e same zero = let here : slot ≡ was = cc in sym same ∙ ap item_in (sym here)
+items_set (slot ∷ raw) zero was now e same (suc m) = refl
+items_set (slot ∷ raw) (suc n) was now e same zero = refl
+items_set (slot ∷ raw) (suc n) was now e same (suc m) = items_set raw n was now e same m
+
+pub seen_set : (raw : List Slot) (n : ℕ) (was now : Slot) → slice_get raw n ≡ Some was → item_in was ≡ None → item_in now ≡ None
+    → slots_seen (set raw n now) ≡ set (slots_seen raw) n (slot_seen (items_of raw) n now)
+seen_set raw n was now e was_none now_none =
+    from_same (items_of (set raw n now)) (items_of raw) (items_set raw n was now e (was_none ∙ sym now_none)) 0 (set raw n now)
+    ∙ from_set (items_of raw) 0 raw n now
+    ∙ ap (λ (m : ℕ). set (slots_seen raw) n (slot_seen (items_of raw) m now)) (zero-add n)
+
+items_append : (raw : List Slot) (slot : Slot) → item_in slot ≡ None → (m : ℕ) → items_of (raw ++ slot ∷ []) m ≡ items_of raw m
+items_append [] slot none zero = none
+items_append [] slot none (suc m) = refl
+items_append (first ∷ raw) slot none zero = refl
+items_append (first ∷ raw) slot none (suc m) = items_append raw slot none m
+
+pub seen_append : (raw : List Slot) (slot : Slot) → item_in slot ≡ None
+    → slots_seen (raw ++ slot ∷ []) ≡ slots_seen raw ++ slot_seen (items_of raw) (length raw) slot ∷ []
+seen_append raw slot none =
+    from_same (items_of (raw ++ slot ∷ [])) (items_of raw) (items_append raw slot none) 0 (raw ++ slot ∷ [])
+    ∙ from_append (items_of raw) 0 raw slot
+    ∙ ap (λ (m : ℕ). slots_seen raw ++ slot_seen (items_of raw) m slot ∷ []) (zero-add (length raw))

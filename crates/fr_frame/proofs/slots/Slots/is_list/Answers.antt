@@ -1,0 +1,11 @@
+use Rattle.std.proofs.Common.{◌≡◌, ◌∙◌}
+use Rattle.fr_frame.specs.Heap.{Node, heap_of, node_of}
+use Rattle.fr_frame.specs.OutlineLaws.{of_outline, same_body, same_list}
+use Rattle.fr_frame.specs.Outlines.{is_list_body}
+use Rattle.fr_frame.proofs.slots.Slots.is_list.Goals as goal
+
+pub returns : goal.returns
+returns c =
+    of_outline (node_of c.in-Some.place.now) (heap_of c.args.self.now c.args.id.0) (λ (at : Node). c.is_list.result ≡ is_list_body at.body)
+    c.in-Some.ensures.place
+    (λ at there same. c.is_list.ensures ∙ same_list _ at.body (same_body (node_of c.in-Some.place.now) at same))

@@ -1,0 +1,35 @@
+use Rattle.std.proofs.Common.{List, slice_get, refl, ap, ◌∙◌}
+use Rattle.fr_frame.specs.declared.places.Slot.{Slot}
+use Rattle.fr_frame.specs.Heap.{heap_of, slots_occur}
+use Rattle.fr_frame.specs.Items.{slots_seen}
+use Rattle.fr_frame.proofs.FreeLaws.{free_at}
+use Rattle.fr_frame.proofs.SlotLaws.{get_now, kept_occur, node_seen, set_same}
+use Rattle.fr_frame.proofs.slots.Slots.vacant.Goals as goal
+
+pub reserve-requires : goal.reserve-requires
+reserve-requires c = record {
+  free = free_at c.self.inside.entries c.in-Some.id.0 c.in-Some-after_free.next c.in-Some-after_free.ensures;
+}
+
+pub returns-clause-reserved : goal.returns-clause-reserved
+returns-clause-reserved c =
+    ap (λ (raw : List Slot). slice_get (slots_seen raw) c.in-Some.id.0) c.reserve.ensures.now
+    ∙ get_now c.self.inside.entries c.args.self.now c.self.view_is c.in-Some.id.0 (Slot.Free c.in-Some-after_free.next) Slot.Reserved
+    c.in-Some-after_free.ensures refl refl
+
+pub returns-clause-vacant : goal.returns-clause-vacant
+returns-clause-vacant c =
+    node_seen c.self.inside.entries c.args.self.now c.self.view_is c.in-Some.id.0 (Slot.Free c.in-Some-after_free.next)
+    c.in-Some-after_free.ensures
+
+pub returns-clause-rest : goal.returns-clause-rest
+returns-clause-rest c n =
+    ap (λ (raw : List Slot). heap_of (slots_seen raw) n) c.reserve.ensures.now
+    ∙ set_same c.self.inside.entries c.args.self.now c.self.view_is c.in-Some.id.0 (Slot.Free c.in-Some-after_free.next) Slot.Reserved
+    c.in-Some-after_free.ensures refl refl refl refl n
+
+pub returns-clause-tokens : goal.returns-clause-tokens
+returns-clause-tokens c t =
+    ap (λ (raw : List Slot). slots_occur (slots_seen raw) t) c.reserve.ensures.now
+    ∙ kept_occur c.self.inside.entries c.args.self.now c.self.view_is c.in-Some.id.0 c.in-Some-after_free.next
+    c.in-Some-after_free.ensures t

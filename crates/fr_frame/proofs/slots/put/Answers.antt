@@ -1,0 +1,9 @@
+use Rattle.std.proofs.Common.{arith}
+use Rattle.fr_frame.specs.declared.places.Slot.{Slot}
+use Rattle.fr_frame.proofs.SlotLaws.{there}
+use Rattle.fr_frame.proofs.slots.put.Goals as goal
+
+pub get_mut-requires : goal.get_mut-requires
+get_mut-requires c = record {
+  inside = omega (arith, c.idx.ensures.number, there c.args.entries.now c.args.id.0 Slot.Reserved c.requires.reserved);
+}

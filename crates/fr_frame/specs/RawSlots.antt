@@ -1,0 +1,58 @@
+-- Slots by themselves, where a list's items lie in slots of their own: what becomes of one slot.
+use Rattle.std.specs.Prelude.{◌≡◌, ℕ, Bool, true, false, ◌&&◌, List, slice_get, IsSomeAnd, if◌then◌else◌}
+use Rattle.std.specs.declared.alloc.Global.{Global}
+use Rattle.std.specs.declared.boxed.Box.{Box}
+use Rattle.fr_arena.specs.Ropes.{Rope}
+use Rattle.fr_frame.specs.declared.places.Form.{Form}
+use Rattle.fr_frame.specs.declared.places.Piece.{Piece}
+use Rattle.fr_frame.specs.declared.places.Place.{Place}
+use Rattle.fr_frame.specs.declared.places.Slot.{Slot}
+use Rattle.fr_frame.specs.declared.places.SlotId.{SlotId}
+use Rattle.fr_frame.specs.Bodies.{Body, entered_body, whole_body, begun_body, reformed}
+use Rattle.fr_frame.specs.Heap.{as_form, body_of}
+use Rattle.fr_frame.specs.Items.{Held, children_with, keeps_items}
+use Rattle.fr_frame.specs.Outlines.{has_items, is_list_body}
+
+-- the place in the slot, where one is there, is marked so
+abbrev pub with_stored : (stored : Bool) → Slot → Slot
+with_stored stored (Slot.Free next) = Slot.Free next
+with_stored stored Slot.Reserved = Slot.Reserved
+with_stored stored (Slot.Used place) = Slot.Used (record place { stored = stored })
+with_stored stored (Slot.List place items) = Slot.List (record place { stored = stored }) items
+with_stored stored (Slot.Item item) = Slot.Item item
+
+-- what was put at the place in slot n, where a list has its items, which are in these slots
+abbrev pub body_with : Held → (n : ℕ) → (items : List SlotId) → Body → Body
+body_with held n items entered_body = entered_body
+body_with held n items (whole_body v) = whole_body v
+body_with held n items (begun_body form cells) = begun_body form (if has_items form then children_with held n cells items else cells)
+
+-- a list in its slot, with its items in others, is begun so instead, where they may stay
+pub record IsReformed (form : Form) (before after : Slot) : Type 0 where
+  pub place : Place
+  pub items : Box (Rope SlotId) Global
+  pub was : before ≡ Slot.List place items
+  pub list : is_list_body (body_of place.piece) ≡ true
+  pub keeps : keeps_items form ≡ true
+  pub piece : Piece
+  pub body : body_of piece ≡ reformed (as_form form) (body_of place.piece)
+  pub now : after ≡ Slot.List (record place { piece = piece }) items
+
+-- a list in its slot, with its items in others, may leave them there where it is begun so instead
+abbrev pub stays_list : (form : Form) → Slot → Bool
+stays_list form (Slot.Free next) = false
+stays_list form Slot.Reserved = false
+stays_list form (Slot.Used place) = false
+stays_list form (Slot.List place items) = keeps_items form && is_list_body (body_of place.piece)
+stays_list form (Slot.Item item) = false
+
+-- the slot is free
+abbrev pub IsFree : Slot → Type 0
+IsFree (Slot.Free next) = Unit {0}
+IsFree Slot.Reserved = ⊥
+IsFree (Slot.Used place) = ⊥
+IsFree (Slot.List place items) = ⊥
+IsFree (Slot.Item item) = ⊥
+
+abbrev pub IsFreeAt : List Slot → ℕ → Type 0
+IsFreeAt slots n = IsSomeAnd (slice_get slots n) IsFree
