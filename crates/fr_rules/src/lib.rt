@@ -11,6 +11,8 @@ mod numbers;
 mod pools;
 mod prefixes;
 #[cfg(test)]
+mod table_tests;
+#[cfg(test)]
 mod tests;
 mod validators;
 mod variant_lookups;

@@ -24,8 +24,6 @@ mod shape;
 mod shaped;
 mod table;
 mod template;
-#[cfg(test)]
-mod tests;
 mod text;
 mod texts;
 mod value;

@@ -1,6 +1,6 @@
 //! Each call that allocates, with ample memory, a text of each kind of refusal, and the hooks that do nothing.
 use super::building::*;
-use crate::*;
+use fr_shape::*;
 use std::alloc::Global;
 use std::process::Abort;
 

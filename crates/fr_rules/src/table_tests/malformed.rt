@@ -1,6 +1,6 @@
 //! Tables that break one rule each, and where `check` finds it.
 use super::building::*;
-use crate::*;
+use fr_shape::*;
 use std::alloc::Global;
 use std::process::Abort;
 

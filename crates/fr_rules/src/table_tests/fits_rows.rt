@@ -1,6 +1,6 @@
 //! For each definition values that fit it and values that don't.
 use super::building::*;
-use crate::*;
+use fr_shape::*;
 use std::alloc::Global;
 use std::process::Abort;
 

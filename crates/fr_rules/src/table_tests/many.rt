@@ -1,6 +1,6 @@
 //! Sets, maps, objects, enums and tables of many items in a scattered order, each item once or one of them twice.
 use super::building::*;
-use crate::*;
+use fr_shape::*;
 use std::alloc::Global;
 use std::cmp::Ordering;
 use std::process::Abort;

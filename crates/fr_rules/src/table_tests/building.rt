@@ -1,5 +1,5 @@
 //! Shapes, fields and values for the tests. What finds no memory ends the test.
-use crate::*;
+use fr_shape::*;
 use std::alloc::Global;
 
 /// A shape of this name and definition, with nothing else said of it.
