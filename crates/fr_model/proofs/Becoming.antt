@@ -15,7 +15,7 @@ use Rattle.fr_model.specs.Places.{Place, content_shape}
 use Rattle.fr_model.specs.StateCode.{form_numbered, form_comes_back}
 use Rattle.fr_model.specs.Tree.{Form, as_struct, as_array, as_variant, as_some, as_ok, as_err, as_pointer, as_list, as_slice, as_closed_slice, as_set, as_map, as_dyn_array, as_dyn_object, form_number, base_of_form, keys_of_form, same_keys, same_form, Tree, hole, entered, whole, begun, Trees, no_trees, branch, child_as, shapes_from, count_trees, fresh, tree_occurs, Mode, strict, deferred}
 use Rattle.fr_model.specs.Variants.{is_enum, fields_or_none, variant_fields, layout_refusal, told_apart, selection_refusal}
-use Rattle.fr_model.specs.Well.{HasSide, HasFieldsOf, HasVariantFields, IsPointer, IsFullAs, MayBegin, IsBegunAs, MayPoint, IsTouched, IsContent, IsBegunRightly, Suits, SuitAll, RestsAround, AtCursor, OffBut, Leads}
+use Rattle.fr_model.specs.Well.{HasSide, HasFieldsOf, HasVariantFields, IsPointer, IsFullAs, MayBegin, IsBegunAs, MayPoint, IsTouched, IsContent, IsBegunRightly, Suits, SuitAll, IsBehindBase, RestsAround, AtCursor, OffBut, Leads}
 use Rattle.fr_model.proofs.Keys.{bytes_are}
 use Rattle.fr_model.proofs.Opening.{enter_touched, fresh_suits, fresh_at_cursor, holes_off, all_deferred}
 use Rattle.fr_model.proofs.Resting.{rests_here, holes_rest, fresh_rests, rest_but}
@@ -121,6 +121,15 @@ HoldsOne (as_map base) = ⊥
 HoldsOne as_dyn_array = ⊥
 HoldsOne (as_dyn_object keys) = ⊥
 
+-- it has no base
+one_baseless : (form : Form) → HoldsOne form → base_of_form form ≡ 0
+one_baseless (as_map base) holds = absurd holds
+one_baseless _ holds = refl
+
+one_behind : (form : Form) (i : ℕ) → HoldsOne form → IsBehindBase form i
+one_behind (as_map base) i holds = absurd holds
+one_behind _ i holds = tt
+
 -- a place of this shape may be begun so around a child that is no hole
 pub record MayHold (table : Table) (s : ℕ) (form : Form) : Type 0 where
   pub full_as : IsFullAs (def_of table s) form 1
@@ -143,9 +152,13 @@ anew_placed mode table s form holds =
     (fresh_suits table (child_as table s form 0)) (enter_touched (def_of table (child_as table s form 0)) hole)
     (fresh_at_cursor mode (def_of table (child_as table s form 0)))
 
-anew_rests : (table : Table) (s : ℕ) (form : Form) → RestsAround (0 ∷ []) (content_anew table s form)
-anew_rests table s form =
-    let def : Def = def_of table (child_as table s form 0) in (done_none form, (rests_here (fresh def) (fresh_rests def), tt))
+anew_rests : (table : Table) (s : ℕ) (form : Form) → HoldsOne form → RestsAround (0 ∷ []) (content_anew table s form)
+anew_rests table s form holds =
+    let def : Def = def_of table (child_as table s form 0) in (
+      done_none form (one_baseless form holds),
+      (rests_here (fresh def) (fresh_rests def), tt),
+      one_behind form 0 holds,
+    )
 
 anew_holds : (table : Table) (s : ℕ) (form : Form) (t : ℕ) → tree_occurs (content_anew table s form) t ≡ 0
 anew_holds table s form t = let none = fresh_holds (def_of table (child_as table s form 0)) t in omega arith
@@ -182,7 +195,8 @@ kept_in_keeps (deferred start) table s form t kept holds suits e =
       };
       rest = λ rested.
           let there : RestsAround [] (begun form to.children) = subst (λ (tree : Tree). RestsAround [] tree) to.is rested in
-          (done_but form 0 to.children there.0, rest_but 0 to.children there.1);
+          let behind : IsBehindBase form 0 = one_behind form 0 holds in
+          (done_but form 0 to.children behind there.0, rest_but 0 to.children there.1, behind);
       hold = λ t. ap (λ (tree : Tree). tree_occurs tree t) (sym to.is);
     })
 
@@ -191,7 +205,7 @@ pub content_becomes : (mode : Mode) (table : Table) (s : ℕ) (form : Form) (t :
 content_becomes mode table s form t holds suits =
     becoming mode table s (0 ∷ []) t (kept_in mode form t) (content_anew table s form)
     (λ tree e. kept_in_keeps mode table s form t tree holds.holds suits e) (anew_placed mode table s form holds)
-    (anew_rests table s form) (anew_holds table s form)
+    (anew_rests table s form holds.holds) (anew_holds table s form)
 
 -- Options
 
@@ -221,7 +235,7 @@ some_keeps mode table s (some held) kept holds here fit e =
     let shape : child_as table s as_some 0 ≡ here.content.0 = rw here.is refl in
     rw (← same) (record {
       placed = around_placed mode table s as_some (whole held) holds (rw shape content_fits) tt tt;
-      rest = λ rested. (tt, (tt, tt));
+      rest = λ rested. (tt, (tt, tt), tt);
       hold = λ t. omega arith;
     })
 some_keeps mode table s _ kept holds here fit e = cc
@@ -249,7 +263,7 @@ option_becomes mode table s t e suits =
     becoming mode table s (0 ∷ []) t (kept_option mode (def_of table (content_shape (def_of table s))) t)
     (content_anew table s as_some)
     (λ tree is. kept_option_keeps mode table s t tree (option_holds table s e) (option_is table s e) suits is)
-    (anew_placed mode table s as_some (option_holds table s e)) (anew_rests table s as_some) (anew_holds table s as_some)
+    (anew_placed mode table s as_some (option_holds table s e)) (anew_rests table s as_some tt) (anew_holds table s as_some)
 
 -- Results and pointers
 

@@ -240,5 +240,5 @@ value_enterable table s t here suits =
   where
     go : (def : Def) → def_of table s ≡ def → HasEntries def (count_trees here.children)
         → Enterable table s (last_of (count_trees here.children)) (begun (as_map here.base) here.children)
-    go (Def.Map key item) is has = a_value key item is here.base here.children refl (last_there here.children here.ends)
+    go (Def.Map key item) is has = a_value key item is here.base here.children refl (last_there here.children here.ends) here.ends
     go _ is has = absurd has

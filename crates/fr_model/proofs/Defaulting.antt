@@ -13,11 +13,12 @@ use Rattle.fr_model.specs.Step.{opened, put_child}
 use Rattle.fr_model.specs.Tree.{Form, as_struct, as_variant, form_of, form_at, over_base, selected, Tree, hole, entered, whole, begun, Trees, no_trees, branch, child_tree, change_nth, change_child, child_as, count_trees, tree_occurs, Mode}
 use Rattle.fr_model.specs.Places.{child_count}
 use Rattle.fr_model.specs.Variants.{fields_or_none}
-use Rattle.fr_model.specs.Well.{IsFullAs, IsBegunAs, Suits, RestsAround, AllOff, AtCursor}
-use Rattle.fr_model.proofs.Opening.{Enterable, a_field, a_variant_field, enterable_done, Opening, opening, rightly_changed, whole_off}
+use Rattle.fr_model.specs.Well.{IsFullAs, IsBegunAs, Suits, IsBehindBase, RestsAround, AllOff, AtCursor}
+use Rattle.fr_model.proofs.Opening.{Enterable, a_field, a_variant_field, enterable_no_set, enterable_behind, Opening, opening, rightly_changed, whole_off}
 use Rattle.fr_model.proofs.Resting.{opened_rests, put_among}
 use Rattle.fr_model.proofs.Structs.{count_change, suit_change}
 use Rattle.fr_model.proofs.Tokens.{nth_holds, opened_holds}
+use Rattle.fr_model.proofs.Wholes.{done_but, done_put}
 
 -- the place with its child i whole: it suits its shape, may be the cursor's, and holds the value's tokens in place of the child's
 pub record Putting (mode : Mode) (table : Table) (s i : ℕ) (v : Val) (t : Tree) : Type 0 where
@@ -45,9 +46,12 @@ putting mode table s i v t enterable at suits fit = record {
   rest = λ rested.
       let there : RestsAround [] (begun form place.children)
       = subst (λ (u : Tree). RestsAround [] u) place.is (opened_rests table s t suits rested) in
+      let behind : IsBehindBase form i
+      = enterable_behind table s i t form (count_trees place.children) enterable place.begun_as.0 refl rested in
       subst (λ (u : Tree). RestsAround [] (change_child i (λ old. whole v) u)) (sym place.is) (
-        enterable_done table s i t form (count_trees place.children) (change_nth i (λ old. whole v) place.children) enterable
-            place.begun_as.0,
+        done_put form i v place.children
+            (enterable_no_set table s i t form (count_trees place.children) enterable place.begun_as.0) behind
+            (done_but form i place.children behind there.0),
         put_among i v place.children there.1,
       );
   hold = λ k.

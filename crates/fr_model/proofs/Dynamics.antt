@@ -85,7 +85,7 @@ pub array_becomes : (mode : Mode) (table : Table) (s : ℕ) (t : Tree) → def_o
     → Suits table s t → Becoming mode table s [] t (kept_array t) array_anew
 array_becomes mode table s t is at suits =
     becoming mode table s [] t (kept_array t) array_anew (λ tree e. kept_array_keeps mode table s t tree is at suits e)
-    (record { suits = ((is_dynamic_def (def_of table s) is, tt), tt, tt); leads = tt }) (done_none as_dyn_array, tt)
+    (record { suits = ((is_dynamic_def (def_of table s) is, tt), tt, tt); leads = tt }) (done_none as_dyn_array refl, tt)
     (λ token. refl)
 
 -- An object is begun
@@ -150,7 +150,7 @@ pub object_becomes : (mode : Mode) (table : Table) (s : ℕ) (t : Tree) → def_
 object_becomes mode table s t is at suits =
     becoming mode table s [] t (kept_object t) object_anew (λ tree e. kept_object_keeps mode table s t tree is at suits e)
     (record { suits = ((has_keys (def_of table s) [] 0 is refl, tt), tt, (tt, refl)); leads = tt })
-    (done_none (as_dyn_object []), tt) (λ token. refl)
+    (done_none (as_dyn_object []) refl, tt) (λ token. refl)
 
 -- An entry is begun
 
@@ -254,10 +254,11 @@ entry_rests table s key keys ts suits rests = go (entry_found key keys)
 
     go : (found : Option ℕ)
         → RestsAround (number_or_last found (length keys) ∷ []) (and_entry table s key (as_dyn_object keys) ts found)
-    go (Some i) = (done_but (as_dyn_object keys) i ts rests.0, rest_but i ts rests.1)
+    go (Some i) = (done_but (as_dyn_object keys) i ts tt rests.0, rest_but i ts rests.1, tt)
     go None =
         let last : Tree = fresh (def_of table s) in
         subst (λ (n : ℕ). RestsAround (n ∷ []) (begun (as_dyn_object (keys ++ key ∷ [])) (and_last ts last))) had.1 (
           subst (AreDone (as_dyn_object keys)) (sym (without_last ts last)) rests.0,
           last_rests ts last rests.1 (rests_here last (fresh_rests (def_of table s))),
+          tt,
         )

@@ -1,17 +1,21 @@
--- At the end of deferred mode what lay around the cursor rests as it did: a set keeps its items.
-use Rattle.std.proofs.Common.{◌≡◌, ℕ, zero, suc, Bool, true, false, if◌then◌else◌, [], ◌∷◌, Option, Some, refl, sym, ◌∙◌, ap, ap₂}
+-- At the end of deferred mode what lay around the cursor rests as it did: a set keeps its items, and a
+-- map its base.
+use Rattle.std.proofs.Common.{◌≡◌, ℕ, zero, suc, ◌+◌, ◌≤◌, Bool, true, false, if◌then◌else◌, [], ◌∷◌, Option, Some, refl, sym, ◌∙◌, ap, ap₂, arith}
+use Rattle.fr_shape.specs.Fits.{count_vals}
 use Rattle.fr_shape.specs.Hooks.{Meanings}
 use Rattle.fr_shape.specs.Look.{Table}
 use Rattle.fr_shape.specs.Same.{none_twice}
-use Rattle.fr_shape.specs.Val.{Vals, no_vals, first}
+use Rattle.fr_shape.specs.Val.{Val, Vals, no_vals, first}
 use Rattle.fr_model.specs.Collections.{without_nth}
 use Rattle.fr_model.specs.Complete.{complete, complete_all, value_as}
 use Rattle.fr_model.specs.Finish.{closed, closed_all, closed_but, is_closed_slice, begun_with, finished}
-use Rattle.fr_model.specs.Places.{Place, Column, deferred_column}
-use Rattle.fr_model.specs.Tree.{Form, as_set, as_dyn_array, as_dyn_object, Tree, hole, entered, whole, begun, Trees, no_trees, branch, child_as, wholes}
-use Rattle.fr_model.specs.Well.{AreDone, Rests, AllRest, RestBut, RestsAround}
+use Rattle.fr_model.specs.Places.{Place, Column, deferred_column, in_turn}
+use Rattle.fr_model.specs.Tree.{Form, as_set, as_map, as_dyn_array, as_dyn_object, Tree, hole, entered, whole, begun, Trees, no_trees, branch, child_as, wholes}
+use Rattle.fr_model.specs.Well.{in_front, IsBase, AreDone, Rests, AllRest, RestBut, IsBehindBase, RestsAround}
 use Rattle.fr_model.proofs.Finishes.{Mapped, mapped_is, OneMoreTree, one_more_tree_is}
+use Rattle.fr_model.proofs.MapBase.{StartsWith, starts_on, base_long, base_there, base_without, base_with}
 use Rattle.fr_model.proofs.Resting.{wholes_rest}
+use Rattle.fr_model.proofs.Structs.{OneMore, one_more_is}
 
 -- what is closed rests
 
@@ -89,23 +93,49 @@ beside_stay hooks table s form (suc on_way) becomes i (branch t ts) us (first w 
     rw parts.same (ap₂ branch head
     (beside_stay hooks table s form on_way becomes (suc i) ts parts.tail ws others parts.tail_is))
 
+front_stays : (hooks : Meanings) (table : Table) (s : ℕ) (form : Form) (on_way : ℕ) (becomes : ℕ → Tree → Option Tree) (i : ℕ)
+    (vs : Vals) (rest us : Trees) → count_vals vs ≤ on_way
+    → closed_but hooks table s form on_way becomes i (in_front vs rest) ≡ Some us → StartsWith vs us
+front_stays hooks table s form on_way becomes i no_vals rest us behind e = record { rest = us; are = refl }
+front_stays hooks table s form zero becomes i (first v vs) rest us behind e = absurd (omega arith)
+front_stays hooks table s form (suc on_way) becomes i (first v vs) rest us behind e =
+    let parts : OneMoreTree (Some (whole v)) (closed_but hooks table s form on_way becomes (suc i) (in_front vs rest)) us
+    = one_more_tree_is (Some (whole v)) (closed_but hooks table s form on_way becomes (suc i) (in_front vs rest)) us e in
+    let more : StartsWith vs parts.tail
+    = front_stays hooks table s form on_way becomes (suc i) vs rest parts.tail (omega arith) parts.tail_is in
+    let here : ◌≡◌ {A = Option Tree} (Some (whole v)) (Some parts.head) = parts.head_is in
+    let head : parts.head ≡ whole v = cc in
+    rw parts.same (starts_on parts.head v parts.tail vs head more)
+
+base_beside_way : (hooks : Meanings) (table : Table) (s base on_way : ℕ) (becomes : ℕ → Tree → Option Tree) (ts us : Trees)
+    → closed_but hooks table s (as_map base) on_way becomes 0 ts ≡ Some us → base + base ≤ on_way
+    → IsBase base ts → IsBase base us
+base_beside_way hooks table s base on_way becomes ts us e behind is =
+    let long = base_long base ts is in
+    base_there base ts us is
+    (front_stays hooks table s (as_map base) on_way becomes 0 (in_turn is.entries) is.rest us (omega arith)
+    (ap (closed_but hooks table s (as_map base) on_way becomes 0) (sym is.are) ∙ e))
+
 done_beside_way : (hooks : Meanings) (table : Table) (s : ℕ) (form : Form) (on_way : ℕ)
     (becomes : ℕ → Tree → Option Tree) (ts us : Trees) → closed_but hooks table s form on_way becomes 0 ts ≡ Some us
-    → AreDone form (without_nth on_way ts) → AreDone form (without_nth on_way us)
-done_beside_way hooks table s as_set on_way becomes ts us e done = record {
+    → IsBehindBase form on_way → AreDone form (without_nth on_way ts) → AreDone form (without_nth on_way us)
+done_beside_way hooks table s as_set on_way becomes ts us e behind done = record {
   values = done.values;
   are = beside_stay hooks table s as_set on_way becomes 0 ts us done.values done.are e;
   once = done.once;
 }
-done_beside_way hooks table s as_dyn_array on_way becomes ts us e done = record {
+done_beside_way hooks table s as_dyn_array on_way becomes ts us e behind done = record {
   values = done.values;
   are = beside_stay hooks table s as_dyn_array on_way becomes 0 ts us done.values done.are e;
 }
-done_beside_way hooks table s (as_dyn_object keys) on_way becomes ts us e done = record {
+done_beside_way hooks table s (as_dyn_object keys) on_way becomes ts us e behind done = record {
   values = done.values;
   are = beside_stay hooks table s (as_dyn_object keys) on_way becomes 0 ts us done.values done.are e;
 }
-done_beside_way hooks table s _ on_way becomes ts us e done = tt
+done_beside_way hooks table s (as_map base) on_way becomes ts us e behind done =
+    base_without base on_way us behind
+    (base_beside_way hooks table s base on_way becomes ts us e behind (base_with base on_way ts behind done))
+done_beside_way hooks table s _ on_way becomes ts us e behind done = tt
 
 -- the place at the cursor
 
@@ -113,6 +143,25 @@ items_stay : (column : Column) (hooks : Meanings) (table : Table) (s i : ℕ) (v
     → complete_all column hooks table s as_set i (wholes vs) ≡ Some vs
 items_stay column hooks table s i no_vals = refl
 items_stay column hooks table s i (first v vs) = rw (items_stay column hooks table s (suc i) vs) refl
+
+front_completes : (column : Column) (hooks : Meanings) (table : Table) (s base i : ℕ) (vs : Vals) (rest : Trees) (us : Vals)
+    → complete_all column hooks table s (as_map base) i (in_front vs rest) ≡ Some us → StartsWith vs (wholes us)
+front_completes column hooks table s base i no_vals rest us e = record { rest = wholes us; are = refl }
+front_completes column hooks table s base i (first v vs) rest us e =
+    let parts : OneMore (Some v) (complete_all column hooks table s (as_map base) (suc i) (in_front vs rest)) us
+    = one_more_is (Some v) (complete_all column hooks table s (as_map base) (suc i) (in_front vs rest)) us e in
+    let more : StartsWith vs (wholes parts.tail)
+    = front_completes column hooks table s base (suc i) vs rest parts.tail parts.tail_is in
+    let here : ◌≡◌ {A = Option Val} (Some v) (Some parts.head) = parts.head_is in
+    let head : parts.head ≡ v = cc in
+    rw parts.same (starts_on (whole parts.head) v (wholes parts.tail) vs (ap whole head) more)
+
+base_here : (hooks : Meanings) (table : Table) (s base : ℕ) (ts : Trees) (vs : Vals) → IsBase base ts
+    → complete_all deferred_column hooks table s (as_map base) 0 ts ≡ Some vs → IsBase base (wholes vs)
+base_here hooks table s base ts vs is e =
+    base_there base ts (wholes vs) is
+    (front_completes deferred_column hooks table s base 0 (in_turn is.entries) is.rest vs
+    (ap (complete_all deferred_column hooks table s (as_map base) 0) (sym is.are) ∙ e))
 
 done_here : (hooks : Meanings) (table : Table) (s : ℕ) (form : Form) (ts : Trees) (vs : Vals) → AreDone form ts
     → complete_all deferred_column hooks table s form 0 ts ≡ Some vs → AreDone form (wholes vs)
@@ -124,6 +173,7 @@ done_here hooks table s as_set ts vs done e =
     record { values = vs; are = refl; once = ap none_twice (sym same) ∙ done.once }
 done_here hooks table s as_dyn_array ts vs done e = record { values = vs; are = refl }
 done_here hooks table s (as_dyn_object keys) ts vs done e = record { values = vs; are = refl }
+done_here hooks table s (as_map base) ts vs done e = base_here hooks table s base ts vs done e
 done_here hooks table s _ ts vs done e = tt
 
 pub finish_rests : (hooks : Meanings) (table : Table) (s : ℕ) (cursor : Place) (tree next : Tree) → RestsAround cursor tree
@@ -152,8 +202,9 @@ finish_rests hooks table s (i ∷ place) (begun form ts) next rests e =
     (closed_but hooks table s form i (λ (shape : ℕ) (t : Tree). finished hooks table shape place t) 0 ts) next e in
     rw to.same (
       done_beside_way hooks table s form i (λ (shape : ℕ) (t : Tree). finished hooks table shape place t) ts to.from to.is
-          rests.0,
+          rests.2 rests.0,
       closed_but_rest hooks table s form i (λ (shape : ℕ) (t : Tree). finished hooks table shape place t)
           (λ child. RestsAround place child) (λ child. RestsAround place child) 0 ts to.from
           (λ shape t u below is. finish_rests hooks table shape place t u below is) rests.1 to.is,
+      rests.2,
     )

@@ -25,6 +25,7 @@ pub mod FirstFailure
 pub mod GatheredParts
 pub mod Items
 pub mod Keys
+pub mod MapBase
 pub mod Moves
 pub mod Moving
 pub mod Opening

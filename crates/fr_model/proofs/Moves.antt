@@ -161,7 +161,7 @@ moves_rest hooks table root state next command rests (goes_on same i change plac
 moves_rest hooks table root state next command rests (goes_up column v began no_set is drops) =
     rest_put_up state.cursor state.tree v no_set rests
 moves_rest hooks table root state next command rests (is_taken column v began below of_set is drops) =
-    rest_took state.cursor state.tree v rests
+    rest_took state.cursor state.tree v below rests
 moves_rest hooks table root state next command rests (stays_behind start mode deeper shut no_set no_part drops) =
     rest_up state.cursor state.tree shut no_set no_part rests
 moves_rest hooks table root state next command rests (is_deferred is) = rests

@@ -20,7 +20,7 @@ use Rattle.fr_model.specs.Places.{Place, Column, strict_column, deferred_column,
 use Rattle.fr_model.specs.Removed.{replaced, dropped_unless, dropped_if, column_at_end, dropped_with_item, dropped_by_column}
 use Rattle.fr_model.specs.Scripts.{IsFitting, brings}
 use Rattle.fr_model.specs.Step.{is_str, is_owned_string_kind, is_owned_string, takes_shape, opened, put_child, becomes, enters, enter_child, opens, variant_kept, puts_and_leaves, leaves, is_set_item, takes_item, is_dynamic_part}
-use Rattle.fr_model.specs.Tree.{form_of, Tree, whole, tree_at, change_at, count_below, Mode, strict, deferred, State, cursor_shape, cursor_tree, one_more_call, tree_occurs}
+use Rattle.fr_model.specs.Tree.{Form, form_of, form_at, Tree, whole, tree_at, change_at, count_trees, count_below, Mode, strict, deferred, State, cursor_shape, cursor_tree, one_more_call, tree_occurs}
 use Rattle.fr_model.specs.Well.{Suits, RestsAround, AtCursor, BeganAbove, IsInOrder}
 use Rattle.fr_model.proofs.Ways.{changed, EndsBelow, Admits, begins, names, sets, converts, defaults, sets_child, holds_it, selects_it, opens_list, begins_array, opens_array, opens_map, begins_object, opens_set, adds_key, begins_value, adds_set_item, adds_entry, ends, ends_item, ends_part, is_left, changes_it, adds_it, defers_there, is_finished, lost_is}
 use Rattle.fr_model.proofs.Becoming.{Placed, Becoming}
@@ -30,7 +30,7 @@ use Rattle.fr_model.proofs.Cursor.{at_cursor, suits_at, up_long, began_strict, e
 use Rattle.fr_model.proofs.Dynamics.{dynamic_def, array_becomes, object_becomes, IsObject, takes_an_entry, entry_placed, entry_holds, entry_rests}
 use Rattle.fr_model.proofs.Ending.{began_up}
 use Rattle.fr_model.proofs.Items.{list_opens, array_opens, TakesAnItem, takes_a_set_item, item_placed, item_holds}
-use Rattle.fr_model.proofs.Opening.{Enterable}
+use Rattle.fr_model.proofs.Opening.{Enterable, enterable_behind, Opening, opening}
 use Rattle.fr_model.proofs.Resting.{opened_rests, enter_child_rests, item_rests, key_rests}
 use Rattle.fr_model.proofs.Steps.{finishes_as}
 use Rattle.fr_model.proofs.Structs.{settled_str, settled_scalar, settled_dynamic}
@@ -145,9 +145,14 @@ module _ (hooks : Meanings) (table : Table) (checked : IsChecked table) (root : 
       → Move hooks table root state command (enters table here state i)
   enters_so command i enterable drops none =
       let child = entry_at table root state i enterable order in
+      let form : Form = form_at (def_of table here) (cursor_tree state) in
+      let place : Opening state.mode table here i form (cursor_tree state)
+      = opening state.mode table here i (cursor_tree state) enterable at_here suits_here in
       goes_on command i (enter_child table here i) (record { suits = child.suits; leads = child.leads })
       (λ t. let same = enter_child_holds table here i (cursor_tree state) t in omega (arith, drops t, none t))
-      (enter_child_rests table here i (cursor_tree state) suits_here)
+      (λ rested. enter_child_rests table here i (cursor_tree state) suits_here
+      (enterable_behind table here i (cursor_tree state) form (count_trees place.children) enterable place.begun_as.0 refl rested)
+      rested)
 
   opens_so : (command : Call) → Placed state.mode table here [] (opened (def_of table here) (cursor_tree state))
       → ((t : ℕ) → replaced hooks table root here state command t ≡ 0) → ((t : ℕ) → brings command t ≡ 0)

@@ -11,15 +11,17 @@ use Rattle.fr_shape.specs.Lists.{is_nil}
 use Rattle.fr_shape.specs.Look.{Table, def_of}
 use Rattle.fr_shape.specs.Val.{Val, Vals, unit, product, no_vals, first}
 use Rattle.fr_shape.specs.Fits.{fits, fields_fit}
+use Rattle.fr_model.specs.Collections.{is_set_form, ends_in_hole}
 use Rattle.fr_model.specs.Places.{array_limit, vals_nth}
 use Rattle.fr_model.specs.Journal.{entered_at, Journal, Held, written, just_entered, untouched, at_least_entered, held}
 use Rattle.fr_model.specs.Tree.{Form, as_struct, as_array, as_variant, as_some, as_ok, as_err, as_pointer, as_list, as_slice, as_closed_slice, as_set, as_map, as_dyn_array, as_dyn_object, form_of, form_at, over_base, selected, Tree, hole, entered, whole, begun, Trees, no_trees, branch, tree_nth, change_nth, change_child, child_as, count_trees, holes, wholes, fresh, Mode, strict, deferred}
 use Rattle.fr_model.specs.Relation.{HasParts}
 use Rattle.fr_model.specs.Step.{opened, enter, enter_child}
 use Rattle.fr_model.specs.Variants.{fields_or_none, variant_fields}
-use Rattle.fr_model.specs.Well.{HasFieldsOf, IsFullAs, IsBegunAs, IsTouched, IsContent, AreTouched, AreEntries, AreDone, IsBegunRightly, Suits, IsOff, AllOff, AtCursor, OffBut, Leads}
+use Rattle.fr_model.specs.Well.{HasFieldsOf, IsFullAs, IsBegunAs, IsTouched, IsContent, AreTouched, AreEntries, IsBehindBase, IsBegunRightly, Suits, IsOff, AllOff, AtCursor, OffBut, Leads, RestsAround}
 use Rattle.fr_model.proofs.Beneath.{down, held_down, IsLow, untouched_below, written_below}
 use Rattle.fr_model.proofs.Agreement.{IsWhole, by_value, by_entry, Agrees, AgreeAll, agree_change, down_same, down_other}
+use Rattle.fr_model.proofs.MapBase.{base_hole}
 use Rattle.fr_model.proofs.Structs.{SuitFrom, settled_struct, all_from, WholesSuit, wholes_suit, count_change, count_holes, holes_suit, suit_change}
 
 -- the place isn't a value
@@ -36,7 +38,7 @@ pub data Enterable (table : Table) (s i : ℕ) (t : Tree) : Type 0 where
   a_variant_field : (k : ℕ) (enumeration : EnumDef) → def_of table s ≡ Def.Enum enumeration → selected t ≡ Some k
       → i < length (variant_fields (def_of table s) k) → Enterable table s i t
   a_value : (key item : ShapeId) → def_of table s ≡ Def.Map key item → (base : ℕ) (children : Trees) → t ≡ begun (as_map base) children
-      → suc i ≡ count_trees children → Enterable table s i t
+      → suc i ≡ count_trees children → ends_in_hole children ≡ true → Enterable table s i t
 
 begun_fields : (struct : StructDef) (form : Form) (n : ℕ) → IsFullAs (Def.Struct struct) form n → n ≡ length struct.fields
 begun_fields struct as_struct n full_as = full_as
@@ -68,38 +70,57 @@ begun_within table s i (as_variant j) ts (a_variant_field k enumeration is chose
     (begun_variant (def_of table s) j (count_trees ts) full_as) in
     omega (arith, below, count)
 begun_within table s i _ ts (a_variant_field k enumeration is chosen below) full_as = cc
-begun_within table s i form ts (a_value key item is base children there last) full_as =
+begun_within table s i form ts (a_value key item is base children there last lacking) full_as =
     let same : ts ≡ children = cc in
     let count : count_trees ts ≡ count_trees children = ap count_trees same in
     omega arith
 
-begun_entries : (key item : ShapeId) (form : Form) (n : ℕ) (ts : Trees) → IsFullAs (Def.Map key item) form n → AreDone form ts
-begun_entries key item (as_map base) n ts full_as = tt
-begun_entries key item _ n ts full_as = absurd full_as
+-- a place begun so is no set and has no base
+record IsApart (form : Form) : Type 0 where
+  no_set : is_set_form form ≡ false
+  behind : (i : ℕ) → IsBehindBase form i
 
-fields_done : (struct : StructDef) (form : Form) (n : ℕ) (ts : Trees) → IsFullAs (Def.Struct struct) form n → AreDone form ts
-fields_done struct as_struct n ts full_as = tt
-fields_done struct _ n ts full_as = absurd full_as
+fields_apart : (struct : StructDef) (form : Form) (n : ℕ) → IsFullAs (Def.Struct struct) form n → IsApart form
+fields_apart struct as_struct n full_as = record { no_set = refl; behind = λ i. tt }
+fields_apart struct _ n full_as = absurd full_as
 
-elements_done : (item : ShapeId) (m : ℕ) (form : Form) (n : ℕ) (ts : Trees) → IsFullAs (Def.Array item m) form n → AreDone form ts
-elements_done item m as_array n ts full_as = tt
-elements_done item m _ n ts full_as = absurd full_as
+elements_apart : (item : ShapeId) (m : ℕ) (form : Form) (n : ℕ) → IsFullAs (Def.Array item m) form n → IsApart form
+elements_apart item m as_array n full_as = record { no_set = refl; behind = λ i. tt }
+elements_apart item m _ n full_as = absurd full_as
 
-variant_done : (enumeration : EnumDef) (form : Form) (n : ℕ) (ts : Trees) → IsFullAs (Def.Enum enumeration) form n
-    → AreDone form ts
-variant_done enumeration (as_variant k) n ts full_as = tt
-variant_done enumeration _ n ts full_as = absurd full_as
+variant_apart : (enumeration : EnumDef) (form : Form) (n : ℕ) → IsFullAs (Def.Enum enumeration) form n → IsApart form
+variant_apart enumeration (as_variant k) n full_as = record { no_set = refl; behind = λ i. tt }
+variant_apart enumeration _ n full_as = absurd full_as
 
--- a place of which a child is entered so is neither a set nor a dynamic value
-pub enterable_done : (table : Table) (s i : ℕ) (t : Tree) (form : Form) (n : ℕ) (ts : Trees) → Enterable table s i t
-    → IsFullAs (def_of table s) form n → AreDone form ts
-enterable_done table s i t form n ts (a_field struct is below) full_as = fields_done struct form n ts (rw is at full_as)
-enterable_done table s i t form n ts (an_element item m is below few not_whole) full_as =
-    elements_done item m form n ts (rw is at full_as)
-enterable_done table s i t form n ts (a_variant_field k enumeration is chosen below) full_as =
-    variant_done enumeration form n ts (rw is at full_as)
-enterable_done table s i t form n ts (a_value key item is base children there last) full_as =
-    begun_entries key item form n ts (rw is at full_as)
+map_no_set : (key item : ShapeId) (form : Form) (n : ℕ) → IsFullAs (Def.Map key item) form n → is_set_form form ≡ false
+map_no_set key item (as_map base) n full_as = refl
+map_no_set key item _ n full_as = absurd full_as
+
+-- a place of which a child is entered so is no set
+pub enterable_no_set : (table : Table) (s i : ℕ) (t : Tree) (form : Form) (n : ℕ) → Enterable table s i t
+    → IsFullAs (def_of table s) form n → is_set_form form ≡ false
+enterable_no_set table s i t form n (a_field struct is below) full_as =
+    (fields_apart struct form n (rw is at full_as)).no_set
+enterable_no_set table s i t form n (an_element item m is below few not_whole) full_as =
+    (elements_apart item m form n (rw is at full_as)).no_set
+enterable_no_set table s i t form n (a_variant_field k enumeration is chosen below) full_as =
+    (variant_apart enumeration form n (rw is at full_as)).no_set
+enterable_no_set table s i t form n (a_value key item is base children there last lacking) full_as =
+    map_no_set key item form n (rw is at full_as)
+
+-- and the child isn't in its base, for that has all its values
+pub enterable_behind : (table : Table) (s i : ℕ) (t : Tree) (form : Form) (n : ℕ) → Enterable table s i t
+    → IsFullAs (def_of table s) form n → form_at (def_of table s) t ≡ form → RestsAround [] t → IsBehindBase form i
+enterable_behind table s i t form n (a_field struct is below) full_as formed rested =
+    (fields_apart struct form n (rw is at full_as)).behind i
+enterable_behind table s i t form n (an_element item m is below few not_whole) full_as formed rested =
+    (elements_apart item m form n (rw is at full_as)).behind i
+enterable_behind table s i t form n (a_variant_field k enumeration is chosen below) full_as formed rested =
+    (variant_apart enumeration form n (rw is at full_as)).behind i
+enterable_behind table s i t form n (a_value key item is base children there last lacking) full_as formed rested =
+    let rests : RestsAround [] (begun (as_map base) children) = subst (λ (u : Tree). RestsAround [] u) there rested in
+    let same : as_map base ≡ form = ap (form_at (def_of table s)) (sym there) ∙ formed in
+    subst (λ (one : Form). IsBehindBase one i) same (base_hole base i children rests.0 lacking last)
 
 -- a content that is there stays there
 pub content_changed : (ts : Trees) (i : ℕ) (change : Tree → Tree) → IsTouched (change (tree_nth i ts)) → IsContent ts
@@ -227,7 +248,7 @@ opening_entered mode table s i (an_element item n is below few not_whole) =
     subst (λ (form : Form). Opening mode table s i form entered) (sym (ap form_of is))
     (opening_holes mode table s i n as_array tt (rw is refl) (rw is (refl, few)) tt below)
 opening_entered mode table s i (a_variant_field k enumeration is chosen below) = cc
-opening_entered mode table s i (a_value key item is base children there last) = cc
+opening_entered mode table s i (a_value key item is base children there last lacking) = cc
 
 product_agrees : (table : Table) (s : ℕ) (vs : Vals) (notes : Journal) → IsWhole table s (product vs) (held notes [])
     → AgreeAll table s as_struct notes 0 (wholes vs)
@@ -284,7 +305,7 @@ opening mode table s i (whole v) (a_field struct is below) at suits =
     (opening_whole mode table s i struct v is below suits)
 opening mode table s i (whole v) (an_element item n is below few not_whole) at suits = absurd not_whole
 opening mode table s i (whole v) (a_variant_field k enumeration is chosen below) at suits = cc
-opening mode table s i (whole v) (a_value key item is base children there last) at suits = cc
+opening mode table s i (whole v) (a_value key item is base children there last lacking) at suits = cc
 opening mode table s i (begun form ts) enterable at suits = opening_begun mode table s i form ts enterable at suits
 
 -- a fresh place

@@ -1,22 +1,24 @@
--- What lies around the cursor rests: no pointer to a slice is open there, and what a set or a dynamic value has there is whole.
+-- What lies around the cursor rests: no pointer to a slice is open there, and what a set or a dynamic value has there is whole, as is
+-- the base of a map.
 use Rattle.std.proofs.Common.{◌≡◌, ℕ, zero, suc, ◌<◌, Bool, true, false, if◌then◌else◌, [], ◌∷◌, ◌++◌, Option, Some, None, refl, sym, ap, subst, arith}
 use Rattle.fr_shape.specs.declared.shape.Def.{Def}
 use Rattle.fr_shape.specs.declared.shape.ShapeId.{ShapeId}
 use Rattle.fr_shape.specs.Fills.{is_empty_struct}
-use Rattle.fr_shape.specs.Fits.{fits, all_fit}
+use Rattle.fr_shape.specs.Fits.{fits, all_fit, entries_fit}
 use Rattle.fr_shape.specs.Look.{Table, def_of}
-use Rattle.fr_shape.specs.Same.{none_twice}
-use Rattle.fr_shape.specs.Val.{Val, Vals, product, set_of, no_vals, first}
+use Rattle.fr_shape.specs.Same.{none_twice, keys}
+use Rattle.fr_shape.specs.Val.{Val, Vals, product, set_of, map_of, no_vals, first}
 use Rattle.fr_model.specs.Collections.{is_set, has_same, without_nth, and_item, with_ended_item, number_in, with_key}
 use Rattle.fr_model.specs.DynamicPlaces.{is_begun_dynamic}
 use Rattle.fr_model.specs.Items.{with_item, is_open_slice, closed_slice}
-use Rattle.fr_model.specs.Places.{Place, up, count_children}
+use Rattle.fr_model.specs.Places.{Place, is_root, up, count_children, in_turn}
 use Rattle.fr_model.specs.Step.{parts_as, opened_value, opened, enter, enter_child}
 use Rattle.fr_model.specs.Tree.{Form, as_struct, as_array, as_list, as_slice, as_set, as_map, form_of, form_at, over_base, Tree, hole, entered, whole, begun, Trees, no_trees, branch, tree_nth, change_nth, change_child, tree_at, change_at, child_as, and_last, count_trees, count_below, holes, wholes, fresh}
-use Rattle.fr_model.specs.Well.{Suits, AreDone, Rests, AllRest, RestBut, RestsAround}
-use Rattle.fr_model.proofs.Structs.{settled_set}
+use Rattle.fr_model.specs.Well.{Suits, AreDone, Rests, AllRest, RestBut, IsBehindBase, RestsAround}
+use Rattle.fr_model.proofs.MapBase.{base_begun, base_without, base_last}
+use Rattle.fr_model.proofs.Structs.{settled_set, settled_map}
 use Rattle.fr_model.proofs.Templates.{both_true}
-use Rattle.fr_model.proofs.Wholes.{done_none, without_changed, without_last, done_but, done_left, done_put, done_with}
+use Rattle.fr_model.proofs.Wholes.{done_none, behind_all, without_changed, without_last, done_but, done_left, done_put, done_with}
 
 -- what rests, rests around any place in it
 
@@ -79,6 +81,7 @@ rest_on (i ∷ here) way (begun form ts) change step rests = (
   done_beside form i (λ child. change_at here change child) ts rests.0,
   rest_changed i (λ child. RestsAround here child) (λ child. RestsAround (here ++ way) child)
       (λ child. change_at here change child) ts (λ below. rest_on here way (tree_nth i ts) change step below) rests.1,
+  rests.2,
 )
 
 -- The cursor goes up from a place that isn't open
@@ -110,7 +113,7 @@ rest_up (i ∷ []) hole shut no_set no_part rests = tt
 rest_up (i ∷ []) entered shut no_set no_part rests = tt
 rest_up (i ∷ []) (whole v) shut no_set no_part rests = tt
 rest_up (i ∷ []) (begun form ts) shut no_set no_part rests =
-    (done_left form ts no_set no_part, all_rest i ts shut rests.1)
+    (done_left form i ts no_set no_part rests.2 rests.0, all_rest i ts shut rests.1)
 rest_up (i ∷ j ∷ here) hole shut no_set no_part rests = tt
 rest_up (i ∷ j ∷ here) entered shut no_set no_part rests = tt
 rest_up (i ∷ j ∷ here) (whole v) shut no_set no_part rests = tt
@@ -118,6 +121,7 @@ rest_up (i ∷ j ∷ here) (begun form ts) shut no_set no_part rests = (
   rests.0,
   rest_same i (λ child. RestsAround (j ∷ here) child) (λ child. RestsAround (up (j ∷ here)) child) ts
       (λ below. rest_up (j ∷ here) (tree_nth i ts) shut no_set no_part below) rests.1,
+  rests.2,
 )
 
 -- and that is now whole: it is no item of a set
@@ -135,7 +139,7 @@ rest_put_up (i ∷ []) hole v no_set rests = tt
 rest_put_up (i ∷ []) entered v no_set rests = tt
 rest_put_up (i ∷ []) (whole u) v no_set rests = tt
 rest_put_up (i ∷ []) (begun form ts) v no_set rests =
-    (done_put form i v ts no_set rests.0, put_one i v (λ child. RestsAround [] child) ts rests.1)
+    (done_put form i v ts no_set rests.2 rests.0, put_one i v (λ child. RestsAround [] child) ts rests.1)
 rest_put_up (i ∷ j ∷ here) hole v no_set rests = tt
 rest_put_up (i ∷ j ∷ here) entered v no_set rests = tt
 rest_put_up (i ∷ j ∷ here) (whole u) v no_set rests = tt
@@ -144,6 +148,7 @@ rest_put_up (i ∷ j ∷ here) (begun form ts) v no_set rests = (
   rest_changed i (λ child. RestsAround (j ∷ here) child) (λ child. RestsAround (up (j ∷ here)) child)
       (λ child. change_at (j ∷ here) (λ old. whole v) child) ts
       (λ below. rest_put_up (j ∷ here) (tree_nth i ts) v no_set below) rests.1,
+  rests.2,
 )
 
 -- and that was an item of a set, which takes its value
@@ -164,30 +169,25 @@ without_rest i Below no_trees rest = tt
 without_rest zero Below (branch t ts) rest = rest.1
 without_rest (suc i) Below (branch t ts) rest = (rest.0, without_rest i Below ts rest.1)
 
-pub rest_took : (here : Place) (t : Tree) (v : Val) → RestsAround here t
+pub rest_took : (here : Place) (t : Tree) (v : Val) → is_root here ≡ false → RestsAround here t
     → RestsAround (up here) (change_at (up here) (with_ended_item (number_in here) v) t)
-rest_took [] hole v rests = tt
-rest_took [] entered v rests = tt
-rest_took [] (whole u) v rests = tt
-rest_took [] (begun form ts) v rests = (
-  done_with form (without_nth 0 ts) v (done_but form 0 ts rests.0),
-  with_rest (without_nth 0 ts) v (without_rest 0 (λ child. RestsAround [] child) ts (rest_but 0 ts rests.1)),
-)
-rest_took (i ∷ []) hole v rests = tt
-rest_took (i ∷ []) entered v rests = tt
-rest_took (i ∷ []) (whole u) v rests = tt
-rest_took (i ∷ []) (begun form ts) v rests = (
+rest_took [] t v below rests = cc
+rest_took (i ∷ []) hole v below rests = tt
+rest_took (i ∷ []) entered v below rests = tt
+rest_took (i ∷ []) (whole u) v below rests = tt
+rest_took (i ∷ []) (begun form ts) v below rests = (
   done_with form (without_nth i ts) v rests.0,
   with_rest (without_nth i ts) v (without_rest i (λ child. RestsAround [] child) ts rests.1),
 )
-rest_took (i ∷ j ∷ here) hole v rests = tt
-rest_took (i ∷ j ∷ here) entered v rests = tt
-rest_took (i ∷ j ∷ here) (whole u) v rests = tt
-rest_took (i ∷ j ∷ here) (begun form ts) v rests = (
+rest_took (i ∷ j ∷ here) hole v below rests = tt
+rest_took (i ∷ j ∷ here) entered v below rests = tt
+rest_took (i ∷ j ∷ here) (whole u) v below rests = tt
+rest_took (i ∷ j ∷ here) (begun form ts) v below rests = (
   done_beside form i (λ child. change_at (up (j ∷ here)) (with_ended_item (number_in (j ∷ here)) v) child) ts rests.0,
   rest_changed i (λ child. RestsAround (j ∷ here) child) (λ child. RestsAround (up (j ∷ here)) child)
       (λ child. change_at (up (j ∷ here)) (with_ended_item (number_in (j ∷ here)) v) child) ts
-      (λ below. rest_took (j ∷ here) (tree_nth i ts) v below) rests.1,
+      (λ there. rest_took (j ∷ here) (tree_nth i ts) v refl there) rests.1,
+  rests.2,
 )
 
 -- What the commands make of the place at the cursor
@@ -205,6 +205,14 @@ set_rests table s item (set_of vs) is fit =
     (record { values = vs; are = refl; once = both.1 }, wholes_rest vs)
 set_rests table s item _ is fit = tt
 
+map_rests : (table : Table) (s : ℕ) (key item : ShapeId) (v : Val) → def_of table s ≡ Def.Map key item → fits table s v ≡ true
+    → RestsAround [] (opened_value (as_map 0) v (parts_as (as_map 0) v))
+map_rests table s key item (map_of es) is fit =
+    let both : (entries_fit table key.0 item.0 es ≡ true) × (none_twice (keys es) ≡ true)
+    = both_true (entries_fit table key.0 item.0 es) (none_twice (keys es)) (rw (settled_map table s key item is) at fit) in
+    (base_begun es both.1, wholes_rest (in_turn es))
+map_rests table s key item _ is fit = tt
+
 pub opened_rests : (table : Table) (s : ℕ) (t : Tree) → Suits table s t → RestsAround [] t
     → RestsAround [] (opened (def_of table s) t)
 opened_rests table s hole suits rests = tt
@@ -212,7 +220,8 @@ opened_rests table s entered suits rests =
     (holes_done (def_of table s), holes_rest (count_children (def_of table s)))
   where
     holes_done : (def : Def) → AreDone (form_of def) (holes (count_children def))
-    holes_done (Def.Set item) = done_none as_set
+    holes_done (Def.Set item) = done_none as_set refl
+    holes_done (Def.Map key item) = done_none (as_map 0) refl
     holes_done _ = tt
 opened_rests table s (whole v) suits rests = go (def_of table s) refl
   where
@@ -220,7 +229,7 @@ opened_rests table s (whole v) suits rests = go (def_of table s) refl
     go (Def.Set item) is = set_rests table s item v is suits
     go (Def.Array item n) is = value_rests as_array v (parts_as as_array v) (λ ts. tt)
     go (Def.List item) is = value_rests as_list v (parts_as as_list v) (λ ts. tt)
-    go (Def.Map key item) is = value_rests (as_map 0) v (parts_as (as_map 0) v) (λ ts. tt)
+    go (Def.Map key item) is = map_rests table s key item v is suits
     go _ is = value_rests as_struct v (parts_as as_struct v) (λ ts. tt)
 opened_rests table s (begun made ts) suits rests = rests
 
@@ -230,21 +239,38 @@ enter_rests def entered rests = tt
 enter_rests def (whole v) rests = tt
 enter_rests def (begun form ts) rests = rests
 
-entered_rests : (i : ℕ) (def : Def) (t : Tree) → RestsAround [] t → RestsAround (i ∷ []) (change_child i (enter def) t)
-entered_rests i def hole rests = tt
-entered_rests i def entered rests = tt
-entered_rests i def (whole v) rests = tt
-entered_rests i def (begun form ts) rests = (
-  done_beside form i (enter def) ts (done_but form i ts rests.0),
+-- a child of the place, where that is begun, that isn't in its base
+abbrev IsBehindIn : Tree → ℕ → Type 0
+IsBehindIn (begun form ts) i = IsBehindBase form i
+IsBehindIn _ i = Unit {0}
+
+opened_behind : (def : Def) (t : Tree) (i : ℕ) → IsBehindBase (form_at def t) i → IsBehindIn (opened def t) i
+opened_behind def hole i behind = tt
+opened_behind def entered i behind = behind
+opened_behind def (whole v) i behind = go (parts_as (form_of def) v)
+  where
+    go : (parts : Option Vals) → IsBehindIn (opened_value (form_of def) v parts) i
+    go (Some vs) = behind
+    go None = tt
+opened_behind def (begun form ts) i behind = behind
+
+entered_rests : (i : ℕ) (def : Def) (t : Tree) → IsBehindIn t i → RestsAround [] t
+    → RestsAround (i ∷ []) (change_child i (enter def) t)
+entered_rests i def hole behind rests = tt
+entered_rests i def entered behind rests = tt
+entered_rests i def (whole v) behind rests = tt
+entered_rests i def (begun form ts) behind rests = (
+  done_beside form i (enter def) ts (done_but form i ts behind rests.0),
   rest_change i (λ child. RestsAround [] child) (λ child. RestsAround [] child) (enter def) ts (enter_rests def)
       (rest_but i ts rests.1),
+  behind,
 )
 
-pub enter_child_rests : (table : Table) (s i : ℕ) (t : Tree) → Suits table s t → RestsAround [] t
-    → RestsAround (i ∷ []) (enter_child table s i t)
-enter_child_rests table s i t suits rests =
+pub enter_child_rests : (table : Table) (s i : ℕ) (t : Tree) → Suits table s t
+    → IsBehindBase (form_at (def_of table s) t) i → RestsAround [] t → RestsAround (i ∷ []) (enter_child table s i t)
+enter_child_rests table s i t suits behind rests =
     entered_rests i (def_of table (child_as table s (form_at (def_of table s) t) i)) (opened (def_of table s) t)
-    (opened_rests table s t suits rests)
+    (opened_behind (def_of table s) t i behind) (opened_rests table s t suits rests)
 
 pub put_among : (i : ℕ) (v : Val) (ts : Trees) → AllRest ts → AllRest (change_nth i (λ old. whole v) ts)
 put_among i v no_trees rest = tt
@@ -264,6 +290,7 @@ item_rests table s (begun form ts) rests =
     let shape : ℕ = child_as table s form (count_trees ts) in (
       subst (AreDone form) (sym (without_last ts (fresh (def_of table shape)))) rests.0,
       last_rests ts (fresh (def_of table shape)) rests.1 (rests_here (fresh (def_of table shape)) (fresh_rests (def_of table shape))),
+      behind_all form ts rests.0,
     )
 
 last_but : (i : ℕ) (Below : Tree → Type 0) (ts : Trees) (last : Tree) → i < count_trees ts → Rests last → RestBut i Below ts
@@ -281,11 +308,14 @@ pub key_rests : (table : Table) (s base : ℕ) (ts : Trees) → RestsAround [] (
     → RestsAround (count_trees ts ∷ []) (with_key table s (begun (as_map base) ts))
 key_rests table s base ts rests =
     let last : Tree = fresh (def_of table (child_as table s (as_map base) (count_trees ts))) in
-    let count : count_trees (and_last ts last) ≡ suc (count_trees ts) = count_last ts last in (
-      tt,
+    let count : count_trees (and_last ts last) ≡ suc (count_trees ts) = count_last ts last in
+    let behind : IsBehindBase (as_map base) (count_trees ts) = behind_all (as_map base) ts rests.0 in (
+      base_without base (count_trees ts) (and_last (and_last ts last) hole) behind
+          (base_last base (and_last ts last) hole (base_last base ts last rests.0)),
       last_but (count_trees ts) (λ child. RestsAround [] child) (and_last ts last) hole (omega arith) tt
           (last_rests ts last rests.1
           (rests_here last (fresh_rests (def_of table (child_as table s (as_map base) (count_trees ts)))))),
+      behind,
     )
 
 pub closed_rests : (t : Tree) → RestsAround [] t → RestsAround [] (closed_slice t)

@@ -1,12 +1,13 @@
 -- Children that are whole, of which one is left out or put in, or comes behind the others; and what a begun place is done with.
-use Rattle.std.proofs.Common.{◌≡◌, ℕ, zero, suc, Bool, true, false, not, ◌&&◌, ◌||◌, if◌then◌else◌, refl, sym, ◌∙◌, ap, ap₂}
+use Rattle.std.proofs.Common.{◌≡◌, ℕ, zero, suc, Bool, true, false, not, ◌&&◌, ◌||◌, if◌then◌else◌, refl, sym, ◌∙◌, ap, ap₂, subst}
 use Rattle.fr_shape.specs.Same.{same, is_among, none_twice}
 use Rattle.fr_shape.specs.Val.{Val, Vals, no_vals, first}
 use Rattle.fr_model.specs.Collections.{is_set_form, has_same, without_nth, and_item}
 use Rattle.fr_model.specs.DynamicPlaces.{is_dynamic_form}
 use Rattle.fr_model.specs.Gathering.{and_last_val}
-use Rattle.fr_model.specs.Tree.{Form, as_set, as_dyn_array, as_dyn_object, Tree, whole, Trees, no_trees, branch, change_nth, and_last, count_trees, wholes}
-use Rattle.fr_model.specs.Well.{AreValues, AreItems, AreDone}
+use Rattle.fr_model.specs.Tree.{Form, as_set, as_map, as_dyn_array, as_dyn_object, base_of_form, Tree, whole, Trees, no_trees, branch, change_nth, and_last, count_trees, wholes}
+use Rattle.fr_model.specs.Well.{AreValues, AreItems, IsBase, AreDone, IsBehindBase}
+use Rattle.fr_model.proofs.MapBase.{base_none, base_without, base_with, base_item, base_within}
 use Rattle.fr_model.proofs.Templates.{both_true}
 
 -- tests
@@ -101,37 +102,49 @@ put_between (suc i) v (branch t ts) (first w ws) e =
 
 -- what a begun place is done with
 
-pub done_none : (form : Form) → AreDone form no_trees
-done_none as_set = record { values = no_vals; are = refl; once = refl }
-done_none as_dyn_array = record { values = no_vals; are = refl }
-done_none (as_dyn_object keys) = record { values = no_vals; are = refl }
-done_none _ = tt
+pub done_none : (form : Form) → base_of_form form ≡ 0 → AreDone form no_trees
+done_none as_set none = record { values = no_vals; are = refl; once = refl }
+done_none as_dyn_array none = record { values = no_vals; are = refl }
+done_none (as_dyn_object keys) none = record { values = no_vals; are = refl }
+done_none (as_map base) none = subst (λ (n : ℕ). IsBase n no_trees) (sym none) (base_none no_trees)
+done_none _ none = tt
 
-pub done_but : (form : Form) (i : ℕ) (ts : Trees) → AreDone form ts → AreDone form (without_nth i ts)
-done_but as_set i ts done = record {
+-- a child that comes behind all that is done with is behind the base
+pub behind_all : (form : Form) (ts : Trees) → AreDone form ts → IsBehindBase form (count_trees ts)
+behind_all (as_map base) ts done = base_within base ts done
+behind_all _ ts done = tt
+
+pub done_but : (form : Form) (i : ℕ) (ts : Trees) → IsBehindBase form i → AreDone form ts → AreDone form (without_nth i ts)
+done_but as_set i ts behind done = record {
   values = without_val i done.values;
   are = ap (without_nth i) done.are ∙ wholes_without i done.values;
   once = once_without i done.values done.once;
 }
-done_but as_dyn_array i ts done =
+done_but as_dyn_array i ts behind done =
     record { values = without_val i done.values; are = ap (without_nth i) done.are ∙ wholes_without i done.values }
-done_but (as_dyn_object keys) i ts done =
+done_but (as_dyn_object keys) i ts behind done =
     record { values = without_val i done.values; are = ap (without_nth i) done.are ∙ wholes_without i done.values }
-done_but _ i ts done = tt
+done_but (as_map base) i ts behind done = base_without base i ts behind done
+done_but _ i ts behind done = tt
 
--- what is neither a set nor a dynamic value is done with all its children
-pub done_left : (form : Form) (ts : Trees) → is_set_form form ≡ false → is_dynamic_form form ≡ false → AreDone form ts
-done_left as_set ts no_set no_part = cc
-done_left as_dyn_array ts no_set no_part = cc
-done_left (as_dyn_object keys) ts no_set no_part = cc
-done_left _ ts no_set no_part = tt
+-- what is neither a set nor a dynamic value is done with all its children once it is so with all but one, which isn't in its base
+pub done_left : (form : Form) (i : ℕ) (ts : Trees) → is_set_form form ≡ false → is_dynamic_form form ≡ false
+    → IsBehindBase form i → AreDone form (without_nth i ts) → AreDone form ts
+done_left as_set i ts no_set no_part behind done = cc
+done_left as_dyn_array i ts no_set no_part behind done = cc
+done_left (as_dyn_object keys) i ts no_set no_part behind done = cc
+done_left (as_map base) i ts no_set no_part behind done = base_with base i ts behind done
+done_left _ i ts no_set no_part behind done = tt
 
-pub done_put : (form : Form) (i : ℕ) (v : Val) (ts : Trees) → is_set_form form ≡ false → AreDone form (without_nth i ts)
-    → AreDone form (change_nth i (λ old. whole v) ts)
-done_put as_set i v ts no_set done = cc
-done_put as_dyn_array i v ts no_set done = put_between i v ts done.values done.are
-done_put (as_dyn_object keys) i v ts no_set done = put_between i v ts done.values done.are
-done_put _ i v ts no_set done = tt
+pub done_put : (form : Form) (i : ℕ) (v : Val) (ts : Trees) → is_set_form form ≡ false → IsBehindBase form i
+    → AreDone form (without_nth i ts) → AreDone form (change_nth i (λ old. whole v) ts)
+done_put as_set i v ts no_set behind done = cc
+done_put as_dyn_array i v ts no_set behind done = put_between i v ts done.values done.are
+done_put (as_dyn_object keys) i v ts no_set behind done = put_between i v ts done.values done.are
+done_put (as_map base) i v ts no_set behind done =
+    base_with base i (change_nth i (λ old. whole v) ts) behind
+    (subst (IsBase base) (sym (without_changed i (λ old. whole v) ts)) done)
+done_put _ i v ts no_set behind done = tt
 
 values_with : (ts : Trees) (v : Val) → AreValues ts → AreValues (and_item ts v)
 values_with ts v done = go (has_same v ts)
@@ -158,4 +171,5 @@ pub done_with : (form : Form) (ts : Trees) (v : Val) → AreDone form ts → Are
 done_with as_set ts v done = items_with ts v done
 done_with as_dyn_array ts v done = values_with ts v done
 done_with (as_dyn_object keys) ts v done = values_with ts v done
+done_with (as_map base) ts v done = base_item base ts v done
 done_with _ ts v done = tt

@@ -41,3 +41,4 @@ pub mod Step
 pub mod Tree
 pub mod Variants
 pub mod Well
+pub mod WellExamples

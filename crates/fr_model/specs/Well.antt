@@ -1,17 +1,17 @@
 -- The states that a builder can be in.
-use Rattle.std.specs.Prelude.{◌≡◌, ℕ, zero, suc, ◌<◌, ◌≤◌, Bool, true, false, List, [], ◌∷◌, length, slice_get, Option, Some, None}
+use Rattle.std.specs.Prelude.{◌≡◌, ℕ, zero, suc, ◌+◌, ◌<◌, ◌≤◌, Bool, true, false, List, [], ◌∷◌, length, slice_get, Option, Some, None}
 use Rattle.fr_shape.specs.declared.shape.Def.{Def}
 use Rattle.fr_shape.specs.declared.shape.ShapeId.{ShapeId}
 use Rattle.fr_shape.specs.declared.shape.VariantDef.{VariantDef}
 use Rattle.fr_shape.specs.Look.{Table, def_of}
 use Rattle.fr_shape.specs.Fits.{fits}
 use Rattle.fr_shape.specs.Fills.{is_empty_struct}
-use Rattle.fr_shape.specs.Same.{none_twice}
-use Rattle.fr_shape.specs.Val.{Vals}
+use Rattle.fr_shape.specs.Same.{none_twice, keys}
+use Rattle.fr_shape.specs.Val.{Vals, Entries, no_vals, first}
 use Rattle.fr_model.specs.Collections.{without_nth}
 use Rattle.fr_model.specs.Contents.{pointer_refusal, points_to_slice}
 use Rattle.fr_model.specs.Dynamics.{keys_apart}
-use Rattle.fr_model.specs.Places.{Place, array_limit, is_key}
+use Rattle.fr_model.specs.Places.{Place, array_limit, is_key, in_turn, count_entries}
 use Rattle.fr_model.specs.Tree.{Form, as_struct, as_array, as_variant, as_some, as_ok, as_err, as_pointer, as_list, as_slice, as_closed_slice, as_set, as_map, as_dyn_array, as_dyn_object, Tree, hole, entered, whole, begun, Trees, no_trees, branch, shapes_as, count_trees, wholes, tree_occurs, Mode, strict, deferred, State}
 use Rattle.fr_model.specs.Variants.{selection_refusal}
 
@@ -228,8 +228,9 @@ pub record IsInOrder (table : Table) (root : ℕ) (state : State) : Type 0 where
   pub leads : Leads state.mode state.cursor state.tree
   pub began : BeganAbove state.mode state.cursor
 
--- What the builder has left rests: no pointer to a slice is open in it, for the end of such a place closes it first; and the items of
--- a set and the parts of a dynamic value are whole in it, for each is completed as it ends.
+-- What the builder has left rests: no pointer to a slice is open in it, for the end of such a place closes it first; the items of a
+-- set, the entries that a map had when it was begun, and the parts of a dynamic value are whole in it, for those entries were so from
+-- the start and each item and each part is completed as it ends; and no two of the items or of the keys of those entries are `same`.
 
 abbrev pub IsShut : Form → Type 0
 IsShut as_slice = ⊥
@@ -258,11 +259,26 @@ pub record AreItems (ts : Trees) : Type 0 where
   pub are : ts ≡ wholes values
   pub once : none_twice values ≡ true
 
--- of a place that is begun so, these children are done with
+-- the values, each of them whole, in front of the trees
+abbrev pub in_front : Vals → Trees → Trees
+in_front no_vals rest = rest
+in_front (first v vs) rest = branch (whole v) (in_front vs rest)
+
+-- the trees begin with so many entries, a key and a value in turn, that are whole, and no two of their keys are `same`
+pub record IsBase (base : ℕ) (ts : Trees) : Type 0 where
+  pub entries : Entries
+  pub rest : Trees
+  pub count : count_entries entries ≡ base
+  pub are : ts ≡ in_front (in_turn entries) rest
+  pub once : none_twice (keys entries) ≡ true
+
+-- Of a place that is begun so, these children are done with: those of a set are whole, and no two of them are `same`; those of a dynamic
+-- value are whole; and those of a map begin with its base. Of any other place nothing is asked.
 abbrev pub AreDone : Form → Trees → Type 0
 AreDone as_set ts = AreItems ts
 AreDone as_dyn_array ts = AreValues ts
 AreDone (as_dyn_object keys) ts = AreValues ts
+AreDone (as_map base) ts = IsBase base ts
 AreDone as_struct ts = Unit {0}
 AreDone as_array ts = Unit {0}
 AreDone (as_variant k) ts = Unit {0}
@@ -273,7 +289,6 @@ AreDone as_pointer ts = Unit {0}
 AreDone as_list ts = Unit {0}
 AreDone as_slice ts = Unit {0}
 AreDone as_closed_slice ts = Unit {0}
-AreDone (as_map base) ts = Unit {0}
 
 abbrev mutual
   pub Rests : Tree → Type 0
@@ -292,15 +307,32 @@ RestBut i Below no_trees = Unit {0}
 RestBut zero Below (branch t ts) = Below t × AllRest ts
 RestBut (suc i) Below (branch t ts) = Rests t × RestBut i Below ts
 
--- every place rests that is neither the cursor's nor above it, so that only such a pointer to a slice may be open, and only such an
--- item of a set, or part of a dynamic value, may be half done
+-- this child is no part of a map's base: it comes behind the keys and values of so many entries
+abbrev pub IsBehindBase : Form → ℕ → Type 0
+IsBehindBase (as_map base) i = base + base ≤ i
+IsBehindBase as_struct i = Unit {0}
+IsBehindBase as_array i = Unit {0}
+IsBehindBase (as_variant k) i = Unit {0}
+IsBehindBase as_some i = Unit {0}
+IsBehindBase as_ok i = Unit {0}
+IsBehindBase as_err i = Unit {0}
+IsBehindBase as_pointer i = Unit {0}
+IsBehindBase as_list i = Unit {0}
+IsBehindBase as_slice i = Unit {0}
+IsBehindBase as_closed_slice i = Unit {0}
+IsBehindBase as_set i = Unit {0}
+IsBehindBase as_dyn_array i = Unit {0}
+IsBehindBase (as_dyn_object keys) i = Unit {0}
+
+-- Every place rests that is neither the cursor's nor above it, so that only such a pointer to a slice may be open, and only such an
+-- item of a set, or part of a dynamic value, may be half done. The way to the cursor leads through no part of a map's base.
 abbrev pub RestsAround : (cursor : Place) → Tree → Type 0
 RestsAround cursor hole = Unit {0}
 RestsAround cursor entered = Unit {0}
 RestsAround cursor (whole v) = Unit {0}
 RestsAround [] (begun form ts) = AreDone form ts × AllRest ts
 RestsAround (i ∷ place) (begun form ts) =
-    AreDone form (without_nth i ts) × RestBut i (λ child. RestsAround place child) ts
+    AreDone form (without_nth i ts) × RestBut i (λ child. RestsAround place child) ts × IsBehindBase form i
 
 -- no token stands twice in a tree
 abbrev pub AreDistinct : Tree → Type 0

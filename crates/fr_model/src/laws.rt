@@ -15,6 +15,7 @@ ghost use Rattle.fr_model.specs.GatheringLaws.{DistinctEntriesStay, DistinctItem
 ghost use Rattle.fr_model.specs.Laws.{BuildKeepsTokens, CompletesOrFails, CompletesOrLacks, CompletingFits, CompletingKeepsTokens, StartIsWell, StepKeepsDistinct, StepKeepsOrder, StepKeepsRest, StepKeepsTokens};
 ghost use Rattle.fr_model.specs.ListExamples.{ArrayExamples, ListExamples, SliceExamples};
 ghost use Rattle.fr_model.specs.PathLaws.{BeginningAListKeepsThePath, BeginningAMapKeepsThePath, ClosingASliceKeepsThePath, DefaultingKeepsThePath, EnteringAddsAStep, EnteringAKeyAddsAStep, EnteringAnEntryAddsAStep, EnteringAnItemAddsAStep, EnteringContentAddsAStep, EnteringSomeAddsAStep, FinishingKeepsThePath, LeavingAnItemDropsAStep, LeavingAsItIs, LeavingDropsAStep, OpeningASliceKeepsThePath, OpeningKeepsThePath, PathIsAsDeep, PuttingKeepsThePath, SelectingKeepsThePath};
+ghost use Rattle.fr_model.specs.WellExamples.{WellExamples};
 
 /// For every field script of fitting values over a table that is plain for the root, whatever the hooks mean, the run of the
 /// commands gives a value exactly where the journal completes, and the same one. At the start, and after each fitting call
@@ -54,7 +55,7 @@ pub fn law_default()
     ensures default { DefaultIsThreeCalls }
 {}
 
-/// Scripts computed through the definitions.
+/// Scripts computed through the definitions, and states that are well and such as aren't.
 pub fn law_examples()
     ensures validators { EndRunsValidators }
     ensures variants { VariantExamples }
@@ -72,6 +73,7 @@ pub fn law_examples()
     ensures maps { MapExamples }
     ensures conversions { ConversionExamples }
     ensures dynamics { DynamicExamples }
+    ensures well { WellExamples }
 {}
 
 /// What fails at the end of deferred mode is half done and lies off the way, and a place that lacks something by itself fails, its

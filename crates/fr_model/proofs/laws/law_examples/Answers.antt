@@ -1,4 +1,7 @@
-use Rattle.std.proofs.Common.{refl}
+use Rattle.std.proofs.Common.{refl, arith}
+use Rattle.fr_shape.specs.Val.{nat, no_entries, entry}
+use Rattle.fr_model.specs.Tree.{hole, whole, no_trees, branch}
+use Rattle.fr_model.proofs.MapBase.{base_apart, base_within}
 use Rattle.fr_model.proofs.laws.law_examples.Goals as goal
 
 pub returns-clause-validators : goal.returns-clause-validators
@@ -429,4 +432,50 @@ returns-clause-dynamics c = record {
   no_set = refl;
   no_begun_set = refl;
   no_set_item = refl;
+}
+
+pub returns-clause-well : goal.returns-clause-well
+returns-clause-well c = record {
+  behind_the_base = record {
+    in_order = record {
+      suits = ((refl, tt), (refl, (refl, (refl, (tt, tt)))), (tt, tt, tt));
+      leads = (tt, (tt, (tt, (tt, tt))));
+      began = tt;
+    };
+    rests = (
+      record {
+        entries = entry (nat 1) (nat 2) no_entries;
+        rest = branch hole no_trees;
+        count = refl;
+        are = refl;
+        once = refl;
+      },
+      (tt, (tt, (tt, (tt, tt)))),
+      omega arith,
+    );
+    distinct = λ t. omega arith;
+  };
+  repeated_behind_the_base = record {
+    in_order = record {
+      suits = ((refl, tt), (refl, (refl, (refl, (refl, tt)))), (tt, tt, tt));
+      leads = (tt, (tt, (tt, (tt, tt))));
+      began = tt;
+    };
+    rests = (
+      record {
+        entries = entry (nat 1) (nat 2) no_entries;
+        rest = branch (whole (nat 1)) (branch (whole (nat 3)) no_trees);
+        count = refl;
+        are = refl;
+        once = refl;
+      },
+      (tt, (tt, (tt, (tt, tt)))),
+    );
+    distinct = λ t. omega arith;
+  };
+  repeated_in_the_base = λ well. base_apart (nat 1) (nat 2) (nat 1) (nat 3) no_trees well.rests.0 refl;
+  under_way_in_the_base = λ well. absurd (omega (arith, well.rests.2));
+  at_a_key_of_the_base = λ well. absurd (omega (arith, well.rests.2));
+  at_a_value_of_the_base = λ well. absurd (omega (arith, well.rests.2));
+  too_few = λ well. absurd (omega (arith, base_within 2 (branch (whole (nat 1)) (branch (whole (nat 2)) no_trees)) well.rests.0));
 }
