@@ -125,7 +125,7 @@ plain_used (Slot.Item item) h = absurd h
 pub read : (raw : List Slot) (n at : ℕ) (slot : Slot) → at ≡ n → n < length raw → slot ≡ get_or raw at slot → slice_get raw n ≡ Some slot
 read raw n at slot e inside is = got raw n slot inside (is ∙ ap (λ (k : ℕ). get_or raw k slot) e)
 
-get_set : (raw : List Slot) (n : ℕ) (was now : Slot) → slice_get raw n ≡ Some was → slice_get (set raw n now) n ≡ Some now
+pub get_set : (raw : List Slot) (n : ℕ) (was now : Slot) → slice_get raw n ≡ Some was → slice_get (set raw n now) n ≡ Some now
 get_set [] n was now e = cc
 get_set (slot ∷ raw) zero was now e = refl
 get_set (slot ∷ raw) (suc n) was now e = get_set raw n was now e

@@ -152,14 +152,14 @@ impl Slots {
             (child_owner parent.0 i) id.0)) }
         ensures limit { OnOk result
             (depth_below (heap_of self.old) (child_owner parent.0 i) < depth_limit) }
-        ensures narrow { OnOk result (i < 2 ^ 32) }
+        ensures narrow { OnOk result (i + 1 < 2 ^ 32) }
         ensures tokens { SameTokens self.old self.new }
         ensures refused { OnErr result (Shows self.new (heap_of self.old)) }
     {
-        let Ok(number) = u32::try_from(i) else {
+        if i >= u32::MAX as usize {
             return Err(OutOfMemory);
-        };
-        self.enter(table, plan, node, FrameOwner::Child(parent, number))
+        }
+        self.enter(table, plan, node, FrameOwner::Child(parent, i as u32))
     }
 
     /// A slot for the value, of this node, of a new entry under a key that the begun dynamic object doesn't have. The object has it
@@ -184,7 +184,7 @@ impl Slots {
         ensures limit { OnOk result (IfInUse self.old parent.0 (λ above.
             depth_below (heap_of self.old) (item_owner parent.0 above.body) < depth_limit)) }
         ensures narrow { OnOk result (IfInUse self.old parent.0 (λ above.
-            count_cells above.body < 2 ^ 32)) }
+            count_cells above.body + 1 < 2 ^ 32)) }
         ensures tokens { SameTokens self.old self.new }
         ensures refused { OnErr result (Shows self.new (heap_of self.old)) }
     {
@@ -225,7 +225,7 @@ impl Slots {
         ensures limit { OnOk result (IfInUse self.old parent.0 (λ above. depth_below
             (heap_of self.old) (entry_owner parent.0 key.now above.body) < depth_limit)) }
         ensures narrow { OnOk result (IfInUse self.old parent.0 (λ above.
-            entry_in key.now above.body < 2 ^ 32)) }
+            entry_in key.now above.body + 1 < 2 ^ 32)) }
         ensures tokens { SameTokens self.old self.new }
         ensures refused { OnErr result (Shows self.new (heap_of self.old)) }
     {

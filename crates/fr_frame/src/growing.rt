@@ -1,5 +1,5 @@
 //! Places that take items, as a list, a set or a pointer to a slice, and maps, which take entries.
-ghost use Rattle.std.specs.Prelude.{◌≡◌, ◌<◌, ◌^◌, length, false, true, IfOk, IfSome, OnErr, OnOk, None};
+ghost use Rattle.std.specs.Prelude.{◌≡◌, ◌+◌, ◌<◌, ◌^◌, length, false, true, IfOk, IfSome, OnErr, OnOk, None};
 ghost use Rattle.fr_shape.specs.Look.{def_of};
 ghost use Rattle.fr_frame.specs.Bodies.{added, added_entry, count_cells, reformed, IsGrowing, IsMapBody};
 ghost use Rattle.fr_frame.specs.Changes.{IfInUse, IsInUse, SameTokens, Shows};
@@ -80,13 +80,13 @@ impl Slots {
         ensures owner { IfSome result (λ owner. IfInUse self.now parent.0 (λ above.
             owner ≡ item_owner parent.0 above.body)) }
         ensures narrow { IfSome result (λ owner. IfInUse self.now parent.0 (λ above.
-            count_cells above.body < 2 ^ 32)) }
+            count_cells above.body + 1 < 2 ^ 32)) }
     {
         let Some(above) = self.place(parent) else {
             unreachable!()
         };
         let count = count_children(&above.piece);
-        if count > u32::MAX as usize {
+        if count >= u32::MAX as usize {
             return None;
         }
         Some(FrameOwner::Child(parent, count as u32))
@@ -140,7 +140,7 @@ impl Slots {
         ensures limit { OnOk result (IfInUse self.old parent.0 (λ above.
             depth_below (heap_of self.old) (item_owner parent.0 above.body) < depth_limit)) }
         ensures narrow { OnOk result (IfInUse self.old parent.0 (λ above.
-            count_cells above.body < 2 ^ 32)) }
+            count_cells above.body + 1 < 2 ^ 32)) }
         ensures tokens { SameTokens self.old self.new }
         ensures refused { OnErr result (Shows self.new (heap_of self.old)) }
     {
@@ -187,7 +187,7 @@ impl Slots {
         ensures limit { OnOk result (IfInUse self.old parent.0 (λ above.
             depth_below (heap_of self.old) (item_owner parent.0 above.body) < depth_limit)) }
         ensures narrow { OnOk result (IfInUse self.old parent.0 (λ above.
-            count_cells above.body < 2 ^ 32)) }
+            count_cells above.body + 1 < 2 ^ 32)) }
         ensures tokens { SameTokens self.old self.new }
         ensures refused { OnErr result (Shows self.new (heap_of self.old)) }
     {
@@ -225,7 +225,7 @@ impl Slots {
         ensures limit { OnOk result (IfInUse self.old parent.0 (λ above.
             depth_below (heap_of self.old) (item_owner parent.0 above.body) < depth_limit)) }
         ensures narrow { OnOk result (IfInUse self.old parent.0 (λ above.
-            count_cells above.body < 2 ^ 32)) }
+            count_cells above.body + 1 < 2 ^ 32)) }
         ensures tokens { SameTokens self.old self.new }
         ensures refused { OnErr result (Shows self.new (heap_of self.old)) }
     {
@@ -255,7 +255,7 @@ impl Slots {
         ensures limit { OnOk result (IfInUse self.old parent.0 (λ above.
             depth_below (heap_of self.old) (item_owner parent.0 above.body) < depth_limit)) }
         ensures narrow { OnOk result (IfInUse self.old parent.0 (λ above.
-            count_cells above.body < 2 ^ 32)) }
+            count_cells above.body + 1 < 2 ^ 32)) }
         ensures tokens { SameTokens self.old self.new }
         ensures refused { OnErr result (Shows self.new (heap_of self.old)) }
     {

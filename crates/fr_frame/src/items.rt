@@ -9,6 +9,7 @@ ghost use Rattle.fr_frame.specs.Changes.{IfInUse, SameTokens, Shows};
 ghost use Rattle.fr_frame.specs.Heap.{body_of, gives, heap_of, held_by, node_in, node_of, slots_occur, with_body, without};
 ghost use Rattle.fr_frame.specs.Items.{is_list, is_used, with_placed, IsListed, IsListedIn, IsPlain, IsReserved, KeepsReserved};
 ghost use Rattle.fr_frame.specs.RawItems.{in_list, of_list, with_room, HasRoomIn, IsAddedIn, IsBelow, IsListIn, IsSeenAs, IsTakenOf};
+ghost use Rattle.fr_frame.specs.RawSlots.{IsEmptied};
 ghost use Rattle.fr_frame.specs.Outlines.{is_list_body};
 ghost use Rattle.fr_frame.specs.declared.places.Slot.{Slot as Entry};
 
@@ -49,19 +50,30 @@ fn push_item(
     Ok(())
 }
 
-/// A slot in use by a list, from then on with a rope for its items, of which there are none yet.
+/// A list in a slot, from then on with a rope for its items, of which there are none yet.
+#[inline(never)]
+fn begin_rope(alloc: Global, slot: &mut Slot) -> Result<(), OutOfMemory>
+    requires plain { IsPlain slot.old }
+    ensures seen { IsSeenAs slot.old slot.new }
+    ensures list { OnOk result (is_list slot.new ≡ true) }
+{
+    let Ok(items) = Box::new(alloc, ListRope::new(alloc)) else {
+        return Err(OutOfMemory);
+    };
+    let Slot::Used(place) = std::mem::replace(slot, Slot::Reserved) else {
+        unreachable!()
+    };
+    *slot = Slot::List(place, items);
+    Ok(())
+}
+
+/// A slot in use by a list has a rope for its items from then on. Most have one, so the test is short.
 fn make_list(alloc: Global, slot: &mut Slot) -> Result<(), OutOfMemory>
     ensures seen { IsSeenAs slot.old slot.new }
     ensures list { OnOk result (is_used slot.old ≡ true → is_list slot.new ≡ true) }
 {
     if let Slot::Used(_) = slot {
-        let Ok(items) = Box::new(alloc, ListRope::new(alloc)) else {
-            return Err(OutOfMemory);
-        };
-        let Slot::Used(place) = std::mem::replace(slot, Slot::Reserved) else {
-            unreachable!()
-        };
-        *slot = Slot::List(place, items);
+        return begin_rope(alloc, slot);
     }
     Ok(())
 }
@@ -170,15 +182,18 @@ fn take_piece(slot: &mut Slot) -> Piece
     }
 }
 
-/// Puts an item that has completed into a slot.
+/// Puts an item that has completed into the slot of its place, from which its value was taken. Nothing is there any more that would
+/// have to be let go.
 fn put_item(slot: &mut Slot, value: Value, list: SlotId, number: u32)
+    requires emptied { IsEmptied slot.old }
     ensures { slot.new ≡ Entry.Item (record { value = value; list = list; number = number }) }
 {
-    *slot = Slot::Item(Item {
+    let item = Slot::Item(Item {
         value,
         list,
         number,
     });
+    std::mem::forget(std::mem::replace(slot, item));
 }
 
 impl Slots {

@@ -265,7 +265,7 @@ fn value_or_back(alloc: Global, piece: Piece, ledger: &mut Ledger) -> Result<Val
 }
 
 /// The value of a place that is whole, or begun with each child there. Where there is no memory for making it, what was put
-/// at the place is released.
+/// at the place is released. Most places are whole, so that way is short.
 pub(crate) fn value_of(
     alloc: Global,
     piece: Piece,
@@ -280,6 +280,9 @@ pub(crate) fn value_of(
     ensures released { OnErr result
         (RoseBy (body_occurs (body_of piece)) ledger.old ledger.new) }
 {
+    if let Piece::Whole(value) = piece {
+        return Ok(value);
+    }
     match value_or_back(alloc, piece, ledger) {
         Ok(value) => Ok(value),
         Err(back) => {

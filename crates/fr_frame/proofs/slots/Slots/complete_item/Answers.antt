@@ -8,6 +8,7 @@ use Rattle.fr_frame.specs.Bodies.{body_occurs, takes_memory, value_of}
 use Rattle.fr_frame.specs.Heap.{Node, body_of, slots_occur}
 use Rattle.fr_frame.specs.Items.{slots_seen}
 use Rattle.fr_frame.proofs.CompleteItemLaws.{handed, handed_tokens, in_use, of_it, raw_inside, ready, refused, refused_tokens, so_of_it, taken_as, taken_in_use, IsReady}
+use Rattle.fr_frame.proofs.FreeLaws.{emptied_at}
 use Rattle.fr_frame.proofs.HandLaws.{changed_conserved, rose_conserved}
 use Rattle.fr_frame.proofs.PlaceLaws.{repieced}
 use Rattle.fr_frame.proofs.SlotLaws.{drained_inside, drained_slot, read, there}
@@ -85,6 +86,17 @@ get_mut-requires-in-Ok c = record {
             c.drain.ensures.plain),
       );
 }
+
+pub put_item-requires : goal.put_item-requires
+put_item-requires c =
+    let r : IsReady c.drain.new.entries c.args.id.0 c.in_ok-list.list c.in_ok-list.number = ready_here ((goal.at.put_item-requires c).After-drain) in
+    let taken : (c.take_piece-piece.result ≡ r.at.piece) × (c.take_piece-piece.new.slot ≡ Slot.Used (repieced r.at Piece.Entered)) =
+    taken_here ((goal.at.put_item-requires c).After-take_piece-piece) r in
+    record {
+      emptied =
+          emptied_at c.drain.new.entries c.args.id.0 c.idx.result c.idx-in-Ok.result r.at c.take_piece-piece.new.slot c.get_mut-in-Ok.result.now
+          c.idx.ensures.number c.idx-in-Ok.ensures.number r.here taken.1 c.get_mut-in-Ok.ensures.value;
+    }
 
 pub get_mut-requires-in-Ok-2 : goal.get_mut-requires-in-Ok-2
 get_mut-requires-in-Ok-2 c =

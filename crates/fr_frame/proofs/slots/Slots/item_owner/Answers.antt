@@ -1,4 +1,4 @@
-use Rattle.std.proofs.Common.{◌≡◌, ◌<◌, ◌^◌, ap, ◌∙◌, arith}
+use Rattle.std.proofs.Common.{◌≡◌, ◌+◌, ◌<◌, ◌^◌, ap, ◌∙◌, arith}
 use Rattle.fr_frame.specs.declared.places.FrameOwner.{FrameOwner}
 use Rattle.fr_frame.specs.Bodies.{count_cells}
 use Rattle.fr_frame.specs.Heap.{Node, body_of, heap_of, item_owner, node_of}
@@ -18,7 +18,7 @@ returns-clause-owner c =
 pub returns-clause-narrow : goal.returns-clause-narrow
 returns-clause-narrow c =
     of_outline (node_of c.in-Some.above.now) (heap_of c.args.self.now c.args.parent.0)
-    (λ (at : Node). count_cells at.body < 2 ^ 32)
+    (λ (at : Node). count_cells at.body + 1 < 2 ^ 32)
     c.in-Some.ensures.place
     (λ at there same.
     omega (
