@@ -30,9 +30,22 @@ pub struct Document {
 }
 
 /// The document that bytes are to a word, or their first fault.
-#[tactic(auto, unfolding(crate::specs::Documents::document_of))]
 pub fn read_document(alloc: Global, word: Word, bytes: &[u8]) -> Result<Document, ReadError>
     ensures document { GivesFor document_view (document_of word bytes.now) result }
+{
+    let (document, _) = read_with_tree(alloc, word, bytes)?;
+    Ok(document)
+}
+
+/// The same with the tree that it was read from, for whoever builds at once and lets the tree go at the end. Before the build that
+/// costs more: what was freed in many small parts is joined as soon as the build asks for a large one.
+#[tactic(auto, unfolding(crate::specs::Documents::document_of))]
+pub(crate) fn read_with_tree(
+    alloc: Global,
+    word: Word,
+    bytes: &[u8],
+) -> Result<(Document, Json), ReadError>
+    ensures document { GivesFor (λ read. document_view read.0) (document_of word bytes.now) result }
 {
     if bytes.len() > DOCUMENT_LIMIT {
         return Err(ReadError::Fault(DocFault::TooLong));
@@ -49,7 +62,7 @@ pub fn read_document(alloc: Global, word: Word, bytes: &[u8]) -> Result<Document
         return Err(ReadError::Fault(fault));
     }
     test_script(alloc, &document)?;
-    Ok(document)
+    Ok((document, json))
 }
 
 /// The JSON that bytes are.

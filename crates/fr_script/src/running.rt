@@ -71,11 +71,11 @@ pub fn run<S: Source, K: Sink>(alloc: Global, words: &[String], source: &mut S, 
         Err(InputFault::Failed) => return 4,
         Err(InputFault::OutOfMemory) => return 6,
     };
-    let Ok((status, text)) = respond(alloc, word, bytes.as_slice()) else {
+    let Ok(response) = respond(alloc, word, bytes.as_slice()) else {
         return 6;
     };
-    match write_report(sink, text.as_bytes()) {
-        Ok(()) => status,
+    match write_report(sink, response.text.as_bytes()) {
+        Ok(()) => response.status,
         Err(_) => 5,
     }
 }

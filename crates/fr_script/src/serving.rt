@@ -11,7 +11,7 @@ ghost use Rattle.fr_script.specs.Reports.{outcome_of, outcome_of_document, outco
 
 use crate::answering::Answer;
 use crate::building::{ScriptError, build_script};
-use crate::document::{Document, read_document};
+use crate::document::{Document, read_document, read_with_tree};
 use crate::document_laws::law_documents_in_order;
 use crate::plan_report::plan_report_of;
 use crate::planning::plan_root;
@@ -20,6 +20,7 @@ use crate::report::{report_of, report_of_fault};
 use crate::word::Word;
 use fr_doc::ReadError;
 use fr_shape::{Ledger, NoHooks, OutOfMemory, ReflectErrorKind, ShapeTable};
+use serde_json::Value as Json;
 use std::alloc::Global;
 
 /// Reads a document, runs its script over a new ledger, and returns what came of it.
@@ -85,22 +86,44 @@ fn is_want_of_memory(kind: &ReflectErrorKind) -> bool
     matches!(kind, ReflectErrorKind::OutOfMemory)
 }
 
+/// The status and the whole report on a document.
+///
+/// The tree that the document was read from is let go after them. Any earlier that costs more: what is freed in many small parts is
+/// joined as soon as a large part is asked for or freed.
+#[derive(Drop)]
+pub struct Response {
+    pub status: u8,
+    pub text: String,
+    tree: Option<Json>,
+}
+
 /// The status and the whole report on a document, under a word.
-pub fn respond(alloc: Global, word: Word, bytes: &[u8]) -> Result<(u8, String), OutOfMemory>
-    ensures status { IfOk result (λ response. response.0 ≡ status_of (outcome_of word bytes.now)) }
-    ensures text { IfOk result (λ response. string_bytes response.1 ≡ report_of word bytes.now) }
+pub fn respond(alloc: Global, word: Word, bytes: &[u8]) -> Result<Response, OutOfMemory>
+    ensures status { IfOk result (λ response.
+        response.status ≡ status_of (outcome_of word bytes.now)) }
+    ensures text { IfOk result (λ response.
+        string_bytes response.text ≡ report_of word bytes.now) }
     ensures promise { OnOk result (IsPromised word bytes.now) }
 {
-    match read_document(alloc, word, bytes) {
-        Ok(document) => {
+    match read_with_tree(alloc, word, bytes) {
+        Ok((document, tree)) => {
             law_documents_in_order();
-            match word {
-                Word::Build => respond_to_build(alloc, document),
-                Word::Plan => respond_to_plan(alloc, document),
-            }
+            let (status, text) = match word {
+                Word::Build => respond_to_build(alloc, document)?,
+                Word::Plan => respond_to_plan(alloc, document)?,
+            };
+            Ok(Response {
+                status,
+                text,
+                tree: Some(tree),
+            })
         }
         Err(ReadError::Fault(fault)) => match report_of_fault(alloc, &fault) {
-            Ok(text) => Ok((2, text)),
+            Ok(text) => Ok(Response {
+                status: 2,
+                text,
+                tree: None,
+            }),
             Err(_) => Err(OutOfMemory),
         },
         Err(ReadError::Memory) => Err(OutOfMemory),

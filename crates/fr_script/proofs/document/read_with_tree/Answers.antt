@@ -3,7 +3,7 @@ use Rattle.std.proofs.lemmas.List.{length-map}
 use Rattle.fr_model.specs.Commands.{call_of}
 use Rattle.fr_script.proofs.Buildable.{sizes_known}
 use Rattle.fr_script.specs.Reading.{document_view}
-use Rattle.fr_script.proofs.document.read_document.Goals as goal
+use Rattle.fr_script.proofs.document.read_with_tree.Goals as goal
 
 pub test_rules-requires : goal.test_rules-requires
 test_rules-requires c =
