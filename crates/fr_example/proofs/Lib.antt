@@ -3,5 +3,7 @@ pub mod Making
 pub mod Pairs
 pub mod Putting
 pub mod Sized
+pub mod SlotLaws
 pub mod Slots
+pub mod TestLaws
 pub mod Tokens

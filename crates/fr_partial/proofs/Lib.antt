@@ -38,7 +38,6 @@ pub mod StartLaws
 pub mod StateLaws
 pub mod StayLaws
 pub mod TemplateLaws
-pub mod TestLaws
 pub mod TreeLaws
 pub mod WayLaws
 pub mod WorkLaws

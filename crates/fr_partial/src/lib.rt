@@ -39,8 +39,6 @@ mod set_items;
 mod sets;
 mod slices;
 mod starting;
-#[cfg(test)]
-mod tests;
 mod work;
 
 pub use built::Built;

@@ -10,7 +10,7 @@ use crate::placing::place_here;
 use crate::{Partial, ReflectError};
 use fr_model::law_paths;
 use fr_path::Path;
-use fr_shape::{Hooks, OutOfMemory, ReflectErrorKind, ShapeId};
+use fr_shape::{Hooks, OutOfMemory, ReflectErrorKind, ShapeId, ShapeTable};
 
 impl<'t, H: Hooks> Partial<'t, H> {
     /// The path of the place at which it works.
@@ -59,6 +59,13 @@ impl<'t, H: Hooks> Partial<'t, H> {
             &work.stack,
         )
         .0
+    }
+
+    /// The table whose shapes it builds.
+    pub fn table(&self) -> &ShapeTable
+        ensures table { result.now ≡ self.now.shapes }
+    {
+        self.work.table
     }
 
     /// The shape of what it builds.

@@ -10,8 +10,6 @@ mod command_form;
 mod content_tests;
 #[cfg(test)]
 mod deferred_tests;
-#[cfg(test)]
-mod device_tests;
 mod document;
 mod document_laws;
 #[cfg(test)]
@@ -38,16 +36,12 @@ mod row_tests;
 mod running;
 mod served;
 mod serving;
-#[cfg(test)]
-mod shape_form_tests;
 mod sizes;
 #[cfg(test)]
 mod tests;
 #[cfg(test)]
 mod text_tests;
 mod validity;
-#[cfg(test)]
-mod value_form_tests;
 #[cfg(test)]
 mod variant_tests;
 mod word;
