@@ -37,8 +37,8 @@ pub fn read_document(alloc: Global, word: Word, bytes: &[u8]) -> Result<Document
     Ok(document)
 }
 
-/// The same with the tree that it was read from, for whoever builds at once and lets the tree go at the end. Before the build that
-/// costs more: what was freed in many small parts is joined as soon as the build asks for a large one.
+/// The same with the tree that it was read from, for whoever lets the tree go at the end of a run. Before the run that costs more: what
+/// was freed in many small parts is joined as soon as a large part is asked for.
 #[tactic(auto, unfolding(crate::specs::Documents::document_of))]
 pub(crate) fn read_with_tree(
     alloc: Global,

@@ -1,5 +1,7 @@
-//! A document that is read, and the test of its script, with ample memory.
+//! A document that is read, the test of its script, and the calls that answer it, with ample memory.
 use crate::document::read_document;
+use crate::planning::plan_document;
+use crate::serving::answer;
 use crate::validity::{ScriptFault, is_valid_script};
 use crate::word::Word;
 use fr_shape::Ledger;
@@ -24,5 +26,21 @@ fn a_document_is_read_and_its_script_is_valid(rt: HostRuntime) -> Result<(), Fai
     let few = Ledger::new(alloc, 1).ok().ok_or("no memory")?;
     let fault = is_valid_script(alloc, &document.table, &document.script, &few).err();
     assert!(rt; matches!(fault, Some(ScriptFault::Invalid(0))));
+    Ok(())
+}
+
+#[test]
+fn a_document_is_answered(rt: HostRuntime) -> Result<(), Fail> {
+    let answer = answer(rt.alloc(), DOCUMENT.as_bytes());
+    let answer = answer.ok().ok_or("no memory")?;
+    assert_eq!(rt; answer.status(), 0);
+    Ok(())
+}
+
+#[test]
+fn a_document_is_planned(rt: HostRuntime) -> Result<(), Fail> {
+    let planned = plan_document(rt.alloc(), DOCUMENT.as_bytes());
+    let planned = planned.ok().ok_or("no memory")?;
+    assert_eq!(rt; planned.status(), 0);
     Ok(())
 }
