@@ -23,7 +23,8 @@ use Rattle.fr_model.specs.Variants.{is_enum, variant_numbered, variant_named, va
 use Rattle.fr_model.specs.Tree.{Form, as_some, as_ok, as_err, as_pointer, selected, Tree, whole, count_below, Mode, strict, deferred, State, cursor_shape, cursor_tree, tree_occurs}
 use Rattle.fr_model.specs.Complete.{complete}
 use Rattle.fr_model.specs.Finish.{finished}
-use Rattle.fr_model.specs.Step.{unless_refused, at_shape, was_not_a, named_refusal, takes_shape, field_default, puts_child, puts_child_default, defaults_field, enters_content, option_kept, content_kept, begin_side, pointer_kept, begins_pointer, opens, becomes, init_list_refusal, init_map_refusal, init_set_refusal, begins_list, init_list, begins_map, enters_item, enters_key, enters_entry, set_refusal, puts_dynamic, set_dynamic, puts_made, closes, closes_slice, leaves_place, selects, select_found, select, violates, enters, puts, puts_default, puts_and_leaves, ended, leaves, is_set_item, takes_item, item_ended, is_dynamic_part, part_ended, leaves_deferred, end_in, begins_deferred, finishes, finish_in, step}
+use Rattle.fr_model.specs.Entering.{Way, enters}
+use Rattle.fr_model.specs.Step.{unless_refused, at_shape, was_not_a, named_refusal, takes_shape, field_default, puts_child, puts_child_default, defaults_field, option_kept, content_kept, begin_side, pointer_kept, begins_pointer, opens, becomes, init_list_refusal, init_map_refusal, init_set_refusal, begins_list, init_list, begins_map, set_refusal, puts_dynamic, set_dynamic, puts_made, closes, closes_slice, leaves_place, selects, select_found, select, violates, puts, puts_default, puts_and_leaves, ended, leaves, is_set_item, takes_item, item_ended, is_dynamic_part, part_ended, leaves_deferred, end_in, begins_deferred, finishes, finish_in, step}
 use Rattle.fr_model.specs.Step.{ends_item as end_of_item}
 use Rattle.fr_model.specs.Scripts.{brings}
 use Rattle.fr_model.specs.Removed.{replaced, dropped_unless, dropped_if, dropped_by_selecting, column_at_end, dropped_by_column, dropped_at_end}
@@ -60,11 +61,11 @@ module _ (hooks : Meanings) (table : Table) (checked : IsChecked table) (root : 
           → Admits hooks table root state (Call.BeginNthField i) next
       go (a_child child admitted may) =
           subst (λ (after : State). Admits hooks table root state (Call.BeginNthField i) after)
-          (ok_is (enters table (cursor_shape table root state) state i) next (rw admitted at e))
+          (ok_is (enters table (cursor_shape table root state) state (Way.Child i)) next (rw admitted at e))
           (begins i (enterable table (cursor_shape table root state) i (cursor_tree state) child))
       go (a_variant_child k child admitted chosen) =
           subst (λ (after : State). Admits hooks table root state (Call.BeginNthField i) after)
-          (ok_is (enters table (cursor_shape table root state) state i) next (rw admitted at e))
+          (ok_is (enters table (cursor_shape table root state) state (Way.Child i)) next (rw admitted at e))
           (begins i (enterable table (cursor_shape table root state) i (cursor_tree state) child))
       go (no_child operation refused may) = let none = rw refused at e in cc
 
@@ -77,11 +78,11 @@ module _ (hooks : Meanings) (table : Table) (checked : IsChecked table) (root : 
           → Admits hooks table root state (Call.BeginField name) next
       go (a_variant_named i k child admitted is chosen) =
           subst (λ (after : State). Admits hooks table root state (Call.BeginField name) after)
-          (ok_is (enters table (cursor_shape table root state) state i) next (rw (admitted, is) at e))
+          (ok_is (enters table (cursor_shape table root state) state (Way.Child i)) next (rw (admitted, is) at e))
           (names name i (enterable table (cursor_shape table root state) i (cursor_tree state) child))
       go (a_named i child admitted is named may) =
           subst (λ (after : State). Admits hooks table root state (Call.BeginField name) after)
-          (ok_is (enters table (cursor_shape table root state) state i) next (rw (admitted, is) at e))
+          (ok_is (enters table (cursor_shape table root state) state (Way.Child i)) next (rw (admitted, is) at e))
           (names name i (enterable table (cursor_shape table root state) i (cursor_tree state) child))
       go (no_such_name admitted is named) = let none = rw (admitted, is) at e in cc
       go (no_names operation refused is) = let none = rw refused at e in cc
@@ -169,12 +170,12 @@ module _ (hooks : Meanings) (table : Table) (checked : IsChecked table) (root : 
   some_so e = go (is_option (def_of table here)) refl e
     where
       go : (b : Bool) → is_option (def_of table here) ≡ b
-          → (if b then Ok (enters_content table here state as_some (option_kept table here state))
+          → (if b then Ok (enters table here state (Way.Content as_some (option_kept table here state)))
           else Err (was_not_a Expected.Option here)) ≡ Ok next
           → Admits hooks table root state Call.BeginSome next
       go true is h =
           subst (λ (after : State). Admits hooks table root state Call.BeginSome after)
-          (ok_is (enters_content table here state as_some (option_kept table here state)) next h)
+          (ok_is (enters table here state (Way.Content as_some (option_kept table here state))) next h)
           (holds_it Call.BeginSome as_some (option_kept table here state)
           (option_becomes state.mode table here (cursor_tree state) is suits_here) (λ t. refl) (λ t. refl))
       go false is h = cc
@@ -185,12 +186,12 @@ module _ (hooks : Meanings) (table : Table) (checked : IsChecked table) (root : 
   side_so command side of_result e drops none = go (is_result (def_of table here)) refl e
     where
       go : (b : Bool) → is_result (def_of table here) ≡ b
-          → (if b then Ok (enters_content table here state side (content_kept state side))
+          → (if b then Ok (enters table here state (Way.Content side (content_kept state side)))
           else Err (was_not_a Expected.Result here)) ≡ Ok next
           → Admits hooks table root state command next
       go true is h =
           subst (λ (after : State). Admits hooks table root state command after)
-          (ok_is (enters_content table here state side (content_kept state side)) next h)
+          (ok_is (enters table here state (Way.Content side (content_kept state side))) next h)
           (holds_it command side (content_kept state side)
           (content_becomes state.mode table here side (cursor_tree state) (side_holds table here side of_result is) suits_here)
           drops none)
@@ -297,22 +298,22 @@ module _ (hooks : Meanings) (table : Table) (checked : IsChecked table) (root : 
   key_so e = go (key_refusal (cursor_tree state)) refl e
     where
       go : (refusal : Option Operation) → key_refusal (cursor_tree state) ≡ refusal
-          → unless_refused (at_shape here refusal) (enters_key table here state) ≡ Ok next
+          → unless_refused (at_shape here refusal) (enters table here state Way.Key) ≡ Ok next
           → Admits hooks table root state Call.BeginKey next
       go None is h =
           subst (λ (after : State). Admits hooks table root state Call.BeginKey after)
-          (ok_is (enters_key table here state) next h) (adds_key is)
+          (ok_is (enters table here state Way.Key) next h) (adds_key is)
       go (Some operation) is h = cc
 
   value_so : step hooks table root state Call.BeginValue ≡ Ok next → Admits hooks table root state Call.BeginValue next
   value_so e = go (value_refusal (cursor_tree state)) refl e
     where
       go : (refusal : Option Operation) → value_refusal (cursor_tree state) ≡ refusal
-          → unless_refused (at_shape here refusal) (enters table here state (last_of (count_below (cursor_tree state))))
+          → unless_refused (at_shape here refusal) (enters table here state (Way.Value (last_of (count_below (cursor_tree state)))))
           ≡ Ok next → Admits hooks table root state Call.BeginValue next
       go None is h =
           subst (λ (after : State). Admits hooks table root state Call.BeginValue after)
-          (ok_is (enters table here state (last_of (count_below (cursor_tree state)))) next h) (begins_value is)
+          (ok_is (enters table here state (Way.Value (last_of (count_below (cursor_tree state))))) next h) (begins_value is)
       go (Some operation) is h = cc
 
   set_item_so : step hooks table root state Call.BeginSetItem ≡ Ok next
@@ -320,11 +321,11 @@ module _ (hooks : Meanings) (table : Table) (checked : IsChecked table) (root : 
   set_item_so e = go (set_item_refusal (def_of table here) (cursor_tree state)) refl e
     where
       go : (refusal : Option Operation) → set_item_refusal (def_of table here) (cursor_tree state) ≡ refusal
-          → unless_refused (at_shape here refusal) (enters_item table here state) ≡ Ok next
+          → unless_refused (at_shape here refusal) (enters table here state Way.Item) ≡ Ok next
           → Admits hooks table root state Call.BeginSetItem next
       go None is h =
           subst (λ (after : State). Admits hooks table root state Call.BeginSetItem after)
-          (ok_is (enters_item table here state) next h) (adds_set_item is)
+          (ok_is (enters table here state Way.Item) next h) (adds_set_item is)
       go (Some operation) is h = cc
 
   entry_so : (key : List ℕ) → step hooks table root state (Call.BeginObjectEntry key) ≡ Ok next
@@ -332,22 +333,22 @@ module _ (hooks : Meanings) (table : Table) (checked : IsChecked table) (root : 
   entry_so key e = go (entry_refusal (def_of table here) (cursor_tree state)) refl e
     where
       go : (refusal : Option Operation) → entry_refusal (def_of table here) (cursor_tree state) ≡ refusal
-          → unless_refused (at_shape here refusal) (enters_entry table here state key) ≡ Ok next
+          → unless_refused (at_shape here refusal) (enters table here state (Way.Entry key)) ≡ Ok next
           → Admits hooks table root state (Call.BeginObjectEntry key) next
       go None is h =
           subst (λ (after : State). Admits hooks table root state (Call.BeginObjectEntry key) after)
-          (ok_is (enters_entry table here state key) next h) (adds_entry key is)
+          (ok_is (enters table here state (Way.Entry key)) next h) (adds_entry key is)
       go (Some operation) is h = cc
 
   item_so : step hooks table root state Call.BeginListItem ≡ Ok next → Admits hooks table root state Call.BeginListItem next
   item_so e = go (item_refusal (def_of table here) (cursor_tree state)) refl e
     where
       go : (refusal : Option Operation) → item_refusal (def_of table here) (cursor_tree state) ≡ refusal
-          → unless_refused (at_shape here refusal) (enters_item table here state) ≡ Ok next
+          → unless_refused (at_shape here refusal) (enters table here state Way.Item) ≡ Ok next
           → Admits hooks table root state Call.BeginListItem next
       go None is h =
           subst (λ (after : State). Admits hooks table root state Call.BeginListItem after)
-          (ok_is (enters_item table here state) next h)
+          (ok_is (enters table here state Way.Item) next h)
           (adds_it (takes_an_item (def_of table here) (cursor_tree state) is))
       go (Some operation) is h = cc
 

@@ -10,7 +10,8 @@ use Rattle.fr_shape.specs.Same.{none_twice, keys}
 use Rattle.fr_shape.specs.Val.{Val, Vals, Entries, unit, set_of, map_of, no_vals, first, no_entries, entry}
 use Rattle.fr_model.specs.Collections.{unless_map, unless_set, is_map, is_hole, ends_in_hole, lacks_value, key_refusal, value_refusal, with_key, last_of}
 use Rattle.fr_model.specs.Places.{count_entries, is_key, in_turn}
-use Rattle.fr_model.specs.Step.{at_shape, opened, init_map_refusal, init_set_refusal}
+use Rattle.fr_model.specs.Entering.{opened}
+use Rattle.fr_model.specs.Step.{at_shape, init_map_refusal, init_set_refusal}
 use Rattle.fr_model.specs.Tree.{as_set, as_map, Tree, hole, entered, whole, begun, Trees, no_trees, branch, and_last, child_as, count_trees, count_below, wholes, fresh, tree_occurs, Mode}
 use Rattle.fr_model.specs.Well.{HasEntries, IsTouched, AreEntries, Suits, IsOff, AllOff, AtCursor, OffBut}
 use Rattle.fr_model.proofs.Becoming.{Placed}

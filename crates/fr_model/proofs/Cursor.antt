@@ -9,7 +9,8 @@ use Rattle.fr_model.specs.Places.{Place, Column, up, child_count, child_shape, s
 use Rattle.fr_model.specs.Tree.{as_struct, as_array, Tree, hole, entered, whole, begun, Trees, no_trees, branch, tree_nth, change_nth, tree_at, change_at, shape_in, child_as, count_trees, tree_occurs, Mode, strict, deferred, State, cursor_shape, cursor_tree, one_more_call, initial}
 use Rattle.fr_model.specs.Dropping.{dropped_by_completing}
 use Rattle.fr_model.specs.Complete.{complete}
-use Rattle.fr_model.specs.Step.{enter_child, enters, puts, puts_and_leaves, leaves}
+use Rattle.fr_model.specs.Entering.{Way, enter_child, enters}
+use Rattle.fr_model.specs.Step.{puts, puts_and_leaves, leaves}
 use Rattle.fr_model.specs.Journal.{Journal}
 use Rattle.fr_model.specs.Relation.{HasParts}
 use Rattle.fr_model.specs.Well.{IsBegunAs, IsTouched, Suits, AllOff, AtCursor, OffBut, Leads, BeganAbove, IsInOrder}
@@ -252,7 +253,7 @@ moved_in_order table root state i change suits leads order = record {
 
 pub begun_in_order : (table : Table) (root : ℕ) (state : State) (i : ℕ)
     → Enterable table (cursor_shape table root state) i (cursor_tree state) → IsInOrder table root state
-    → IsInOrder table root (enters table (cursor_shape table root state) state i)
+    → IsInOrder table root (enters table (cursor_shape table root state) state (Way.Child i))
 begun_in_order table root state i enterable order =
     let child = entry_at table root state i enterable order in
     moved_in_order table root state i (enter_child table (cursor_shape table root state) i) child.suits child.leads order

@@ -9,7 +9,8 @@ use Rattle.fr_shape.specs.Fits.{fits}
 use Rattle.fr_shape.specs.Look.{Table, def_of, field_of_variant, field_in}
 use Rattle.fr_shape.specs.Tokens.{occurs}
 use Rattle.fr_shape.specs.Val.{Val}
-use Rattle.fr_model.specs.Step.{opened, put_child}
+use Rattle.fr_model.specs.Entering.{opened}
+use Rattle.fr_model.specs.Step.{put_child}
 use Rattle.fr_model.specs.Tree.{Form, as_struct, as_variant, form_of, form_at, over_base, selected, Tree, hole, entered, whole, begun, Trees, no_trees, branch, child_tree, change_nth, change_child, child_as, count_trees, tree_occurs, Mode}
 use Rattle.fr_model.specs.Places.{child_count}
 use Rattle.fr_model.specs.Variants.{fields_or_none}

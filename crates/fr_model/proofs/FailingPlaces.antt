@@ -1,14 +1,14 @@
 -- Which places fail at the end of deferred mode, and what that end is where every place off the way is whole or a hole.
-use Rattle.std.proofs.Common.{◌≡◌, ◌≢◌, ◌⊎◌, inl, inr, ⊎_elim, ℕ, zero, suc, ◌+◌, ◌<◌, List, [], ◌∷◌, ◌++◌, append-nil, append_assoc, Option, Some, None, refl, sym, ◌∙◌, ap, ap₂, subst, arith}
+use Rattle.std.proofs.Common.{◌≡◌, ℕ, zero, suc, ◌+◌, ◌<◌, List, [], ◌∷◌, ◌++◌, append-nil, append_assoc, Option, Some, None, refl, ◌∙◌, ap, ap₂, subst, arith}
 use Rattle.std.specs.List.{Contains}
 use Rattle.std.specs.Option.{option_map}
-use Rattle.std.proofs.lemmas.List.Elements.{Contains-append_left, Contains-append_right, Contains-append_cases}
+use Rattle.std.proofs.lemmas.List.Elements.{Contains-append_left, Contains-append_right}
 use Rattle.fr_shape.specs.declared.error.ReflectErrorKind.{ReflectErrorKind}
 use Rattle.fr_shape.specs.Hooks.{Meanings}
 use Rattle.fr_shape.specs.Look.{Table}
 use Rattle.fr_path.specs.declared.path_steps.PathStep.{PathStep}
 use Rattle.fr_model.specs.Failing.{own_lack, lack_of_begun, Failure, failure_at, or_itself, failures, failures_among}
-use Rattle.fr_model.specs.FailingLaws.{IsHalfDone, FailuresLieThere, LackingFails, NothingFailsOfDone, FinishOfDone}
+use Rattle.fr_model.specs.FailingLaws.{IsHalfDone, LackingFails, NothingFailsOfDone, FinishOfDone}
 use Rattle.fr_model.specs.Finish.{closed, one_more_tree, closed_all, closed_but, finished_here, finished, failures_but, failures_off}
 use Rattle.fr_model.specs.Finishing.{IsOffTheWay}
 use Rattle.fr_model.specs.Paths.{step_as, steps_in}
@@ -18,194 +18,14 @@ use Rattle.fr_model.specs.Tree.{Form, strict, Tree, hole, entered, whole, begun,
 use Rattle.fr_model.specs.Well.{IsOff, AllOff, AtCursor, OffBut, Leads}
 use Rattle.fr_model.proofs.Agreement.{leads_child}
 
--- one of no failures, of one, and of those of a place
+-- one of no failures, and of those of a place
 
-of_none : (f : Failure) → Contains [] f → ⊥
+pub of_none : (f : Failure) → Contains [] f → ⊥
 of_none f (k, within, is) = omega arith
-
-of_itself : (path : List PathStep) (lacking : Option ReflectErrorKind) (f : Failure) → Contains (failure_at path lacking) f
-    → f.path ≡ path
-of_itself path (Some kind) f (zero, within, is) = ap (λ (one : Failure). one.path) (sym is)
-of_itself path (Some kind) f (suc k, within, is) = absurd (omega arith)
-of_itself path None f has = absurd (of_none f has)
-
-beneath_or_itself : (beneath itself : List Failure) (f : Failure) → Contains (or_itself beneath itself) f
-    → Contains beneath f ⊎ Contains itself f
-beneath_or_itself [] itself f has = inr has
-beneath_or_itself (first ∷ beneath) itself f has = inl has
-
--- one of two lists of failures together
-either : {X : Type 0} (some others : List Failure) (f : Failure) → Contains (some ++ others) f → (Contains some f → X)
-    → (Contains others f → X) → X
-either some others f has first later = ⊎_elim first later (Contains-append_cases some others f has)
 
 keeps_beneath : (beneath itself : List Failure) (f : Failure) → Contains beneath f → Contains (or_itself beneath itself) f
 keeps_beneath [] itself f has = absurd (of_none f has)
 keeps_beneath (first ∷ beneath) itself f has = has
-
--- Where a failing place lies
-
--- A failure is that of a place, half done, beneath this path, of which something is known; or of a place of the children from
--- number k on, child i, as many further on.
-
-record Lies (Known : Place → Type 0) (path : List PathStep) (tree : Tree) (f : Failure) : Type 0 where
-  pub here : Place
-  pub place : HasPlace here tree
-  pub known : Known here
-  pub half : IsHalfDone (tree_at here tree)
-  pub at : f.path ≡ path ++ steps_in here tree
-
-record LiesAmong (Known : Place → Type 0) (form : Form) (k : ℕ) (path : List PathStep) (ts : Trees) (f : Failure) : Type 0 where
-  pub i : ℕ
-  pub further : ℕ
-  pub number : i ≡ k + further
-  pub within : further < count_trees ts
-  pub here : Place
-  pub place : HasPlace here (tree_nth further ts)
-  pub known : Known (i ∷ here)
-  pub half : IsHalfDone (tree_at here (tree_nth further ts))
-  pub at : f.path ≡ path ++ step_as form i ∷ steps_in here (tree_nth further ts)
-
-abbrev Anywhere : Place → Type 0
-Anywhere here = Unit {0}
-
-first_child : (Below Known : Place → Type 0) (form : Form) (k : ℕ) (path : List PathStep) (t : Tree) (ts : Trees) (f : Failure)
-    → ((here : Place) → Below here → Known (k ∷ here)) → Lies Below (path ++ step_as form k ∷ []) t f
-    → LiesAmong Known form k path (branch t ts) f
-first_child Below Known form k path t ts f knows lies = record {
-  i = k;
-  further = 0;
-  number = omega arith;
-  within = omega arith;
-  here = lies.here;
-  place = lies.place;
-  known = knows lies.here lies.known;
-  half = lies.half;
-  at = lies.at ∙ append_assoc path (step_as form k ∷ []) (steps_in lies.here t);
-}
-
-later_child : (Below Known : Place → Type 0) (form : Form) (k : ℕ) (path : List PathStep) (t : Tree) (ts : Trees) (f : Failure)
-    → ((i : ℕ) (here : Place) → k < i → Below (i ∷ here) → Known (i ∷ here)) → LiesAmong Below form (suc k) path ts f
-    → LiesAmong Known form k path (branch t ts) f
-later_child Below Known form k path t ts f knows lies = record {
-  i = lies.i;
-  further = suc lies.further;
-  number = omega (arith, lies.number);
-  within = omega (arith, lies.within);
-  here = lies.here;
-  place = lies.place;
-  known = knows lies.i lies.here (omega (arith, lies.number)) lies.known;
-  half = lies.half;
-  at = lies.at;
-}
-
--- a place among all children is one of theirs
-of_child : (Known : Place → Type 0) (form : Form) (path : List PathStep) (ts : Trees) (f : Failure)
-    → LiesAmong Known form 0 path ts f → Lies Known path (begun form ts) f
-of_child Known form path ts f lies = record {
-  here = lies.further ∷ lies.here;
-  place = (lies.within, lies.place);
-  known = subst (λ (m : ℕ). Known (m ∷ lies.here)) same lies.known;
-  half = lies.half;
-  at = lies.at ∙ ap (λ (m : ℕ). path ++ step_as form m ∷ steps_in lies.here (tree_nth lies.further ts)) same;
-}
-  where
-    same : lies.i ≡ lies.further
-    same = omega (arith, lies.number)
-
--- a half done place that fails by itself
-fails_by_itself : (path : List PathStep) (t : Tree) (lacking : Option ReflectErrorKind) (f : Failure) → IsHalfDone t
-    → Contains (failure_at path lacking) f → Lies Anywhere path t f
-fails_by_itself path t lacking f half has = record {
-  here = [];
-  place = tt;
-  known = tt;
-  half = half;
-  at = of_itself path lacking f has ∙ sym (append-nil path);
-}
-
--- beneath another child than the one on the way
-beside : (c i : ℕ) (cursor here : Place) → c ≢ i → IsOffTheWay (c ∷ cursor) (i ∷ here)
-beside c i cursor here other way e = other cc
-
--- beneath the place at the cursor
-beneath_cursor : (form : Form) (path : List PathStep) (ts : Trees) (f : Failure) → LiesAmong Anywhere form 0 path ts f
-    → LiesAmong (IsOffTheWay []) form 0 path ts f
-beneath_cursor form path ts f lies = record {
-  i = lies.i;
-  further = lies.further;
-  number = lies.number;
-  within = lies.within;
-  here = lies.here;
-  place = lies.place;
-  known = λ way e. cc;
-  half = lies.half;
-  at = lies.at;
-}
-
-module _ (hooks : Meanings) (table : Table) (f : Failure) where
-  mutual
-    fails_there : (s : ℕ) (path : List PathStep) (t : Tree) → Contains (failures hooks table s path t) f
-        → Lies Anywhere path t f
-    fails_there s path hole has = absurd (of_none f has)
-    fails_there s path entered has = fails_by_itself path entered (own_lack hooks table s entered) f tt has
-    fails_there s path (whole v) has = absurd (of_none f has)
-    fails_there s path (begun form ts) has =
-        ⊎_elim (λ beneath. of_child Anywhere form path ts f (fails_among s form 0 path ts beneath))
-        (λ itself. fails_by_itself path (begun form ts) (lack_of_begun hooks table s form ts) f tt itself)
-        (beneath_or_itself (failures_among hooks table s form 0 path ts)
-        (failure_at path (lack_of_begun hooks table s form ts)) f has)
-
-    fails_among : (s : ℕ) (form : Form) (k : ℕ) (path : List PathStep) (ts : Trees)
-        → Contains (failures_among hooks table s form k path ts) f → LiesAmong Anywhere form k path ts f
-    fails_among s form k path no_trees has = absurd (of_none f has)
-    fails_among s form k path (branch t ts) has =
-        either (failures hooks table (child_as table s form k) (path ++ step_as form k ∷ []) t)
-        (failures_among hooks table s form (suc k) path ts) f has
-        (λ first. first_child Anywhere Anywhere form k path t ts f (λ here known. tt)
-        (fails_there (child_as table s form k) (path ++ step_as form k ∷ []) t first))
-        (λ later. later_child Anywhere Anywhere form k path t ts f (λ i here above known. tt)
-        (fails_among s form (suc k) path ts later))
-
-  -- of children of which number c, as many further on, is on the way
-  fails_but : (s : ℕ) (form : Form) (on_way : ℕ) (below : ℕ → List PathStep → Tree → List Failure) (k : ℕ)
-      (path : List PathStep) (ts : Trees) (c : ℕ) (cursor : Place) → c ≡ k + on_way
-      → ((shape : ℕ) (to : List PathStep) (t : Tree) → Contains (below shape to t) f → Lies (IsOffTheWay cursor) to t f)
-      → Contains (failures_but hooks table s form on_way below k path ts) f
-      → LiesAmong (IsOffTheWay (c ∷ cursor)) form k path ts f
-  fails_but s form on_way below k path no_trees c cursor is step has = absurd (of_none f has)
-  fails_but s form zero below k path (branch t ts) c cursor is step has =
-      either (below (child_as table s form k) (path ++ step_as form k ∷ []) t)
-      (failures_among hooks table s form (suc k) path ts) f has
-      (λ first. first_child (IsOffTheWay cursor) (IsOffTheWay (c ∷ cursor)) form k path t ts f
-      (λ here off way e. off way cc) (step (child_as table s form k) (path ++ step_as form k ∷ []) t first))
-      (λ later. later_child Anywhere (IsOffTheWay (c ∷ cursor)) form k path t ts f
-      (λ i here above known. beside c i cursor here (omega arith)) (fails_among s form (suc k) path ts later))
-  fails_but s form (suc on_way) below k path (branch t ts) c cursor is step has =
-      either (failures hooks table (child_as table s form k) (path ++ step_as form k ∷ []) t)
-      (failures_but hooks table s form on_way below (suc k) path ts) f has
-      (λ first. first_child Anywhere (IsOffTheWay (c ∷ cursor)) form k path t ts f
-      (λ here known. beside c k cursor here (omega arith))
-      (fails_there (child_as table s form k) (path ++ step_as form k ∷ []) t first))
-      (λ later. later_child (IsOffTheWay (c ∷ cursor)) (IsOffTheWay (c ∷ cursor)) form k path t ts f (λ i here above off. off)
-      (fails_but s form on_way below (suc k) path ts c cursor (omega arith) step later))
-
-  fails_off : (s : ℕ) (path : List PathStep) (cursor : Place) (t : Tree)
-      → Contains (failures_off hooks table s path cursor t) f → Lies (IsOffTheWay cursor) path t f
-  fails_off s path cursor hole has = absurd (of_none f has)
-  fails_off s path cursor entered has = absurd (of_none f has)
-  fails_off s path cursor (whole v) has = absurd (of_none f has)
-  fails_off s path [] (begun form ts) has =
-      of_child (IsOffTheWay []) form path ts f (beneath_cursor form path ts f (fails_among s form 0 path ts has))
-  fails_off s path (c ∷ cursor) (begun form ts) has =
-      of_child (IsOffTheWay (c ∷ cursor)) form path ts f
-      (fails_but s form c (λ (shape : ℕ) (to : List PathStep) (t : Tree). failures_off hooks table shape to cursor t) 0 path ts c
-      cursor (omega arith) (λ shape to t some. fails_off shape to cursor t some) has)
-
-pub failures_lie_there : FailuresLieThere
-failures_lie_there hooks table s path cursor tree f has =
-    let lies : Lies (IsOffTheWay cursor) path tree f = fails_off hooks table f s path cursor tree has in
-    record { here = lies.here; place = lies.place; off = lies.known; half = lies.half; at = lies.at }
 
 -- What is whole or a hole
 

@@ -265,7 +265,7 @@ shape_on table s [] i = refl
 shape_on table s (j ∷ above) i = shape_on table (child_shape table s j) above i
 
 -- two ways on from one place begin alike, and none leads back
-same_first : (above : Place) (i j : ℕ) (rest way : Place) → above ++ i ∷ rest ≡ above ++ j ∷ way → i ≡ j
+pub same_first : (above : Place) (i j : ℕ) (rest way : Place) → above ++ i ∷ rest ≡ above ++ j ∷ way → i ≡ j
 same_first [] i j rest way e = cc
 same_first (k ∷ above) i j rest way e = let on : above ++ i ∷ rest ≡ above ++ j ∷ way = cc in same_first above i j rest way on
 

@@ -13,7 +13,8 @@ use Rattle.fr_model.specs.Collections.{set_item_refusal}
 use Rattle.fr_model.specs.Contents.{is_slice}
 use Rattle.fr_model.specs.Items.{unless_list, init_array_refusal, whole_array_refusal, begun_item_refusal, item_refusal, with_item, is_open_slice, closed_slice, shared_slice_by, shared_slice_refusal}
 use Rattle.fr_model.specs.Places.{array_limit}
-use Rattle.fr_model.specs.Step.{at_shape, opened, init_list_refusal}
+use Rattle.fr_model.specs.Entering.{opened}
+use Rattle.fr_model.specs.Step.{at_shape, init_list_refusal}
 use Rattle.fr_model.specs.Tree.{Form, as_array, as_list, as_slice, as_set, as_dyn_array, Tree, hole, entered, whole, begun, Trees, no_trees, branch, and_last, child_as, count_trees, count_below, holes, wholes, fresh, tree_occurs, trees_occur, Mode}
 use Rattle.fr_model.specs.Well.{IsTouched, AreTouched, Suits, AllOff, AtCursor, OffBut}
 use Rattle.fr_model.proofs.Becoming.{Placed, closed_suits}

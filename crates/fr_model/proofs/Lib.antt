@@ -10,6 +10,7 @@ pub mod Completing
 pub mod Conversions
 pub mod Covering
 pub mod Cursor
+pub mod DefaultRefused
 pub mod DefaultRows
 pub mod Defaulting
 pub mod DistinctGathered
@@ -17,6 +18,7 @@ pub mod Dynamics
 pub mod Ending
 pub mod Failing
 pub mod FailingPlaces
+pub mod FailsAt
 pub mod FinishAgreement
 pub mod FinishNotes
 pub mod FinishRests
@@ -28,8 +30,10 @@ pub mod Keys
 pub mod MapBase
 pub mod Moves
 pub mod Moving
+pub mod NotesApart
 pub mod Opening
 pub mod Paths
+pub mod PathWays
 pub mod Plain
 pub mod Plannable
 pub mod Relating

@@ -19,7 +19,8 @@ use Rattle.fr_model.specs.Items.{with_item, is_open_slice}
 use Rattle.fr_model.specs.Places.{Place, Column, strict_column, deferred_column, is_root, up, child_count}
 use Rattle.fr_model.specs.Removed.{replaced, dropped_unless, dropped_if, column_at_end, dropped_with_item, dropped_by_column}
 use Rattle.fr_model.specs.Scripts.{IsFitting, brings}
-use Rattle.fr_model.specs.Step.{is_str, is_owned_string_kind, is_owned_string, takes_shape, opened, put_child, becomes, enters, enter_child, opens, variant_kept, puts_and_leaves, leaves, is_set_item, takes_item, is_dynamic_part}
+use Rattle.fr_model.specs.Entering.{Way, opened, enters, enter_child}
+use Rattle.fr_model.specs.Step.{is_str, is_owned_string_kind, is_owned_string, takes_shape, put_child, becomes, opens, variant_kept, puts_and_leaves, leaves, is_set_item, takes_item, is_dynamic_part}
 use Rattle.fr_model.specs.Tree.{Form, form_of, form_at, Tree, whole, tree_at, change_at, count_trees, count_below, Mode, strict, deferred, State, cursor_shape, cursor_tree, one_more_call, tree_occurs}
 use Rattle.fr_model.specs.Well.{Suits, RestsAround, AtCursor, BeganAbove, IsInOrder}
 use Rattle.fr_model.proofs.Ways.{changed, EndsBelow, Admits, begins, names, sets, converts, defaults, sets_child, holds_it, selects_it, opens_list, begins_array, opens_array, opens_map, begins_object, opens_set, adds_key, begins_value, adds_set_item, adds_entry, ends, ends_item, ends_part, is_left, changes_it, adds_it, defers_there, is_finished, lost_is}
@@ -142,7 +143,7 @@ module _ (hooks : Meanings) (table : Table) (checked : IsChecked table) (root : 
 
   enters_so : (command : Call) (i : ℕ) → Enterable table here i (cursor_tree state)
       → ((t : ℕ) → replaced hooks table root here state command t ≡ 0) → ((t : ℕ) → brings command t ≡ 0)
-      → Move hooks table root state command (enters table here state i)
+      → Move hooks table root state command (enters table here state (Way.Child i))
   enters_so command i enterable drops none =
       let child = entry_at table root state i enterable order in
       let form : Form = form_at (def_of table here) (cursor_tree state) in

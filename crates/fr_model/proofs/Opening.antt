@@ -16,7 +16,7 @@ use Rattle.fr_model.specs.Places.{array_limit, vals_nth}
 use Rattle.fr_model.specs.Journal.{entered_at, Journal, Held, written, just_entered, untouched, at_least_entered, held}
 use Rattle.fr_model.specs.Tree.{Form, as_struct, as_array, as_variant, as_some, as_ok, as_err, as_pointer, as_list, as_slice, as_closed_slice, as_set, as_map, as_dyn_array, as_dyn_object, form_of, form_at, over_base, selected, Tree, hole, entered, whole, begun, Trees, no_trees, branch, tree_nth, change_nth, change_child, child_as, count_trees, holes, wholes, fresh, Mode, strict, deferred}
 use Rattle.fr_model.specs.Relation.{HasParts}
-use Rattle.fr_model.specs.Step.{opened, enter, enter_child}
+use Rattle.fr_model.specs.Entering.{opened, enter, enter_child}
 use Rattle.fr_model.specs.Variants.{fields_or_none, variant_fields}
 use Rattle.fr_model.specs.Well.{HasFieldsOf, IsFullAs, IsBegunAs, IsTouched, IsContent, AreTouched, AreEntries, IsBehindBase, IsBegunRightly, Suits, IsOff, AllOff, AtCursor, OffBut, Leads, RestsAround}
 use Rattle.fr_model.proofs.Beneath.{down, held_down, IsLow, untouched_below, written_below}

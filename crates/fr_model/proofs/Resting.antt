@@ -12,7 +12,7 @@ use Rattle.fr_model.specs.Collections.{is_set, has_same, without_nth, and_item, 
 use Rattle.fr_model.specs.DynamicPlaces.{is_begun_dynamic}
 use Rattle.fr_model.specs.Items.{with_item, is_open_slice, closed_slice}
 use Rattle.fr_model.specs.Places.{Place, is_root, up, count_children, in_turn}
-use Rattle.fr_model.specs.Step.{parts_as, opened_value, opened, enter, enter_child}
+use Rattle.fr_model.specs.Entering.{parts_as, opened_value, opened, enter, enter_child}
 use Rattle.fr_model.specs.Tree.{Form, as_struct, as_array, as_list, as_slice, as_set, as_map, form_of, form_at, over_base, Tree, hole, entered, whole, begun, Trees, no_trees, branch, tree_nth, change_nth, change_child, tree_at, change_at, child_as, and_last, count_trees, count_below, holes, wholes, fresh}
 use Rattle.fr_model.specs.Well.{Suits, AreDone, Rests, AllRest, RestBut, IsBehindBase, RestsAround}
 use Rattle.fr_model.proofs.MapBase.{base_begun, base_without, base_last}

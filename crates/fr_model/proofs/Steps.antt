@@ -23,7 +23,8 @@ use Rattle.fr_model.specs.Variants.{field_found}
 use Rattle.fr_model.specs.Tree.{Form, as_struct, as_array, as_slice, variant_of, selected, Tree, hole, entered, begun, whole, tree_nth, tree_at, Mode, strict, deferred, State, cursor_shape, cursor_tree, one_more_call}
 use Rattle.fr_model.specs.Complete.{complete}
 use Rattle.fr_model.specs.Finish.{finished}
-use Rattle.fr_model.specs.Step.{unless_refused, field_refusal, named_refusal, at_shape, enter_child, enters, begins_named, puts, is_str, is_owned_string, takes_shape, set_refusal, puts_default, violates, ended, leaves, is_set_item, is_dynamic_part, ends_item, leaves_deferred, end_in, begins_deferred, finishes, finish_in, step}
+use Rattle.fr_model.specs.Entering.{Way, enter_child, enters}
+use Rattle.fr_model.specs.Step.{unless_refused, field_refusal, named_refusal, at_shape, begins_named, puts, is_str, is_owned_string, takes_shape, set_refusal, puts_default, violates, ended, leaves, is_set_item, is_dynamic_part, ends_item, leaves_deferred, end_in, begins_deferred, finishes, finish_in, step}
 use Rattle.fr_model.specs.Scripts.{IsFitting}
 use Rattle.fr_model.specs.Well.{Suits, IsInOrder}
 use Rattle.fr_model.proofs.Plain.{AllPlain, not_dynamic}
@@ -67,7 +68,7 @@ begun_neither table root s i refusal may operation next run refused absent = rw 
 
 named_both : (table : Table) (root s i : ℕ) (state : State) (refusal : Option Operation) (found named : Option ℕ)
     (run : Progress) (t : ℕ) → refusal ≡ None → found ≡ Some i → named ≡ Some i
-    → may_enter table t i (held run.notes run.cursor) ≡ true → Alike table root (enters table s state i) (entered_run run i)
+    → may_enter table t i (held run.notes run.cursor) ≡ true → Alike table root (enters table s state (Way.Child i)) (entered_run run i)
     → BothStep table root (begins_named table s state (at_shape s refusal) found) (goes_to_found table t run named)
 named_both table root s i state refusal found named run t admitted is same there alike = rw (admitted, is, same, there) alike
 
@@ -159,7 +160,7 @@ module _ (hooks : Meanings) (table : Table) (checked : IsChecked table) (root : 
 
   -- a child is entered
   entered_alike : (i : ℕ) → ChildOf (def_of table at_here) i (cursor_tree state)
-      → Alike table root (enters table at_here state i) (entered_run run i)
+      → Alike table root (enters table at_here state (Way.Child i)) (entered_run run i)
   entered_alike i child = record {
     in_order = begun_in_order table root state i (enterable table at_here i (cursor_tree state) child) order;
     agrees = rw (← under_entered state.cursor (i ∷ []))
@@ -181,17 +182,17 @@ module _ (hooks : Meanings) (table : Table) (checked : IsChecked table) (root : 
       go : ChildCase (def_of table at_here) i (cursor_tree state)
           → BothStep table root
           (unless_refused (at_shape at_here (field_refusal (def_of table at_here) (cursor_tree state) i))
-          (enters table at_here state i))
+          (enters table at_here state (Way.Child i)))
           (goes_to_child (may_enter table (shape_at table root state.cursor) i (held notes state.cursor)) run i)
       go (a_child child admitted may) =
           begun_both table root at_here i (field_refusal (def_of table at_here) (cursor_tree state) i)
-          (may_enter table (shape_at table root state.cursor) i (held notes state.cursor)) (enters table at_here state i) run admitted
+          (may_enter table (shape_at table root state.cursor) i (held notes state.cursor)) (enters table at_here state (Way.Child i)) run admitted
           (may_is i true (may (held notes state.cursor) sees)) (entered_alike i child)
       go (a_variant_child k child admitted chosen) =
           absurd (no_variant table at_here k (cursor_tree state) (along state.cursor notes) agrees_here chosen)
       go (no_child operation refused may) =
           begun_neither table root at_here i (field_refusal (def_of table at_here) (cursor_tree state) i)
-          (may_enter table (shape_at table root state.cursor) i (held notes state.cursor)) operation (enters table at_here state i) run
+          (may_enter table (shape_at table root state.cursor) i (held notes state.cursor)) operation (enters table at_here state (Way.Child i)) run
           refused (may_is i false (may (held notes state.cursor) sees))
 
   abbrev refuses_names : Option Operation

@@ -16,7 +16,8 @@ use Rattle.fr_model.specs.DynamicPlaces.{is_begun_dynamic, is_dynamic_form}
 use Rattle.fr_model.specs.Items.{is_open_slice}
 use Rattle.fr_model.specs.DefaultLaws.{and_step, three_calls, AreSameButCalls}
 use Rattle.fr_model.specs.Places.{Place, strict_column, deferred_column, is_root, up}
-use Rattle.fr_model.specs.Step.{unless_refused, at_shape, violates, field_refusal, named_refusal, opened, enter, enter_child, enters, set_refusal, set_dynamic, set, field_default, puts, put_child, puts_child, puts_child_default, defaults_field, ended, is_set_item, is_dynamic_part, ends_item, leaves_deferred, end_in, leaves_place, closes_slice, step}
+use Rattle.fr_model.specs.Entering.{Way, opened, enter, enter_child, enters}
+use Rattle.fr_model.specs.Step.{unless_refused, at_shape, violates, field_refusal, named_refusal, set_refusal, set_dynamic, set, field_default, puts, put_child, puts_child, puts_child_default, defaults_field, ended, is_set_item, is_dynamic_part, ends_item, leaves_deferred, end_in, leaves_place, closes_slice, step}
 use Rattle.fr_model.specs.Tree.{Form, as_struct, as_variant, form_at, selected, Tree, hole, entered, whole, begun, Trees, no_trees, branch, tree_nth, change_nth, change_child, child_as, tree_at, change_at, shape_in, shape_below, Mode, strict, deferred, State, cursor_shape, cursor_tree}
 use Rattle.fr_model.specs.Well.{IsFullAs, Suits, AtCursor, Leads, BeganAbove, IsInOrder}
 use Rattle.fr_model.proofs.Agreement.{leads_within, leads_child}
@@ -146,7 +147,7 @@ module _ (hooks : Meanings) (table : Table) (root : ℕ) (state : State) (i : �
   below = state.cursor ++ i ∷ []
 
   abbrev inside : State
-  inside = enters table here state i
+  inside = enters table here state (Way.Child i)
 
   abbrev put : State
   put = puts inside v

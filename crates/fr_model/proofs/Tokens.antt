@@ -7,7 +7,7 @@ use Rattle.fr_shape.specs.Val.{Vals, Entries, product, list_of, set_of, map_of, 
 use Rattle.fr_shape.specs.Tokens.{vals_occur, entries_occur}
 use Rattle.fr_model.specs.Places.{Place, child_count, in_turn}
 use Rattle.fr_model.specs.Tree.{Form, as_struct, as_array, as_list, as_set, as_map, form_of, form_at, fresh, Tree, hole, entered, whole, begun, Trees, no_trees, branch, tree_nth, change_nth, child_as, tree_at, change_child, change_at, count_trees, holes, wholes, tree_occurs, trees_occur, Mode}
-use Rattle.fr_model.specs.Step.{opened_as, enter, enter_child}
+use Rattle.fr_model.specs.Entering.{opened_as, enter, enter_child}
 use Rattle.fr_model.specs.Well.{Leads}
 use Rattle.fr_model.proofs.Agreement.{leads_within, leads_child}
 

@@ -16,7 +16,8 @@ use Rattle.fr_model.specs.Places.{Place, Column, strict_column, deferred_column,
 use Rattle.fr_model.specs.Tree.{Form, Tree, count_below, change_at, Mode, strict, deferred, State, cursor_shape, cursor_tree, one_more_call, tree_occurs}
 use Rattle.fr_model.specs.Complete.{complete}
 use Rattle.fr_model.specs.Finish.{finished}
-use Rattle.fr_model.specs.Step.{at_shape, takes_shape, puts_child, enters_content, opens, becomes, init_list_refusal, init_map_refusal, init_set_refusal, enters_item, enters_key, enters_entry, variant_kept, selects, enters, puts, puts_and_leaves, leaves, is_set_item, takes_item, is_dynamic_part}
+use Rattle.fr_model.specs.Entering.{Way, enters}
+use Rattle.fr_model.specs.Step.{at_shape, takes_shape, puts_child, opens, becomes, init_list_refusal, init_map_refusal, init_set_refusal, variant_kept, selects, puts, puts_and_leaves, leaves, is_set_item, takes_item, is_dynamic_part}
 use Rattle.fr_model.specs.Scripts.{brings}
 use Rattle.fr_model.specs.Removed.{replaced, dropped_unless, column_at_end}
 use Rattle.fr_model.specs.Items.{init_array_refusal, is_open_slice}
@@ -43,10 +44,10 @@ EndsBelow (deferred start) cursor = start < length cursor
 -- the ways in which a command is admitted
 pub data Admits (hooks : Meanings) (table : Table) (root : ℕ) (state : State) : Call → State → Type 0 where
   begins : (i : ℕ) → Enterable table (cursor_shape table root state) i (cursor_tree state)
-      → Admits hooks table root state (Call.BeginNthField i) (enters table (cursor_shape table root state) state i)
+      → Admits hooks table root state (Call.BeginNthField i) (enters table (cursor_shape table root state) state (Way.Child i))
   names : (name : List ℕ) (i : ℕ)
       → Enterable table (cursor_shape table root state) i (cursor_tree state)
-      → Admits hooks table root state (Call.BeginField name) (enters table (cursor_shape table root state) state i)
+      → Admits hooks table root state (Call.BeginField name) (enters table (cursor_shape table root state) state (Way.Child i))
   sets : (given : ℕ) (v : Val) → takes_shape table (cursor_shape table root state) given ≡ true
       → Admits hooks table root state (Call.Set given v) (puts state v)
   converts : (given : ℕ) (v : Val) (d : Dynamic) → is_dynamic (def_of table (cursor_shape table root state)) ≡ true
@@ -62,7 +63,7 @@ pub data Admits (hooks : Meanings) (table : Table) (root : ℕ) (state : State) 
       (content_anew table (cursor_shape table root state) form)
       → ((t : ℕ) → replaced hooks table root (cursor_shape table root state) state command t ≡ dropped_unless kept state t)
       → ((t : ℕ) → brings command t ≡ 0)
-      → Admits hooks table root state command (enters_content table (cursor_shape table root state) state form kept)
+      → Admits hooks table root state command (enters table (cursor_shape table root state) state (Way.Content form kept))
   selects_it : (command : Call) (k : ℕ)
       → Becoming state.mode table (cursor_shape table root state) [] (cursor_tree state) (variant_kept state k)
       (variant_anew (def_of table (cursor_shape table root state)) k)
@@ -100,16 +101,16 @@ pub data Admits (hooks : Meanings) (table : Table) (root : ℕ) (state : State) 
       init_set_refusal (cursor_shape table root state) (def_of table (cursor_shape table root state)) (cursor_tree state)
       ≡ None → Admits hooks table root state Call.InitSet (opens table (cursor_shape table root state) state)
   adds_key : key_refusal (cursor_tree state) ≡ None
-      → Admits hooks table root state Call.BeginKey (enters_key table (cursor_shape table root state) state)
+      → Admits hooks table root state Call.BeginKey (enters table (cursor_shape table root state) state Way.Key)
   begins_value : value_refusal (cursor_tree state) ≡ None
       → Admits hooks table root state Call.BeginValue
-      (enters table (cursor_shape table root state) state (last_of (count_below (cursor_tree state))))
+      (enters table (cursor_shape table root state) state (Way.Value (last_of (count_below (cursor_tree state)))))
   adds_set_item : set_item_refusal (def_of table (cursor_shape table root state)) (cursor_tree state) ≡ None
-      → Admits hooks table root state Call.BeginSetItem (enters_item table (cursor_shape table root state) state)
+      → Admits hooks table root state Call.BeginSetItem (enters table (cursor_shape table root state) state Way.Item)
   adds_entry : (key : List ℕ)
       → entry_refusal (def_of table (cursor_shape table root state)) (cursor_tree state) ≡ None
       → Admits hooks table root state (Call.BeginObjectEntry key)
-      (enters_entry table (cursor_shape table root state) state key)
+      (enters table (cursor_shape table root state) state (Way.Entry key))
   ends : (v : Val) → state.mode ≡ strict → is_open_slice (cursor_tree state) ≡ false → is_set_item state ≡ false
       → complete strict_column hooks table (cursor_shape table root state) (cursor_tree state) ≡ Some v
       → Admits hooks table root state Call.End (puts_and_leaves state v)
@@ -133,7 +134,7 @@ pub data Admits (hooks : Meanings) (table : Table) (root : ℕ) (state : State) 
       → (RestsAround [] (cursor_tree state) → RestsAround [] (change (cursor_tree state)))
       → Admits hooks table root state command (changed state change)
   adds_it : TakesAnItem (cursor_tree state)
-      → Admits hooks table root state Call.BeginListItem (enters_item table (cursor_shape table root state) state)
+      → Admits hooks table root state Call.BeginListItem (enters table (cursor_shape table root state) state Way.Item)
   defers_there : state.mode ≡ strict → Admits hooks table root state Call.BeginDeferred (defers state)
   is_finished : (tree : Tree) → finished hooks table root state.cursor state.tree ≡ Some tree
       → Admits hooks table root state Call.FinishDeferred (finishes_as state tree)

@@ -70,30 +70,12 @@ calls_of script = map call_of script
 abbrev pub IsFieldCall : Call → Type 0
 IsFieldCall (Call.BeginField name) = Unit {0}
 IsFieldCall (Call.BeginNthField i) = Unit {0}
-IsFieldCall (Call.SetNthFieldToDefault i) = ⊥
 IsFieldCall (Call.Set shape v) = Unit {0}
 IsFieldCall Call.SetDefault = Unit {0}
-IsFieldCall Call.SetEmptySharedSlice = ⊥
-IsFieldCall Call.InitList = ⊥
-IsFieldCall (Call.InitListWithCapacity n) = ⊥
-IsFieldCall Call.InitArray = ⊥
-IsFieldCall Call.BeginListItem = ⊥
-IsFieldCall Call.InitMap = ⊥
-IsFieldCall Call.BeginKey = ⊥
-IsFieldCall Call.BeginValue = ⊥
-IsFieldCall Call.InitSet = ⊥
-IsFieldCall Call.BeginSetItem = ⊥
-IsFieldCall (Call.BeginObjectEntry key) = ⊥
-IsFieldCall Call.BeginSome = ⊥
-IsFieldCall Call.BeginOk = ⊥
-IsFieldCall Call.BeginErr = ⊥
-IsFieldCall Call.BeginSmartPtr = ⊥
-IsFieldCall (Call.SelectNthVariant i) = ⊥
-IsFieldCall (Call.SelectVariantNamed name) = ⊥
-IsFieldCall (Call.SelectVariant discriminant) = ⊥
 IsFieldCall Call.End = Unit {0}
 IsFieldCall Call.BeginDeferred = Unit {0}
 IsFieldCall Call.FinishDeferred = Unit {0}
+IsFieldCall _ = ⊥
 
 abbrev pub IsFieldScript : List Call → Type 0
 IsFieldScript [] = Unit {0}

@@ -1,5 +1,5 @@
 -- Which places fail at the end of deferred mode, and what that end is once nothing is left.
-use Rattle.std.specs.Prelude.{◌≡◌, ◌⊎◌, ℕ, List, [], ◌++◌, is_none, is_some, Some}
+use Rattle.std.specs.Prelude.{◌≡◌, ◌⊎◌, ℕ, false, List, [], ◌++◌, is_none, is_some, Some}
 use Rattle.std.specs.List.{Contains}
 use Rattle.std.specs.Option.{option_map, option_or}
 use Rattle.std.specs.declared.cmp.Ordering.{Ordering}
@@ -8,13 +8,13 @@ use Rattle.fr_shape.specs.Hooks.{Meanings}
 use Rattle.fr_shape.specs.Look.{Table}
 use Rattle.fr_path.specs.declared.path_steps.PathStep.{PathStep}
 use Rattle.fr_path.specs.Order.{walk_order}
-use Rattle.fr_model.specs.Failing.{Failure, first_by_walk, own_lack}
-use Rattle.fr_model.specs.Finish.{finished, finished_here, failures_off, kind_of}
+use Rattle.fr_model.specs.Failing.{Failure, failures, first_by_walk, own_lack}
+use Rattle.fr_model.specs.Finish.{closed, finished, finished_here, failures_off, kind_of}
 use Rattle.fr_model.specs.Finishing.{IsOffTheWay}
 use Rattle.fr_model.specs.Paths.{steps_in}
 use Rattle.fr_model.specs.Places.{Place}
 use Rattle.fr_model.specs.Relation.{HasPlace}
-use Rattle.fr_model.specs.Tree.{Mode, strict, Tree, hole, entered, whole, begun, tree_at, change_at, shape_in}
+use Rattle.fr_model.specs.Tree.{Mode, strict, Tree, hole, entered, whole, begun, child_tree, tree_at, change_at, shape_below, shape_in}
 use Rattle.fr_model.specs.Well.{AtCursor, Leads}
 
 -- a place is neither a hole nor whole
@@ -45,6 +45,40 @@ LackingFails =
     → Leads mode cursor tree → HasPlace here tree → IsOffTheWay cursor here → IsHalfDone (tree_at here tree)
     → AtCursor strict (tree_at here tree) → own_lack hooks table (shape_in table s here tree) (tree_at here tree) ≡ Some kind
     → Contains (failures_off hooks table s path cursor tree) (record { path = path ++ steps_in here tree; kind = kind })
+
+-- each child of a place of shape s completes at the end of deferred mode, or is a hole, as is one that the place hasn't
+abbrev pub ChildrenClose : Meanings → Table → ℕ → Tree → Type 0
+ChildrenClose hooks table s tree =
+    (i : ℕ) → is_none (closed hooks table (shape_below table s i tree) (child_tree i tree)) ≡ false
+
+-- A failure of a tree that stands at this path is that of one of its places, half done, to which the failure's path leads. That
+-- place lacks the failure's kind by itself: its children close, and nothing fails beneath it (seen with the cursor at this place,
+-- nothing fails off the way).
+pub record FailsAt (hooks : Meanings) (table : Table) (s : ℕ) (path : List PathStep) (tree : Tree) (failure : Failure) : Type 0 where
+  pub here : Place
+  pub place : HasPlace here tree
+  pub half : IsHalfDone (tree_at here tree)
+  pub at : failure.path ≡ path ++ steps_in here tree
+  pub lacks : own_lack hooks table (shape_in table s here tree) (tree_at here tree) ≡ Some failure.kind
+  pub children : ChildrenClose hooks table (shape_in table s here tree) (tree_at here tree)
+  pub beneath : failures_off hooks table (shape_in table s here tree) failure.path [] (tree_at here tree) ≡ []
+
+-- a failure of a tree that stands at this path is that of one of its places, which lies off the way
+pub record FailsOff (hooks : Meanings) (table : Table) (s : ℕ) (path : List PathStep) (cursor : Place) (tree : Tree) (failure : Failure) : Type 0 where
+  pub fails : FailsAt hooks table s path tree failure
+  pub off : IsOffTheWay cursor fails.here
+
+-- each failure off the way has its place there
+abbrev pub EachFailureHasItsPlace : Type 0
+EachFailureHasItsPlace =
+    (hooks : Meanings) (table : Table) (s : ℕ) (path : List PathStep) (cursor : Place) (tree : Tree) (failure : Failure)
+    → Contains (failures_off hooks table s path cursor tree) failure → FailsOff hooks table s path cursor tree failure
+
+-- and so has each failure of a tree that lies off the way as a whole
+abbrev pub EachFailureOfATreeHasItsPlace : Type 0
+EachFailureOfATreeHasItsPlace =
+    (hooks : Meanings) (table : Table) (s : ℕ) (path : List PathStep) (tree : Tree) (failure : Failure)
+    → Contains (failures hooks table s path tree) failure → FailsAt hooks table s path tree failure
 
 -- the failure with which one starts is the first of some, or comes before the other
 abbrev pub IsOrAfter : Failure → Failure → Type 0

@@ -1,10 +1,10 @@
 -- The notes of the end of deferred mode, said place by place. `finish_notes` of Journal, which finds them along the way, gives
 -- the same.
 use Rattle.std.specs.Prelude.{◌≡◌, ◌≢◌, ◌⊎◌, ◌↔◌, ℕ, ◌<◌, [], ◌∷◌, ◌++◌, Option, Some, None}
-use Rattle.std.specs.List.{Contains}
+use Rattle.std.specs.List.{AllPairs, Contains}
 use Rattle.fr_shape.specs.Look.{Table}
 use Rattle.fr_shape.specs.Val.{Val}
-use Rattle.fr_model.specs.Journal.{Note, wrote_at, Journal, in_parts, untouched, held, completes, finish_notes}
+use Rattle.fr_model.specs.Journal.{Note, wrote_at, Journal, in_parts, untouched, held, place_of, completes, finish_notes}
 use Rattle.fr_model.specs.Places.{Place, deferred_column, child_count, shape_at, fill_at}
 
 -- a place lies strictly above another
@@ -78,3 +78,18 @@ NotesWhatIsDue =
     (table : Table) (root : ℕ) (notes added : Journal) (cursor : Place) (note : Note)
     → finish_notes table notes root [] cursor ≡ Some added
     → Contains added note ↔ IsDueNote table root notes cursor note
+
+-- neither of two places leads to the other, and so they aren't the same
+pub record AreApart (one other : Place) : Type 0 where
+  pub not_above : IsOffTheWay other one
+  pub not_beneath : IsOffTheWay one other
+
+-- no two of some notes cover each other: the place of none lies at, above or beneath that of another
+abbrev pub LieApart : Journal → Type 0
+LieApart notes = AllPairs (λ (one other : Note). AreApart (place_of one) (place_of other)) notes
+
+-- no two of the notes that are added at the end of deferred mode cover each other
+abbrev pub NotesLieApart : Type 0
+NotesLieApart =
+    (table : Table) (root : ℕ) (notes added : Journal) (cursor : Place)
+    → finish_notes table notes root [] cursor ≡ Some added → LieApart added

@@ -13,6 +13,7 @@ pub mod Dropping
 pub mod DynamicExamples
 pub mod DynamicPlaces
 pub mod Dynamics
+pub mod Entering
 pub mod Examples
 pub mod Failing
 pub mod FailingLaws

@@ -1,125 +1,102 @@
--- How the path of the place at which a builder works goes on, from state to state.
-use Rattle.std.specs.Prelude.{◌≡◌, ℕ, Bool, true, List, [], ◌∷◌, ◌++◌, length, Some}
+-- The path of the place at which a builder works depends only on the places above it: whatever becomes of the place keeps the path,
+-- entering a child adds a step, going up takes the last one away, and the end of deferred mode keeps the path.
+use Rattle.std.specs.Prelude.{◌≡◌, ℕ, true, List, [], ◌∷◌, ◌++◌, length, Option, Some, None}
+use Rattle.fr_shape.specs.declared.shape.Def.{Def}
 use Rattle.fr_shape.specs.Hooks.{Meanings}
 use Rattle.fr_shape.specs.Look.{Table, def_of}
-use Rattle.fr_shape.specs.Val.{Val}
 use Rattle.fr_path.specs.declared.path_steps.PathStep.{PathStep}
+use Rattle.fr_model.specs.DynamicPlaces.{is_begun_object}
+use Rattle.fr_model.specs.Entering.{Way, enters}
 use Rattle.fr_model.specs.Finish.{finished}
-use Rattle.fr_model.specs.Paths.{step_as, steps_in, path_of}
-use Rattle.fr_model.specs.Places.{Place}
-use Rattle.fr_model.specs.Step.{enters, puts, puts_child, puts_and_leaves, leaves, enters_content, option_kept, content_kept, begins_pointer, opens, enters_item, enters_key, enters_entry, begins_list, begins_map, closes, takes_item, selects}
-use Rattle.fr_model.specs.Tree.{Form, as_some, as_dyn_object, Tree, begun, Trees, form_at, count_trees, State, cursor_shape, cursor_tree}
+use Rattle.fr_model.specs.Paths.{step_as, step_below, steps_in, path_of}
+use Rattle.fr_model.specs.Places.{Place, up}
+use Rattle.fr_model.specs.Step.{option_kept, content_kept}
+use Rattle.fr_model.specs.Tree.{Form, as_some, form_at, Tree, hole, entered, whole, begun, change_at, count_below, State, cursor_shape, cursor_tree}
 use Rattle.fr_model.specs.Well.{Leads, IsInOrder}
 
 -- the path has one step for each place below the root on the way to the cursor, so that only the root has none
 abbrev pub PathIsAsDeep : Type 0
 PathIsAsDeep = (state : State) → length (path_of state) ≡ length state.cursor
 
--- entering field or element i, from a state in order, adds the step to it
+-- whatever becomes of the cursor's place, its path stays
+abbrev pub ChangingKeepsThePath : Type 0
+ChangingKeepsThePath =
+    (state : State) (change : Tree → Tree)
+    → steps_in state.cursor (change_at state.cursor change state.tree) ≡ path_of state
+
+-- the path of a child of the cursor's place is that place's, and the step to the child from what the place has become
 abbrev pub EnteringAddsAStep : Type 0
 EnteringAddsAStep =
-    (table : Table) (root : ℕ) (state : State) (i : ℕ) → IsInOrder table root state
-    → path_of (enters table (cursor_shape table root state) state i)
-    ≡ path_of state ++ step_as (form_at (def_of table (cursor_shape table root state)) (cursor_tree state)) i ∷ []
+    (state : State) (change : Tree → Tree) (i : ℕ) → Leads state.mode state.cursor state.tree
+    → steps_in (state.cursor ++ i ∷ []) (change_at state.cursor change state.tree)
+    ≡ path_of state ++ step_below i (change (cursor_tree state)) ∷ []
 
--- entering child 0 of a place that is begun in a form, kept or anew, adds that form's step: either side of a result, and what a
--- pointer points to, are entered so
-abbrev pub EnteringContentAddsAStep : Type 0
-EnteringContentAddsAStep =
-    (table : Table) (root : ℕ) (state : State) (form : Form) → IsInOrder table root state
-    → path_of (enters_content table (cursor_shape table root state) state form (content_kept state form))
-    ≡ path_of state ++ step_as form 0 ∷ []
+-- the step to which a way leads on from a place of this definition: to a child as what the place is begun as, or will be, tells; to a
+-- new item or key behind the children that are there; to the entry of a key; to the one child of what is begun around it
+abbrev pub step_on : Def → Tree → Way → PathStep
+step_on def tree (Way.Child i) = step_as (form_at def tree) i
+step_on def tree Way.Item = step_as (form_at def tree) (count_below tree)
+step_on def tree Way.Key = step_as (form_at def tree) (count_below tree)
+step_on def tree (Way.Value i) = step_as (form_at def tree) i
+step_on def tree (Way.Entry key) = PathStep.Entry key
+step_on def tree (Way.Content form kept) = step_as form 0
 
--- entering the content of an option adds the step to it
-abbrev pub EnteringSomeAddsAStep : Type 0
-EnteringSomeAddsAStep =
-    (table : Table) (root : ℕ) (state : State) → IsInOrder table root state
-    → path_of (enters_content table (cursor_shape table root state) state as_some
-    (option_kept table (cursor_shape table root state) state))
-    ≡ path_of state ++ step_as as_some 0 ∷ []
+-- the place is begun
+abbrev pub HasBegun : Tree → Type 0
+HasBegun hole = ⊥
+HasBegun entered = ⊥
+HasBegun (whole v) = ⊥
+HasBegun (begun form children) = Unit {0}
 
--- entering a new item of a begun place adds the step to it, whose number is that of the items that were there
-abbrev pub EnteringAnItemAddsAStep : Type 0
-EnteringAnItemAddsAStep =
-    (table : Table) (s : ℕ) (state : State) (form : Form) (children : Trees) → Leads state.mode state.cursor state.tree
-    → cursor_tree state ≡ begun form children
-    → path_of (enters_item table s state) ≡ path_of state ++ step_as form (count_trees children) ∷ []
+-- the place is begun in just this form
+abbrev pub HasBegunAs : Form → Tree → Type 0
+HasBegunAs form hole = ⊥
+HasBegunAs form entered = ⊥
+HasBegunAs form (whole v) = ⊥
+HasBegunAs form (begun made children) = made ≡ form
 
--- entering the key of a new entry of a begun place adds the step to it
-abbrev pub EnteringAKeyAddsAStep : Type 0
-EnteringAKeyAddsAStep =
-    (table : Table) (s : ℕ) (state : State) (form : Form) (children : Trees) → Leads state.mode state.cursor state.tree
-    → cursor_tree state ≡ begun form children
-    → path_of (enters_key table s state) ≡ path_of state ++ step_as form (count_trees children) ∷ []
+-- what is kept of a place, if anything is, is begun in this form
+abbrev pub IsKeptAs : Form → (kept : Option Tree) → Type 0
+IsKeptAs form (Some tree) = HasBegunAs form tree
+IsKeptAs form None = Unit {0}
 
--- entering an entry of a dynamic object adds the step under its key
-abbrev pub EnteringAnEntryAddsAStep : Type 0
-EnteringAnEntryAddsAStep =
-    (table : Table) (s : ℕ) (state : State) (keys : List (List ℕ)) (children : Trees) (key : List ℕ)
-    → Leads state.mode state.cursor state.tree → cursor_tree state ≡ begun (as_dyn_object keys) children
-    → path_of (enters_entry table s state key) ≡ path_of state ++ PathStep.Entry key ∷ []
+-- A way on is admitted at such a place: to an item or a key where the place is begun, to an entry where it is begun as a dynamic
+-- object, and to the one child of a form where what is kept is begun in that form. To a child by its number it always is.
+abbrev pub IsAdmittedOn : Tree → Way → Type 0
+IsAdmittedOn tree (Way.Child i) = Unit {0}
+IsAdmittedOn tree Way.Item = HasBegun tree
+IsAdmittedOn tree Way.Key = HasBegun tree
+IsAdmittedOn tree (Way.Value i) = Unit {0}
+IsAdmittedOn tree (Way.Entry key) = is_begun_object tree ≡ true
+IsAdmittedOn tree (Way.Content form kept) = IsKeptAs form kept
 
--- beginning a list, an array, a set or a map keeps the path
-abbrev pub OpeningKeepsThePath : Type 0
-OpeningKeepsThePath =
-    (table : Table) (s : ℕ) (state : State) → Leads state.mode state.cursor state.tree
-    → path_of (opens table s state) ≡ path_of state
+-- on each way that is admitted, in a state that is in order, this is the step that is added
+abbrev pub EnteringAddsItsStep : Type 0
+EnteringAddsItsStep =
+    (table : Table) (root : ℕ) (state : State) (way : Way) → IsInOrder table root state
+    → IsAdmittedOn (cursor_tree state) way
+    → path_of (enters table (cursor_shape table root state) state way)
+    ≡ path_of state ++ step_on (def_of table (cursor_shape table root state)) (cursor_tree state) way ∷ []
 
--- and so does beginning a list or a map at a dynamic place
-abbrev pub BeginningAListKeepsThePath : Type 0
-BeginningAListKeepsThePath =
-    (table : Table) (s : ℕ) (state : State) (of_dynamic : Bool) → Leads state.mode state.cursor state.tree
-    → path_of (begins_list table s state of_dynamic) ≡ path_of state
+-- what the commands keep of a side, of what a pointer points to, and of an option is begun in the form that they enter
+abbrev pub KeptIsAdmitted : Type 0
+KeptIsAdmitted =
+    (table : Table) (s : ℕ) (state : State) (form : Form)
+    → IsKeptAs form (content_kept state form) × IsKeptAs as_some (option_kept table s state)
 
-abbrev pub BeginningAMapKeepsThePath : Type 0
-BeginningAMapKeepsThePath =
-    (table : Table) (s : ℕ) (state : State) (of_dynamic : Bool) → Leads state.mode state.cursor state.tree
-    → path_of (begins_map table s state of_dynamic) ≡ path_of state
+-- these steps lead to the place above the cursor's: where the cursor's place stays as it is, where something becomes of it, and where
+-- something becomes of the place above
+pub record LeadAbove (state : State) (before : List PathStep) : Type 0 where
+  pub as_it_is : steps_in (up state.cursor) state.tree ≡ before
+  pub changed : (change : Tree → Tree) → steps_in (up state.cursor) (change_at state.cursor change state.tree) ≡ before
+  pub changed_above : (change : Tree → Tree)
+      → steps_in (up state.cursor) (change_at (up state.cursor) change state.tree) ≡ before
 
--- a pointer to a slice, opened or closed for items, keeps it too
-abbrev pub OpeningASliceKeepsThePath : Type 0
-OpeningASliceKeepsThePath =
-    (table : Table) (s : ℕ) (state : State) → Leads state.mode state.cursor state.tree
-    → path_of (begins_pointer table s state true) ≡ path_of state
-
-abbrev pub ClosingASliceKeepsThePath : Type 0
-ClosingASliceKeepsThePath =
-    (state : State) → Leads state.mode state.cursor state.tree → path_of (closes state) ≡ path_of state
-
--- selecting a variant keeps the path
-abbrev pub SelectingKeepsThePath : Type 0
-SelectingKeepsThePath =
-    (table : Table) (s : ℕ) (state : State) (k : ℕ) → Leads state.mode state.cursor state.tree
-    → path_of (selects table s state k) ≡ path_of state
-
--- setting a field of the place to its default keeps the path
-abbrev pub DefaultingKeepsThePath : Type 0
-DefaultingKeepsThePath =
-    (table : Table) (s : ℕ) (state : State) (i : ℕ) (v : Val) → Leads state.mode state.cursor state.tree
-    → path_of (puts_child table s state i v) ≡ path_of state
-
--- putting a value at a place to which the cursor leads keeps the path
-abbrev pub PuttingKeepsThePath : Type 0
-PuttingKeepsThePath =
-    (state : State) (v : Val) → Leads state.mode state.cursor state.tree → path_of (puts state v) ≡ path_of state
-
--- putting a value there and going up takes the last step away
+-- going up takes the last step away
 abbrev pub LeavingDropsAStep : Type 0
 LeavingDropsAStep =
-    (state : State) (v : Val) (before : List PathStep) (last : PathStep) → Leads state.mode state.cursor state.tree
-    → path_of state ≡ before ++ last ∷ [] → path_of (puts_and_leaves state v) ≡ before
-
--- leaving a place as it is takes the last step away
-abbrev pub LeavingAsItIs : Type 0
-LeavingAsItIs =
-    (state : State) (before : List PathStep) (last : PathStep) → Leads state.mode state.cursor state.tree
-    → path_of state ≡ before ++ last ∷ [] → path_of (leaves state) ≡ before
-
--- and so does leaving an item of a set, which takes its value
-abbrev pub LeavingAnItemDropsAStep : Type 0
-LeavingAnItemDropsAStep =
-    (state : State) (v : Val) (before : List PathStep) (last : PathStep) → Leads state.mode state.cursor state.tree
-    → path_of state ≡ before ++ last ∷ [] → path_of (takes_item state v) ≡ before
+    (state : State) (before : List PathStep) (last : PathStep) → path_of state ≡ before ++ last ∷ []
+    → LeadAbove state before
 
 -- the end of deferred mode keeps the path
 abbrev pub FinishingKeepsThePath : Type 0

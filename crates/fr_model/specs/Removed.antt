@@ -16,7 +16,8 @@ use Rattle.fr_model.specs.Places.{up, Column, strict_column, deferred_column}
 use Rattle.fr_model.specs.Contents.{points_to_slice}
 use Rattle.fr_model.specs.Tree.{as_ok, as_err, Tree, child_tree, tree_at, Mode, strict, deferred, State, cursor_shape, cursor_tree, tree_occurs}
 use Rattle.fr_model.specs.Scripts.{brings}
-use Rattle.fr_model.specs.Step.{opened, option_kept, content_kept, pointer_kept, variant_kept, is_set_item, is_dynamic_part, step, build}
+use Rattle.fr_model.specs.Entering.{opened}
+use Rattle.fr_model.specs.Step.{option_kept, content_kept, pointer_kept, variant_kept, is_set_item, is_dynamic_part, step, build}
 use Rattle.fr_model.specs.Variants.{variant_numbered, variant_named, variant_told_by}
 
 -- how often a token stands in what is at the cursor

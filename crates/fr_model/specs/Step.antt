@@ -1,6 +1,6 @@
 -- What each command does to a builder's state, or which refusal it meets: one function for each command. The words
 -- here mean what they say at tables that are served.
-use Rattle.std.specs.Prelude.{ℕ, ℤ, ◌==◌, Bool, true, false, [], ◌∷◌, ◌++◌, List, length, nat_lt, Option, Some, None, unwrap_or, Result, Ok, Err, if◌then◌else◌}
+use Rattle.std.specs.Prelude.{ℕ, ℤ, ◌==◌, Bool, true, false, List, length, nat_lt, Option, Some, None, unwrap_or, Result, Ok, Err, if◌then◌else◌}
 use Rattle.fr_shape.specs.declared.shape.Def.{Def}
 use Rattle.fr_shape.specs.declared.shape.DefaultSource.{DefaultSource}
 use Rattle.fr_shape.specs.declared.shape.Field.{Field}
@@ -14,21 +14,22 @@ use Rattle.fr_shape.specs.Fills.{preset_of, is_option}
 use Rattle.fr_shape.specs.Hooks.{Meanings}
 use Rattle.fr_shape.specs.Plannable.{is_dynamic}
 use Rattle.fr_shape.specs.Look.{Table, def_of, field_in, variants_of}
-use Rattle.fr_shape.specs.Val.{Val, Vals, Dynamic, list_of, ptr, dyn, no_vals}
+use Rattle.fr_shape.specs.Val.{Val, Dynamic, list_of, ptr, dyn, no_vals}
 use Rattle.fr_path.specs.declared.path_steps.PathStep.{PathStep}
 use Rattle.fr_model.specs.Commands.{Call}
-use Rattle.fr_model.specs.Contents.{is_result, pointer_refusal, points_to_slice, variant_anew, content_anew, slice_anew, kept_so, kept_in, kept_slice, kept_option}
+use Rattle.fr_model.specs.Contents.{is_result, pointer_refusal, points_to_slice, variant_anew, slice_anew, kept_so, kept_in, kept_slice, kept_option}
 use Rattle.fr_model.specs.Converting.{converted}
-use Rattle.fr_model.specs.DynamicPlaces.{is_begun_dynamic, array_anew, object_anew, kept_array, kept_object, entry_refusal, entry_number, with_entry}
-use Rattle.fr_model.specs.Items.{init_array_refusal, item_refusal, with_item, is_open_slice, closed_slice, shared_slice_refusal}
-use Rattle.fr_model.specs.Places.{Column, strict_column, deferred_column, is_root, up, count_children, content_shape, parts_of, items_of, set_items_of, entries_of}
-use Rattle.fr_model.specs.Tree.{Form, as_struct, as_array, as_variant, as_some, as_ok, as_err, as_pointer, as_list, as_slice, as_closed_slice, as_set, as_map, as_dyn_array, as_dyn_object, form_of, form_at, over_base, selected, Tree, hole, entered, whole, begun, for_hole, wholes, holes, fresh, child_as, count_below, change_child, change_at, tree_at, Mode, strict, deferred, State, cursor_shape, cursor_tree, one_more_call}
+use Rattle.fr_model.specs.DynamicPlaces.{is_begun_dynamic, array_anew, object_anew, kept_array, kept_object, entry_refusal}
+use Rattle.fr_model.specs.Items.{init_array_refusal, item_refusal, is_open_slice, closed_slice, shared_slice_refusal}
+use Rattle.fr_model.specs.Places.{Column, strict_column, deferred_column, is_root, up, content_shape}
+use Rattle.fr_model.specs.Tree.{Form, as_variant, as_some, as_ok, as_err, as_pointer, selected, Tree, whole, count_below, change_child, change_at, tree_at, Mode, strict, deferred, State, cursor_shape, cursor_tree, one_more_call}
 use Rattle.fr_model.specs.Variants.{is_enum, field_found, variant_numbered, variant_named, variant_told_by, selection_refusal}
-use Rattle.fr_model.specs.Collections.{is_set, key_refusal, value_refusal, with_key, last_of, set_item_refusal, with_ended_item, number_in}
+use Rattle.fr_model.specs.Collections.{is_set, key_refusal, value_refusal, last_of, set_item_refusal, with_ended_item, number_in}
 use Rattle.fr_model.specs.Complete.{complete, lack, missing_value}
 use Rattle.fr_model.specs.Failing.{failures, first_by_walk}
 use Rattle.fr_model.specs.Paths.{path_of}
 use Rattle.fr_model.specs.Finish.{finished, finish_cause, kind_of}
+pub use Rattle.fr_model.specs.Entering.{Way, enters, opened_value, parts_as, opened_as, opened, enter, enter_child}
 pub use Rattle.fr_model.specs.Refusals.{operation_failed, violates, at_shape, was_not_a, element_refusal, variant_field_refusal, field_refusal, named_refusal, is_str, is_owned_string_kind, is_owned_string, takes_shape, set_refusal, unexpected_unless, init_list_refusal, init_map_refusal, init_set_refusal}
 
 -- the new state, unless there is something to refuse
@@ -36,66 +37,16 @@ abbrev pub unless_refused : Option ReflectErrorKind → State → Result State R
 unless_refused (Some kind) next = Err kind
 unless_refused None next = Ok next
 
--- Entering a child
+-- Fields and elements
 
--- a whole place begun with whole children, if its value has any
-abbrev pub opened_value : Form → Val → (parts : Option Vals) → Tree
-opened_value form v (Some vs) = begun (over_base form v) (wholes vs)
-opened_value form v None = whole v
-
--- the values of the children that a value has at a place that is to be begun so: a list's or a set's of its items, a map's of its
--- entries, a struct's or an array's of its parts
-abbrev pub parts_as : Form → Val → Option Vals
-parts_as as_struct v = parts_of v
-parts_as as_array v = parts_of v
-parts_as as_list v = items_of v
-parts_as (as_variant k) v = None
-parts_as as_some v = None
-parts_as as_ok v = None
-parts_as as_err v = None
-parts_as as_pointer v = None
-parts_as as_slice v = None
-parts_as as_closed_slice v = None
-parts_as as_set v = set_items_of v
-parts_as (as_map base) v = entries_of v
-parts_as as_dyn_array v = None
-parts_as (as_dyn_object keys) v = None
-
--- a place that is to be begun so, with so many children, as they see it: an entered one has a hole for each, a whole one
--- is begun with whole children, a begun one stays as it is
-abbrev pub opened_as : Form → (count : ℕ) → Tree → Tree
-opened_as form count hole = hole
-opened_as form count entered = begun form (holes count)
-opened_as form count (whole v) = opened_value form v (parts_as form v)
-opened_as form count (begun made children) = begun made children
-
--- the same, as the place's definition tells
-abbrev pub opened : Def → Tree → Tree
-opened def tree = opened_as (form_of def) (count_children def) tree
-
--- a child of this definition that is entered: a hole is now fresh, anything else stays as it is
-abbrev pub enter : Def → Tree → Tree
-enter def tree = for_hole tree (fresh def) tree
-
--- the place of shape s with its child i entered
-abbrev pub enter_child : Table → ℕ → ℕ → Tree → Tree
-enter_child table s i t =
-    change_child i (enter (def_of table (child_as table s (form_at (def_of table s) t) i))) (opened (def_of table s) t)
-
--- child i of the cursor's place is entered, and the cursor goes there
-abbrev pub enters : Table → ℕ → State → ℕ → State
-enters table s state i = record state {
-  tree = change_at state.cursor (enter_child table s i) state.tree;
-  cursor = state.cursor ++ i ∷ [];
-  calls = one_more_call state.calls;
-}
-
+-- begin_nth_field enters the field or the element of this number
 abbrev pub begin_nth_field : Table → ℕ → State → ℕ → Result State ReflectErrorKind
 begin_nth_field table s state i =
-    unless_refused (at_shape s (field_refusal (def_of table s) (cursor_tree state) i)) (enters table s state i)
+    unless_refused (at_shape s (field_refusal (def_of table s) (cursor_tree state) i))
+    (enters table s state (Way.Child i))
 
 abbrev pub enters_named : Table → ℕ → State → Option ℕ → Result State ReflectErrorKind
-enters_named table s state (Some i) = Ok (enters table s state i)
+enters_named table s state (Some i) = Ok (enters table s state (Way.Child i))
 enters_named table s state None = Err (ReflectErrorKind.FieldError (record { 0 = s }))
 
 abbrev pub begins_named : Table → ℕ → State → Option ReflectErrorKind → Option ℕ → Result State ReflectErrorKind
@@ -193,11 +144,6 @@ becomes state kept anew = record state {
   calls = one_more_call state.calls;
 }
 
--- the same, and the content, side or pointee is entered
-abbrev pub enters_content : Table → ℕ → State → Form → (kept : Option Tree) → State
-enters_content table s state form kept =
-    record (becomes state kept (content_anew table s form)) { cursor = state.cursor ++ 0 ∷ [] }
-
 -- what begin_some keeps of the option at the cursor
 abbrev pub option_kept : Table → ℕ → State → Option Tree
 option_kept table s state = kept_option state.mode (def_of table (content_shape (def_of table s))) (cursor_tree state)
@@ -209,13 +155,13 @@ content_kept state form = kept_in state.mode form (cursor_tree state)
 -- begin_some: at an option alone
 abbrev pub begin_some : Table → ℕ → State → Result State ReflectErrorKind
 begin_some table s state =
-    if is_option (def_of table s) then Ok (enters_content table s state as_some (option_kept table s state))
+    if is_option (def_of table s) then Ok (enters table s state (Way.Content as_some (option_kept table s state)))
     else Err (was_not_a Expected.Option s)
 
 -- begin_ok and begin_err: at a result alone
 abbrev pub begin_side : Table → ℕ → State → (side : Form) → Result State ReflectErrorKind
 begin_side table s state side =
-    if is_result (def_of table s) then Ok (enters_content table s state side (content_kept state side))
+    if is_result (def_of table s) then Ok (enters table s state (Way.Content side (content_kept state side)))
     else Err (was_not_a Expected.Result s)
 
 -- what begin_smart_ptr keeps of the pointer at the cursor, whose pointee is a slice or isn't
@@ -226,7 +172,7 @@ pointer_kept state to_slice = if to_slice then kept_slice state.mode (cursor_tre
 abbrev pub begins_pointer : Table → ℕ → State → (to_slice : Bool) → State
 begins_pointer table s state to_slice =
     if to_slice then becomes state (pointer_kept state to_slice) slice_anew
-    else enters_content table s state as_pointer (pointer_kept state to_slice)
+    else enters table s state (Way.Content as_pointer (pointer_kept state to_slice))
 
 -- begin_smart_ptr: at a pointer that can be built
 abbrev pub begin_smart_ptr : Table → ℕ → State → Result State ReflectErrorKind
@@ -259,17 +205,10 @@ abbrev pub init_array : Table → ℕ → State → Result State ReflectErrorKin
 init_array table s state =
     unless_refused (at_shape s (init_array_refusal (def_of table s) (cursor_tree state))) (opens table s state)
 
--- a new item of the cursor's place is entered, behind the others
-abbrev pub enters_item : Table → ℕ → State → State
-enters_item table s state = record state {
-  tree = change_at state.cursor (with_item table s) state.tree;
-  cursor = state.cursor ++ count_below (cursor_tree state) ∷ [];
-  calls = one_more_call state.calls;
-}
-
+-- begin_list_item enters a new item, behind the others
 abbrev pub begin_list_item : Table → ℕ → State → Result State ReflectErrorKind
 begin_list_item table s state =
-    unless_refused (at_shape s (item_refusal (def_of table s) (cursor_tree state))) (enters_item table s state)
+    unless_refused (at_shape s (item_refusal (def_of table s) (cursor_tree state))) (enters table s state Way.Item)
 
 -- Sets and maps
 
@@ -289,40 +228,27 @@ abbrev pub init_set : Table → ℕ → State → Result State ReflectErrorKind
 init_set table s state =
     unless_refused (init_set_refusal s (def_of table s) (cursor_tree state)) (opens table s state)
 
--- the key of a new entry is entered, behind the others
-abbrev pub enters_key : Table → ℕ → State → State
-enters_key table s state = record state {
-  tree = change_at state.cursor (with_key table s) state.tree;
-  cursor = state.cursor ++ count_below (cursor_tree state) ∷ [];
-  calls = one_more_call state.calls;
-}
-
+-- begin_key enters the key of a new entry, behind the others
 abbrev pub begin_key : Table → ℕ → State → Result State ReflectErrorKind
-begin_key table s state = unless_refused (at_shape s (key_refusal (cursor_tree state))) (enters_key table s state)
+begin_key table s state = unless_refused (at_shape s (key_refusal (cursor_tree state))) (enters table s state Way.Key)
 
 -- begin_value enters the value of the last entry
 abbrev pub begin_value : Table → ℕ → State → Result State ReflectErrorKind
 begin_value table s state =
     unless_refused (at_shape s (value_refusal (cursor_tree state)))
-    (enters table s state (last_of (count_below (cursor_tree state))))
+    (enters table s state (Way.Value (last_of (count_below (cursor_tree state)))))
 
+-- begin_set_item enters a new item of a set, behind the others
 abbrev pub begin_set_item : Table → ℕ → State → Result State ReflectErrorKind
 begin_set_item table s state =
-    unless_refused (at_shape s (set_item_refusal (def_of table s) (cursor_tree state))) (enters_item table s state)
+    unless_refused (at_shape s (set_item_refusal (def_of table s) (cursor_tree state))) (enters table s state Way.Item)
 
 -- Dynamic values
 
--- the entry of this key is entered, as it is or new
-abbrev pub enters_entry : Table → ℕ → State → (key : List ℕ) → State
-enters_entry table s state key = record state {
-  tree = change_at state.cursor (with_entry table s key) state.tree;
-  cursor = state.cursor ++ entry_number key (cursor_tree state) ∷ [];
-  calls = one_more_call state.calls;
-}
-
+-- begin_object_entry enters the entry of this key, as it is or new
 abbrev pub begin_object_entry : Table → ℕ → State → (key : List ℕ) → Result State ReflectErrorKind
 begin_object_entry table s state key =
-    unless_refused (at_shape s (entry_refusal (def_of table s) (cursor_tree state))) (enters_entry table s state key)
+    unless_refused (at_shape s (entry_refusal (def_of table s) (cursor_tree state))) (enters table s state (Way.Entry key))
 
 -- Slices
 

@@ -7,14 +7,14 @@ ghost use Rattle.fr_model.specs.DefaultExamples.{DefaultExamples, ValidatorExamp
 ghost use Rattle.fr_model.specs.DefaultLaws.{DefaultIsThreeCalls};
 ghost use Rattle.fr_model.specs.DynamicExamples.{ConversionExamples, DynamicExamples};
 ghost use Rattle.fr_model.specs.Examples.{EndRunsValidators};
-ghost use Rattle.fr_model.specs.FailingLaws.{FailuresLieThere, FinishesOrRefuses, FinishOfDone, FirstByWalkIs, LackingFails, NothingFailsOfDone};
+ghost use Rattle.fr_model.specs.FailingLaws.{EachFailureHasItsPlace, EachFailureOfATreeHasItsPlace, FailuresLieThere, FinishesOrRefuses, FinishOfDone, FirstByWalkIs, LackingFails, NothingFailsOfDone};
 ghost use Rattle.fr_model.specs.FinishExamples.{FinishExamples};
 ghost use Rattle.fr_model.specs.FinishLaws.{ClosingKeepsCompletion, ClosingKeepsFailures, ClosingKeepsFailuresOff, ClosingKeepsFinish};
-ghost use Rattle.fr_model.specs.Finishing.{NotesWhatIsDue, StuckOrNoted};
+ghost use Rattle.fr_model.specs.Finishing.{NotesLieApart, NotesWhatIsDue, StuckOrNoted};
 ghost use Rattle.fr_model.specs.GatheringLaws.{DistinctEntriesStay, DistinctItemsStay, NoEntryIsLeftOut, NoItemIsLeftOut, SameIsThere};
 ghost use Rattle.fr_model.specs.Laws.{BuildKeepsTokens, CompletesOrFails, CompletesOrLacks, CompletingFits, CompletingKeepsTokens, StartIsWell, StepKeepsDistinct, StepKeepsOrder, StepKeepsRest, StepKeepsTokens};
 ghost use Rattle.fr_model.specs.ListExamples.{ArrayExamples, ListExamples, SliceExamples};
-ghost use Rattle.fr_model.specs.PathLaws.{BeginningAListKeepsThePath, BeginningAMapKeepsThePath, ClosingASliceKeepsThePath, DefaultingKeepsThePath, EnteringAddsAStep, EnteringAKeyAddsAStep, EnteringAnEntryAddsAStep, EnteringAnItemAddsAStep, EnteringContentAddsAStep, EnteringSomeAddsAStep, FinishingKeepsThePath, LeavingAnItemDropsAStep, LeavingAsItIs, LeavingDropsAStep, OpeningASliceKeepsThePath, OpeningKeepsThePath, PathIsAsDeep, PuttingKeepsThePath, SelectingKeepsThePath};
+ghost use Rattle.fr_model.specs.PathLaws.{ChangingKeepsThePath, EnteringAddsAStep, EnteringAddsItsStep, FinishingKeepsThePath, KeptIsAdmitted, LeavingDropsAStep, PathIsAsDeep};
 ghost use Rattle.fr_model.specs.WellExamples.{WellExamples};
 
 /// For every field script of fitting values over a table that is plain for the root, whatever the hooks mean, the run of the
@@ -51,6 +51,8 @@ pub fn law_completes()
 {}
 
 /// In a state that is in order, setting a field to its default is entering it, setting it to that and leaving it, made as one call.
+/// In any state it is refused just where no field can be named, there is no such field, or the field has no default: with the
+/// refusal of the first of these that is so.
 pub fn law_default()
     ensures default { DefaultIsThreeCalls }
 {}
@@ -77,11 +79,15 @@ pub fn law_examples()
 {}
 
 /// What fails at the end of deferred mode is half done and lies off the way, and a place that lacks something by itself fails, its
-/// children being whole or holes. That end is refused exactly where something fails, or the place at which the builder works lacks
-/// something. Once every place off the way is whole or a hole, only that place is left to be finished.
+/// children being whole or holes. Each failure is that of a place off the way to which its path leads, which lacks its kind, and has
+/// only children that complete or are holes; of a tree that lies off the way as a whole, each is that of a place in it. That end is
+/// refused exactly where something fails, or the place at which the builder works lacks something. Once every place off the way is
+/// whole or a hole, only that place is left to be finished.
 pub fn law_failing()
     ensures lie { FailuresLieThere }
     ensures lacking { LackingFails }
+    ensures places { EachFailureHasItsPlace }
+    ensures places_of_tree { EachFailureOfATreeHasItsPlace }
     ensures first { FirstByWalkIs }
     ensures refuses { FinishesOrRefuses }
     ensures nothing { NothingFailsOfDone }
@@ -98,36 +104,23 @@ pub fn law_gathering()
     ensures same { SameIsThere }
 {}
 
-/// What the end of deferred mode notes, and when it can't end, is what the three rules on places say.
+/// What the end of deferred mode notes, and when it can't end, is what the three rules on places say; and no two of these notes
+/// cover each other.
 pub fn law_finishing()
     ensures stuck { StuckOrNoted }
     ensures noted { NotesWhatIsDue }
+    ensures apart { NotesLieApart }
 {}
 
-/// The path of the place at which a builder works, from state to state. Entering a child, from a state that is in order,
-/// adds the step to that child, and so does entering what an option, a side of a result or a pointer holds, a new item, a new
-/// key or an entry of an object. Beginning a list, an array, a set, a map or a dynamic value, opening and closing a pointer
-/// to a slice, selecting a variant and setting a field to its default keep the path. Putting a value keeps it, or takes its
-/// last step away where the cursor goes up. Leaving a place as it is takes it away too, and so does leaving an item of a set.
-/// The end of deferred mode keeps it. There are as many steps as the place lies deep, so that only the root has none.
+/// The path of the place at which a builder works depends only on the places above it, and has a step for each place on the way:
+/// entering a child adds a step, which each way on that is admitted tells, going up takes the last one away, and the end of deferred
+/// mode keeps the path. What the commands keep of an option, of a side or of what a pointer points to is admitted so.
 pub fn law_paths()
+    ensures change { ChangingKeepsThePath }
     ensures enter { EnteringAddsAStep }
-    ensures enter_content { EnteringContentAddsAStep }
-    ensures enter_some { EnteringSomeAddsAStep }
-    ensures enter_item { EnteringAnItemAddsAStep }
-    ensures enter_key { EnteringAKeyAddsAStep }
-    ensures enter_entry { EnteringAnEntryAddsAStep }
-    ensures open { OpeningKeepsThePath }
-    ensures begin_list { BeginningAListKeepsThePath }
-    ensures begin_map { BeginningAMapKeepsThePath }
-    ensures open_slice { OpeningASliceKeepsThePath }
-    ensures close_slice { ClosingASliceKeepsThePath }
-    ensures select { SelectingKeepsThePath }
-    ensures default { DefaultingKeepsThePath }
-    ensures put { PuttingKeepsThePath }
+    ensures enter_way { EnteringAddsItsStep }
+    ensures kept { KeptIsAdmitted }
     ensures leave { LeavingDropsAStep }
-    ensures leave_as_it_is { LeavingAsItIs }
-    ensures leave_item { LeavingAnItemDropsAStep }
     ensures finish { FinishingKeepsThePath }
     ensures deep { PathIsAsDeep }
 {}

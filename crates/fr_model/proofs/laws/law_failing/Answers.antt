@@ -1,4 +1,5 @@
-use Rattle.fr_model.proofs.FailingPlaces.{failures_lie_there, finish_of_done, lacking_fails, nothing_fails_of_done}
+use Rattle.fr_model.proofs.FailsAt.{each_failure_has_its_place, each_failure_of_a_tree_has_its_place, failures_lie_there}
+use Rattle.fr_model.proofs.FailingPlaces.{finish_of_done, lacking_fails, nothing_fails_of_done}
 use Rattle.fr_model.proofs.Finishes.{finishes_or_refuses}
 use Rattle.fr_model.proofs.FirstFailure.{first_is}
 use Rattle.fr_model.proofs.laws.law_failing.Goals as goal
@@ -23,3 +24,11 @@ returns-clause-nothing c hooks table s path cursor tree leads = nothing_fails_of
 
 pub returns-clause-done : goal.returns-clause-done
 returns-clause-done c hooks table s cursor tree leads = finish_of_done hooks table s cursor tree leads
+
+pub returns-clause-places : goal.returns-clause-places
+returns-clause-places c hooks table s path cursor tree failure has =
+    each_failure_has_its_place hooks table s path cursor tree failure has
+
+pub returns-clause-places_of_tree : goal.returns-clause-places_of_tree
+returns-clause-places_of_tree c hooks table s path tree failure has =
+    each_failure_of_a_tree_has_its_place hooks table s path tree failure has
