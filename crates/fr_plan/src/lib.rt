@@ -14,6 +14,7 @@ mod shape_fields;
 mod strategies;
 mod telling;
 mod type_plan;
+mod variant_numbers;
 mod variants;
 mod walking;
 

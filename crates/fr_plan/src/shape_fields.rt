@@ -1,15 +1,18 @@
-//! The fields of a plan's shapes: how they are found by the names that they are declared under, and whether any has a validator.
-ghost use Rattle.std.specs.Prelude.{◌≡◌, IfOk, IsSomeAnd, slice_get};
-ghost use Rattle.std.specs.List.{list_any};
+//! What is kept of a plan's shapes: how fields are found by the names that they are declared under and variants by theirs or by
+//! discriminant, and whether any field has a validator.
+ghost use Rattle.std.specs.Prelude.{◌≡◌, [], IfNone, IfOk, IfSome, IsSomeAnd, slice_get};
+ghost use Rattle.std.specs.List.{list_any, range_with_len};
 ghost use Rattle.std.specs.Option.{option_copied};
 ghost use Rattle.fr_shape.specs.Look.{def_of, variants_of};
 ghost use Rattle.fr_shape.specs.Named.{first_declared};
+ghost use Rattle.fr_rules.specs.VariantLookups.{variant_named};
 ghost use Rattle.fr_plan.specs.Fields.{own_fields, fields_in, has_validator};
-ghost use Rattle.fr_plan.specs.Names.{declared_field};
-ghost use Rattle.fr_plan.specs.ShapeFields.{name_at, AreByName, IsSummaryOf, AreSummariesOf, AreKeptOf, IfBuilt, AreAllKept, summary_at, validated_at};
+ghost use Rattle.fr_plan.specs.Names.{declared_field, variant_told_by};
+ghost use Rattle.fr_plan.specs.ShapeFields.{name_at, AreByName, IsSummaryOf, AreSummariesOf, AreVariantNumbers, AreKeptOf, IfBuilt, AreAllKept, summary_at, validated_at};
 
 use crate::lookups::entry;
 use crate::outlines::Mark;
+use crate::variant_numbers::{VariantNumbers, first_named, first_told_by, variant_numbers};
 use fr_arena::Arena;
 use fr_shape::{Def, Field, Items, OutOfMemory, ShapeId, ShapeTable, VariantDef};
 use std::alloc::Global;
@@ -22,11 +25,12 @@ pub struct FieldSummary {
     pub has_validators: bool,
 }
 
-/// What is kept of a struct's own fields, and of the fields of each variant of an enum.
+/// What is kept of a struct's own fields, of the fields of each variant of an enum, and of the variants themselves.
 #[derive(Drop)]
 pub struct ShapeFields {
     pub own: FieldSummary,
     pub variants: Items<FieldSummary>,
+    pub numbers: VariantNumbers,
 }
 
 /// The fields of a struct; none of another shape.
@@ -100,17 +104,25 @@ fn name_at(fields: &[Field], number: u32) -> &str
     }
 }
 
+/// The numbers below `end`.
+pub(crate) fn numbers_below(alloc: Global, end: usize) -> Result<Vec<u32>, OutOfMemory>
+    ensures { IfOk result (λ numbers. numbers.items ≡ range_with_len 0 end) }
+{
+    let Ok(count) = u32::try_from(end) else {
+        return Err(OutOfMemory);
+    };
+    let mut numbers = Vec::with_capacity(alloc, end)?;
+    for number in 0..count {
+        numbers.push(number)?;
+    }
+    Ok(numbers)
+}
+
 /// The numbers of these fields, sorted by name. The sort is stable, so the first field of a name stays before the others.
 fn numbers_by_name(alloc: Global, fields: &[Field]) -> Result<Items<u32>, OutOfMemory>
     ensures { IfOk result (AreByName fields.now) }
 {
-    let Ok(count) = u32::try_from(fields.len()) else {
-        return Err(OutOfMemory);
-    };
-    let mut numbers = Vec::with_capacity(alloc, fields.len())?;
-    for number in 0..count {
-        numbers.push(number)?;
-    }
+    let mut numbers = numbers_below(alloc, fields.len())?;
     numbers.sort_by(|a, b| name_at(fields, *a).cmp(name_at(fields, *b)))?;
     Ok(Items::from_vec(numbers))
 }
@@ -160,6 +172,7 @@ fn kept_of(alloc: Global, def: &Def) -> Result<ShapeFields, OutOfMemory>
     Ok(ShapeFields {
         own: summary_of(alloc, own_fields(def))?,
         variants: summaries_of(alloc, variants_of(def))?,
+        numbers: variant_numbers(alloc, variants_of(def))?,
     })
 }
 
@@ -243,6 +256,52 @@ pub(crate) fn find_declared(
     let described = table.get(shape)?;
     let fields = fields_in(&described.def, variant);
     first_declared(fields, summary.by_name.as_slice(), name)
+}
+
+/// The variants of an enum, and what is kept of them.
+fn variants_at<'a>(
+    table: &'a ShapeTable,
+    kept: &'a Arena<ShapeFields>,
+    shape: ShapeId,
+) -> Option<(&'a [VariantDef], &'a VariantNumbers)>
+    ensures variants { IfSome result (λ found.
+        found.0.now ≡ variants_of (def_of table.now shape.0)) }
+    ensures numbers { IsSomeAnd (slice_get kept.now shape.0) (AreKeptOf (def_of table.now shape.0))
+        → IfSome result (λ found. AreVariantNumbers found.0.now found.1.now) }
+    ensures none { IsSomeAnd (slice_get kept.now shape.0) (AreKeptOf (def_of table.now shape.0))
+        → IfNone result (variants_of (def_of table.now shape.0) ≡ []) }
+{
+    let of_shape = entry(kept, shape.0)?;
+    let described = table.get(shape)?;
+    Some((variants_of(&described.def), &of_shape.numbers))
+}
+
+/// The number of the first variant of an enum that goes by this name and isn't marked `other`.
+pub(crate) fn find_named(
+    table: &ShapeTable,
+    kept: &Arena<ShapeFields>,
+    shape: ShapeId,
+    name: &str,
+) -> Option<u32>
+    ensures { IsSomeAnd (slice_get kept.now shape.0) (AreKeptOf (def_of table.now shape.0))
+        → result ≡ variant_named name.now (variants_of (def_of table.now shape.0)) }
+{
+    let (variants, numbers) = variants_at(table, kept, shape)?;
+    first_named(variants, numbers.by_name.as_slice(), name)
+}
+
+/// The number of the first variant of an enum that has this discriminant.
+pub(crate) fn find_told_by(
+    table: &ShapeTable,
+    kept: &Arena<ShapeFields>,
+    shape: ShapeId,
+    discriminant: i64,
+) -> Option<u32>
+    ensures { IsSomeAnd (slice_get kept.now shape.0) (AreKeptOf (def_of table.now shape.0))
+        → result ≡ variant_told_by discriminant (variants_of (def_of table.now shape.0)) }
+{
+    let (variants, numbers) = variants_at(table, kept, shape)?;
+    first_told_by(variants, numbers.by_discriminant.as_slice(), discriminant)
 }
 
 /// Whether a field of the struct, or of the enum's variant of this number, has a validator.

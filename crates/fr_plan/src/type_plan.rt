@@ -1,13 +1,14 @@
 //! The plan of a type.
 ghost use Rattle.std.specs.Prelude.{◌≡◌, ℕ, ◌<◌, ◌≤◌, ◌+◌, [], length, replicate, slice_get, Some, IfOk, IfErr};
 ghost use Rattle.fr_shape.specs.Checked.{IsChecked};
-ghost use Rattle.fr_shape.specs.Look.{Table, IsIn, def_of};
+ghost use Rattle.fr_shape.specs.Look.{Table, IsIn, def_of, variants_of};
 ghost use Rattle.fr_shape.specs.Plannable.{Reached};
 ghost use Rattle.fr_shape.specs.declared.shape.ShapeId.{ShapeId as Id};
 ghost use Rattle.fr_rules.specs.Pools.{part_of};
+ghost use Rattle.fr_rules.specs.VariantLookups.{variant_named};
 ghost use Rattle.fr_plan.specs.Build.{planned};
 ghost use Rattle.fr_plan.specs.Fields.{has_validators};
-ghost use Rattle.fr_plan.specs.Names.{declared_field};
+ghost use Rattle.fr_plan.specs.Names.{declared_field, variant_told_by};
 ghost use Rattle.fr_plan.specs.Results.{IsMeant};
 ghost use Rattle.fr_plan.specs.declared.outlines.Mark.{Mark as TheMark};
 
@@ -16,7 +17,9 @@ use crate::lists::PlanLists;
 use crate::nodes::{NodeId, TypePlanNode};
 use crate::outlines::{Mark, Walk};
 use crate::plans::{FieldPlan, FieldRange, ValidatorRange, VariantPlanMeta, VariantRange};
-use crate::shape_fields::{ShapeFields, all_kept, are_validated, find_declared};
+use crate::shape_fields::{
+    ShapeFields, all_kept, are_validated, find_declared, find_named, find_told_by,
+};
 use crate::telling::nodes_of;
 use fr_arena::{Arena, Idx};
 use fr_rules::{LookupPool, PrecomputedValidator};
@@ -168,6 +171,33 @@ impl TypePlanCore {
             → result ≡ declared_field (def_of table.now shape.0) variant name.now }
     {
         find_declared(table, &self.shape_fields, shape, variant, name)
+    }
+
+    /// The number of the first variant of an enum that goes by this name and isn't marked `other`; none of another shape.
+    ///
+    /// The names stand in the table from which the plan was made. It compares them O(log n) times among n variants.
+    pub fn variant_named(&self, table: &ShapeTable, shape: ShapeId, name: &str) -> Option<u32>
+        ensures first { (root : Id) → IsChecked table.now → IsIn table.now root.0
+            → IsPlanOf table.now root self.now → Reached table.now root.0 shape.0
+            → result ≡ variant_named name.now (variants_of (def_of table.now shape.0)) }
+    {
+        find_named(table, &self.shape_fields, shape, name)
+    }
+
+    /// The number of the first variant of an enum that has this discriminant; none of another shape.
+    ///
+    /// The discriminants stand in the table from which the plan was made. It compares them O(log n) times among n variants.
+    pub fn variant_told_by(
+        &self,
+        table: &ShapeTable,
+        shape: ShapeId,
+        discriminant: i64,
+    ) -> Option<u32>
+        ensures first { (root : Id) → IsChecked table.now → IsIn table.now root.0
+            → IsPlanOf table.now root self.now → Reached table.now root.0 shape.0
+            → result ≡ variant_told_by discriminant (variants_of (def_of table.now shape.0)) }
+    {
+        find_told_by(table, &self.shape_fields, shape, discriminant)
     }
 
     /// Whether a field of the struct, or of the enum's variant of this number, has a validator. It takes the same time
