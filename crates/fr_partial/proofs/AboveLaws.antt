@@ -1,5 +1,5 @@
 -- The place above the one at which a builder works: whether it is a set, by the slot that the place on top knows as its owner's.
-use Rattle.std.proofs.Common.{◌≡◌, ◌+◌, ℕ, length, Bool, true, false, List, [], ◌∷◌, ◌++◌, Some, None, option_map, refl, sym, ◌∙◌, ap, subst}
+use Rattle.std.proofs.Common.{◌≡◌, ◌+◌, ℕ, length, false, List, [], ◌∷◌, ◌++◌, Some, None, option_map, refl, sym, ◌∙◌, ap, subst}
 use Rattle.fr_model.specs.Collections.{is_set}
 use Rattle.fr_model.specs.DynamicPlaces.{is_begun_dynamic}
 use Rattle.fr_model.specs.Places.{Place, is_root, up}
@@ -16,7 +16,7 @@ use Rattle.fr_frame.specs.OutlineLaws.{found_outline, none_found as no_outline}
 use Rattle.fr_frame.specs.Kids.{Kid, gone, there, at, entered_plot, whole_plot, begun_plot, tree_of, trees_in, cells_in, child_owner, Holds}
 use Rattle.fr_store.specs.HoldLaws.{holds_at}
 use Rattle.fr_store.specs.LeaveLaws.{below_root, owner_append, up_append}
-use Rattle.fr_store.specs.Moves.{cursor_in, takes_at_end, tree_in_slots}
+use Rattle.fr_store.specs.Moves.{cursor_in, tree_in_slots}
 use Rattle.fr_store.specs.Numbers.{IsLast}
 use Rattle.fr_store.specs.Stands.{IsOpen, kid_shown}
 use Rattle.fr_store.specs.Ways.{Leads, kid_at, node_along, owner_along, owner_below}
@@ -154,23 +154,3 @@ module _ (plan : Plan) (slots : List Slot) (stack : List ℕ) (shown : IsOpen pl
           dynamic_by_outline (body_of above.piece) (begun_body (above_here below).form (above_here below).cells)
           (body_told above found)
           ∙ sym (ap is_begun_dynamic (above_here below).stands)
-
--- a place that belongs neither to a set nor to a dynamic value isn't left so
-pub neither : (tree : Tree) → is_set tree ≡ false → is_begun_dynamic tree ≡ false → takes_at_end tree ≡ false
-neither tree set dynamic = rw (set, dynamic) refl
-
--- and one that isn't left so belongs to neither
-pub no_item : (tree : Tree) → takes_at_end tree ≡ false → is_set tree ≡ false
-no_item tree other = go (is_set tree) (is_begun_dynamic tree) refl refl
-  where
-    go : (a b : Bool) → is_set tree ≡ a → is_begun_dynamic tree ≡ b → is_set tree ≡ false
-    go false b e h = e
-    go true b e h = let apart : true ≡ false = rw e at other in cc
-
-pub no_part : (tree : Tree) → takes_at_end tree ≡ false → is_begun_dynamic tree ≡ false
-no_part tree other = go (is_set tree) (is_begun_dynamic tree) refl refl
-  where
-    go : (a b : Bool) → is_set tree ≡ a → is_begun_dynamic tree ≡ b → is_begun_dynamic tree ≡ false
-    go a false e h = h
-    go true true e h = let apart : true ≡ false = rw e at other in cc
-    go false true e h = let apart : true ≡ false = rw (e, h) at other in cc

@@ -1,30 +1,27 @@
 -- Going on to a child: what it is refused for, and what it means.
-use Rattle.std.proofs.Common.{◌≡◌, ℕ, suc, ◌+◌, ◌<◌, Bool, true, false, List, [], ◌∷◌, length, Option, Some, None, Ok, Err, nat_le, nat_lt, ◌≤◌, ◌^◌, if◌then◌else◌, slice_get, refl, sym, ◌∙◌, ap, subst, arith}
+use Rattle.std.proofs.Common.{◌≡◌, ℕ, suc, ◌+◌, ◌<◌, Bool, true, false, List, [], ◌∷◌, length, Option, Some, None, Ok, Err, nat_lt, if◌then◌else◌, slice_get, refl, sym, ◌∙◌, ap, subst, arith}
 use Rattle.std.specs.Option.{option_or}
 use Rattle.std.specs.Str.{bytes_eq}
-use Rattle.std.proofs.lemmas.Bool.{leb-true, ltb-true, lt-ltb}
+use Rattle.std.proofs.lemmas.Bool.{ltb-true, lt-ltb}
 use Rattle.fr_shape.specs.declared.shape.Def.{Def}
-use Rattle.fr_shape.specs.declared.shape.EnumDef.{EnumDef}
 use Rattle.fr_shape.specs.declared.shape.Field.{Field}
 use Rattle.fr_shape.specs.declared.shape.ShapeId.{ShapeId}
 use Rattle.fr_shape.specs.declared.shape.VariantDef.{VariantDef}
 use Rattle.fr_shape.specs.declared.error.ReflectErrorKind.{ReflectErrorKind}
 use Rattle.fr_shape.specs.declared.error.Operation.{Operation}
 use Rattle.fr_shape.specs.Look.{Table, def_of, variants_of}
-use Rattle.fr_shape.specs.Numbered.{field_count, IsNumbered}
 use Rattle.fr_shape.specs.Named.{first_declared}
-use Rattle.fr_model.specs.Tree.{Form, selected, Tree, State, cursor_tree}
-use Rattle.fr_model.specs.Step.{begin_nth_field, begin_field, enters, field_refusal, named_refusal}
+use Rattle.fr_model.specs.Tree.{Form, selected, Tree, cursor_tree}
+use Rattle.fr_model.specs.Step.{begin_field, enters, field_refusal, named_refusal, Way}
 use Rattle.fr_model.specs.Variants.{field_found, variant_fields}
-use Rattle.fr_model.specs.Places.{array_limit}
-use Rattle.fr_model.specs.Well.{HasFieldsOf, IsFullAs}
+use Rattle.fr_model.specs.Well.{IsFullAs}
 use Rattle.fr_plan.specs.Names.{declared_field}
 use Rattle.fr_frame.specs.Heap.{as_form}
-use Rattle.fr_partial.specs.Builder.{Builder, here}
+use Rattle.fr_partial.specs.Sites.{Site, shape_at}
 use Rattle.fr_partial.specs.declared.admitting.Opening.{Opening}
 use Rattle.fr_partial.specs.Entering.{Describes}
 use Rattle.fr_partial.proofs.FormLaws.{struct_form, array_form, enum_form, variant_count}
-use Rattle.fr_partial.proofs.SeenLaws.{Sees, shape_seen, def_seen, refusal_seen, named_seen, selected_seen}
+use Rattle.fr_partial.proofs.SeenLaws.{Sees, shape_seen, def_seen, named_seen, selected_seen}
 
 -- what may be entered is there
 
@@ -71,96 +68,42 @@ opened_within table s t i opening says may = go (def_of table s) says.begun may
     go Def.Opaque full none = cc
     go _ full none = cc
 
-array_small : (i n : ℕ) (item : ShapeId) (t : Tree) → field_refusal (Def.Array item n) t i ≡ None → n ≤ array_limit
-array_small i n item t may = go (nat_lt i n) (nat_le n array_limit) refl refl
-  where
-    go : (b d : Bool) → nat_lt i n ≡ b → nat_le n array_limit ≡ d → n ≤ array_limit
-    go b true e h = leb-true n array_limit h
-    go true false e h = let no : Some Operation.ArrayTooLarge ≡ None = rw (e, h) at may in cc
-    go false false e h = let no : Some Operation.ArrayIndexOutOfBounds ≡ None = rw e at may in cc
+-- by what the site sees
 
--- its number is one of 32 bits
-pub small_child : (table : Table) (s : ℕ) (t : Tree) (i : ℕ) (opening : Opening) → IsNumbered table
-    → Describes table s t opening → field_refusal (def_of table s) t i ≡ None → i < 2 ^ 32
-small_child table s t i opening numbered says may = go (def_of table s) refl says.begun may
-  where
-    below : i < opening.count
-    below = opened_within table s t i opening says may
-
-    of_variant : (enumeration : EnumDef) (k : ℕ) → def_of table s ≡ Def.Enum enumeration → (found : Option VariantDef)
-        → slice_get enumeration.variants k ≡ found → HasFieldsOf found opening.count → i < 2 ^ 32
-    of_variant enumeration k e (Some variant) is full =
-        let there : slice_get (variants_of (def_of table s)) k ≡ Some variant = rw e is in
-        omega (arith, below, full, numbered.variant_fields s k variant there)
-    of_variant enumeration k e None is full = absurd full
-
-    go : (def : Def) → def_of table s ≡ def → IsFullAs def (as_form opening.form) opening.count → field_refusal def t i ≡ None
-        → i < 2 ^ 32
-    go (Def.Struct struct) e full none =
-        let fields : field_count (Def.Struct struct) < 2 ^ 32
-        = subst (λ (def : Def). field_count def < 2 ^ 32) e (numbered.fields s) in
-        omega (arith, below, (struct_form struct (as_form opening.form) opening.count full).1, fields)
-    go (Def.Array item n) e full none =
-        omega (arith, below, (array_form item n (as_form opening.form) opening.count full).1, array_small i n item t none)
-    go (Def.Enum enumeration) e full none =
-        let is = enum_form enumeration (as_form opening.form) opening.count full in
-        of_variant enumeration is.variant e (slice_get enumeration.variants is.variant) refl is.full
-    go (Def.Slice item) e full none = cc
-    go Def.Opaque e full none = cc
-    go _ e full none = cc
-
-pub begin_admitted : {H : Type 0} (builder : Builder H) (i : ℕ)
-    → field_refusal (def_of builder.shapes (here builder)) (cursor_tree builder.state) i ≡ None
-    → begin_nth_field builder.shapes (here builder) builder.state i
-    ≡ Ok (enters builder.shapes (here builder) builder.state i)
-begin_admitted builder i e = rw e refl
-
-pub begins : (table : Table) (s : ℕ) (state : State) (i : ℕ) → field_refusal (def_of table s) (cursor_tree state) i ≡ None
-    → begin_nth_field table s state i ≡ Ok (enters table s state i)
-begins table s state i e = rw e refl
-
--- by what the builder sees
-
-module _ {H : Type 0} {builder : Builder H} {table : Table} {shape : ShapeId} {seen : Tree}
-    (at : Sees builder table shape seen) where
+module _ {site : Site} {table : Table} {shape : ShapeId} {seen : Tree}
+    (at : Sees site table shape seen) where
   -- what the table says of the place's shape
   pub describes_here : (opening : Opening) → Describes table shape.0 seen opening
-      → Describes builder.shapes (here builder) (cursor_tree builder.state) opening
+      → Describes site.shapes (shape_at site) (cursor_tree site.state) opening
   describes_here opening says = record {
     begun = subst (λ (def : Def). IsFullAs def (as_form opening.form) opening.count) (def_seen at) says.begun;
     variant = λ k is. sym (selected_seen at) ∙ says.variant k is;
   }
 
-  pub begin_refused : (i : ℕ) (operation : Operation) → field_refusal (def_of table shape.0) seen i ≡ Some operation
-      → begin_nth_field builder.shapes (here builder) builder.state i ≡ Err (ReflectErrorKind.OperationFailed shape operation)
-  begin_refused i operation e =
-      rw (sym (refusal_seen at i) ∙ e)
-      (ap (λ (s : ShapeId). Err (ReflectErrorKind.OperationFailed s operation)) (shape_seen at))
-
-  pub named_refused : (name : List ℕ) (operation : Operation) → named_refusal (def_of table shape.0) seen ≡ Some operation
-      → begin_field builder.shapes (here builder) builder.state name
-      ≡ Err (ReflectErrorKind.OperationFailed shape operation)
-  named_refused name operation e =
-      rw (sym (named_seen at) ∙ e)
-      (ap (λ (s : ShapeId). Err (ReflectErrorKind.OperationFailed s operation)) (shape_seen at))
-
-  found_seen : (name : List ℕ) → field_found name (def_of builder.shapes (here builder)) (selected (cursor_tree builder.state))
+  found_seen : (name : List ℕ) → field_found name (def_of site.shapes (shape_at site)) (selected (cursor_tree site.state))
       ≡ field_found name (def_of table shape.0) (selected seen)
   found_seen name =
-      ap (λ (def : Def). field_found name def (selected (cursor_tree builder.state))) (sym (def_seen at))
+      ap (λ (def : Def). field_found name def (selected (cursor_tree site.state))) (sym (def_seen at))
       ∙ ap (field_found name (def_of table shape.0)) (sym (selected_seen at))
 
   pub named_unknown : (name : List ℕ) → named_refusal (def_of table shape.0) seen ≡ None
       → field_found name (def_of table shape.0) (selected seen) ≡ None
-      → begin_field builder.shapes (here builder) builder.state name ≡ Err (ReflectErrorKind.FieldError shape)
+      → begin_field site.shapes (shape_at site) site.state name ≡ Err (ReflectErrorKind.FieldError shape)
   named_unknown name e found =
       rw (sym (named_seen at) ∙ e, found_seen name ∙ found)
       (ap (λ (s : ShapeId). Err (ReflectErrorKind.FieldError s)) (shape_seen at))
 
+  pub named_unopened : (name : List ℕ) (operation : Operation) → named_refusal (def_of table shape.0) seen ≡ Some operation
+      → begin_field site.shapes (shape_at site) site.state name
+      ≡ Err (ReflectErrorKind.OperationFailed shape operation)
+  named_unopened name operation e =
+      rw (sym (named_seen at) ∙ e)
+      (ap (λ (s : ShapeId). Err (ReflectErrorKind.OperationFailed s operation)) (shape_seen at))
+
   pub named_admitted : (name : List ℕ) (i : ℕ) → named_refusal (def_of table shape.0) seen ≡ None
       → field_found name (def_of table shape.0) (selected seen) ≡ Some i
-      → begin_field builder.shapes (here builder) builder.state name
-      ≡ Ok (enters builder.shapes (here builder) builder.state i)
+      → begin_field site.shapes (shape_at site) site.state name
+      ≡ Ok (enters site.shapes (shape_at site) site.state (Way.Child i))
   named_admitted name i e found = rw (sym (named_seen at) ∙ e, found_seen name ∙ found) refl
 
 declared_below : (name : List ℕ) (k : ℕ) (fields : List Field) (i : ℕ) → first_declared name k fields ≡ Some i

@@ -1,22 +1,22 @@
 -- The place on top, once all that was left beneath it is completed: it is what it was, and no child of it is in a slot.
-use Rattle.std.proofs.Common.{◌≡◌, ◌⊎◌, ℕ, false, List, inl, inr, sym, ◌∙◌, ap, subst}
+use Rattle.std.proofs.Common.{◌≡◌, ◌⊎◌, ℕ, suc, List, [], ◌∷◌, Some, inl, inr, refl, sym, ◌∙◌, ap, subst}
 use Rattle.fr_shape.specs.declared.error.ReflectErrorKind.{ReflectErrorKind}
 use Rattle.fr_shape.specs.declared.shape.ShapeId.{ShapeId}
 use Rattle.fr_shape.specs.Hooks.{Meanings}
 use Rattle.fr_shape.specs.Look.{Table}
 use Rattle.fr_path.specs.declared.path_steps.PathStep.{PathStep}
-use Rattle.fr_model.specs.Collections.{is_set, number_in, with_ended_item}
 use Rattle.fr_model.specs.Complete.{complete}
-use Rattle.fr_model.specs.Failing.{Failure, failures, first_by_walk}
+use Rattle.fr_model.specs.Failing.{Failure, failure_at, failures, failures_among, first_by_walk, own_lack}
 use Rattle.fr_model.specs.Finish.{kind_of}
-use Rattle.fr_model.specs.Places.{deferred_column, is_root, Place, up}
+use Rattle.fr_model.specs.Places.{deferred_column, Place}
 use Rattle.fr_model.specs.Step.{cause_by, or_missing}
-use Rattle.fr_model.specs.Tree.{Tree, whole, change_at, shape_in, tree_at}
+use Rattle.fr_model.specs.Tree.{Form, Tree, change_at, shape_in, tree_at}
 use Rattle.fr_model.specs.Well.{Suits}
 use Rattle.fr_plan.specs.LookupLaws.{LookupsAgree, LookupPathsAgree}
 use Rattle.fr_plan.specs.TypePlan.{Plan}
 use Rattle.fr_frame.specs.declared.places.Slot.{Slot}
-use Rattle.fr_frame.specs.Bodies.{own_tree, IsClosed}
+use Rattle.fr_frame.specs.Bodies.{Body, entered_body, whole_body, begun_body, own_tree, trees_of, IsClosed}
+use Rattle.fr_frame.specs.Cells.{Cell, absent, given, placed}
 use Rattle.fr_frame.specs.Changes.{IfInUse}
 use Rattle.fr_frame.specs.Completing.{shape_of}
 use Rattle.fr_frame.specs.Defaults.{WhyNotDefault}
@@ -26,15 +26,40 @@ use Rattle.fr_store.specs.Beneath.{IsCompleteBeneath, IsHeldUpHere}
 use Rattle.fr_store.specs.MoveLaws.{open_top}
 use Rattle.fr_store.specs.Moves.{cursor_in, tree_here, tree_in_slots, IsOpenAt}
 use Rattle.fr_store.specs.Numbers.{IsLast}
-use Rattle.fr_partial.specs.Ending.{IsEnded, IsHeldUpAt, IsItemEnded}
+use Rattle.fr_partial.specs.declared.moves.Rules.{Rules}
+use Rattle.fr_partial.specs.Ending.{HoldsItsValue, IsHeldUpAt}
 use Rattle.fr_partial.specs.Underway.{shape_here, IsReady}
 use Rattle.fr_partial.proofs.BodyLaws.{put_twice}
 use Rattle.fr_partial.proofs.EndingLaws.{here_so, own_here, shape_is}
 use Rattle.fr_partial.proofs.FinishLaws.{root_is}
 use Rattle.fr_partial.proofs.HereLaws.{top_body}
 use Rattle.fr_partial.proofs.PlaceLaws.{node_here}
-use Rattle.fr_partial.proofs.SetItemLaws.{caused_by_itself}
-use Rattle.fr_partial.proofs.TreeLaws.{item_over, set_stays, shape_stays}
+use Rattle.fr_partial.proofs.TreeLaws.{shape_stays}
+
+-- Where all children of a place are whole or not there, it fails by itself alone.
+
+none_fails : (hooks : Meanings) (table : Table) (s : ℕ) (form : Form) (i : ℕ) (path : List PathStep) (cells : List Cell)
+    → failures_among hooks table s form i path (trees_of cells) ≡ []
+none_fails hooks table s form i path [] = refl
+none_fails hooks table s form i path (absent ∷ cells) = none_fails hooks table s form (suc i) path cells
+none_fails hooks table s form i path (given v ∷ cells) = none_fails hooks table s form (suc i) path cells
+none_fails hooks table s form i path (placed n ∷ cells) = none_fails hooks table s form (suc i) path cells
+
+fails_itself : (hooks : Meanings) (table : Table) (s : ℕ) (path : List PathStep) (body : Body) (kind : ReflectErrorKind)
+    → own_lack hooks table s (own_tree body) ≡ Some kind
+    → failures hooks table s path (own_tree body) ≡ failure_at path (Some kind)
+fails_itself hooks table s path entered_body kind e = ap (failure_at path) e
+fails_itself hooks table s path (whole_body v) kind e = cc
+fails_itself hooks table s path (begun_body form cells) kind e =
+    rw (none_fails hooks table s form 0 path cells) (ap (failure_at path) e)
+
+caused_by_itself : (hooks : Meanings) (table : Table) (s : ℕ) (path : List PathStep) (body : Body) (kind : ReflectErrorKind)
+    → own_lack hooks table s (own_tree body) ≡ Some kind
+    → kind ≡ cause_by deferred_column hooks table s path (own_tree body)
+caused_by_itself hooks table s path body kind e =
+    sym
+    (ap (λ (fs : List Failure). or_missing s (kind_of (first_by_walk fs)))
+    (fails_itself hooks table s path body kind e))
 
 module _ (agree : LookupsAgree) (paths : LookupPathsAgree) (table : Table) (root : ShapeId) (plan : Plan) (before : List Slot)
     (stack : List ℕ) (ready : IsReady table root plan before stack) (means : Meanings) where
@@ -110,17 +135,6 @@ module _ (agree : LookupsAgree) (paths : LookupPathsAgree) (table : Table) (root
         (failures means table (shape_here table root.0 before stack) path (tree_here before stack)))))
         shape_same
 
-    pub below_then : is_root (cursor_in before stack) ≡ false → is_root (cursor_in after stack) ≡ false
-    below_then below = ap is_root done.stands.cursor ∙ below
-
-    pub set_then : is_root (cursor_in before stack) ≡ false
-        → is_set (tree_at (up (cursor_in after stack)) (tree_in_slots after stack))
-        ≡ is_set (tree_at (up (cursor_in before stack)) (tree_in_slots before stack))
-    set_then below =
-        ap (λ (p : Place). is_set (tree_at (up p) (tree_in_slots after stack))) done.stands.cursor
-        ∙ ap (λ (t : Tree). is_set (tree_at (up (cursor_in before stack)) t)) done.stands.built
-        ∙ set_stays (cursor_in before stack) (λ old. done.tree) (tree_in_slots before stack) below
-
     -- why it makes no value itself
     pub why_then : (n : ℕ) → IsLast stack n → (kind : ReflectErrorKind)
         → IfInUse after n (λ (at : Node). WhyNotDefault means table (shape_of plan at.node) at.body kind)
@@ -159,42 +173,23 @@ module _ (agree : LookupsAgree) (paths : LookupPathsAgree) (table : Table) (root
             })
         go (inr wants) = inl wants.memory
 
-    -- the set takes its value
-    pub ended_then : is_root (cursor_in before stack) ≡ false → (slots : List Slot) (next : List ℕ)
-        → IsItemEnded deferred_column means table (shape_here table root.0 after stack) plan slots next
+    -- the value that it holds then is the one that it makes
+    pub holds_then : (slots : List Slot)
+        → HoldsItsValue Rules.Deferred means table (shape_here table root.0 after stack) plan slots stack
         (tree_in_slots after stack) (cursor_in after stack)
-        → IsItemEnded deferred_column means table (shape_here table root.0 before stack) plan slots next
+        → HoldsItsValue Rules.Deferred means table (shape_here table root.0 before stack) plan slots stack
         (tree_in_slots before stack) (cursor_in before stack)
-    ended_then below slots next ended = record {
-      value = ended.value;
-      meant = sym completes_same ∙ ended.meant;
-      after =
-          subst (λ (t : Tree). IsOpenAt plan slots next (up (cursor_in before stack)) t)
-          (ap
-          (λ (t : Tree). change_at (up (cursor_in before stack))
-          (with_ended_item (number_in (cursor_in before stack)) ended.value) t)
-          done.stands.built
-          ∙ item_over (cursor_in before stack) ended.value (λ old. done.tree) (tree_in_slots before stack) below)
+    holds_then slots holds = record {
+      value = holds.value;
+      meant = sym completes_same ∙ holds.meant;
+      now = holds.now;
+      stands =
+          subst (λ (t : Tree). IsOpenAt plan slots stack (cursor_in before stack) t)
+          (ap (λ (t : Tree). change_at (cursor_in before stack) (λ old. holds.now) t) done.stands.built
+          ∙ put_twice (cursor_in before stack) done.tree holds.now (tree_in_slots before stack))
           (subst
-          (λ (p : Place). IsOpenAt plan slots next (up p)
-          (change_at (up p) (with_ended_item (number_in p) ended.value) (tree_in_slots after stack)))
-          done.stands.cursor ended.after);
-    }
-
-    -- or it is left with its value
-    pub left_then : (slots : List Slot) (next : List ℕ)
-        → IsEnded deferred_column means table (shape_here table root.0 after stack) plan slots next
-        (tree_in_slots after stack) (cursor_in after stack)
-        → IsEnded deferred_column means table (shape_here table root.0 before stack) plan slots next
-        (tree_in_slots before stack) (cursor_in before stack)
-    left_then slots next ended = record {
-      value = ended.value;
-      meant = sym completes_same ∙ ended.meant;
-      after =
-          subst (λ (t : Tree). IsOpenAt plan slots next (up (cursor_in before stack)) t)
-          (ap (λ (t : Tree). change_at (cursor_in before stack) (λ old. whole ended.value) t) done.stands.built
-          ∙ put_twice (cursor_in before stack) done.tree (whole ended.value) (tree_in_slots before stack))
-          (subst
-          (λ (p : Place). IsOpenAt plan slots next (up p) (change_at p (λ old. whole ended.value) (tree_in_slots after stack)))
-          done.stands.cursor ended.after);
+          (λ (p : Place). IsOpenAt plan slots stack p (change_at p (λ old. holds.now) (tree_in_slots after stack)))
+          done.stands.cursor holds.stands);
+      held = holds.held;
+      unboxed = λ none. cc;
     }

@@ -1,20 +1,34 @@
 -- Setting a field to its default: what it means, and what it is refused for.
-use Rattle.std.proofs.Common.{◌≡◌, ℕ, true, [], length, Option, Some, None, Ok, Err, nat_lt, slice_get, refl, ◌∙◌, ap}
+use Rattle.std.proofs.Common.{◌≡◌, ◌≢◌, ℕ, true, [], length, Option, Some, None, Result, Ok, Err, nat_lt, slice_get, inl, inr, refl, sym, ◌∙◌, ap}
 use Rattle.std.proofs.lemmas.Bool.{lt-ltb}
 use Rattle.fr_shape.specs.Checked.{IsChecked}
 use Rattle.fr_shape.specs.declared.error.Operation.{Operation}
+use Rattle.fr_shape.specs.declared.error.ReflectErrorKind.{ReflectErrorKind}
 use Rattle.fr_shape.specs.declared.shape.Def.{Def}
+use Rattle.fr_shape.specs.declared.shape.DefaultSource.{DefaultSource}
 use Rattle.fr_shape.specs.declared.shape.Field.{Field}
 use Rattle.fr_shape.specs.declared.shape.ShapeId.{ShapeId}
 use Rattle.fr_shape.specs.declared.shape.VariantDef.{VariantDef}
+use Rattle.fr_shape.specs.declared.value.Value.{Value}
+use Rattle.fr_shape.specs.Fills.{preset_of}
+use Rattle.fr_shape.specs.Hooks.{Meanings}
 use Rattle.fr_shape.specs.Look.{Table, def_of, field_in, field_of_variant}
 use Rattle.fr_shape.specs.Tokens.{tokens}
 use Rattle.fr_shape.specs.Val.{Val}
-use Rattle.fr_model.specs.Step.{at_shape, field_default, field_refusal, named_refusal, puts_child_default, set_nth_field_to_default}
+use Rattle.fr_shape.specs.View.{view}
+use Rattle.fr_model.specs.Commands.{Call}
+use Rattle.fr_model.specs.Step.{at_shape, default_by_mark, default_or, field_default, field_refusal, named_refusal, operation_failed, puts_child, puts_child_default, set_nth_field_to_default, step}
 use Rattle.fr_model.specs.Tree.{cursor_tree, selected, State, Tree}
-use Rattle.fr_partial.specs.Builder.{Builder, here}
+use Rattle.fr_partial.specs.Sites.{Site, shape_at}
+use Rattle.fr_partial.specs.declared.admitting.Opening.{Opening}
+use Rattle.fr_partial.specs.declared.moves.Change.{Change}
+use Rattle.fr_partial.specs.declared.moves.Move.{Move}
+use Rattle.fr_partial.specs.Entering.{Describes}
 use Rattle.fr_partial.specs.FieldDefaults.{default_in, default_of}
+use Rattle.fr_partial.specs.Moving.{ComesTo, IsRefusedWith}
+use Rattle.fr_partial.proofs.BeginLaws.{describes_here}
 use Rattle.fr_partial.proofs.FitLaws.{is_there}
+use Rattle.fr_partial.proofs.PutLaws.{admits}
 use Rattle.fr_partial.proofs.SeenLaws.{Sees, def_seen, named_seen, selected_seen}
 use Rattle.fr_partial.proofs.TemplateLaws.{default_light}
 
@@ -88,22 +102,88 @@ default_means table s state i = by_name (named_refusal (def_of table s) (cursor_
     by_name (Some operation) named = rw named refl
     by_name None named = by_field named (field_in (def_of table s) (selected (cursor_tree state)) i) refl
 
--- as the builder sees it
-pub default_seen : {H : Type 0} {builder : Builder H} {table : Table} {shape : ShapeId} {seen : Tree}
-    → Sees builder table shape seen → (i : ℕ)
-    → default_in table shape.0 seen i ≡ default_in builder.shapes (here builder) (cursor_tree builder.state) i
-default_seen {H} {builder} {table} {shape} {seen} at i =
+-- as the site sees it
+pub default_seen : {site : Site} {table : Table} {shape : ShapeId} {seen : Tree}
+    → Sees site table shape seen → (i : ℕ)
+    → default_in table shape.0 seen i ≡ default_in site.shapes (shape_at site) (cursor_tree site.state) i
+default_seen {site} {table} {shape} {seen} at i =
     ap (λ (refused : Option Operation). default_of table shape.0 (at_shape shape.0 refused)
     (field_in (def_of table shape.0) (selected seen) i)) (named_seen at)
     ∙ ap (λ (chosen : Option ℕ). default_of table shape.0
-    (at_shape shape.0 (named_refusal (def_of builder.shapes (here builder)) (cursor_tree builder.state)))
+    (at_shape shape.0 (named_refusal (def_of site.shapes (shape_at site)) (cursor_tree site.state)))
     (field_in (def_of table shape.0) chosen i)) (selected_seen at)
     ∙ ap (λ (def : Def). default_of table shape.0
-    (at_shape shape.0 (named_refusal (def_of builder.shapes (here builder)) (cursor_tree builder.state)))
-    (field_in def (selected (cursor_tree builder.state)) i)) (def_seen at)
+    (at_shape shape.0 (named_refusal (def_of site.shapes (shape_at site)) (cursor_tree site.state)))
+    (field_in def (selected (cursor_tree site.state)) i)) (def_seen at)
     ∙ ap (λ (s : ℕ). default_of table s
-    (at_shape s (named_refusal (def_of builder.shapes (here builder)) (cursor_tree builder.state)))
-    (field_in (def_of builder.shapes (here builder)) (selected (cursor_tree builder.state)) i)) at.shape_is
-    ∙ ap (λ (t : Table). default_of t (here builder)
-    (at_shape (here builder) (named_refusal (def_of builder.shapes (here builder)) (cursor_tree builder.state)))
-    (field_in (def_of builder.shapes (here builder)) (selected (cursor_tree builder.state)) i)) at.table_is
+    (at_shape s (named_refusal (def_of site.shapes (shape_at site)) (cursor_tree site.state)))
+    (field_in (def_of site.shapes (shape_at site)) (selected (cursor_tree site.state)) i)) at.shape_is
+    ∙ ap (λ (t : Table). default_of t (shape_at site)
+    (at_shape (shape_at site) (named_refusal (def_of site.shapes (shape_at site)) (cursor_tree site.state)))
+    (field_in (def_of site.shapes (shape_at site)) (selected (cursor_tree site.state)) i)) at.table_is
+
+-- a refusal is named, and never that memory was wanting
+
+or_named : (preset : Option Val) (other kind : ReflectErrorKind) → other ≢ ReflectErrorKind.OutOfMemory
+    → default_or preset other ≡ Err kind → kind ≢ ReflectErrorKind.OutOfMemory
+or_named (Some v) other kind named e out = cc
+or_named None other kind named e out = let same : other ≡ kind = cc in named (same ∙ out)
+
+mark_named : (table : Table) (shape : ShapeId) (mark : Option DefaultSource) (kind : ReflectErrorKind)
+    → default_by_mark table shape mark ≡ Err kind → kind ≢ ReflectErrorKind.OutOfMemory
+mark_named table shape (Some (DefaultSource.Custom v)) kind e out = cc
+mark_named table shape (Some DefaultSource.FromTrait) kind e out =
+    or_named (preset_of table shape.0) (operation_failed shape.0 Operation.NoDefault) kind (λ same. cc) e out
+mark_named table shape None kind e out =
+    or_named (preset_of table shape.0) (ReflectErrorKind.DefaultAttrButNoDefaultImpl shape) kind (λ same. cc) e out
+
+default_named : (table : Table) (s : ℕ) (refused : Option Operation) (field : Option Field) (kind : ReflectErrorKind)
+    → default_of table s (at_shape s refused) field ≡ Err kind → kind ≢ ReflectErrorKind.OutOfMemory
+default_named table s (Some operation) field kind e out = cc
+default_named table s None (Some field) kind e out = mark_named table field.shape field.default kind e out
+default_named table s None None kind e out = cc
+
+-- What the call comes to, by what the site sees.
+module _ {site : Site} {table : Table} {shape : ShapeId} {seen : Tree}
+    (at : Sees site table shape seen) (i : ℕ) where
+  meant_so : (made : Result Val ReflectErrorKind) → default_in table shape.0 seen i ≡ made → (hooks : Meanings)
+      → step hooks site.shapes site.root site.state (Call.SetNthFieldToDefault i)
+      ≡ puts_child_default site.shapes (shape_at site) site.state i made
+  meant_so made is hooks =
+      default_means site.shapes (shape_at site) site.state i
+      ∙ ap (puts_child_default site.shapes (shape_at site) site.state i) (sym (default_seen at i) ∙ is)
+
+  pub default_refused : (kind : ReflectErrorKind) → default_in table shape.0 seen i ≡ Err kind
+      → IsRefusedWith site (Call.SetNthFieldToDefault i) kind
+  default_refused kind is =
+      inl (
+        default_named table shape.0 (named_refusal (def_of table shape.0) seen)
+            (field_in (def_of table shape.0) (selected seen) i) kind is,
+        meant_so (Err kind) is,
+      )
+
+  module _ (checked : IsChecked site.shapes) (template : Val) (is : default_in table shape.0 seen i ≡ Ok template) where
+    here : default_in site.shapes (shape_at site) (cursor_tree site.state) i ≡ Ok template
+    here = sym (default_seen at i) ∙ is
+
+    pub default_empty_here : tokens template ≡ []
+    default_empty_here = default_empty site.shapes (shape_at site) (cursor_tree site.state) i template checked here
+
+    pub default_put : (opening : Opening) → Describes table shape.0 seen opening → (value : Value) → view value ≡ template
+        → ComesTo site (Call.SetNthFieldToDefault i) (Move.Stay (Change.PutChild i opening value))
+    default_put opening says value same = record {
+      fitting = tt;
+      same_tokens = λ t. refl;
+      may = (
+        describes_here at opening says,
+        default_admitted site.shapes (shape_at site) (cursor_tree site.state) i template here,
+        ap tokens same ∙ default_empty_here,
+      );
+      late = λ late. cc;
+      means = λ hooks.
+          meant_so (Ok template) is hooks ∙ ap (λ (v : Val). Ok (puts_child site.shapes (shape_at site) site.state i v)) (sym same);
+    }
+
+    -- where there is no memory for it
+    pub default_wanted : IsRefusedWith site (Call.SetNthFieldToDefault i) ReflectErrorKind.OutOfMemory
+    default_wanted = inr (refl, λ hooks. admits (meant_so (Ok template) is hooks))

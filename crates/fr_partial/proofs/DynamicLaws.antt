@@ -1,17 +1,13 @@
 -- A dynamic place that is begun as an array or as an object: what of it is kept, and what that means.
-use Rattle.std.proofs.Common.{◌≡◌, Bool, true, false, Option, Some, None, is_some, IsSome, unwrap_or, Ok, refl, sym, ◌∙◌, ap}
+use Rattle.std.proofs.Common.{◌≡◌, Bool, true, false, Option, Some, None, is_some, IsSome, unwrap_or, refl, sym, ◌∙◌, ap}
 use Rattle.std.specs.Option.{option_map}
-use Rattle.fr_shape.specs.Look.{def_of}
-use Rattle.fr_shape.specs.Plannable.{is_dynamic}
 use Rattle.fr_shape.specs.Val.{Val, Dynamics, Members}
 use Rattle.fr_model.specs.DynamicPlaces.{array_anew, array_of, begun_array, begun_object, kept_array, kept_object, object_anew, object_of}
 use Rattle.fr_model.specs.Dynamics.{dynamic_in, elements_in, members_of_object}
-use Rattle.fr_model.specs.Step.{becomes, init_list, init_list_refusal, init_map, init_map_refusal}
-use Rattle.fr_model.specs.Tree.{Form, as_dyn_array, as_dyn_object, Tree, hole, entered, whole, begun, Trees, holes, count_trees, cursor_tree}
+use Rattle.fr_model.specs.Tree.{Form, as_dyn_array, as_dyn_object, Tree, hole, entered, whole, begun, Trees, holes, count_trees}
 use Rattle.fr_store.specs.Moves.{around_elements, around_members}
 use Rattle.fr_partial.specs.declared.beginning.Beginning.{Beginning}
 use Rattle.fr_partial.specs.declared.dynamic_places.Parts.{Parts}
-use Rattle.fr_partial.specs.Builder.{Builder, here}
 use Rattle.fr_partial.specs.DynamicBeginnings.{anew_as, beginning_as, kept_as}
 use Rattle.fr_partial.specs.Looks.{bare, LooksLike}
 use Rattle.fr_partial.specs.Openings.{is_begun}
@@ -157,19 +153,3 @@ has_entries v h = go (members_of_object (dynamic_in v)) h
     go : (ms : Option Members) → IsSome (option_map object_of ms) → IsSome ms
     go (Some ms) h = refl
     go None h = cc
-
--- What it means.
-
-module _ {H : Type 0} (builder : Builder H)
-    (dynamic : is_dynamic (def_of builder.shapes (here builder)) ≡ true) where
-  pub elements_begin : init_list_refusal (here builder) (def_of builder.shapes (here builder)) (cursor_tree builder.state)
-      ≡ None
-      → init_list builder.shapes (here builder) builder.state
-      ≡ Ok (becomes builder.state (kept_as Parts.Elements (cursor_tree builder.state)) (anew_as Parts.Elements))
-  elements_begin e = rw (e, dynamic) refl
-
-  pub entries_begin : init_map_refusal (here builder) (def_of builder.shapes (here builder)) (cursor_tree builder.state)
-      ≡ None
-      → init_map builder.shapes (here builder) builder.state
-      ≡ Ok (becomes builder.state (kept_as Parts.Entries (cursor_tree builder.state)) (anew_as Parts.Entries))
-  entries_begin e = rw (e, dynamic) refl

@@ -6,13 +6,12 @@ use Rattle.fr_shape.specs.declared.shape.ShapeId.{ShapeId}
 use Rattle.fr_shape.specs.Hooks.{Meanings}
 use Rattle.fr_shape.specs.Look.{Table}
 use Rattle.fr_shape.specs.Released.{Conserved, Room, RoseBy}
-use Rattle.fr_shape.specs.TokenLaws.{Room_same, RoseBy_same}
+use Rattle.fr_shape.specs.TokenLaws.{Room_same}
 use Rattle.fr_shape.specs.Tokens.{occurs}
 use Rattle.fr_shape.specs.Val.{Val}
 use Rattle.fr_model.specs.Complete.{complete}
-use Rattle.fr_model.specs.Collections.{is_set, number_in, with_ended_item}
-use Rattle.fr_model.specs.Places.{Column, strict_column, Place, is_root, up}
-use Rattle.fr_model.specs.Tree.{Tree, whole, change_at, shape_in, tree_at, tree_occurs, deferred}
+use Rattle.fr_model.specs.Places.{Column, strict_column, Place}
+use Rattle.fr_model.specs.Tree.{Tree, change_at, shape_in, tree_at, tree_occurs, deferred}
 use Rattle.fr_model.specs.Well.{Suits}
 use Rattle.fr_plan.specs.declared.nodes.NodeId.{NodeId}
 use Rattle.fr_plan.specs.declared.nodes.TypePlanNode.{TypePlanNode}
@@ -23,7 +22,7 @@ use Rattle.fr_frame.specs.Bodies.{Body, entered_body, body_occurs, own_tree, tak
 use Rattle.fr_frame.specs.Defaults.{KeepsForm}
 use Rattle.fr_frame.specs.Changes.{IfInUse, SameMarks, SameTokens}
 use Rattle.fr_frame.specs.Closed.{IsClosedAt}
-use Rattle.fr_frame.specs.Completing.{shape_of, FillsAt, IsFull, IsPlanFor, MayComplete, WhyNot as WhyNotAt}
+use Rattle.fr_frame.specs.Completing.{shape_of, FillsAt, IsFull, MayComplete, WhyNot as WhyNotAt}
 use Rattle.fr_frame.specs.Heap.{Node, heap_of, marked, slots_occur, stored_in, with_slot}
 use Rattle.fr_frame.specs.Kids.{Plot, tree_of, body_in, plot_occurs}
 use Rattle.fr_store.specs.HereLaws.{body_back, closed_plot, tree_back}
@@ -31,13 +30,13 @@ use Rattle.fr_store.specs.MoveLaws.{open_top, same_last, top_changed}
 use Rattle.fr_store.specs.Moves.{cursor_in, tokens_here, tree_here, tree_in_slots, AtTop, IsOpenAt}
 use Rattle.fr_store.specs.Numbers.{IsLast}
 use Rattle.fr_store.specs.Stands.{IsOpen, kid_shown}
-use Rattle.fr_store.specs.Stored.{NothingStored}
 use Rattle.fr_store.specs.TopLaws.{closed_occur, closed_tree, held_may_have, keeps_closed, loses_none, slot_here, slot_other, MayHaveIts}
 use Rattle.fr_store.specs.WayLaws.{same_or_other, tree_of_at}
-use Rattle.fr_partial.specs.Ending.{IsEnded, IsItemEnded, IsMadeWhole, WhyNot}
+use Rattle.fr_partial.specs.declared.moves.Rules.{Rules}
+use Rattle.fr_partial.specs.Ending.{column_of, needs_none_by, HoldsItsValue, WhyNot}
 use Rattle.fr_partial.specs.Filling.{takes_no_memory}
 use Rattle.fr_partial.specs.Underway.{shape_here, IsReady}
-use Rattle.fr_partial.proofs.BodyLaws.{boxed, full_by, keeps_may, own_occurs, put_twice, why_of}
+use Rattle.fr_partial.proofs.BodyLaws.{boxed, full_by, keeps_may, own_occurs, why_of}
 use Rattle.fr_partial.proofs.EnterLaws.{changed_at}
 use Rattle.fr_partial.proofs.FitLaws.{is_there}
 use Rattle.fr_store.specs.Ways.{node_along}
@@ -46,7 +45,6 @@ use Rattle.fr_partial.proofs.LeftLaws.{keep_left}
 use Rattle.fr_partial.proofs.ReachLaws.{tree_leads}
 use Rattle.fr_partial.proofs.ReleaseLaws.{room_still}
 use Rattle.fr_partial.proofs.PlaceLaws.{node_here, here_found, here_along, held_is}
-use Rattle.fr_partial.proofs.TreeLaws.{item_over, set_stays}
 use Rattle.fr_store.specs.ShapeLaws.{IsOfShape}
 
 body_found : Option Node → Body
@@ -117,11 +115,6 @@ module _ (agree : LookupsAgree) (paths : LookupPathsAgree) (table : Table) (root
       (here_so plan slots stack ready.shown n last
       (λ (found : Node). WhyNotAt means table (shape_of plan found.node) found.body kind) why)))
 
--- the table's plan
-pub plan_for : (table : Table) (root : ShapeId) (plan : Plan) (slots : List Slot) (stack : List ℕ)
-    → IsReady table root plan slots stack → IsPlanFor table plan
-plan_for table root plan slots stack ready = record { root = root; inside = ready.inside; planned = ready.planned }
-
 -- The top, after it was filled.
 module _ (plan : Plan) (before after : List Slot) (stack : List ℕ) (shown : IsOpen plan before stack)
     (shut : IsClosed (body_in (open_top plan before stack shown).plot)) (n : ℕ) (last : IsLast stack n) (closed_in : IfInUse before n (IsClosedAt before after n))
@@ -182,20 +175,11 @@ module _ (plan : Plan) (before after : List Slot) (stack : List ℕ) (shown : Is
       omega (arith, tokens t)))
 
   -- the builder is open still, at the same place, with the same tokens
-  pub open_after : IsOpen plan after stack
+  open_after : IsOpen plan after stack
   open_after = filled_at.open_still
 
-  pub cursor_after : cursor_in after stack ≡ cursor_in before stack
+  cursor_after : cursor_in after stack ≡ cursor_in before stack
   cursor_after = filled_at.cursor
-
-  -- what stands above is a set as before
-  pub set_after : is_root (cursor_in before stack) ≡ false
-      → is_set (tree_at (up (cursor_in after stack)) (tree_in_slots after stack))
-      ≡ is_set (tree_at (up (cursor_in before stack)) (tree_in_slots before stack))
-  set_after below =
-      ap (λ (p : Place). is_set (tree_at (up p) (tree_in_slots after stack))) cursor_after
-      ∙ ap (λ (t : Tree). is_set (tree_at (up (cursor_in before stack)) t)) filled_at.built
-      ∙ set_stays (cursor_in before stack) (λ old. own_tree kept.body) (tree_in_slots before stack) below
 
   -- and nothing else is stored
   pub marks_after : SameMarks before after
@@ -208,21 +192,6 @@ module _ (plan : Plan) (before after : List Slot) (stack : List ℕ) (shown : Is
           ∙ sym (ap stored_in (here_found plan before stack shown n last))
           ∙ sym (ap (marked (heap_of before)) e)
       go (inr ne) = ap stored_in (kept.becomes m ∙ slot_other (heap_of before) n _ m ne)
-
-  tokens_after : (t : ℕ) → tree_occurs (tree_in_slots before stack) t ≡ tree_occurs (tree_in_slots after stack) t
-  tokens_after t =
-      sym (held_is plan before stack shown t) ∙ sym (tokens t) ∙ held_is plan after stack open_after t
-
-  pub room_after : (ledger : List ℕ) → Room (tree_occurs (tree_in_slots before stack)) ledger
-      → Room (tree_occurs (tree_in_slots after stack)) ledger
-  room_after ledger room =
-      Room_same (tree_occurs (tree_in_slots before stack)) (tree_occurs (tree_in_slots after stack)) ledger tokens_after room
-
-  pub rose_after : (ledger risen : List ℕ) → RoseBy (tree_occurs (tree_in_slots after stack)) ledger risen
-      → RoseBy (tree_occurs (tree_in_slots before stack)) ledger risen
-  rose_after ledger risen rose =
-      RoseBy_same (tree_occurs (tree_in_slots after stack)) (tree_occurs (tree_in_slots before stack)) ledger risen
-      (λ t. sym (tokens_after t)) rose
 
   here_after : tree_here after stack ≡ own_tree kept.body
   here_after =
@@ -284,11 +253,20 @@ module _ (plan : Plan) (before after : List Slot) (stack : List ℕ) (shown : Is
   }
 
   -- where it comes to take a box it takes memory
-  wants_memory : (table : Table) (root : ShapeId) → takes_memory kept.body ≡ true
+  wants_memory : takes_memory kept.body ≡ true
       → takes_no_memory (tree_here before stack) ≡ false
-  wants_memory table root h =
+  wants_memory h =
       ap takes_no_memory (sym (own_here plan before stack shown shut))
       ∙ boxed (node_here plan before stack shown).body kept.body keeps h
+
+  -- and where it took none it takes none
+  unboxed_by : (rules : Rules) → needs_none_by rules (tree_here before stack) ≡ true → (b : Bool) → takes_memory kept.body ≡ b
+      → b ≡ false
+  unboxed_by Rules.Strict none false e = refl
+  unboxed_by Rules.Strict none true e =
+      let no : true ≡ false = sym none ∙ wants_memory e in
+      cc
+  unboxed_by Rules.Deferred none b e = cc
 
   -- Filled by the rules of either column.
   module _ (column : Column) (means : Meanings) (table : Table) (root : ShapeId) (agree : LookupsAgree)
@@ -317,113 +295,46 @@ module _ (plan : Plan) (before after : List Slot) (stack : List ℕ) (shown : Is
         (sym (own_here plan before stack shown shut))
         ∙ item_fills.filled.meant
 
-    pub item_value : AtTop after stack (λ (at : Node). IsSome (value_of at.body))
-    item_value m is =
-        let same : n ≡ m = same_last last.0 is.0 n m (sym last.1 ∙ is.1) in
-        subst (λ (x : ℕ). IfInUse after x (λ (at : Node). IsSome (value_of at.body))) same
-        (so_after (λ (at : Node). IsSome (value_of at.body)) (ap (λ (v : Option Val). is_some v) item_held))
+  at_top : (So : Node → Type 0) → So (record (node_here plan before stack shown) { body = kept.body }) → AtTop after stack So
+  at_top So so m is =
+      let same : n ≡ m = same_last last.0 is.0 n m (sym last.1 ∙ is.1) in
+      subst (λ (x : ℕ). IfInUse after x So) same (so_after So so)
 
-    -- the set takes the value
-    pub item_ended : is_root (cursor_in before stack) ≡ false → (slots : List Slot) (next : List ℕ)
-        → AtTop after stack (λ (at : Node). (v : Val) → value_of at.body ≡ Some v
-        → IsOpenAt plan slots next (up (cursor_in after stack))
-        (change_at (up (cursor_in after stack)) (with_ended_item (number_in (cursor_in after stack)) v)
-        (tree_in_slots after stack)))
-        → IsItemEnded column means table (shape_here table root.0 before stack) plan slots next (tree_in_slots before stack)
-        (cursor_in before stack)
-    item_ended below slots next left =
-        let v : Val = item_fills.filled.value in
-        let now : IsOpenAt plan slots next (up (cursor_in after stack))
-        (change_at (up (cursor_in after stack)) (with_ended_item (number_in (cursor_in after stack)) v)
-        (tree_in_slots after stack))
-        = after_so
-        (λ (at : Node). (v : Val) → value_of at.body ≡ Some v
-        → IsOpenAt plan slots next (up (cursor_in after stack))
-        (change_at (up (cursor_in after stack)) (with_ended_item (number_in (cursor_in after stack)) v)
-        (tree_in_slots after stack)))
-        (left n last) v item_held in
-        record {
-          value = v;
-          meant = item_meant;
-          after =
-              subst (λ (t : Tree). IsOpenAt plan slots next (up (cursor_in before stack)) t)
-              (ap
-              (λ (t : Tree). change_at (up (cursor_in before stack)) (with_ended_item (number_in (cursor_in before stack)) v) t)
-              filled_at.built
-              ∙ item_over (cursor_in before stack) v (λ old. own_tree kept.body) (tree_in_slots before stack) below)
-              (subst
-              (λ (p : Place). IsOpenAt plan slots next (up p)
-              (change_at (up p) (with_ended_item (number_in p) v) (tree_in_slots after stack)))
-              cursor_after now);
-        }
+  -- Filled by these rules, it holds its value.
+  pub holds : (rules : Rules) (means : Meanings) (table : Table) (root : ShapeId) → LookupsAgree → LookupPathsAgree
+      → IsReady table root plan before stack
+      → IfInUse before n (FillsAt (column_of rules) means table plan before after n)
+      → HoldsItsValue rules means table (shape_here table root.0 before stack) plan after stack (tree_in_slots before stack)
+      (cursor_in before stack)
+  holds rules means table root agree paths ready filled =
+      let column : Column = column_of rules in
+      record {
+        value = (item_fills column means table root agree paths ready filled).filled.value;
+        meant = item_meant column means table root agree paths ready filled;
+        now = own_tree kept.body;
+        stands = filled_at;
+        held =
+            at_top
+            (λ (at : Node). value_of at.body ≡ Some (item_fills column means table root agree paths ready filled).filled.value)
+            (item_held column means table root agree paths ready filled);
+        unboxed = λ none.
+            at_top (λ (at : Node). takes_memory at.body ≡ false)
+            (unboxed_by rules none (takes_memory kept.body) refl);
+      }
 
-    -- the value takes the place of all that stood there
-    pub ended : (slots : List Slot) (next : List ℕ)
-        → AtTop after stack (λ (at : Node). (v : Val) → value_of at.body ≡ Some v
-        → IsOpenAt plan slots next (up (cursor_in after stack))
-        (change_at (cursor_in after stack) (λ old. whole v) (tree_in_slots after stack)))
-        → IsEnded column means table (shape_here table root.0 before stack) plan slots next (tree_in_slots before stack)
-        (cursor_in before stack)
-    ended slots next left =
-        let v : Val = item_fills.filled.value in
-        let now : IsOpenAt plan slots next (up (cursor_in after stack))
-        (change_at (cursor_in after stack) (λ old. whole v) (tree_in_slots after stack))
-        = after_so
-        (λ (at : Node). (v : Val) → value_of at.body ≡ Some v
-        → IsOpenAt plan slots next (up (cursor_in after stack))
-        (change_at (cursor_in after stack) (λ old. whole v) (tree_in_slots after stack)))
-        (left n last) v item_held in
-        record {
-          value = v;
-          meant = item_meant;
-          after =
-              subst (λ (t : Tree). IsOpenAt plan slots next (up (cursor_in before stack)) t)
-              (ap (λ (t : Tree). change_at (cursor_in before stack) (λ old. whole v) t) filled_at.built
-              ∙ put_twice (cursor_in before stack) (own_tree kept.body) (whole v) (tree_in_slots before stack))
-              (subst
-              (λ (p : Place). IsOpenAt plan slots next (up p) (change_at p (λ old. whole v) (tree_in_slots after stack)))
-              cursor_after now);
-        }
-
-  -- Filled.
+  -- By the rules of strict mode.
   module _ (means : Meanings) (table : Table) (root : ShapeId) (agree : LookupsAgree) (paths : LookupPathsAgree)
       (ready : IsReady table root plan before stack)
       (filled : IfInUse before n (FillsAt strict_column means table plan before after n)) where
-    fills : FillsAt strict_column means table plan before after n (node_here plan before stack shown)
-    fills =
-        here_so plan before stack shown n last (λ (at : Node). FillsAt strict_column means table plan before after n at) filled
+    held : value_of kept.body ≡ Some (item_fills strict_column means table root agree paths ready filled).filled.value
+    held = item_held strict_column means table root agree paths ready filled
 
-    same_body : fills.body ≡ kept.body
-    unfolding body_found
-    same_body =
-        ap body_found
-        (sym (fills.becomes n
-        ∙ slot_here (heap_of before) n (Some (record (node_here plan before stack shown) { body = fills.body })))
-        ∙ found_after)
-
-    held : value_of kept.body ≡ Some fills.filled.value
-    held = ap value_of (sym same_body) ∙ fills.filled.held
-
-    -- it makes the value that it holds
     meant : complete strict_column means table (shape_here table root.0 before stack) (tree_here before stack)
-        ≡ Some fills.filled.value
-    meant =
-        ap (λ (s : ℕ). complete strict_column means table s (tree_here before stack))
-        (sym (shape_is agree paths table root plan before stack ready))
-        ∙ ap (λ (t : Tree). complete strict_column means table (shape_of plan (node_here plan before stack shown).node) t)
-        (sym (own_here plan before stack shown shut))
-        ∙ fills.filled.meant
-
-    held_so : IsSome (value_of kept.body)
-    held_so = ap (λ (v : Option Val). is_some v) held
+        ≡ Some (item_fills strict_column means table root agree paths ready filled).filled.value
+    meant = item_meant strict_column means table root agree paths ready filled
 
     pub value_there : IfInUse after n (λ (at : Node). IsSome (value_of at.body))
-    value_there = so_after (λ (at : Node). IsSome (value_of at.body)) held_so
-
-    pub value_at_top : AtTop after stack (λ (at : Node). IsSome (value_of at.body))
-    value_at_top m is =
-        let same : n ≡ m = same_last last.0 is.0 n m (sym last.1 ∙ is.1) in
-        subst (λ (x : ℕ). IfInUse after x (λ (at : Node). IsSome (value_of at.body))) same value_there
+    value_there = so_after (λ (at : Node). IsSome (value_of at.body)) (ap (λ (v : Option Val). is_some v) held)
 
     -- where there is no memory for a box of it
     pub box_wanted : (kind : ReflectErrorKind) → kind ≡ ReflectErrorKind.OutOfMemory
@@ -433,41 +344,12 @@ module _ (plan : Plan) (before after : List Slot) (stack : List ℕ) (shown : Is
         inr
         (record {
           memory = memory;
-          needed = inl (ap (λ (v : Option Val). is_some v) meant, wants_memory table root (by_box (takes_memory kept.body) refl));
+          needed = inl (ap (λ (v : Option Val). is_some v) meant, wants_memory (by_box (takes_memory kept.body) refl));
         })
       where
         by_box : (b : Bool) → takes_memory kept.body ≡ b → takes_memory kept.body ≡ true
         by_box true e = e
         by_box false e = absurd (after_so (λ (at : Node). takes_memory at.body ≡ false → ⊥) wants e)
-
-    -- or is whole with it, where it is
-    pub made_whole : (slots : List Slot) → NothingStored slots
-        → AtTop after stack (λ (at : Node). (v : Val) → value_of at.body ≡ Some v
-        → IsOpenAt plan slots stack (cursor_in after stack)
-        (change_at (cursor_in after stack) (λ old. whole v) (tree_in_slots after stack)))
-        → IsMadeWhole means table (shape_here table root.0 before stack) plan slots stack (tree_in_slots before stack)
-        (cursor_in before stack)
-    made_whole slots stores stays =
-        let v : Val = fills.filled.value in
-        let now : IsOpenAt plan slots stack (cursor_in after stack)
-        (change_at (cursor_in after stack) (λ old. whole v) (tree_in_slots after stack))
-        = after_so
-        (λ (at : Node). (v : Val) → value_of at.body ≡ Some v
-        → IsOpenAt plan slots stack (cursor_in after stack)
-        (change_at (cursor_in after stack) (λ old. whole v) (tree_in_slots after stack)))
-        (stays n last) v held in
-        record {
-          value = v;
-          meant = meant;
-          after =
-              subst (λ (t : Tree). IsOpenAt plan slots stack (cursor_in before stack) t)
-              (ap (λ (t : Tree). change_at (cursor_in before stack) (λ old. whole v) t) filled_at.built
-              ∙ put_twice (cursor_in before stack) (own_tree kept.body) (whole v) (tree_in_slots before stack))
-              (subst
-              (λ (p : Place). IsOpenAt plan slots stack p (change_at p (λ old. whole v) (tree_in_slots after stack)))
-              cursor_after now);
-          stores = stores;
-        }
 
     -- the root's value
     pub root_value : cursor_in before stack ≡ [] → (v : Val) → IfInUse after n (λ (at : Node). value_of at.body ≡ Some v)

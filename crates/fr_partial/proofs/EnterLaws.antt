@@ -10,8 +10,8 @@ use Rattle.fr_shape.specs.Fits.{fits, fields_fit, count_vals}
 use Rattle.fr_shape.specs.Look.{Table, def_of, settled}
 use Rattle.fr_shape.specs.Val.{Val, Vals, unit, product, no_vals, first}
 use Rattle.fr_model.specs.Places.{Place, array_limit}
-use Rattle.fr_model.specs.Step.{field_refusal, enter, enter_child, opened, opened_as, opened_value, parts_as}
-use Rattle.fr_model.specs.Tree.{Form, as_struct, as_variant, form_at, selected, child_as, Tree, hole, entered, whole, begun, Trees, no_trees, branch, tree_nth, change_nth, child_tree, tree_at, change_child, change_at, wholes, holes, count_trees, Mode}
+use Rattle.fr_model.specs.Step.{field_refusal, opened_as, opened_value, parts_as}
+use Rattle.fr_model.specs.Tree.{Form, as_struct, as_variant, selected, Tree, hole, entered, whole, begun, Trees, no_trees, branch, tree_nth, change_nth, child_tree, tree_at, change_at, wholes, holes, count_trees, Mode}
 use Rattle.fr_model.specs.Well.{IsFullAs, Suits, OffBut, Leads}
 use Rattle.fr_plan.specs.declared.nodes.NodeId.{NodeId}
 use Rattle.fr_plan.specs.TypePlan.{Plan}
@@ -24,7 +24,6 @@ use Rattle.fr_plan.specs.declared.nodes.TypePlanNode.{TypePlanNode}
 use Rattle.fr_frame.specs.Completing.{shape_of}
 use Rattle.fr_partial.proofs.FitLaws.{both_true}
 use Rattle.fr_partial.proofs.FormLaws.{struct_form, begun_as, over_so}
-use Rattle.fr_partial.proofs.TreeLaws.{alike_here}
 use Rattle.fr_store.specs.ShapeLaws.{IsOfShape}
 
 -- Changes at a place of a tree.
@@ -66,20 +65,6 @@ changed_twice (i ∷ place) f g (begun form ts) =
     ap (begun form)
     (nth_twice i (λ child. change_at place f child) (λ child. change_at place g child)
     (λ child. change_at place (λ x. f (g x)) child) (changed_twice place f g) ts)
-
--- begun around the child, and the child entered: that is what entering means
-pub entered_so : (table : Table) (s i : ℕ) (place : Place) (t : Tree) (form : Form) (count : ℕ) (def : Def)
-    → opened_as form count (tree_at place t) ≡ opened (def_of table s) (tree_at place t)
-    → def ≡ def_of table (child_as table s (form_at (def_of table s) (tree_at place t)) i)
-    → change_at place (change_child i (enter def)) (change_at place (opened_as form count) t)
-    ≡ change_at place (enter_child table s i) t
-entered_so table s i place t form count def same of =
-    changed_twice place (change_child i (enter def)) (opened_as form count) t
-    ∙ alike_here place (λ (x : Tree). change_child i (enter def) (opened_as form count x)) (enter_child table s i) t
-    (ap (λ (d : Def). change_child i (enter d) (opened_as form count (tree_at place t))) of
-    ∙ ap
-    (change_child i (enter (def_of table (child_as table s (form_at (def_of table s) (tree_at place t)) i))))
-    same)
 
 -- What may be begun.
 

@@ -1,5 +1,5 @@
 -- What slots hold and what the ledger counts, together, while the place on top changes.
-use Rattle.std.proofs.Common.{◌≡◌, ℕ, List, Result, Ok, Err, OnOk, OnErr, refl, sym, ◌∙◌, ap, arith}
+use Rattle.std.proofs.Common.{◌≡◌, ℕ, ◌+◌, List, Result, Ok, Err, OnOk, OnErr, refl, sym, ◌∙◌, ap, arith}
 use Rattle.fr_shape.specs.Released.{Conserved, Room, RoseBy}
 use Rattle.fr_shape.specs.TokenLaws.{Room_fewer}
 use Rattle.fr_model.specs.Tree.{Form, Tree, hole, begun, holes, tree_occurs, deferred}
@@ -38,12 +38,13 @@ kept_through held between left old middle new first second = record {
   none_falls = λ t. omega (arith, first.none_falls t, second.none_falls t);
 }
 
--- the change of what stands on top brings nothing, and all that stood there was released
-pub kept_released : (plan : Plan) (before after : List Slot) (stack next : List ℕ) (change : Tree → Tree) (old new : List ℕ)
-    → IsOpen plan before stack → IsOpenAt plan after next (cursor_in before stack) (changed_here change before stack)
-    → ((t : ℕ) → tree_occurs (change (tree_here before stack)) t ≡ 0) → RoseBy (tokens_here before stack) old new
-    → Conserved (slots_occur before) old (slots_occur after) new
-kept_released plan before after stack next change old new shown then nothing rose = record {
+-- the change of what stands on top brings so much, and all that stood there was released
+pub kept_changed : (plan : Plan) (before after : List Slot) (stack next : List ℕ) (change : Tree → Tree) (brought : ℕ → ℕ)
+    (old new : List ℕ) → IsOpen plan before stack
+    → IsOpenAt plan after next (cursor_in before stack) (changed_here change before stack)
+    → ((t : ℕ) → tree_occurs (change (tree_here before stack)) t ≡ brought t) → RoseBy (tokens_here before stack) old new
+    → Conserved (λ t. slots_occur before t + brought t) old (slots_occur after) new
+kept_changed plan before after stack next change brought old new shown then brings rose = record {
   same_length = rose.same_length;
   kept_or_released = λ t.
       let was : slots_occur before t ≡ tree_occurs (tree_in_slots before stack) t = held_is plan before stack shown t in
@@ -52,9 +53,22 @@ kept_released plan before after stack next change old new shown then nothing ros
       = ap (λ (tree : Tree). tree_occurs tree t) then.built in
       let moved = changed_occur (deferred 0) (cursor_in before stack) change (tree_in_slots before stack) t
       (tree_leads 0 (cursor_in before stack) (kid_shown (heap_of before) stack) shown.stands.leads) in
-      omega (arith, was, is, built, moved, nothing t, rose.each t);
+      omega (arith, was, is, built, moved, brings t, rose.each t);
   none_falls = λ t. omega (arith, rose.each t);
 }
+
+-- it brings nothing
+pub kept_released : (plan : Plan) (before after : List Slot) (stack next : List ℕ) (change : Tree → Tree) (old new : List ℕ)
+    → IsOpen plan before stack → IsOpenAt plan after next (cursor_in before stack) (changed_here change before stack)
+    → ((t : ℕ) → tree_occurs (change (tree_here before stack)) t ≡ 0) → RoseBy (tokens_here before stack) old new
+    → Conserved (slots_occur before) old (slots_occur after) new
+kept_released plan before after stack next change old new shown then nothing rose =
+    let kept = kept_changed plan before after stack next change (λ t. 0) old new shown then nothing rose in
+    record {
+      same_length = kept.same_length;
+      kept_or_released = λ t. omega (arith, kept.kept_or_released t);
+      none_falls = kept.none_falls;
+    }
 
 -- what stands on top is a part of all that slots hold
 pub room_here : (plan : Plan) (slots : List Slot) (stack ledger : List ℕ) → IsOpen plan slots stack

@@ -1,86 +1,20 @@
 -- Maps and sets: how they come to be begun, what a key, a value and an item add, and what each is refused for.
-use Rattle.std.proofs.Common.{◌≡◌, ℕ, zero, suc, ◌+◌, ◌-◌, ◌%◌, Bool, true, false, List, [], ◌∷◌, ◌++◌, length, slice_get, Some, None, Ok, Err, IsSome, if◌then◌else◌, refl, sym, ◌∙◌, ap, subst, arith}
+use Rattle.std.proofs.Common.{◌≡◌, ℕ, zero, suc, ◌+◌, ◌-◌, ◌%◌, Bool, true, false, List, [], ◌∷◌, length, slice_get, Some, None, if◌then◌else◌, refl, sym, ◌∙◌, ap, subst, arith}
 use Rattle.fr_shape.specs.declared.error.Operation.{Operation}
-use Rattle.fr_shape.specs.declared.error.ReflectErrorKind.{ReflectErrorKind}
 use Rattle.fr_shape.specs.declared.shape.Def.{Def}
-use Rattle.fr_shape.specs.declared.shape.ShapeId.{ShapeId}
-use Rattle.fr_shape.specs.Fits.{fits}
-use Rattle.fr_shape.specs.Look.{Table, def_of, settled}
-use Rattle.fr_shape.specs.Plannable.{is_dynamic}
-use Rattle.fr_shape.specs.Val.{Val, map_of, set_of, unit}
-use Rattle.fr_model.specs.Collections.{ends_in_hole, is_hole, is_map, is_map_form, is_set_form, key_refusal, lacks_value, last_of, set_item_refusal, unless_map, unless_set, value_refusal, with_key}
-use Rattle.fr_model.specs.PathLaws.{EnteringAddsAStep, EnteringAKeyAddsAStep}
-use Rattle.fr_model.specs.Paths.{path_of, step_as}
-use Rattle.fr_model.specs.Places.{count_children, entries_of, entry_of, is_key, set_items_of}
-use Rattle.fr_model.specs.Step.{at_shape, begin_key, begin_set_item, begin_value, enter, enter_child, enters, enters_item, enters_key, init_map, init_map_refusal, init_set, init_set_refusal, opens}
-use Rattle.fr_model.specs.Tree.{Form, as_struct, as_array, as_variant, as_some, as_ok, as_err, as_pointer, as_list, as_slice, as_closed_slice, as_set, as_map, as_dyn_array, as_dyn_object, child_as, form_at, form_of, fresh, Tree, hole, entered, whole, begun, Trees, no_trees, branch, and_last, change_child, child_tree, count_below, count_trees, tree_nth, State, cursor_shape, cursor_tree}
-use Rattle.fr_model.specs.Well.{HasEntries, IsFullAs, IsInOrder, Leads, Suits}
+use Rattle.fr_shape.specs.Look.{Table, def_of}
+use Rattle.fr_shape.specs.Val.{Val}
+use Rattle.fr_model.specs.Collections.{ends_in_hole, is_hole, is_map, is_map_form, is_set_form, lacks_value, last_of, value_refusal, with_key}
+use Rattle.fr_model.specs.Places.{entry_of, is_key}
+use Rattle.fr_model.specs.Step.{enter, enter_child}
+use Rattle.fr_model.specs.Tree.{Form, as_struct, as_array, as_variant, as_some, as_ok, as_err, as_pointer, as_list, as_slice, as_closed_slice, as_set, as_map, as_dyn_array, as_dyn_object, child_as, fresh, Tree, hole, entered, whole, begun, Trees, no_trees, branch, and_last, change_child, child_tree, count_below, count_trees, tree_nth}
+use Rattle.fr_model.specs.Well.{HasEntries, IsFullAs, Suits}
 use Rattle.fr_frame.specs.Cells.{Cell, absent, given, placed, slot_of_cell, value_of_cell}
 use Rattle.fr_store.specs.Moves.{with_key_of, HasChild}
 use Rattle.fr_store.specs.ShapeLaws.{PointsRightly}
-use Rattle.fr_partial.specs.Builder.{Builder, here}
-use Rattle.fr_partial.specs.Entries.{key_refusal_by, value_refusal_by}
 use Rattle.fr_partial.specs.Looks.{ends_absent, is_absent}
-use Rattle.fr_partial.specs.Openings.{HasItems, MayOpenAs}
+use Rattle.fr_partial.specs.Openings.{HasItems}
 use Rattle.fr_partial.proofs.ListLaws.{items_are}
-use Rattle.fr_partial.proofs.SeenLaws.{Sees, key_seen, map_seen, set_item_seen, set_seen, shape_seen, value_seen}
-
--- Which may be opened.
-
-a_map : (s : ℕ) (operation : Operation) (def : Def) → is_dynamic def ≡ false → at_shape s (unless_map operation def) ≡ None
-    → (key : ShapeId) × (item : ShapeId) × (def ≡ Def.Map key item)
-a_map s operation (Def.Map key item) other e = (key, item, refl)
-a_map s operation _ other e = cc
-
-settled_map : (table : Table) (s : ℕ) (key item : ShapeId) → def_of table s ≡ Def.Map key item
-    → settled table s ≡ Def.Map key item
-settled_map [] s key item e = cc
-settled_map (shape ∷ shapes) s key item e = rw e refl
-
--- a whole map has entries
-map_entries : (table : Table) (s : ℕ) (key item : ShapeId) → def_of table s ≡ Def.Map key item → (v : Val)
-    → fits table s v ≡ true → IsSome (entries_of v)
-map_entries table s key item is (map_of es) h = refl
-map_entries table s key item is unit h = cc
-map_entries table s key item is _ h = let no = rw (settled_map table s key item is) at h in cc
-
-pub map_opens : (table : Table) (s : ℕ) (tree : Tree) → is_dynamic (def_of table s) ≡ false → Suits table s tree
-    → init_map_refusal s (def_of table s) tree ≡ None → MayOpenAs (def_of table s) (as_map 0) 0 tree
-map_opens table s hole other suits may = tt
-map_opens table s entered other suits may =
-    let is = a_map s Operation.InitMapOfOther (def_of table s) other may in
-    (ap form_of (sym is.2), ap count_children (sym is.2))
-map_opens table s (whole v) other suits may =
-    let is = a_map s Operation.InitMapOfOther (def_of table s) other may in
-    (ap form_of (sym is.2), map_entries table s is.0 is.1 is.2 v suits)
-map_opens table s (begun made ts) other suits may = tt
-
-a_set : (s : ℕ) (operation : Operation) (def : Def) → at_shape s (unless_set operation def) ≡ None
-    → (t : ShapeId) × (def ≡ Def.Set t)
-a_set s operation (Def.Set t) e = (t, refl)
-a_set s operation _ e = cc
-
-settled_set : (table : Table) (s : ℕ) (t : ShapeId) → def_of table s ≡ Def.Set t → settled table s ≡ Def.Set t
-settled_set [] s t e = cc
-settled_set (shape ∷ shapes) s t e = rw e refl
-
--- a whole set has items
-set_items : (table : Table) (s : ℕ) (t : ShapeId) → def_of table s ≡ Def.Set t → (v : Val) → fits table s v ≡ true
-    → IsSome (set_items_of v)
-set_items table s t is (set_of vs) h = refl
-set_items table s t is unit h = cc
-set_items table s t is _ h = let no = rw (settled_set table s t is) at h in cc
-
-pub set_opens : (table : Table) (s : ℕ) (tree : Tree) → Suits table s tree
-    → init_set_refusal s (def_of table s) tree ≡ None → MayOpenAs (def_of table s) as_set 0 tree
-set_opens table s hole suits may = tt
-set_opens table s entered suits may =
-    let is = a_set s Operation.InitSetOfOther (def_of table s) may in
-    (ap form_of (sym is.1), ap count_children (sym is.1))
-set_opens table s (whole v) suits may =
-    let is = a_set s Operation.InitSetOfOther (def_of table s) may in
-    (ap form_of (sym is.1), set_items table s is.0 is.1 v suits)
-set_opens table s (begun made ts) suits may = tt
 
 -- A form.
 
@@ -99,22 +33,6 @@ map_form as_closed_slice h = cc
 map_form as_set h = cc
 map_form as_dyn_array h = cc
 map_form (as_dyn_object keys) h = cc
-
-pub set_form : (form : Form) → is_set_form form ≡ true → form ≡ as_set
-set_form as_set h = refl
-set_form as_struct h = cc
-set_form as_array h = cc
-set_form (as_variant k) h = cc
-set_form as_some h = cc
-set_form as_ok h = cc
-set_form as_err h = cc
-set_form as_pointer h = cc
-set_form as_list h = cc
-set_form as_slice h = cc
-set_form as_closed_slice h = cc
-set_form (as_map base) h = cc
-set_form as_dyn_array h = cc
-set_form (as_dyn_object keys) h = cc
 
 -- Keys and values.
 
@@ -218,93 +136,11 @@ value_so table s form i (begun made ts) def has is =
     ap (λ (d : Def). change_child i (enter d) (begun made ts))
     (is ∙ ap (λ (f : Form). def_of table (child_as table s f i)) (sym has.0))
 
--- What they mean.
-
-module _ {H : Type 0} (builder : Builder H) where
-  pub map_begins : is_dynamic (def_of builder.shapes (here builder)) ≡ false
-      → init_map_refusal (here builder) (def_of builder.shapes (here builder)) (cursor_tree builder.state) ≡ None
-      → init_map builder.shapes (here builder) builder.state ≡ Ok (opens builder.shapes (here builder) builder.state)
-  map_begins other e = rw (e, other) refl
-
-  pub set_begins : init_set_refusal (here builder) (def_of builder.shapes (here builder)) (cursor_tree builder.state) ≡ None
-      → init_set builder.shapes (here builder) builder.state ≡ Ok (opens builder.shapes (here builder) builder.state)
-  set_begins e = rw e refl
-
-pub key_begins : (table : Table) (s : ℕ) (state : State) → key_refusal (cursor_tree state) ≡ None
-    → begin_key table s state ≡ Ok (enters_key table s state)
-key_begins table s state e =
-    let none : at_shape s (key_refusal (cursor_tree state)) ≡ None = ap (at_shape s) e in
-    rw none refl
-
-last_is : (form : Form) (i : ℕ) (tree : Tree) → HasItems form (suc i) tree → last_of (count_below tree) ≡ i
+pub last_is : (form : Form) (i : ℕ) (tree : Tree) → HasItems form (suc i) tree → last_of (count_below tree) ≡ i
 last_is form i hole has = absurd has
 last_is form i entered has = absurd has
 last_is form i (whole v) has = absurd has
 last_is form i (begun made ts) has = ap last_of has.1
-
-pub value_begins : (table : Table) (s : ℕ) (state : State) (form : Form) (i : ℕ)
-    → HasItems form (suc i) (cursor_tree state) → value_refusal (cursor_tree state) ≡ None
-    → begin_value table s state ≡ Ok (enters table s state i)
-value_begins table s state form i has e =
-    let none : at_shape s (value_refusal (cursor_tree state)) ≡ None = ap (at_shape s) e in
-    rw none (ap (λ (n : ℕ). Ok (enters table s state n)) (last_is form i (cursor_tree state) has))
-
-pub set_item_begins : (table : Table) (s : ℕ) (state : State) → set_item_refusal (def_of table s) (cursor_tree state) ≡ None
-    → begin_set_item table s state ≡ Ok (enters_item table s state)
-set_item_begins table s state e = rw e refl
-
--- Paths.
-
-pub key_path : EnteringAKeyAddsAStep → (table : Table) (s : ℕ) (state : State) (form : Form) (count : ℕ)
-    → Leads state.mode state.cursor state.tree → HasItems form count (cursor_tree state)
-    → path_of (enters_key table s state) ≡ path_of state ++ step_as form count ∷ []
-key_path law table s state form count leads has =
-    let are = items_are form count (cursor_tree state) has in
-    law table s state form are.0 leads are.1 ∙ ap (λ (n : ℕ). path_of state ++ step_as form n ∷ []) are.2
-
-pub value_path : EnteringAddsAStep → (table : Table) (root : ℕ) (state : State) (form : Form) (i : ℕ)
-    → IsInOrder table root state → HasItems form (suc i) (cursor_tree state)
-    → path_of (enters table (cursor_shape table root state) state i) ≡ path_of state ++ step_as form i ∷ []
-value_path law table root state form i ordered has =
-    let are = items_are form (suc i) (cursor_tree state) has in
-    law table root state i ordered
-    ∙ ap (λ (t : Tree). path_of state ++ step_as (form_at (def_of table (cursor_shape table root state)) t) i ∷ []) are.1
-
--- What it is refused for, by what the builder sees.
-module _ {H : Type 0} {builder : Builder H} {table : Table} {shape : ShapeId} {seen : Tree}
-    (at : Sees builder table shape seen) where
-  pub map_refused : (kind : ReflectErrorKind) → init_map_refusal shape.0 (def_of table shape.0) seen ≡ Some kind
-      → init_map builder.shapes (here builder) builder.state ≡ Err kind
-  map_refused kind e = rw (sym (map_seen at) ∙ e) refl
-
-  pub set_refused : (kind : ReflectErrorKind) → init_set_refusal shape.0 (def_of table shape.0) seen ≡ Some kind
-      → init_set builder.shapes (here builder) builder.state ≡ Err kind
-  set_refused kind e = rw (sym (set_seen at) ∙ e) refl
-
-  pub set_item_refused : (operation : Operation) → set_item_refusal (def_of table shape.0) seen ≡ Some operation
-      → begin_set_item builder.shapes (here builder) builder.state
-      ≡ Err (ReflectErrorKind.OperationFailed shape operation)
-  set_item_refused operation e =
-      rw (sym (set_item_seen at) ∙ e)
-      (ap (λ (s : ShapeId). Err (ReflectErrorKind.OperationFailed s operation)) (shape_seen at))
-
-  module _ (lacks : Bool)
-      (told : is_map (cursor_tree builder.state) ≡ true → lacks ≡ lacks_value (cursor_tree builder.state)) (operation : Operation) where
-    pub key_refused : key_refusal_by seen lacks ≡ Some operation
-        → begin_key builder.shapes (here builder) builder.state ≡ Err (ReflectErrorKind.OperationFailed shape operation)
-    key_refused e =
-        let refused : at_shape (here builder) (key_refusal (cursor_tree builder.state))
-        ≡ at_shape (here builder) (Some operation)
-        = ap (at_shape (here builder)) (sym (key_seen at lacks told) ∙ e) in
-        rw refused (ap (λ (s : ShapeId). Err (ReflectErrorKind.OperationFailed s operation)) (shape_seen at))
-
-    pub value_refused : value_refusal_by seen lacks ≡ Some operation
-        → begin_value builder.shapes (here builder) builder.state ≡ Err (ReflectErrorKind.OperationFailed shape operation)
-    value_refused e =
-        let refused : at_shape (here builder) (value_refusal (cursor_tree builder.state))
-        ≡ at_shape (here builder) (Some operation)
-        = ap (at_shape (here builder)) (sym (value_seen at lacks told) ∙ e) in
-        rw refused (ap (λ (s : ShapeId). Err (ReflectErrorKind.OperationFailed s operation)) (shape_seen at))
 
 -- Which children are keys.
 

@@ -1,22 +1,18 @@
 -- Entries of a dynamic object: which one is entered, what that means, and what it is refused for.
-use Rattle.std.proofs.Common.{◌≡◌, ℕ, zero, suc, Bool, true, false, List, [], ◌∷◌, ◌++◌, length, Option, Some, None, Ok, Err, if◌then◌else◌, refl, sym, ◌∙◌, ap, subst}
+use Rattle.std.proofs.Common.{◌≡◌, ℕ, zero, suc, Bool, true, false, List, [], ◌∷◌, ◌++◌, length, Option, Some, None, if◌then◌else◌, refl, sym, ◌∙◌, ap, subst}
 use Rattle.fr_shape.specs.declared.error.Operation.{Operation}
-use Rattle.fr_shape.specs.declared.error.ReflectErrorKind.{ReflectErrorKind}
 use Rattle.fr_shape.specs.declared.shape.Def.{Def}
 use Rattle.fr_shape.specs.declared.shape.ShapeId.{ShapeId}
 use Rattle.fr_shape.specs.Look.{Table, def_of}
-use Rattle.fr_path.specs.declared.path_steps.PathStep.{PathStep}
 use Rattle.fr_model.specs.DynamicPlaces.{entry_found, entry_number, entry_refusal, is_begun_object, keys_here, number_or_last, with_entry}
 use Rattle.fr_model.specs.Dynamics.{keys_apart}
-use Rattle.fr_model.specs.PathLaws.{EnteringAnEntryAddsAStep}
-use Rattle.fr_model.specs.Paths.{path_of}
-use Rattle.fr_model.specs.Step.{begin_object_entry, enter, enters_entry}
-use Rattle.fr_model.specs.Tree.{as_dyn_object, Tree, hole, entered, whole, begun, Trees, no_trees, branch, and_last, change_nth, count_below, count_trees, fresh, State, cursor_tree}
-use Rattle.fr_model.specs.Well.{AreTouched, HasKeys, IsTouched, Leads, Suits}
+use Rattle.fr_model.specs.Step.{enter}
+use Rattle.fr_model.specs.Tree.{as_dyn_object, Tree, hole, entered, whole, begun, Trees, no_trees, branch, and_last, change_nth, count_below, count_trees, fresh, cursor_tree}
+use Rattle.fr_model.specs.Well.{AreTouched, HasKeys, IsTouched, Suits}
 use Rattle.fr_store.specs.Moves.{with_entry_of}
-use Rattle.fr_partial.specs.Builder.{Builder, here}
+use Rattle.fr_partial.specs.Sites.{Site, shape_at}
 use Rattle.fr_partial.specs.Looks.{bare, LooksLike}
-use Rattle.fr_partial.proofs.SeenLaws.{Sees, def_seen, shape_seen}
+use Rattle.fr_partial.proofs.SeenLaws.{Sees, def_seen}
 
 -- Where there is an entry it stays as it is.
 
@@ -94,19 +90,7 @@ entry_object Def.Dynamic tree e = go (is_begun_object tree) refl
     go false h = let no : Some Operation.EntryBeforeInitMap ≡ None = rw h at e in cc
 entry_object _ tree e = cc
 
-pub entry_begins : (table : Table) (s : ℕ) (state : State) (key : List ℕ)
-    → entry_refusal (def_of table s) (cursor_tree state) ≡ None
-    → begin_object_entry table s state key ≡ Ok (enters_entry table s state key)
-entry_begins table s state key e = rw e refl
-
-pub entry_path : EnteringAnEntryAddsAStep → (table : Table) (s : ℕ) (state : State) (key : List ℕ)
-    → Leads state.mode state.cursor state.tree → is_begun_object (cursor_tree state) ≡ true
-    → path_of (enters_entry table s state key) ≡ path_of state ++ PathStep.Entry key ∷ []
-entry_path law table s state key leads object =
-    let is = object_is (cursor_tree state) object in
-    law table s state is.0 is.1 key leads is.2
-
--- By what the builder sees.
+-- By what the site sees.
 
 bare_object : (tree : Tree) → is_begun_object tree ≡ is_begun_object (bare tree)
 bare_object hole = refl
@@ -122,17 +106,10 @@ bare_entry _ tree = refl
 entry_alike : (one other : Tree) → LooksLike one other → (def : Def) → entry_refusal def one ≡ entry_refusal def other
 entry_alike one other alike def = bare_entry def one ∙ ap (entry_refusal def) alike ∙ sym (bare_entry def other)
 
-module _ {H : Type 0} {builder : Builder H} {table : Table} {shape : ShapeId} {seen : Tree}
-    (at : Sees builder table shape seen) where
+module _ {site : Site} {table : Table} {shape : ShapeId} {seen : Tree}
+    (at : Sees site table shape seen) where
   pub entry_seen : entry_refusal (def_of table shape.0) seen
-      ≡ entry_refusal (def_of builder.shapes (here builder)) (cursor_tree builder.state)
+      ≡ entry_refusal (def_of site.shapes (shape_at site)) (cursor_tree site.state)
   entry_seen =
-      entry_alike seen (cursor_tree builder.state) at.looks (def_of table shape.0)
-      ∙ ap (λ (def : Def). entry_refusal def (cursor_tree builder.state)) (def_seen at)
-
-  pub entry_refused : (key : List ℕ) (operation : Operation) → entry_refusal (def_of table shape.0) seen ≡ Some operation
-      → begin_object_entry builder.shapes (here builder) builder.state key
-      ≡ Err (ReflectErrorKind.OperationFailed shape operation)
-  entry_refused key operation e =
-      rw (sym entry_seen ∙ e)
-      (ap (λ (s : ShapeId). Err (ReflectErrorKind.OperationFailed s operation)) (shape_seen at))
+      entry_alike seen (cursor_tree site.state) at.looks (def_of table shape.0)
+      ∙ ap (λ (def : Def). entry_refusal def (cursor_tree site.state)) (def_seen at)

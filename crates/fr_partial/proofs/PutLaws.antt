@@ -1,32 +1,38 @@
--- Putting a value or a default at a place: what it means, and what it is refused for.
-use Rattle.std.proofs.Common.{◌≡◌, ◌≢◌, ◌⊎◌, ℕ, Bool, true, false, ◌&&◌, List, [], ◌∷◌, Some, None, Result, Ok, Err, IsErr, inl, inr, nat_eq, refl, sym, ◌∙◌, ap}
-use Rattle.std.proofs.lemmas.Bool.{eq-eqb, eqb-true}
+-- Putting a value or a default at a place: what it comes to, and what it is refused for.
+use Rattle.std.proofs.Common.{◌≡◌, ℕ, Bool, true, false, ◌&&◌, [], ◌∷◌, Option, Some, None, Result, Ok, Err, IsOk, inl, inr, nat_eq, refl, sym, ◌∙◌, ap, subst}
+use Rattle.std.proofs.lemmas.Bool.{eqb-true}
+use Rattle.fr_shape.specs.Checked.{IsChecked}
 use Rattle.fr_shape.specs.declared.error.Operation.{Operation}
 use Rattle.fr_shape.specs.declared.error.ReflectErrorKind.{ReflectErrorKind}
 use Rattle.fr_shape.specs.declared.shape.ShapeId.{ShapeId}
 use Rattle.fr_shape.specs.declared.shape.Def.{Def}
 use Rattle.fr_shape.specs.declared.shape.ScalarKind.{ScalarKind}
+use Rattle.fr_shape.specs.declared.value.Value.{Value}
 use Rattle.fr_shape.specs.Fills.{preset_of}
 use Rattle.fr_shape.specs.Fits.{fits, keys_once}
 use Rattle.fr_shape.specs.Look.{Table, def_of, settled}
 use Rattle.fr_shape.specs.Plannable.{is_dynamic}
+use Rattle.fr_shape.specs.Tokens.{occurs}
 use Rattle.fr_shape.specs.Val.{Val, Dynamic, dyn, text, unit}
+use Rattle.fr_shape.specs.View.{view}
+use Rattle.fr_model.specs.Commands.{Call}
 use Rattle.fr_model.specs.Converting.{converted}
-use Rattle.fr_model.specs.Step.{is_str, is_owned_string, set, set_default, puts, puts_dynamic, takes_shape}
-use Rattle.fr_model.specs.Tree.{Mode, State}
-use Rattle.fr_frame.specs.declared.places.Slot.{Slot}
-use Rattle.fr_partial.specs.Builder.{Builder, here}
+use Rattle.fr_model.specs.Step.{is_str, is_owned_string, operation_failed, set, set_default, puts, puts_default, puts_dynamic, takes_shape}
+use Rattle.fr_model.specs.Tree.{State}
+use Rattle.fr_partial.specs.declared.moves.Change.{Change}
+use Rattle.fr_partial.specs.declared.moves.Move.{Move}
+use Rattle.fr_partial.specs.Sites.{Site, shape_at}
 use Rattle.fr_partial.specs.Conversions.{copies_to_convert, IsUnconverted}
+use Rattle.fr_partial.specs.Moving.{ComesTo, IsRefusedWith}
 use Rattle.fr_partial.specs.Setting.{copies_at, converts}
-use Rattle.fr_partial.proofs.FitLaws.{both_true}
+use Rattle.fr_partial.proofs.ConvertedLaws.{converted_once}
+use Rattle.fr_partial.proofs.FitLaws.{both_true, fits_in}
 use Rattle.fr_partial.proofs.SeenLaws.{shape_of_number}
-use Rattle.fr_partial.proofs.StateLaws.{builder_of}
+use Rattle.fr_partial.proofs.TemplateLaws.{IsTemplate, light_occurs, preset_template}
 
--- a place takes a value of its own shape
-pub takes_own : (table : Table) (s given : ℕ) → given ≡ s → takes_shape table s given ≡ true
-takes_own table s given same =
-    let test : nat_eq s given ≡ true = eq-eqb s given (sym same) in
-    rw test refl
+-- what comes to a state is no refusal
+pub admits : {A E : Type 0} {made : Result A E} {a : A} → made ≡ Ok a → IsOk made
+admits {A} {E} {made} {a} e = rw e refl
 
 -- one that it doesn't convert is put as it is
 pub set_admitted : (table : Table) (s given : ℕ) (state : State) (v : Val) → converts table s given ≡ false
@@ -38,24 +44,17 @@ set_admitted table s given state v as_is takes = go (is_dynamic (def_of table s)
     go true true d e = rw (d, e) refl
     go true false d e = let no : true ≡ false = rw (d, e) at as_is in cc
 
-pub set_own : (table : Table) (s : ℕ) (state : State) (v : Val) → set table s state s v ≡ Ok (puts state v)
-set_own table s state v = set_admitted table s s state v (go (is_dynamic (def_of table s)) refl) (takes_own table s s refl)
+pub set_refused : (site : Site) (expected given : ShapeId) (v : Val) → expected.0 ≡ shape_at site
+    → converts site.shapes (shape_at site) given.0 ≡ false → takes_shape site.shapes (shape_at site) given.0 ≡ false
+    → set site.shapes (shape_at site) site.state given.0 v ≡ Err (ReflectErrorKind.WrongShape expected given)
+set_refused site expected given v same as_is takes =
+    go (is_dynamic (def_of site.shapes (shape_at site))) (nat_eq (shape_at site) given.0) refl refl
   where
-    go : (a : Bool) → is_dynamic (def_of table s) ≡ a → converts table s s ≡ false
-    go false d = rw d refl
-    go true d = let test : nat_eq s s ≡ true = eq-eqb s s refl in rw (d, test) refl
-
-pub set_refused : {H : Type 0} (builder : Builder H) (expected given : ShapeId) (v : Val) → expected.0 ≡ here builder
-    → converts builder.shapes (here builder) given.0 ≡ false → takes_shape builder.shapes (here builder) given.0 ≡ false
-    → set builder.shapes (here builder) builder.state given.0 v ≡ Err (ReflectErrorKind.WrongShape expected given)
-set_refused builder expected given v same as_is takes =
-    go (is_dynamic (def_of builder.shapes (here builder))) (nat_eq (here builder) given.0) refl refl
-  where
-    go : (a b : Bool) → is_dynamic (def_of builder.shapes (here builder)) ≡ a → nat_eq (here builder) given.0 ≡ b
-        → set builder.shapes (here builder) builder.state given.0 v ≡ Err (ReflectErrorKind.WrongShape expected given)
+    go : (a b : Bool) → is_dynamic (def_of site.shapes (shape_at site)) ≡ a → nat_eq (shape_at site) given.0 ≡ b
+        → set site.shapes (shape_at site) site.state given.0 v ≡ Err (ReflectErrorKind.WrongShape expected given)
     go false b d e =
         rw (d, takes)
-        (ap (λ (s : ShapeId). Err (ReflectErrorKind.WrongShape s given)) (shape_of_number builder expected same))
+        (ap (λ (s : ShapeId). Err (ReflectErrorKind.WrongShape s given)) (shape_of_number site expected same))
     go true true d e = let no : true ≡ false = rw e at takes in cc
     go true false d e = let no : true ≡ false = rw (d, e) at as_is in cc
 
@@ -90,28 +89,6 @@ module _ (table : Table) (s given : ℕ) (as_other : converts table s given ≡ 
   pub set_converted : (state : State) (v : Val) (d : Dynamic) → converted table s (def_of table given) v ≡ Ok d
       → set table s state given v ≡ Ok (puts state (dyn d))
   set_converted state v d e = set_by state v ∙ ap (puts_dynamic state given) e
-
-  pub set_unconverted : (state : State) (v : Val) (kind : ReflectErrorKind)
-      → IsUnconverted (converted table s (def_of table given) v) given kind
-      → (kind ≡ ReflectErrorKind.OutOfMemory) ⊎ (set table s state given v ≡ Err kind)
-  set_unconverted state v kind is = go (converted table s (def_of table given) v) refl is
-    where
-      go : (made : Result Dynamic Operation) → converted table s (def_of table given) v ≡ made → IsUnconverted made given kind
-          → (kind ≡ ReflectErrorKind.OutOfMemory) ⊎ (set table s state given v ≡ Err kind)
-      go (Ok d) e out = inl out
-      go (Err operation) e refused =
-          inr (set_by state v ∙ ap (puts_dynamic state given) e ∙ ap (λ (k : ReflectErrorKind). Err k) (sym refused))
-
-  -- one that is refused is refused so
-  pub refused_first : (state : State) (v : Val) (kind : ReflectErrorKind)
-      → IsUnconverted (converted table s (def_of table given) v) given kind → IsErr (set table s state given v)
-      → kind ≢ ReflectErrorKind.OutOfMemory
-  refused_first state v kind is refused out = go (converted table s (def_of table given) v) refl is
-    where
-      go : (made : Result Dynamic Operation) → converted table s (def_of table given) v ≡ made → IsUnconverted made given kind
-          → ⊥
-      go (Ok d) e memory = let no : false ≡ true = rw (set_converted state v d e) at refused in cc
-      go (Err operation) e meant = let no = sym meant ∙ out in cc
 
 -- What a place takes fits it.
 
@@ -168,20 +145,131 @@ pub dynamic_fits : (table : Table) (s : ℕ) (d : Dynamic) → is_dynamic (def_o
     → fits table s (dyn d) ≡ true
 dynamic_fits table s d is once = rw (settled_dynamic table s (dynamic_is (def_of table s) is)) once
 
-module _ {H : Type 0} {h : H} (table : Table) (root : ℕ) (slots : List Slot) (stack : List ℕ)
-    (mode : Mode) (calls : ℕ) (builder : Builder H) (is : builder_of h table root slots stack mode calls ≡ builder)
-    (shape : ShapeId) (same : shape.0 ≡ here builder) where
-  preset_is : preset_of builder.shapes (here builder) ≡ preset_of table shape.0
-  preset_is = ap (λ (b : Builder H). preset_of b.shapes (here builder)) (sym is) ∙ ap (preset_of table) (sym same)
+-- What `set` comes to, by what the site sees: its table, the place's shape, and that of a value.
 
-  pub default_there : (v : Val) → preset_of table shape.0 ≡ Some v
-      → set_default builder.shapes (here builder) builder.state ≡ Ok (puts builder.state v)
-  default_there v e = rw (preset_is ∙ e) refl
+module _ (site : Site) (n : ℕ) (v : Val) where
+  -- the value is put as it is
+  pub taken : (value : Value) → view value ≡ v → fits site.shapes n v ≡ true → converts site.shapes (shape_at site) n ≡ false
+      → takes_shape site.shapes (shape_at site) n ≡ true → ComesTo site (Call.Set n v) (Move.Stay (Change.Put value))
+  taken value is fit as_it_is takes = record {
+    fitting = (fits_in site.shapes n v fit, fit);
+    same_tokens = λ t. ap (λ (w : Val). occurs w t) (sym is);
+    may =
+        ap (fits site.shapes (shape_at site)) is
+        ∙ taken_fits site.shapes (shape_at site) n v takes fit;
+    late = λ late. cc;
+    means = λ hooks.
+        set_admitted site.shapes (shape_at site) n site.state v as_it_is takes ∙ ap (λ (w : Val). Ok (puts site.state w)) (sym is);
+  }
+
+  pub not_taken : (expected given : ShapeId) → expected.0 ≡ shape_at site → given.0 ≡ n
+      → converts site.shapes (shape_at site) n ≡ false → takes_shape site.shapes (shape_at site) n ≡ false
+      → IsRefusedWith site (Call.Set n v) (ReflectErrorKind.WrongShape expected given)
+  not_taken expected given same of_given as_it_is takes =
+      inl (
+        (λ out. cc),
+        λ hooks.
+            subst (λ (m : ℕ). set site.shapes (shape_at site) site.state m v ≡ Err (ReflectErrorKind.WrongShape expected given)) of_given
+            (set_refused site expected given v same
+            (ap (converts site.shapes (shape_at site)) of_given ∙ as_it_is)
+            (ap (takes_shape site.shapes (shape_at site)) of_given ∙ takes)),
+      )
+
+  module _ (as_other : converts site.shapes (shape_at site) n ≡ true) where
+    -- what the place makes of it is put
+    pub converts_to : (value : Value) (d : Dynamic) → view value ≡ dyn d → fits site.shapes n v ≡ true
+        → ((t : ℕ) → occurs v t ≡ 0) → converted site.shapes (shape_at site) (def_of site.shapes n) v ≡ Ok d
+        → ComesTo site (Call.Set n v) (Move.Stay (Change.Put value))
+    converts_to value d is fit none made = record {
+      fitting = (fits_in site.shapes n v fit, fit);
+      same_tokens = λ t. none t ∙ sym (ap (λ (w : Val). occurs w t) is);
+      may =
+          ap (fits site.shapes (shape_at site)) is
+          ∙ dynamic_fits site.shapes (shape_at site) d (is_converted site.shapes (shape_at site) n as_other)
+          (converted_once site.shapes (shape_at site) (def_of site.shapes n) v d made);
+      late = λ late. cc;
+      means = λ hooks.
+          set_converted site.shapes (shape_at site) n as_other site.state v d made
+          ∙ ap (λ (w : Val). Ok (puts site.state w)) (sym is);
+    }
+
+    pub unconverted : (kind : ReflectErrorKind)
+        → IsUnconverted (converted site.shapes (shape_at site) (def_of site.shapes n) v) n kind
+        → IsRefusedWith site (Call.Set n v) kind
+    unconverted kind is = go (converted site.shapes (shape_at site) (def_of site.shapes n) v) refl is
+      where
+        go : (made : Result Dynamic Operation) → converted site.shapes (shape_at site) (def_of site.shapes n) v ≡ made
+            → IsUnconverted made n kind → IsRefusedWith site (Call.Set n v) kind
+        go (Ok d) e out =
+            inr (out, λ hooks. admits (set_converted site.shapes (shape_at site) n as_other site.state v d e))
+        go (Err operation) e refused =
+            inl (
+              (λ out. let no : operation_failed n operation ≡ ReflectErrorKind.OutOfMemory = sym refused ∙ out in cc),
+              λ hooks.
+                  set_by site.shapes (shape_at site) n as_other site.state v
+                  ∙ ap (puts_dynamic site.state n) e
+                  ∙ ap (λ (k : ReflectErrorKind). Err k) (sym refused),
+            )
+
+-- so it is of the table and the shapes as they are seen
+module _ (site : Site) (table : Table) (place given n : ℕ) (table_is : table ≡ site.shapes) (place_is : place ≡ shape_at site)
+    (given_is : given ≡ n) where
+  pub converts_seen : converts table place given ≡ converts site.shapes (shape_at site) n
+  converts_seen =
+      ap (λ (t : Table). converts t place given) table_is
+      ∙ ap (λ (s : ℕ). converts site.shapes s given) place_is
+      ∙ ap (converts site.shapes (shape_at site)) given_is
+
+  pub takes_seen : takes_shape table place given ≡ takes_shape site.shapes (shape_at site) n
+  takes_seen =
+      ap (λ (t : Table). takes_shape t place given) table_is
+      ∙ ap (λ (s : ℕ). takes_shape site.shapes s given) place_is
+      ∙ ap (takes_shape site.shapes (shape_at site)) given_is
+
+  pub converted_seen : (plain v : Val) → plain ≡ v
+      → converted table place (def_of table given) plain
+      ≡ converted site.shapes (shape_at site) (def_of site.shapes n) v
+  converted_seen plain v value_is =
+      ap (λ (t : Table). converted t place (def_of t given) plain) table_is
+      ∙ ap (λ (s : ℕ). converted site.shapes s (def_of site.shapes given) plain) place_is
+      ∙ ap (λ (m : ℕ). converted site.shapes (shape_at site) (def_of site.shapes m) plain) given_is
+      ∙ ap (converted site.shapes (shape_at site) (def_of site.shapes n)) value_is
+
+-- What `set_default` comes to.
+module _ (site : Site) (table : Table) (shape : ShapeId) (table_is : table ≡ site.shapes) (shape_is : shape.0 ≡ shape_at site) where
+  preset_is : (preset : Option Val) → preset_of table shape.0 ≡ preset
+      → set_default site.shapes (shape_at site) site.state ≡ puts_default (shape_at site) site.state preset
+  preset_is preset e =
+      ap (puts_default (shape_at site) site.state)
+      (ap (λ (t : Table). preset_of t (shape_at site)) (sym table_is) ∙ ap (preset_of table) (sym shape_is) ∙ e)
 
   pub default_missing : preset_of table shape.0 ≡ None
-      → set_default builder.shapes (here builder) builder.state
-      ≡ Err (ReflectErrorKind.OperationFailed shape Operation.NoDefault)
+      → IsRefusedWith site Call.SetDefault (ReflectErrorKind.OperationFailed shape Operation.NoDefault)
   default_missing e =
-      rw (preset_is ∙ e)
-      (ap (λ (s : ShapeId). Err (ReflectErrorKind.OperationFailed s Operation.NoDefault))
-      (shape_of_number builder shape same))
+      inl (
+        (λ out. cc),
+        λ hooks.
+            preset_is None e
+            ∙ ap (λ (s : ShapeId). Err (ReflectErrorKind.OperationFailed s Operation.NoDefault))
+            (shape_of_number site shape shape_is),
+      )
+
+  module _ (checked : IsChecked site.shapes) (template : Val) (is : preset_of table shape.0 ≡ Some template) where
+    pub default_template : IsTemplate site.shapes (shape_at site) template
+    default_template =
+        preset_template site.shapes (shape_at site) template checked
+        (ap (λ (t : Table). preset_of t (shape_at site)) (sym table_is) ∙ ap (preset_of table) (sym shape_is) ∙ is)
+
+    pub default_copied : (value : Value) → view value ≡ template → ComesTo site Call.SetDefault (Move.Stay (Change.Put value))
+    default_copied value same = record {
+      fitting = tt;
+      same_tokens = λ t.
+          sym (ap (λ (v : Val). occurs v t) same ∙ light_occurs template t default_template.light);
+      may = ap (fits site.shapes (shape_at site)) same ∙ default_template.fitting;
+      late = λ late. cc;
+      means = λ hooks. preset_is (Some template) is ∙ ap (λ (v : Val). Ok (puts site.state v)) (sym same);
+    }
+
+    -- where there is no memory for the copy
+    pub copy_wanted : IsRefusedWith site Call.SetDefault ReflectErrorKind.OutOfMemory
+    copy_wanted = inr (refl, λ hooks. admits (preset_is (Some template) is))

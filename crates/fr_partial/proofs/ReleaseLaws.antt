@@ -31,6 +31,12 @@ room_slots {plan} {slots} {stack} shown ledger room =
     Room_same (tree_occurs (tree_in_slots slots stack)) (slots_occur slots) ledger
     (λ t. sym (held_is plan slots stack shown t)) room
 
+-- and what stands there has room in them
+pub room_tree : (plan : Plan) (slots : List Slot) (stack : List ℕ) → IsOpen plan slots stack → (ledger : List ℕ)
+    → Room (slots_occur slots) ledger → Room (tree_occurs (tree_in_slots slots stack)) ledger
+room_tree plan slots stack shown ledger room =
+    Room_same (slots_occur slots) (tree_occurs (tree_in_slots slots stack)) ledger (held_is plan slots stack shown) room
+
 -- What the builder held is what is left of it in its slots and what was released since.
 module _ {plan : Plan} {before : List Slot} (after : List Slot) {stack : List ℕ} (shown : IsOpen plan before stack)
     {old new : List ℕ} (kept : Conserved (slots_occur before) old (slots_occur after) new) where
@@ -43,15 +49,4 @@ module _ {plan : Plan} {before : List Slot} (after : List Slot) {stack : List �
   released_kept last rose = record {
     same_length = rose.same_length ∙ kept.same_length;
     each = λ t. omega (arith, kept.kept_or_released t, rose.each t, held_is plan before stack shown t);
-  }
-
-  -- or it is held by the tree that is there then
-  pub held_kept : (next : List ℕ) → IsOpen plan after next
-      → Conserved (tree_occurs (tree_in_slots before stack)) old (tree_occurs (tree_in_slots after next)) new
-  held_kept next shown_then = record {
-    same_length = kept.same_length;
-    kept_or_released = λ t.
-        omega
-        (arith, kept.kept_or_released t, held_is plan before stack shown t, held_is plan after next shown_then t);
-    none_falls = kept.none_falls;
   }

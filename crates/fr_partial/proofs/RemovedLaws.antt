@@ -2,6 +2,7 @@
 -- the definitions.
 use Rattle.std.proofs.Common.{◌≡◌, ℕ, ◌+◌, List, Result, Ok, Err, inl, inr, refl, ◌∙◌, ap, arith}
 use Rattle.fr_shape.specs.declared.error.ReflectErrorKind.{ReflectErrorKind}
+use Rattle.fr_shape.specs.Checked.{IsChecked}
 use Rattle.fr_shape.specs.Hooks.{Meanings}
 use Rattle.fr_shape.specs.Released.{Conserved, RoseBy}
 use Rattle.fr_shape.specs.Val.{Val}
@@ -10,9 +11,9 @@ use Rattle.fr_model.specs.Laws.{StepKeepsTokens, held_after, BuildKeepsTokens, b
 use Rattle.fr_model.specs.Removed.{removed, removed_at_build}
 use Rattle.fr_model.specs.Scripts.{brings}
 use Rattle.fr_model.specs.Tree.{State}
+use Rattle.fr_model.specs.Well.{IsInOrder, Suits}
 use Rattle.fr_partial.specs.BuiltValue.{BuiltValue}
 use Rattle.fr_partial.specs.declared.reflect_error.ReflectError.{ReflectError}
-use Rattle.fr_partial.proofs.StateLaws.{IsBuilderInOrder}
 use Rattle.fr_partial.specs.Builder.{Builder, holds, meaning, meaning_of_build, IsStep, IsBuilt, left, dropped, dropped_refused, RisesByRemoved, left_built, dropped_at_build, dropped_unbuilt, RisesByRemovedAtBuild}
 
 -- a refused call
@@ -60,21 +61,21 @@ both_released first second old between new rose rose_again = record {
 
 -- any call that is one step and conserves what was held and brought
 
-pub rises_by_removed : {H : Type 0} (hooks : Meanings) → StepKeepsTokens → (before : Builder H) → IsBuilderInOrder before
-    → (call : Call) (held : ℕ → ℕ) → ((t : ℕ) → held t ≡ holds before t + brings call t)
-    → (result : Result (Builder H) ReflectError) → (old new : List ℕ) → IsStep hooks before call result
+pub rises_by_removed : {H : Type 0} (hooks : Meanings) → StepKeepsTokens → (before : Builder H) → IsChecked before.shapes
+    → IsInOrder before.shapes before.root before.state → (call : Call) (held : ℕ → ℕ)
+    → ((t : ℕ) → held t ≡ holds before t + brings call t) → (result : Result (Builder H) ReflectError) → (old new : List ℕ) → IsStep hooks before call result
     → Conserved held old (left result) new → RisesByRemoved hooks before call result old new
-rises_by_removed hooks law before ordered call held brought (Ok after) old new is_step conserved = record {
+rises_by_removed hooks law before checked order call held brought (Ok after) old new is_step conserved = record {
   same_length = conserved.same_length;
   each = λ t.
       let kept : holds before t + brings call t
       ≡ held_after (meaning hooks before call) t + removed hooks before.shapes before.root before.state call t
-      = law hooks before.shapes before.root before.state call ordered.checked ordered.state t in
+      = law hooks before.shapes before.root before.state call checked order t in
       let then : held_after (meaning hooks before call) t ≡ holds after t
       = ap (λ (meant : Result State ReflectErrorKind). held_after meant t) is_step.0 in
       omega (arith, brought t, conserved.kept_or_released t);
 }
-rises_by_removed hooks law before ordered call held brought (Err error) old new is_step conserved = record {
+rises_by_removed hooks law before checked order call held brought (Err error) old new is_step conserved = record {
   same_length = conserved.same_length;
   each = λ t.
       let all : dropped hooks before call (Err error) t ≡ holds before t + brings call t
@@ -83,20 +84,20 @@ rises_by_removed hooks law before ordered call held brought (Err error) old new 
 }
 
 pub rises_by_removed_at_build : {H : Type 0} (hooks : Meanings) → BuildKeepsTokens → (before : Builder H)
-    → IsBuilderInOrder before → (result : Result BuiltValue ReflectError) (old new : List ℕ)
+    → IsChecked before.shapes → Suits before.shapes before.root before.state.tree → (result : Result BuiltValue ReflectError) (old new : List ℕ)
     → IsBuilt hooks before result → Conserved (holds before) old (left_built result) new
     → RisesByRemovedAtBuild hooks before result old new
-rises_by_removed_at_build hooks law before ordered (Ok built) old new is_built conserved = record {
+rises_by_removed_at_build hooks law before checked suits (Ok built) old new is_built conserved = record {
   same_length = conserved.same_length;
   each = λ t.
       let kept : holds before t
       ≡ built_occurs (meaning_of_build hooks before) t + removed_at_build hooks before.shapes before.root before.state t
-      = law hooks before.shapes before.root before.state ordered.checked ordered.state.suits t in
+      = law hooks before.shapes before.root before.state checked suits t in
       let then : built_occurs (meaning_of_build hooks before) t ≡ left_built (Ok built) t
       = ap (λ (meant : Result Val ReflectErrorKind). built_occurs meant t) is_built.0 in
       omega (arith, conserved.kept_or_released t);
 }
-rises_by_removed_at_build hooks law before ordered (Err error) old new is_built conserved = record {
+rises_by_removed_at_build hooks law before checked suits (Err error) old new is_built conserved = record {
   same_length = conserved.same_length;
   each = λ t.
       let all : dropped_at_build hooks before (Err error) t ≡ holds before t

@@ -1,23 +1,31 @@
 -- Pointers to slices: how they come to be open for items, and what that means.
-use Rattle.std.proofs.Common.{◌≡◌, ℕ, Bool, true, false, List, [], ◌∷◌, Option, Some, None, is_some, Ok, Err, unwrap_or, refl, sym, ◌∙◌, ap, subst}
+use Rattle.std.proofs.Common.{◌≡◌, ℕ, Bool, true, false, List, [], ◌∷◌, Option, Some, None, is_some, Ok, Err, unwrap_or, inl, inr, refl, sym, ◌∙◌, ap, subst}
 use Rattle.fr_shape.specs.declared.error.Operation.{Operation}
 use Rattle.fr_shape.specs.declared.error.ReflectErrorKind.{ReflectErrorKind}
 use Rattle.fr_shape.specs.declared.shape.Def.{Def}
 use Rattle.fr_shape.specs.declared.shape.KnownPointer.{KnownPointer}
 use Rattle.fr_shape.specs.declared.shape.PointerDef.{PointerDef}
 use Rattle.fr_shape.specs.declared.shape.ShapeId.{ShapeId}
+use Rattle.fr_shape.specs.declared.value.Value.{Value}
 use Rattle.fr_shape.specs.Fits.{fits}
 use Rattle.fr_shape.specs.Look.{Table, def_of, settled}
-use Rattle.fr_shape.specs.Val.{list_of, no_vals, ptr}
+use Rattle.fr_shape.specs.Tokens.{occurs}
+use Rattle.fr_shape.specs.Val.{Val, list_of, no_vals, ptr}
+use Rattle.fr_shape.specs.View.{view}
+use Rattle.fr_model.specs.Commands.{Call}
 use Rattle.fr_model.specs.Contents.{is_slice, kept_slice, pointer_refusal, points_to_slice, slice_anew}
 use Rattle.fr_model.specs.Items.{closed_slice, is_open_slice, shared_slice_behind, shared_slice_by, shared_slice_refusal}
 use Rattle.fr_model.specs.Step.{begin_smart_ptr, begins_pointer, puts, set_empty_shared_slice}
-use Rattle.fr_model.specs.Tree.{as_struct, as_array, as_variant, as_some, as_ok, as_err, as_pointer, as_list, as_slice, as_closed_slice, as_set, as_map, as_dyn_array, as_dyn_object, Tree, hole, entered, whole, begun, change_at, tree_at, Mode, strict, deferred}
+use Rattle.fr_model.specs.Tree.{as_slice, as_closed_slice, Tree, hole, entered, whole, begun, change_at, tree_at, Mode, strict, deferred}
 use Rattle.fr_model.specs.Places.{Place}
 use Rattle.fr_plan.specs.TypePlan.{Plan}
 use Rattle.fr_frame.specs.declared.places.Slot.{Slot}
 use Rattle.fr_store.specs.Moves.{begun_as, IsBegunSlice, IsOpenAt}
-use Rattle.fr_partial.specs.Builder.{Builder, here}
+use Rattle.fr_partial.specs.declared.moves.Change.{Change}
+use Rattle.fr_partial.specs.declared.moves.Move.{Move}
+use Rattle.fr_partial.specs.Moving.{ComesTo, IsRefusedWith}
+use Rattle.fr_partial.specs.Sites.{Site, shape_at}
+use Rattle.fr_partial.proofs.PutLaws.{admits}
 use Rattle.fr_partial.proofs.SeenLaws.{shape_of_number}
 use Rattle.fr_partial.proofs.TreeLaws.{alike_here}
 
@@ -32,18 +40,7 @@ slice_kept (deferred start) entered is = cc
 slice_kept (deferred start) (whole v) is = cc
 slice_kept (deferred start) (begun as_slice ts) is = refl
 slice_kept (deferred start) (begun as_closed_slice ts) is = refl
-slice_kept (deferred start) (begun as_struct ts) is = cc
-slice_kept (deferred start) (begun as_array ts) is = cc
-slice_kept (deferred start) (begun (as_variant k) ts) is = cc
-slice_kept (deferred start) (begun as_some ts) is = cc
-slice_kept (deferred start) (begun as_ok ts) is = cc
-slice_kept (deferred start) (begun as_err ts) is = cc
-slice_kept (deferred start) (begun as_pointer ts) is = cc
-slice_kept (deferred start) (begun as_set ts) is = cc
-slice_kept (deferred start) (begun (as_map base) ts) is = cc
-slice_kept (deferred start) (begun as_dyn_array ts) is = cc
-slice_kept (deferred start) (begun (as_dyn_object keys) ts) is = cc
-slice_kept (deferred start) (begun as_list ts) is = cc
+slice_kept (deferred start) (begun _ ts) is = cc
 
 pub slice_there : (mode : Mode) (tree : Tree) → is_some (kept_slice mode tree) ≡ true → IsBegunSlice tree
 slice_there strict tree is = cc
@@ -52,18 +49,7 @@ slice_there (deferred start) entered is = cc
 slice_there (deferred start) (whole v) is = cc
 slice_there (deferred start) (begun as_slice ts) is = tt
 slice_there (deferred start) (begun as_closed_slice ts) is = tt
-slice_there (deferred start) (begun as_struct ts) is = cc
-slice_there (deferred start) (begun as_array ts) is = cc
-slice_there (deferred start) (begun (as_variant k) ts) is = cc
-slice_there (deferred start) (begun as_some ts) is = cc
-slice_there (deferred start) (begun as_ok ts) is = cc
-slice_there (deferred start) (begun as_err ts) is = cc
-slice_there (deferred start) (begun as_pointer ts) is = cc
-slice_there (deferred start) (begun as_set ts) is = cc
-slice_there (deferred start) (begun (as_map base) ts) is = cc
-slice_there (deferred start) (begun as_dyn_array ts) is = cc
-slice_there (deferred start) (begun (as_dyn_object keys) ts) is = cc
-slice_there (deferred start) (begun as_list ts) is = cc
+slice_there (deferred start) (begun _ ts) is = cc
 
 -- or it starts anew
 pub starts_anew : (mode : Mode) (tree : Tree) → is_some (kept_slice mode tree) ≡ false
@@ -82,19 +68,7 @@ open_there hole is = cc
 open_there entered is = cc
 open_there (whole v) is = cc
 open_there (begun as_slice ts) is = tt
-open_there (begun as_closed_slice ts) is = cc
-open_there (begun as_struct ts) is = cc
-open_there (begun as_array ts) is = cc
-open_there (begun (as_variant k) ts) is = cc
-open_there (begun as_some ts) is = cc
-open_there (begun as_ok ts) is = cc
-open_there (begun as_err ts) is = cc
-open_there (begun as_pointer ts) is = cc
-open_there (begun as_set ts) is = cc
-open_there (begun (as_map base) ts) is = cc
-open_there (begun as_dyn_array ts) is = cc
-open_there (begun (as_dyn_object keys) ts) is = cc
-open_there (begun as_list ts) is = cc
+open_there (begun _ ts) is = cc
 
 closed_alike : (tree : Tree) → begun_as as_closed_slice tree ≡ closed_slice tree
 closed_alike hole = refl
@@ -111,19 +85,14 @@ closed_open {plan} {slots} {stack} place tree open_now =
 
 -- What it means.
 
-pub slice_means : {H : Type 0} (builder : Builder H)
-    → pointer_refusal builder.shapes (def_of builder.shapes (here builder)) ≡ None
-    → points_to_slice builder.shapes (def_of builder.shapes (here builder)) ≡ true
-    → begin_smart_ptr builder.shapes (here builder) builder.state
-    ≡ Ok (begins_pointer builder.shapes (here builder) builder.state true)
-slice_means builder admitted behind = rw (admitted, behind) refl
+pub slice_means : (site : Site)
+    → pointer_refusal site.shapes (def_of site.shapes (shape_at site)) ≡ None
+    → points_to_slice site.shapes (def_of site.shapes (shape_at site)) ≡ true
+    → begin_smart_ptr site.shapes (shape_at site) site.state
+    ≡ Ok (begins_pointer site.shapes (shape_at site) site.state true)
+slice_means site admitted behind = rw (admitted, behind) refl
 
 -- A pointer to no items.
-
-pub no_slice_put : {H : Type 0} (builder : Builder H)
-    → shared_slice_refusal builder.shapes (def_of builder.shapes (here builder)) ≡ None
-    → set_empty_shared_slice builder.shapes (here builder) builder.state ≡ Ok (puts builder.state (ptr (list_of no_vals)))
-no_slice_put builder e = rw e refl
 
 settled_pointer : (table : Table) (s : ℕ) (pointer : PointerDef) → def_of table s ≡ Def.Pointer pointer
     → settled table s ≡ Def.Pointer pointer
@@ -171,18 +140,42 @@ no_slice_fits table s may = go (def_of table s) refl may
     go (Def.Pointer pointer) e none = points_fit table s pointer e none
     go _ e none = cc
 
--- What it is refused for, by what the builder sees.
-module _ {H : Type 0} (builder : Builder H) (table : Table) (shape : ShapeId) (table_is : table ≡ builder.shapes)
-    (shape_is : shape.0 ≡ here builder) where
+-- What it comes to, by what the site sees.
+module _ (site : Site) (table : Table) (shape : ShapeId) (table_is : table ≡ site.shapes)
+    (shape_is : shape.0 ≡ shape_at site) where
   pub shared_seen : shared_slice_refusal table (def_of table shape.0)
-      ≡ shared_slice_refusal builder.shapes (def_of builder.shapes (here builder))
+      ≡ shared_slice_refusal site.shapes (def_of site.shapes (shape_at site))
   shared_seen =
       ap (λ (t : Table). shared_slice_refusal t (def_of t shape.0)) table_is
-      ∙ ap (λ (s : ℕ). shared_slice_refusal builder.shapes (def_of builder.shapes s)) shape_is
+      ∙ ap (λ (s : ℕ). shared_slice_refusal site.shapes (def_of site.shapes s)) shape_is
 
   pub shared_refused : (operation : Operation) → shared_slice_refusal table (def_of table shape.0) ≡ Some operation
-      → set_empty_shared_slice builder.shapes (here builder) builder.state
-      ≡ Err (ReflectErrorKind.OperationFailed shape operation)
+      → IsRefusedWith site Call.SetEmptySharedSlice (ReflectErrorKind.OperationFailed shape operation)
   shared_refused operation e =
-      rw (sym shared_seen ∙ e)
-      (ap (λ (s : ShapeId). Err (ReflectErrorKind.OperationFailed s operation)) (shape_of_number builder shape shape_is))
+      inl (
+        (λ out. cc),
+        λ hooks.
+            rw (sym shared_seen ∙ e)
+            (ap (λ (s : ShapeId). Err (ReflectErrorKind.OperationFailed s operation)) (shape_of_number site shape shape_is)),
+      )
+
+  module _ (is : shared_slice_refusal table (def_of table shape.0) ≡ None) where
+    here : shared_slice_refusal site.shapes (def_of site.shapes (shape_at site)) ≡ None
+    here = sym shared_seen ∙ is
+
+    meant_so : set_empty_shared_slice site.shapes (shape_at site) site.state ≡ Ok (puts site.state (ptr (list_of no_vals)))
+    meant_so = rw here refl
+
+    pub no_slice_put : (value : Value) → view value ≡ ptr (list_of no_vals)
+        → ComesTo site Call.SetEmptySharedSlice (Move.Stay (Change.Put value))
+    no_slice_put value same = record {
+      fitting = tt;
+      same_tokens = λ t. sym (ap (λ (v : Val). occurs v t) same);
+      may = ap (fits site.shapes (shape_at site)) same ∙ no_slice_fits site.shapes (shape_at site) here;
+      late = λ late. cc;
+      means = λ hooks. meant_so ∙ ap (λ (v : Val). Ok (puts site.state v)) (sym same);
+    }
+
+    -- where there is no memory for it
+    pub no_slice_wanted : IsRefusedWith site Call.SetEmptySharedSlice ReflectErrorKind.OutOfMemory
+    no_slice_wanted = inr (refl, λ hooks. admits meant_so)

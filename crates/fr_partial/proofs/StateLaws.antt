@@ -1,11 +1,8 @@
 -- A builder as its slots and its stack give it: it is in order, and stays so from state to state.
-use Rattle.std.proofs.Common.{◌≡◌, ℕ, suc, ◌+◌, Bool, true, false, List, [], ◌∷◌, ◌++◌, length, None, Ok, refl, sym, ◌∙◌, ap, subst, arith}
+use Rattle.std.proofs.Common.{◌≡◌, ℕ, suc, ◌+◌, Bool, true, false, List, [], ◌∷◌, ◌++◌, length, Ok, refl, sym, ◌∙◌, ap, subst, arith}
 use Rattle.fr_shape.specs.declared.shape.ShapeId.{ShapeId}
-use Rattle.fr_shape.specs.Checked.{IsChecked}
-use Rattle.fr_shape.specs.Hooks.{Meanings, no_hooks}
-use Rattle.fr_shape.specs.Look.{Table, def_of}
-use Rattle.fr_shape.specs.Tokens.{occurs}
-use Rattle.fr_shape.specs.Val.{Val}
+use Rattle.fr_shape.specs.Hooks.{Meanings}
+use Rattle.fr_shape.specs.Look.{Table}
 use Rattle.fr_path.specs.declared.path_steps.PathStep.{PathStep}
 use Rattle.fr_model.specs.Commands.{Call}
 use Rattle.fr_model.specs.Laws.{StepKeepsTokens, StepKeepsOrder, held_after}
@@ -13,44 +10,30 @@ use Rattle.fr_model.specs.Paths.{path_of}
 use Rattle.fr_model.specs.Places.{Place, is_root}
 use Rattle.fr_model.specs.Removed.{removed_by, replaced}
 use Rattle.fr_model.specs.Scripts.{IsFitting, brings}
-use Rattle.fr_model.specs.Step.{step, set, puts, field_refusal}
-use Rattle.fr_model.specs.Tree.{Mode, strict, deferred, Tree, State, cursor_shape, cursor_tree, tree_occurs}
+use Rattle.fr_model.specs.Step.{step}
+use Rattle.fr_model.specs.Tree.{Mode, strict, deferred, Tree, State, cursor_shape, tree_occurs}
 use Rattle.fr_model.specs.Well.{IsInOrder}
 use Rattle.fr_plan.specs.TypePlan.{Plan}
 use Rattle.fr_frame.specs.declared.places.Slot.{Slot}
 use Rattle.fr_frame.specs.Heap.{heap_of, marked}
 use Rattle.fr_frame.specs.Kids.{Kid, gone, there, at, entered_plot, whole_plot, begun_plot}
-use Rattle.fr_store.specs.Moves.{cursor_in, tree_here, tokens_here, IsOpenAt}
+use Rattle.fr_store.specs.Moves.{cursor_in, IsOpenAt}
 use Rattle.fr_store.specs.Stands.{IsOpen, kid_shown}
 use Rattle.fr_store.specs.Stored.{IsKept, NothingStored, StoresNoMore}
 use Rattle.fr_store.specs.Ways.{kid_nth, slots_along, Leads}
 use Rattle.fr_store.specs.WayLaws.{leads_at}
-use Rattle.fr_partial.specs.Builder.{Builder, here, holds}
-use Rattle.fr_partial.specs.Underway.{shape_here, state_of, StoresNothing, IsUnderway}
+use Rattle.fr_partial.specs.Sites.{Site}
+use Rattle.fr_partial.specs.Underway.{state_of, StoresNothing, IsUnderway}
 
-abbrev pub builder_of : {H : Type 0} → H → Table → ℕ → List Slot → List ℕ → Mode → ℕ → Builder H
-builder_of h table root slots stack mode calls =
-    record { shapes = table; hooks = h; root = root; state = state_of slots stack mode calls }
-
--- A builder in order: its table is checked, and its state is in order.
-pub record IsBuilderInOrder {H : Type 0} (builder : Builder H) : Type 0 where
-  pub checked : IsChecked builder.shapes
-  pub state : IsInOrder builder.shapes builder.root builder.state
+-- what a builder works with is in order
+abbrev pub IsSiteInOrder : Site → Type 0
+IsSiteInOrder site = IsInOrder site.shapes site.root site.state
 
 module _ {table : Table} {root : ShapeId} {plan : Plan} {steps : List PathStep} {slots : List Slot} {stack store : List ℕ}
     {mode : Mode} {calls : ℕ} (underway : IsUnderway table root plan steps slots stack store mode calls) where
   -- the state itself
   pub order : IsInOrder table root.0 (state_of slots stack mode calls)
   order = record { suits = underway.ready.suits; leads = underway.leads; began = underway.began }
-
-  pub in_order : {H : Type 0} {h : H} {builder : Builder H} → builder_of h table root.0 slots stack mode calls ≡ builder
-      → IsBuilderInOrder builder
-  in_order is = subst IsBuilderInOrder is (record { checked = underway.ready.checked; state = order })
-
-  -- the path that a builder keeps is that of its place
-  pub path_is : {H : Type 0} {h : H} {builder : Builder H} → builder_of h table root.0 slots stack mode calls ≡ builder
-      → steps ≡ path_of builder.state
-  path_is {H} is = underway.path ∙ ap (λ (b : Builder H). path_of b.state) is
 
   -- the same table, root and plan with other slots, another stack, store, mode and path
   pub underway_after : (path : List PathStep) (after : List Slot) (next stored : List ℕ) (now : Mode) (count : ℕ) (state : State)
@@ -131,28 +114,6 @@ pub stores_after : (mode : Mode) (store next : List ℕ) (before after : List Sl
 stores_after strict store next before after stores kept kept_next no_more =
     none_listed next after kept_next (λ n. no_more n (strict_stores strict store before refl stores kept n))
 stores_after (deferred start) store next before after stores kept kept_next no_more = tt
-
--- where a value is put, what was held and is put is what is held afterwards and what was there
-pub put_keeps : {H : Type 0} {h : H} {table : Table} {root : ShapeId} {plan : Plan} {steps : List PathStep} {slots : List Slot}
-    {stack store : List ℕ} {mode : Mode} {calls : ℕ} {builder : Builder H}
-    → IsUnderway table root plan steps slots stack store mode calls
-    → builder_of h table root.0 slots stack mode calls ≡ builder → StepKeepsTokens → (v : Val) (t : ℕ)
-    → set table (shape_here table root.0 slots stack) (state_of slots stack mode calls) (shape_here table root.0 slots stack) v
-    ≡ Ok (puts (state_of slots stack mode calls) v)
-    → holds builder t + occurs v t ≡ tree_occurs (puts (state_of slots stack mode calls) v).tree t + tokens_here slots stack t
-put_keeps {H} {table = table} {root = root} {slots = slots} {stack = stack} {mode = mode} {calls = calls} underway is law
-    v t meant =
-    ap (λ (b : Builder H). holds b t + occurs v t) (sym is)
-    ∙ tokens_after underway law no_hooks (puts (state_of slots stack mode calls) v)
-    (Call.Set (shape_here table root.0 slots stack) v) meant t
-
--- what may be entered where the builder works
-pub admitted_now : {H : Type 0} {h : H} (table : Table) (root : ℕ) (slots : List Slot) (stack : List ℕ)
-    (mode : Mode) (calls : ℕ) (builder : Builder H) → builder_of h table root slots stack mode calls ≡ builder → (i : ℕ)
-    → field_refusal (def_of builder.shapes (here builder)) (cursor_tree builder.state) i ≡ None
-    → field_refusal (def_of table (shape_here table root slots stack)) (tree_here slots stack) i ≡ None
-admitted_now {H} table root slots stack mode calls builder is i may =
-    ap (λ (b : Builder H). field_refusal (def_of b.shapes (here b)) (cursor_tree b.state) i) is ∙ may
 
 -- slots and stack that stand for a tree and a place are the state
 pub state_is : (plan : Plan) (slots : List Slot) (stack : List ℕ) (place : Place) (tree : Tree) (mode : Mode) (calls count : ℕ)

@@ -1,11 +1,8 @@
 -- The path that a builder keeps, where it goes on and where it goes back.
 use Rattle.std.proofs.Common.{◌≡◌, ℕ, List, [], ◌∷◌, ◌++◌, length, Option, Some, None, IsNone, IfSome, ◌↔◌, refl, sym, ◌∙◌, ap}
 use Rattle.fr_path.specs.declared.path_steps.PathStep.{PathStep}
-use Rattle.fr_shape.specs.Val.{Val}
-use Rattle.fr_model.specs.PathLaws.{LeavingDropsAStep, PathIsAsDeep}
+use Rattle.fr_model.specs.PathLaws.{PathIsAsDeep}
 use Rattle.fr_model.specs.Paths.{path_of}
-use Rattle.fr_model.specs.Step.{puts_and_leaves}
-use Rattle.fr_model.specs.Well.{Leads}
 use Rattle.fr_model.specs.Tree.{State}
 
 -- a path with a last step isn't empty
@@ -44,13 +41,3 @@ below_root deep state above i cursor = go (path_of state) (deep state)
     go : (steps : List PathStep) → length steps ≡ length state.cursor → Ends steps
     go [] e = absurd (longer above (sym (ap (λ (place : List ℕ). length place) cursor) ∙ sym e))
     go (step ∷ steps) e = ends step steps
-
--- the path after the builder went up
-pub left_path : LeavingDropsAStep → PathIsAsDeep → (state after : State) (v : Val) (above : List ℕ) (i : ℕ)
-    (steps left : List PathStep)
-    → Leads state.mode state.cursor state.tree → state.cursor ≡ above ++ i ∷ [] → steps ≡ path_of state
-    → ((before : List PathStep) (last : PathStep) → steps ≡ before ++ last ∷ [] → left ≡ before)
-    → puts_and_leaves state v ≡ after → left ≡ path_of after
-left_path leave deep state after v above i steps left leads cursor path back is =
-    let way : Ends (path_of state) = below_root deep state above i cursor in
-    back way.before way.last (path ∙ way.split) ∙ sym (leave state v way.before way.last leads way.split) ∙ ap path_of is

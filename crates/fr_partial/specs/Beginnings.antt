@@ -1,8 +1,9 @@
 -- How a place comes to be begun so: what of it is kept, and what it is then.
-use Rattle.std.specs.Prelude.{◌≡◌, ℕ, ◌&&◌, is_some, IsSome, Option, Some, None, if◌then◌else◌}
+use Rattle.std.specs.Prelude.{◌≡◌, ◌⊎◌, ℕ, ◌&&◌, is_some, IsSome, Option, Some, None, if◌then◌else◌}
 use Rattle.fr_shape.specs.declared.shape.Def.{Def}
+use Rattle.fr_model.specs.Commands.{Call}
 use Rattle.fr_model.specs.Contents.{content_of, is_entered_in_place}
-use Rattle.fr_model.specs.Tree.{Form, as_some, same_form, Tree, hole, entered, whole, begun, holes, Mode, strict, deferred}
+use Rattle.fr_model.specs.Tree.{Form, as_some, as_ok, as_err, same_form, Tree, hole, entered, whole, begun, holes, Mode, strict, deferred}
 use Rattle.fr_store.specs.Moves.{around_some, HasChild}
 use Rattle.fr_partial.specs.declared.beginning.Beginning.{Beginning}
 
@@ -51,3 +52,12 @@ abbrev pub MayBegin : Beginning → Form → Tree → Type 0
 MayBegin Beginning.AsItIs form tree = HasChild form 0 tree
 MayBegin Beginning.InPlace form tree = IsWholeSome tree × (form ≡ as_some)
 MayBegin Beginning.Anew form tree = Unit {0}
+
+-- a place is begun so around one side of a result
+abbrev pub IsSide : Form → Type 0
+IsSide form = (form ≡ as_ok) ⊎ (form ≡ as_err)
+
+-- the call that enters this side
+abbrev pub side_call : Form → Call
+side_call as_err = Call.BeginErr
+side_call _ = Call.BeginOk

@@ -1,10 +1,11 @@
 -- What contracts see of a builder, and what its calls owe.
-use Rattle.std.specs.Prelude.{◌≡◌, ◌≢◌, ◌⊎◌, ℕ, ◌+◌, List, Result, Ok, Err, IsErr, IfErr, refl}
+use Rattle.std.specs.Prelude.{◌≡◌, ◌≢◌, ◌⊎◌, ℕ, ◌+◌, List, Result, Ok, Err, IsErr, IfErr, IfOk, true, false, refl}
 use Rattle.std.specs.Coded.{Coded, code_by, coded×, coded_ℕ}
 use Rattle.fr_shape.specs.TableCode.{table_code}
+use Rattle.fr_shape.specs.Fits.{fits}
 use Rattle.fr_shape.specs.Hooks.{Meanings}
 use Rattle.fr_shape.specs.Look.{Table}
-use Rattle.fr_shape.specs.Released.{RoseBy}
+use Rattle.fr_shape.specs.Released.{Conserved, RoseBy}
 use Rattle.fr_shape.specs.Tokens.{occurs}
 use Rattle.fr_shape.specs.Val.{Val}
 use Rattle.fr_shape.specs.declared.error.ReflectErrorKind.{ReflectErrorKind}
@@ -16,6 +17,8 @@ use Rattle.fr_model.specs.Step.{step, build}
 use Rattle.fr_model.specs.Tree.{State, cursor_shape, tree_occurs}
 use Rattle.fr_model.specs.StateCode.{state_code}
 use Rattle.fr_partial.specs.BuiltValue.{BuiltValue}
+use Rattle.fr_partial.specs.Ending.{completes_late}
+use Rattle.fr_partial.specs.Sites.{Site}
 use Rattle.fr_partial.specs.declared.reflect_error.ReflectError.{ReflectError}
 
 -- the table that its shapes come from, the hooks, the root's shape, and the state
@@ -30,6 +33,10 @@ builder_code {H} hooks_code =
     code_by (Table × (H × (ℕ × State))) (coded× table_code (coded× hooks_code (coded× coded_ℕ state_code)))
     (λ b. (b.shapes, (b.hooks, (b.root, b.state))))
     (λ p. record { shapes = p.0; hooks = p.1.0; root = p.1.1.0; state = p.1.1.1 }) (λ b. refl)
+
+-- what it works with
+abbrev pub site_of : {H : Type 0} → Builder H → Site
+site_of builder = record { shapes = builder.shapes; root = builder.root; state = builder.state }
 
 -- the shape of the place at which it works
 abbrev pub here : {H : Type 0} → Builder H → ℕ
@@ -124,3 +131,33 @@ dropped_at_build hooks before (Err error) t = dropped_unbuilt hooks before error
 -- the ledger's count of each token rises by exactly what `build` removes of it
 abbrev pub RisesByRemovedAtBuild : {H : Type 0} → Meanings → Builder H → Result BuiltValue ReflectError → (old new : List ℕ) → Type 0
 RisesByRemovedAtBuild hooks before result old new = RoseBy (dropped_at_build hooks before result) old new
+
+-- What one call of a builder owes.
+pub record IsCall {H : Type 0} (hooks : Meanings) (before : Builder H) (call : Call) (result : Result (Builder H) ReflectError) (old new : List ℕ) : Type 0 where
+  -- It did what it means: the builder stands for the state that is meant, or the error's kind is the refusal that is meant. Or it was out
+  -- of memory.
+  pub step : IsStep hooks before call result
+  -- The error names the place at which the builder worked before the call.
+  pub path : TellsPlaceBefore before result
+  -- What the builder held and the call brought is held still, or was released: no token is lost or made.
+  pub tokens : Conserved (λ t. holds before t + brings call t) old (left result) new
+  -- Released was just what the call drops.
+  pub removed : RisesByRemoved hooks before call result old new
+  -- A call that means a refusal is refused so, and never out of memory, unless it completes what was left beneath a place.
+  pub refused : completes_late before.state call ≡ false → RefusesBeforeMemory hooks before call result
+
+-- What `build` owes.
+pub record IsBuild {H : Type 0} (hooks : Meanings) (before : Builder H) (result : Result BuiltValue ReflectError) (old new : List ℕ) : Type 0 where
+  -- It did what it means: the value is the one that is meant, made by so many calls, or the error's kind is the refusal that is meant. Or it
+  -- was out of memory.
+  pub built : IsBuilt hooks before result
+  -- The error names the place at which the builder worked.
+  pub path : TellsPlaceBefore before result
+  -- The value fits the root's shape.
+  pub fitting : IfOk result (λ built. fits before.shapes before.root built.value ≡ true)
+  -- What the builder held stands in the value, or was released.
+  pub tokens : Conserved (holds before) old (left_built result) new
+  -- Released was just what `build` drops.
+  pub removed : RisesByRemovedAtBuild hooks before result old new
+  -- One that means a refusal is refused so, and never out of memory.
+  pub refused : BuildRefusesBeforeMemory hooks before result

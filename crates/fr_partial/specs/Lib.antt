@@ -1,5 +1,6 @@
 pub mod Beginnings
 pub mod Builder
+pub mod Building
 pub mod BuiltValue
 pub mod Choosing
 pub mod Conversions
@@ -11,9 +12,12 @@ pub mod FieldDefaults
 pub mod Filling
 pub mod HeldPlan
 pub mod Looks
-pub mod Meant
+pub mod Making
 pub mod Modes
+pub mod Moving
 pub mod Openings
 pub mod Setting
+pub mod Sites
 pub mod Starting
 pub mod Underway
+pub mod Works

@@ -10,12 +10,13 @@ ghost use Rattle.fr_model.specs.Well.{IsFullAs};
 ghost use Rattle.fr_frame.specs.Bodies.{own_tree};
 ghost use Rattle.fr_frame.specs.Heap.{as_form, body_of};
 ghost use Rattle.fr_partial.specs.Entering.{Describes};
-ghost use Rattle.fr_partial.specs.Underway.{shape_here, IsReady};
+ghost use Rattle.fr_partial.specs.Sites.{shape_at};
+ghost use Rattle.fr_partial.specs.Works.{site, IsSound};
 
-use fr_frame::{Form, Piece, Slots};
-use fr_plan::{TypePlanCore, law_plan_complete, law_plan_lookups};
+use crate::work::Parts;
+use fr_frame::{Form, Piece};
+use fr_plan::{law_plan_complete, law_plan_lookups};
 use fr_shape::{Def, EnumDef, Field, Operation, ShapeId, ShapeTable};
-use fr_store::Stack;
 
 /// As what a place is begun whose children may be entered, and how many it has then.
 #[derive(Clone, Copy)]
@@ -194,28 +195,17 @@ pub fn field_of(
     }
 }
 
-/// The number of the first field that is declared under this name, in a struct or in the variant that is selected, where the place on
-/// top of the stack has the shape.
-pub fn field_named(
-    table: &ShapeTable,
-    root: ShapeId,
-    plan: &TypePlanCore,
-    slots: &Slots,
-    stack: &Stack,
-    shape: ShapeId,
-    variant: Option<u32>,
-    name: &str,
-) -> Option<usize>
-    requires ready { IsReady table.now root plan.now slots.now stack.now }
-    requires shape { shape.0 ≡ shape_here table.now root.0 slots.now stack.now }
-    ensures { result ≡ field_found name.now (def_of table.now shape.0) variant }
+/// The number of the first field that is declared under this name, in a struct or in the variant that is selected, where the place at
+/// which the builder works has the shape.
+pub fn field_named(parts: &Parts, shape: ShapeId, variant: Option<u32>, name: &str) -> Option<usize>
+    requires sound { IsSound parts.now }
+    requires shape { shape.0 ≡ shape_at (site parts.now) }
+    ensures { result ≡ field_found name.now (def_of parts.now.table.now shape.0) variant }
 {
     law_plan_complete();
     law_plan_lookups();
-    let _root = root;
-    let _slots = slots;
-    let _stack = stack;
-    match plan.declared_field(table, shape, variant, name) {
+    let plan = parts.plan.core();
+    match plan.declared_field(parts.table, shape, variant, name) {
         Some(number) => Some(number as usize),
         None => None,
     }

@@ -1,21 +1,22 @@
 //! `init_array`: an array whose elements aren't there yet.
 ghost use Rattle.std.specs.Prelude.{◌≡◌, true, None, Some, IfErr, IfOk, OnOk};
 ghost use Rattle.fr_shape.specs.Look.{def_of};
-ghost use Rattle.fr_shape.specs.Released.{Room, Conserved};
-ghost use Rattle.fr_model.specs.Commands.{Call};
 ghost use Rattle.fr_model.specs.Items.{init_array_refusal, whole_array_refusal};
 ghost use Rattle.fr_model.specs.Tree.{cursor_tree};
 ghost use Rattle.fr_model.specs.Well.{HasElements};
 ghost use Rattle.fr_frame.specs.Bodies.{own_tree};
 ghost use Rattle.fr_frame.specs.Heap.{body_of};
-ghost use Rattle.fr_partial.specs.Builder.{holds, left, IsNotOutOfMemory, IsStep, RefusesBeforeMemory, RisesByRemoved, TellsPlaceBefore};
 ghost use Rattle.fr_partial.specs.Openings.{is_begun};
+ghost use Rattle.fr_shape.specs.Released.{Room};
+ghost use Rattle.fr_model.specs.Commands.{Call};
+ghost use Rattle.fr_partial.specs.Builder.{holds, IsCall, IsNotOutOfMemory};
+ghost use Rattle.fr_partial.specs.Moving.{Decides, NeedsNone};
 
-use crate::admitting::MOST_ELEMENTS;
-use crate::placing::place_here;
+use crate::admitting::{MOST_ELEMENTS, Opening};
+use crate::moves::{Change, Move};
+use crate::work::Work;
 use crate::{Partial, ReflectError};
 use fr_frame::{Form, Piece};
-use fr_model::{law_paths, law_removed};
 use fr_shape::{Def, Hooks, Ledger, Operation, ReflectErrorKind, ShapeId, ShapeTable};
 
 /// Why an array at which this stands can't be begun, if it can't.
@@ -57,33 +58,35 @@ fn array_opening(table: &ShapeTable, shape: ShapeId, piece: &Piece) -> Result<us
     }
 }
 
+impl<'t> Work<'t> {
+    /// An array is begun.
+    fn init_array_move<'k>(&self) -> Result<Move<'k>, ReflectErrorKind>
+        ensures decides { Decides self.now Call.InitArray result }
+        ensures memory { is_begun (cursor_tree self.now.state) ≡ true
+            → NeedsNone (cursor_tree self.now.state) result }
+    {
+        let (shape, piece) = self.place();
+        match array_opening(self.table(), shape, piece) {
+            Ok(count) => {
+                let form = Form::Array;
+                Ok(Move::Stay(Change::Open(Opening { form, count })))
+            }
+            Err(operation) => Err(ReflectErrorKind::OperationFailed { shape, operation }),
+        }
+    }
+}
+
 impl<'t, H: Hooks> Partial<'t, H> {
     /// Begins an array whose elements aren't there yet. One that is begun stays as it is. A whole one, one of too many elements or
     /// anything else is refused, and never out of memory.
     #[inline(never)]
     pub fn init_array(self, ledger: &mut Ledger) -> Result<Partial<'t, H>, ReflectError>
         requires room { Room (holds self) ledger.old }
-        ensures step { IsStep (H.means self.entry.hooks) self.entry Call.InitArray result }
-        ensures path { TellsPlaceBefore self.entry result }
-        ensures tokens { Conserved (holds self.entry) ledger.old (left result) ledger.new }
-        ensures removed { RisesByRemoved (H.means self.entry.hooks) self.entry
-            Call.InitArray result ledger.old ledger.new }
+        ensures call { IsCall (H.means self.entry.hooks) self.entry Call.InitArray result
+            ledger.old ledger.new }
         ensures memory { is_begun (cursor_tree self.entry.state) ≡ true → IsNotOutOfMemory result }
-        ensures refused { RefusesBeforeMemory (H.means self.entry.hooks) self.entry
-            Call.InitArray result }
     {
-        law_paths();
-        law_removed();
-        let work = &*self.work;
-        let plan = work.plan.core();
-        let (slots, stack) = (&work.slots, &work.stack);
-        let (shape, piece) = place_here(work.table, work.root, plan, slots, stack);
-        match array_opening(work.table, shape, piece) {
-            Ok(count) => self.open(Form::Array, count, ledger),
-            Err(operation) => {
-                let kind = ReflectErrorKind::OperationFailed { shape, operation };
-                Err(self.refuse(kind, ledger))
-            }
-        }
+        let decided = self.work.init_array_move();
+        self.run(decided, ledger)
     }
 }

@@ -1,15 +1,28 @@
 //! How the place at which the builder works comes to be begun: what of it is kept.
-ghost use Rattle.std.specs.Prelude.{◌≡◌};
+ghost use Rattle.std.specs.Prelude.{◌≡◌, OnOk, unwrap_or};
 ghost use Rattle.fr_shape.specs.Look.{def_of};
-ghost use Rattle.fr_model.specs.Contents.{is_entered_in_place};
+ghost use Rattle.fr_shape.specs.Released.{Conserved, Room};
+ghost use Rattle.fr_model.specs.Contents.{is_entered_in_place, kept_so, variant_anew};
+ghost use Rattle.fr_model.specs.Tree.{as_variant, base_of_form};
+ghost use Rattle.fr_model.specs.Well.{IsFullAs};
 ghost use Rattle.fr_frame.specs.Bodies.{own_tree};
-ghost use Rattle.fr_frame.specs.Heap.{as_form, body_of};
-ghost use Rattle.fr_partial.specs.Beginnings.{beginning_so, beginning_in, beginning_of_some};
+ghost use Rattle.fr_frame.specs.Heap.{as_form, body_of, slots_occur};
+ghost use Rattle.fr_frame.specs.Kids.{MayHave};
+ghost use Rattle.fr_store.specs.Moves.{changed_here, cursor_in, tree_here, IsOpenAt};
+ghost use Rattle.fr_store.specs.Stands.{IsOpen};
+ghost use Rattle.fr_store.specs.Stored.{IsKept, StoresNoMore};
+ghost use Rattle.fr_partial.specs.declared.beginning.Beginning.{Beginning as Onset};
+ghost use Rattle.fr_partial.specs.Beginnings.{beginning_so, beginning_in, beginning_of_some, begun_by, IsWholeSome};
 ghost use Rattle.fr_partial.specs.Modes.{mode_of};
+ghost use Rattle.fr_partial.specs.Underway.{shape_here, IsReady};
 
+use crate::choosing::Chosen;
 use crate::mode::Mode;
-use fr_frame::{Form, Piece};
-use fr_shape::{Def, ShapeId, ShapeTable, Value};
+use crate::placing::place_here;
+use fr_frame::{Form, Piece, Slots};
+use fr_plan::TypePlanCore;
+use fr_shape::{Def, Ledger, OutOfMemory, ShapeId, ShapeTable, Value};
+use fr_store::{FrameStore, Stack};
 
 /// What of a place is kept where it is begun: all, as it is begun so already; its value alone, which becomes that of its content;
 /// or nothing.
@@ -90,4 +103,79 @@ pub fn beginning_of_some(
         Piece::Entered | Piece::Whole(_) | Piece::Object(..) => Beginning::Anew,
         Piece::Begun(_, _) => beginning_in(mode, Form::Some, piece),
     }
+}
+
+/// Begins the place on top so. One that starts anew has so many children, none of them there, and all that was put there or is
+/// stored beneath it is released.
+pub fn begin_so(
+    plan: &TypePlanCore,
+    slots: &mut Slots,
+    stack: &Stack,
+    store: &mut FrameStore,
+    beginning: Beginning,
+    form: Form,
+    count: usize,
+    ledger: &mut Ledger,
+) -> Result<(), OutOfMemory>
+    requires is_open { IsOpen plan.now slots.old stack.now }
+    requires stored { IsKept store.old slots.old }
+    requires may_have { MayHave (as_form form) count }
+    requires base { base_of_form (as_form form) ≡ 0 }
+    requires some { beginning ≡ Onset.InPlace → IsWholeSome (tree_here slots.old stack.now) }
+    requires room { Room (slots_occur slots.old) ledger.old }
+    ensures begun { OnOk result (IsOpenAt plan.now slots.new stack.now
+        (cursor_in slots.old stack.now)
+        (changed_here (begun_by beginning (as_form form) count) slots.old stack.now)) }
+    ensures stored { OnOk result (IsKept store.new slots.new) }
+    ensures marks { OnOk result (StoresNoMore slots.old slots.new) }
+    ensures tokens { Conserved (slots_occur slots.old) ledger.old
+        (slots_occur slots.new) ledger.new }
+{
+    match beginning {
+        Beginning::AsItIs => Ok(()),
+        Beginning::InPlace => stack.open_some(slots, plan),
+        Beginning::Anew => stack.restart(slots, store, plan, form, count, ledger),
+    }
+}
+
+/// Begins the place on top, an enum, as this variant: one that is begun so stays as it is, and any other starts anew.
+pub fn begin_variant(
+    table: &ShapeTable,
+    root: ShapeId,
+    plan: &TypePlanCore,
+    slots: &mut Slots,
+    stack: &Stack,
+    store: &mut FrameStore,
+    chosen: Chosen,
+    ledger: &mut Ledger,
+) -> Result<(), OutOfMemory>
+    requires ready { IsReady table.now root plan.now slots.old stack.now }
+    requires stored { IsKept store.old slots.old }
+    requires count { IsFullAs (def_of table.now (shape_here table.now root.0 slots.old stack.now))
+        (as_variant chosen.variant) chosen.count }
+    requires room { Room (slots_occur slots.old) ledger.old }
+    ensures begun { OnOk result (IsOpenAt plan.now slots.new stack.now
+        (cursor_in slots.old stack.now)
+        (changed_here (λ old.
+        unwrap_or (kept_so (as_variant chosen.variant) (tree_here slots.old stack.now))
+        (variant_anew (def_of table.now (shape_here table.now root.0 slots.old stack.now))
+        chosen.variant)) slots.old stack.now)) }
+    ensures stored { OnOk result (IsKept store.new slots.new) }
+    ensures marks { OnOk result (StoresNoMore slots.old slots.new) }
+    ensures tokens { Conserved (slots_occur slots.old) ledger.old
+        (slots_occur slots.new) ledger.new }
+{
+    let form = Form::Variant(chosen.variant);
+    let (_, piece) = place_here(table, root, plan, slots, stack);
+    let beginning = beginning_so(form, piece);
+    begin_so(
+        plan,
+        slots,
+        stack,
+        store,
+        beginning,
+        form,
+        chosen.count,
+        ledger,
+    )
 }

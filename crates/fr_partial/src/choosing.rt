@@ -1,5 +1,5 @@
 //! Finding the variant that is selected.
-ghost use Rattle.std.specs.Prelude.{◌≡◌, ◌<◌, ◌^◌, IfErr, IfOk, IfSome, IfNone, Err, None, Ok, Some, false, length, position};
+ghost use Rattle.std.specs.Prelude.{◌≡◌, ℕ, List, Option, IfErr, IfOk, IfSome, IfNone, Err, Ok, false};
 ghost use Rattle.fr_shape.specs.declared.error.Expected.{Expected as Wanted};
 ghost use Rattle.fr_shape.specs.declared.error.Operation.{Operation as Unknown};
 ghost use Rattle.fr_shape.specs.declared.error.ReflectErrorKind.{ReflectErrorKind as Kind};
@@ -8,12 +8,16 @@ ghost use Rattle.fr_shape.specs.declared.shape.VariantDef.{VariantDef as Variant
 ghost use Rattle.fr_shape.specs.Look.{def_of, variants_of};
 ghost use Rattle.fr_shape.specs.Numbered.{IsNumbered};
 ghost use Rattle.fr_model.specs.Tree.{as_variant};
-ghost use Rattle.fr_model.specs.Variants.{is_discriminant, is_enum, is_found_by, layout_refusal, selection_refusal, variant_named, variant_numbered, variant_told_by};
+ghost use Rattle.fr_model.specs.Variants.{is_enum, layout_refusal, selection_refusal, variant_named, variant_numbered, variant_told_by};
 ghost use Rattle.fr_model.specs.Well.{IsFullAs};
 ghost use Rattle.fr_partial.specs.Choosing.{choice, choice_of};
+ghost use Rattle.fr_partial.specs.Sites.{shape_at};
+ghost use Rattle.fr_partial.specs.Works.{site, IsSound};
 
+use crate::work::Parts;
+use fr_plan::{law_plan_complete, law_plan_lookups};
 use fr_shape::{
-    Def, EnumDef, EnumRepr, Expected, Operation, ReflectErrorKind, ShapeId, ShapeTable, VariantDef,
+    Def, EnumDef, EnumRepr, Expected, Operation, ReflectErrorKind, ShapeId, ShapeTable,
 };
 
 /// The number of a variant, and how many fields it has.
@@ -102,104 +106,76 @@ fn no_enum(actual: ShapeId) -> ReflectErrorKind
     ReflectErrorKind::WasNotA { expected, actual }
 }
 
-/// The variant of this number, counted from 0.
-pub fn nth_variant(
+/// What was found among the variants of an enum of this shape, or why it can't be selected.
+pub fn choice(
     table: &ShapeTable,
     shape: ShapeId,
-    index: usize,
+    found: Option<usize>,
+    unknown: Operation,
 ) -> Result<Chosen, ReflectErrorKind>
     requires numbered { IsNumbered table.now }
-    ensures chosen { IfOk result (λ chosen.
-        choice table.now shape.0 (variant_numbered index) Unknown.VariantIndexOutOfBounds
-        ≡ Ok chosen.variant) }
+    ensures chosen { IfOk result (λ chosen. (find : List Variant → Option ℕ)
+        → found ≡ find (variants_of (def_of table.now shape.0))
+        → choice table.now shape.0 find unknown ≡ Ok chosen.variant) }
     ensures count { IfOk result (λ chosen.
         IsFullAs (def_of table.now shape.0) (as_variant chosen.variant) chosen.count) }
-    ensures refused { IfErr result (λ kind.
-        choice table.now shape.0 (variant_numbered index) Unknown.VariantIndexOutOfBounds
-        ≡ Err kind) }
+    ensures refused { IfErr result (λ kind. (find : List Variant → Option ℕ)
+        → found ≡ find (variants_of (def_of table.now shape.0))
+        → choice table.now shape.0 find unknown ≡ Err kind) }
 {
-    let Some(described) = enum_of(table, shape) else {
-        return Err(no_enum(shape));
-    };
-    let found = if index < described.variants.len() {
+    match enum_of(table, shape) {
+        Some(described) => choose(table, shape, described, found, unknown),
+        None => Err(no_enum(shape)),
+    }
+}
+
+/// The variant of this number, counted from 0, if there is one.
+pub fn nth_variant(table: &ShapeTable, shape: ShapeId, index: usize) -> Option<usize>
+    ensures found { result ≡ variant_numbered index (variants_of (def_of table.now shape.0)) }
+{
+    let described = enum_of(table, shape)?;
+    if index < described.variants.len() {
         Some(index)
     } else {
         None
-    };
-    let unknown = Operation::VariantIndexOutOfBounds;
-    choose(table, shape, described, found, unknown)
+    }
 }
 
-/// The first of these variants that goes by the name and isn't marked `other`.
-fn first_named(variants: &[VariantDef], name: &str) -> Option<usize>
-    ensures { result ≡ position (is_found_by name.now) variants.now }
+/// The number that the plan's index gives.
+fn number(found: Option<u32>) -> Option<usize>
+    ensures number { result ≡ found }
 {
-    variants.iter().position(|variant| !variant.other && variant.effective_name().as_str() == name)
+    match found {
+        Some(k) => Some(k as usize),
+        None => None,
+    }
 }
 
-/// The variant that goes by this name and isn't marked `other`.
-pub fn variant_named(
-    table: &ShapeTable,
-    shape: ShapeId,
-    name: &str,
-) -> Result<Chosen, ReflectErrorKind>
-    requires numbered { IsNumbered table.now }
-    ensures chosen { IfOk result (λ chosen.
-        choice table.now shape.0 (variant_named name.now) Unknown.VariantNameUnknown
-        ≡ Ok chosen.variant) }
-    ensures count { IfOk result (λ chosen.
-        IsFullAs (def_of table.now shape.0) (as_variant chosen.variant) chosen.count) }
-    ensures refused { IfErr result (λ kind.
-        choice table.now shape.0 (variant_named name.now) Unknown.VariantNameUnknown
-        ≡ Err kind) }
+/// The variant that goes by this name and isn't marked `other`, of the enum at which the builder works.
+pub fn variant_named(parts: &Parts, shape: ShapeId, name: &str) -> Option<usize>
+    requires sound { IsSound parts.now }
+    requires shape { shape.0 ≡ shape_at (site parts.now) }
+    ensures found { result
+        ≡ variant_named name.now (variants_of (def_of parts.now.table.now shape.0)) }
 {
-    let Some(described) = enum_of(table, shape) else {
-        return Err(no_enum(shape));
-    };
-    let found = first_named(described.variants.as_slice(), name);
-    choose(
-        table,
-        shape,
-        described,
-        found,
-        Operation::VariantNameUnknown,
-    )
+    law_plan_complete();
+    law_plan_lookups();
+    number(parts.plan.core().variant_named(parts.table, shape, name))
 }
 
-/// The first of these variants that has the discriminant.
-fn first_told_by(variants: &[VariantDef], discriminant: i64) -> Option<usize>
-    ensures { result ≡ variant_told_by discriminant variants.now }
+/// The first variant that has this discriminant, of the enum at which the builder works.
+pub fn variant_told_by(parts: &Parts, shape: ShapeId, discriminant: i64) -> Option<usize>
+    requires sound { IsSound parts.now }
+    requires shape { shape.0 ≡ shape_at (site parts.now) }
+    ensures found { result
+        ≡ variant_told_by discriminant (variants_of (def_of parts.now.table.now shape.0)) }
 {
-    variants
-        .iter()
-        .position(|variant| variant.discriminant == Some(discriminant))
-}
-
-/// The first variant that has this discriminant.
-pub fn variant_told_by(
-    table: &ShapeTable,
-    shape: ShapeId,
-    discriminant: i64,
-) -> Result<Chosen, ReflectErrorKind>
-    requires numbered { IsNumbered table.now }
-    ensures chosen { IfOk result (λ chosen.
-        choice table.now shape.0 (variant_told_by discriminant) Unknown.DiscriminantUnknown
-        ≡ Ok chosen.variant) }
-    ensures count { IfOk result (λ chosen.
-        IsFullAs (def_of table.now shape.0) (as_variant chosen.variant) chosen.count) }
-    ensures refused { IfErr result (λ kind.
-        choice table.now shape.0 (variant_told_by discriminant) Unknown.DiscriminantUnknown
-        ≡ Err kind) }
-{
-    let Some(described) = enum_of(table, shape) else {
-        return Err(no_enum(shape));
-    };
-    let found = first_told_by(described.variants.as_slice(), discriminant);
-    choose(
-        table,
-        shape,
-        described,
-        found,
-        Operation::DiscriminantUnknown,
+    law_plan_complete();
+    law_plan_lookups();
+    number(
+        parts
+            .plan
+            .core()
+            .variant_told_by(parts.table, shape, discriminant),
     )
 }

@@ -1,122 +1,70 @@
-//! `begin_deferred`, `enter_deferred` and `finish_deferred`: the builder's mode, and the end of deferred mode.
-ghost use Rattle.std.specs.Prelude.{◌≡◌, ◌≢◌, Ok};
-ghost use Rattle.fr_shape.specs.Released.{Room, Conserved};
-ghost use Rattle.fr_model.specs.Commands.{Call};
-ghost use Rattle.fr_model.specs.Tree.{strict};
-ghost use Rattle.fr_partial.specs.Builder.{holds, left, IsNotOutOfMemory, IsStep, RisesByRemoved, TellsPlaceBefore};
-ghost use Rattle.fr_model.specs.Step.{begin_deferred};
+//! Into deferred mode, and its end.
+ghost use Rattle.std.specs.Prelude.{◌≡◌, ◌≢◌, length, IfErr, Ok, OnErr, OnOk};
+ghost use Rattle.fr_shape.specs.declared.error.ReflectErrorKind.{ReflectErrorKind as Kind};
+ghost use Rattle.fr_shape.specs.Released.{Conserved, Room};
+ghost use Rattle.fr_model.specs.Tree.{deferred, one_more_call};
+ghost use Rattle.fr_frame.specs.Heap.{slots_occur};
+ghost use Rattle.fr_partial.specs.declared.moves.Move.{Move as Moves};
+ghost use Rattle.fr_partial.specs.Making.{IsMade};
+ghost use Rattle.fr_partial.specs.Moving.{meant_by, IsMeant};
+ghost use Rattle.fr_partial.specs.Works.{site, IsSound};
 
 use crate::mode::Mode;
-use crate::work::Work;
-use crate::{Partial, ReflectError};
-use fr_model::{law_paths, law_removed, law_well};
+use crate::work::Parts;
+use fr_model::{law_paths, law_well};
 use fr_plan::law_plan_lookups;
-use fr_shape::{Hooks, Invariant, Ledger, ReflectErrorKind};
+use fr_shape::{Hooks, Ledger, ReflectErrorKind};
 
-impl<'t, H: Hooks> Partial<'t, H> {
-    /// From now on places that are left stay as they are, to be entered again or completed by `finish_deferred`. Refused in
-    /// deferred mode. Takes no memory.
-    pub fn begin_deferred(self, ledger: &mut Ledger) -> Result<Partial<'t, H>, ReflectError>
-        requires room { Room (holds self) ledger.old }
-        ensures step { IsStep (H.means self.entry.hooks) self.entry Call.BeginDeferred result }
-        ensures path { TellsPlaceBefore self.entry result }
-        ensures tokens { Conserved (holds self.entry) ledger.old (left result) ledger.new }
-        ensures removed { RisesByRemoved (H.means self.entry.hooks) self.entry
-            Call.BeginDeferred result ledger.old ledger.new }
-        ensures memory { IsNotOutOfMemory result }
+/// From now on places that are left stay as they are. Takes no memory, and is never refused.
+pub fn defer(parts: &mut Parts) -> Result<(), ReflectErrorKind>
+    requires sound { IsSound parts.old }
+    requires meant { IsMeant (site parts.old) Moves.Defer }
+    ensures sound { OnOk result (IsSound parts.new) }
+    ensures moved { IsMade parts.old parts.new (Ok (record (site parts.old).state {
+      mode = deferred (length (site parts.old).state.cursor);
+      calls = one_more_call (site parts.old).state.calls;
+    })) result }
+    ensures never { IfErr result (λ kind. ⊥) }
+    ensures slots { parts.new.slots ≡ parts.old.slots }
+{
+    law_well();
+    let start = parts.stack.len() - 1;
+    parts.mode = Mode::Deferred(start);
+    parts.calls = parts.calls.saturating_add(1);
+    Ok(())
+}
+
+/// Completes all that was left, the longest path first, then step by step; then the place at which the builder works, which stays begun
+/// where it is; and goes back to strict mode. Where that can't be, all is released.
+pub fn finish<H: Hooks>(
+    parts: &mut Parts,
+    hooks: &H,
+    ledger: &mut Ledger,
+) -> Result<(), ReflectErrorKind>
+    requires sound { IsSound parts.old }
+    requires meant { IsMeant (site parts.old) Moves.Finish }
+    requires room { Room (slots_occur parts.old.slots) ledger.old }
+    ensures sound { OnOk result (IsSound parts.new) }
+    ensures moved { IsMade parts.old parts.new
+        (meant_by (H.means hooks.now) (site parts.old) Moves.Finish) result }
+    ensures path { OnErr result (parts.new.path ≡ parts.old.path) }
+    ensures tokens { Conserved (slots_occur parts.old.slots) ledger.old
+        (slots_occur parts.new.slots) ledger.new }
+{
+    law_paths();
+    law_plan_lookups();
+    law_well();
+    let plan = parts.plan.core();
+    let (slots, stack) = (&mut parts.slots, &mut parts.stack);
+    match parts
+        .store
+        .finish(slots, stack, parts.table, plan, hooks, ledger)
     {
-        law_removed();
-        match self.work.mode {
-            Mode::Strict => Ok(self.enter_deferred()),
-            Mode::Deferred(_) => {
-                let invariant = Invariant::AlreadyDeferred;
-                let kind = ReflectErrorKind::InvariantViolation { invariant };
-                Err(self.refuse(kind, ledger))
-            }
+        Ok(()) => {
+            parts.mode = Mode::Strict;
+            parts.calls = parts.calls.saturating_add(1);
+            Ok(())
         }
-    }
-
-    /// `begin_deferred` of a builder that is in strict mode.
-    pub fn enter_deferred(mut self) -> Partial<'t, H>
-        requires strict { self.state.mode ≡ strict }
-        ensures state { begin_deferred self.entry.state ≡ Ok result.state }
-        ensures shapes { result.shapes ≡ self.entry.shapes }
-        ensures root { result.root ≡ self.entry.root }
-        ensures hooks { result.hooks ≡ self.entry.hooks }
-    {
-        law_well();
-        let work = &mut *self.work;
-        let start = work.stack.len() - 1;
-        work.mode = Mode::Deferred(start);
-        work.calls = work.calls.saturating_add(1);
-        self
-    }
-
-    /// Completes all that was left, the longest path first, then step by step; then the place at which the builder works, which
-    /// stays begun where it is; and goes back to strict mode. The first place that fails gives the refusal. Refused in strict
-    /// mode.
-    pub fn finish_deferred(self, ledger: &mut Ledger) -> Result<Partial<'t, H>, ReflectError>
-        requires room { Room (holds self) ledger.old }
-        ensures step { IsStep (H.means self.entry.hooks) self.entry Call.FinishDeferred result }
-        ensures path { TellsPlaceBefore self.entry result }
-        ensures tokens { Conserved (holds self.entry) ledger.old (left result) ledger.new }
-        ensures removed { RisesByRemoved (H.means self.entry.hooks) self.entry
-            Call.FinishDeferred result ledger.old ledger.new }
-    {
-        law_removed();
-        match self.work.mode {
-            Mode::Strict => {
-                let invariant = Invariant::NotDeferred;
-                let kind = ReflectErrorKind::InvariantViolation { invariant };
-                Err(self.refuse(kind, ledger))
-            }
-            Mode::Deferred(_) => self.finish_all(ledger),
-        }
-    }
-
-    /// `finish_deferred` in deferred mode.
-    fn finish_all(mut self, ledger: &mut Ledger) -> Result<Partial<'t, H>, ReflectError>
-        requires room { Room (holds self) ledger.old }
-        requires deferred { self.state.mode ≢ strict }
-        ensures step { IsStep (H.means self.entry.hooks) self.entry Call.FinishDeferred result }
-        ensures path { TellsPlaceBefore self.entry result }
-        ensures tokens { Conserved (holds self.entry) ledger.old (left result) ledger.new }
-    {
-        law_paths();
-        law_plan_lookups();
-        law_removed();
-        law_well();
-        let hooks = self.hooks;
-        let work = &mut *self.work;
-        let table = work.table;
-        let plan = work.plan.core();
-        let (slots, stack) = (&mut work.slots, &mut work.stack);
-        match work.store.finish(slots, stack, table, plan, hooks, ledger) {
-            Ok(()) => {
-                work.mode = Mode::Strict;
-                work.calls = work.calls.saturating_add(1);
-                Ok(self)
-            }
-            Err(kind) => {
-                let Partial {
-                    alloc: _,
-                    hooks: _,
-                    work,
-                } = self;
-                let Work {
-                    table: _,
-                    root: _,
-                    plan,
-                    slots: _,
-                    stack: _,
-                    store: _,
-                    path,
-                    mode: _,
-                    calls: _,
-                } = Box::into_inner(work);
-                drop(plan);
-                Err(ReflectError { kind, path })
-            }
-        }
+        Err(kind) => Err(kind),
     }
 }

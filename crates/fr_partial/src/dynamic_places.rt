@@ -1,33 +1,24 @@
 //! A dynamic place that is begun as an array or as an object: it keeps the parts that it has, or starts anew.
-ghost use Rattle.std.specs.Prelude.{◌≡◌, IsOk, OnOk, Ok, false, is_some, true, unwrap_or};
+ghost use Rattle.std.specs.Prelude.{◌≡◌, IsOk, OnOk, false, is_some, true, unwrap_or};
 ghost use Rattle.fr_shape.specs.Look.{def_of};
 ghost use Rattle.fr_shape.specs.Plannable.{is_dynamic};
 ghost use Rattle.fr_shape.specs.Released.{Room, Conserved};
 ghost use Rattle.fr_shape.specs.View.{view};
 ghost use Rattle.fr_model.specs.DynamicPlaces.{kept_array, kept_object};
-ghost use Rattle.fr_model.specs.Paths.{path_of};
-ghost use Rattle.fr_model.specs.Step.{becomes};
-ghost use Rattle.fr_model.specs.Tree.{begun, cursor_tree, whole, Trees};
+ghost use Rattle.fr_model.specs.Tree.{begun, whole, Trees};
 ghost use Rattle.fr_frame.specs.Bodies.{own_tree};
 ghost use Rattle.fr_frame.specs.Heap.{as_form, body_of, slots_occur};
 ghost use Rattle.fr_store.specs.Moves.{changed_here, cursor_in, tree_here, IsOpenAt};
 ghost use Rattle.fr_store.specs.Stored.{IsKept, StoresNoMore};
-ghost use Rattle.fr_partial.specs.Builder.{holds, left, IsNotOutOfMemory, IsStepTo, TellsPlaceBefore};
 ghost use Rattle.fr_partial.specs.DynamicBeginnings.{anew_as, beginning_as, kept_as};
-ghost use Rattle.fr_partial.specs.Meant.{IsMeant};
 ghost use Rattle.fr_partial.specs.Openings.{is_begun};
 ghost use Rattle.fr_partial.specs.Underway.{IsReady};
 
 use crate::beginning::Beginning;
 use crate::placing::place_here;
-use crate::work::fail;
-use crate::{Partial, ReflectError};
 use fr_frame::{Form, Piece, Slots};
-use fr_model::law_well;
 use fr_plan::TypePlanCore;
-use fr_shape::{
-    Def, Dyn, Hooks, Ledger, OutOfMemory, ReflectErrorKind, ShapeId, ShapeTable, Value,
-};
+use fr_shape::{Def, Dyn, Ledger, OutOfMemory, ShapeId, ShapeTable, Value};
 use fr_store::{FrameStore, Stack};
 
 /// What a dynamic place is begun with: the elements of an array, or the entries of an object.
@@ -114,7 +105,7 @@ fn beginning_as(parts: Parts, piece: &Piece) -> Beginning
 
 /// Begins the dynamic place on top with such parts: those that it has stay as they are. Where it has none such, all that was put there
 /// and all that is stored beneath it is released. Only a whole value takes memory for its parts.
-fn begin_parts(
+pub fn begin_parts(
     table: &ShapeTable,
     root: ShapeId,
     plan: &TypePlanCore,
@@ -155,45 +146,5 @@ fn begin_parts(
                 Ok(())
             }
         },
-    }
-}
-
-impl<'t, H: Hooks> Partial<'t, H> {
-    /// Begins a dynamic place with such parts. One that is begun takes no memory. Where there is no memory, all is released.
-    pub(crate) fn begin_dynamic(
-        mut self,
-        parts: Parts,
-        ledger: &mut Ledger,
-    ) -> Result<Partial<'t, H>, ReflectError>
-        requires room { Room (holds self) ledger.old }
-        requires meant { IsMeant self
-            (becomes self.state (kept_as parts (cursor_tree self.state)) (anew_as parts))
-            (path_of self.state) }
-        ensures step { IsStepTo self.entry (Ok (becomes self.entry.state
-            (kept_as parts (cursor_tree self.entry.state)) (anew_as parts))) result }
-        ensures path { TellsPlaceBefore self.entry result }
-        ensures tokens { Conserved (holds self.entry) ledger.old (left result) ledger.new }
-        ensures memory { is_begun (cursor_tree self.entry.state) ≡ true → IsNotOutOfMemory result }
-    {
-        law_well();
-        let work = &mut *self.work;
-        let table = work.table;
-        let root = work.root;
-        let plan = work.plan.core();
-        let (slots, store) = (&mut work.slots, &mut work.store);
-        match begin_parts(table, root, plan, slots, &work.stack, store, parts, ledger) {
-            Ok(()) => {
-                work.calls = work.calls.saturating_add(1);
-                Ok(self)
-            }
-            Err(OutOfMemory) => {
-                let Partial {
-                    alloc: _,
-                    hooks: _,
-                    work,
-                } = self;
-                Err(fail(work, ReflectErrorKind::OutOfMemory, ledger))
-            }
-        }
     }
 }

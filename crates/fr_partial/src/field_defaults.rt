@@ -6,30 +6,27 @@ ghost use Rattle.fr_shape.specs.Tokens.{tokens};
 ghost use Rattle.fr_shape.specs.Val.{Val};
 ghost use Rattle.fr_shape.specs.View.{view};
 ghost use Rattle.fr_model.specs.Places.{is_root, up};
-ghost use Rattle.fr_model.specs.Step.{field_default, field_refusal, put_child, puts_child, set_nth_field_to_default};
-ghost use Rattle.fr_model.specs.Tree.{cursor_tree, tree_at, whole};
+ghost use Rattle.fr_model.specs.Step.{field_default, field_refusal, put_child};
+ghost use Rattle.fr_model.specs.Tree.{tree_at, whole};
 ghost use Rattle.fr_frame.specs.Bodies.{own_tree};
 ghost use Rattle.fr_frame.specs.Heap.{body_of, slots_occur};
 ghost use Rattle.fr_store.specs.Moves.{changed_here, cursor_in, takes_at_end, tree_here, tree_in_slots, IsOpenAt};
 ghost use Rattle.fr_store.specs.Stands.{IsOpen};
 ghost use Rattle.fr_store.specs.Stored.{IsKept};
-ghost use Rattle.fr_partial.specs.Builder.{here, holds, left, IsStepTo, TellsPlaceBefore};
 ghost use Rattle.fr_partial.specs.Entering.{Describes};
 ghost use Rattle.fr_partial.specs.FieldDefaults.{default_in};
 ghost use Rattle.fr_partial.specs.Modes.{mode_of};
 ghost use Rattle.fr_partial.specs.Underway.{shape_here, IsReady, StoresNothing};
 
 use crate::admitting::{Opening, field_of, named_refusal, selected};
-use crate::entering::enter_child;
+use crate::going::enter;
 use crate::mode::Mode;
-use crate::work::fail;
-use crate::{Partial, ReflectError};
+use crate::moves::Way;
 use fr_frame::{Piece, Slots};
-use fr_model::{law_paths, law_well};
 use fr_plan::{TypePlanCore, law_plan_lookups};
 use fr_shape::{
-    DefaultSource, Field, Hooks, Ledger, Operation, OutOfMemory, ReflectErrorKind, ShapeId,
-    ShapeTable, Template, Value,
+    DefaultSource, Field, Ledger, Operation, OutOfMemory, ReflectErrorKind, ShapeId, ShapeTable,
+    Template, Value,
 };
 use fr_store::{FrameStore, Stack};
 
@@ -119,7 +116,7 @@ fn leave_whole(
 
 /// Puts a value without tokens at child `i` of the place on top, which may be entered, in the stead of all that was put there and is
 /// stored beneath it. The place stays on top.
-fn put_in_child(
+pub fn put_in_child(
     table: &ShapeTable,
     root: ShapeId,
     plan: &TypePlanCore,
@@ -140,7 +137,6 @@ fn put_in_child(
     requires admitted { field_refusal
         (def_of table.now (shape_here table.now root.0 slots.old stack.old))
         (tree_here slots.old stack.old) i ≡ None }
-    requires small { i < 2 ^ 32 }
     requires light { tokens (view value) ≡ [] }
     requires room { Room (slots_occur slots.old) ledger.old }
     ensures put { OnOk result (IsOpenAt plan.now slots.new stack.new (cursor_in slots.old stack.old)
@@ -153,58 +149,11 @@ fn put_in_child(
         (slots_occur slots.new) ledger.new }
 {
     law_plan_lookups();
-    enter_child(table, root, plan, slots, stack, store, i, opening)?;
+    let Ok(_) = u32::try_from(i) else {
+        return Err(OutOfMemory);
+    };
+    let way = Way::Child(i, opening);
+    enter(table, root, plan, slots, stack, store, way, ledger)?;
     stack.set(slots, store, plan, value, ledger);
     leave_whole(plan, slots, stack, store, mode, ledger)
-}
-
-impl<'t, H: Hooks> Partial<'t, H> {
-    /// Puts a value without tokens at a field or element that may be entered, in one call. Where there is no memory, all is
-    /// released.
-    pub(crate) fn put_child(
-        mut self,
-        i: usize,
-        opening: Opening,
-        value: Value,
-        ledger: &mut Ledger,
-    ) -> Result<Partial<'t, H>, ReflectError>
-        requires room { Room (holds self) ledger.old }
-        requires opening { Describes self.shapes (here self) (cursor_tree self.state) opening }
-        requires admitted { field_refusal (def_of self.shapes (here self))
-            (cursor_tree self.state) i ≡ None }
-        requires light { tokens (view value) ≡ [] }
-        requires meant { set_nth_field_to_default self.shapes (here self) self.state i
-            ≡ Ok (puts_child self.shapes (here self) self.state i (view value)) }
-        ensures step { IsStepTo self.entry
-            (Ok (puts_child self.entry.shapes (here self.entry) self.entry.state i (view value)))
-            result }
-        ensures path { TellsPlaceBefore self.entry result }
-        ensures tokens { Conserved (holds self.entry) ledger.old (left result) ledger.new }
-    {
-        law_paths();
-        law_well();
-        let work = &mut *self.work;
-        let table = work.table;
-        let root = work.root;
-        let mode = work.mode;
-        let plan = work.plan.core();
-        let (slots, stack, store) = (&mut work.slots, &mut work.stack, &mut work.store);
-        let answer = put_in_child(
-            table, root, plan, slots, stack, store, i, opening, value, mode, ledger,
-        );
-        match answer {
-            Ok(()) => {
-                work.calls = work.calls.saturating_add(1);
-                Ok(self)
-            }
-            Err(OutOfMemory) => {
-                let Partial {
-                    alloc: _,
-                    hooks: _,
-                    work,
-                } = self;
-                Err(fail(work, ReflectErrorKind::OutOfMemory, ledger))
-            }
-        }
-    }
 }

@@ -1,16 +1,65 @@
 //! `begin_field` and `begin_nth_field`: on to a field or element of the place at which the builder works; and
 //! `set_nth_field_to_default`.
-ghost use Rattle.fr_shape.specs.Released.{Room, Conserved};
+ghost use Rattle.fr_shape.specs.Released.{Room};
 ghost use Rattle.fr_model.specs.Commands.{Call};
-ghost use Rattle.fr_partial.specs.Builder.{holds, left, IsStep, RefusesBeforeMemory, RisesByRemoved, TellsPlaceBefore};
+ghost use Rattle.fr_partial.specs.Builder.{holds, IsCall};
+ghost use Rattle.fr_partial.specs.Moving.{Decides};
 
 use crate::admitting::{field_named, named_refusal, nth_opening, opening_at, selected};
 use crate::field_defaults::default_in;
-use crate::placing::place_here;
+use crate::moves::{Change, Move, Way};
 use crate::set::copy_template;
+use crate::work::Work;
 use crate::{Partial, ReflectError};
-use fr_model::law_removed;
-use fr_shape::{Hooks, Ledger, ReflectErrorKind};
+use fr_shape::{Hooks, Ledger, OutOfMemory, ReflectErrorKind};
+
+impl<'t> Work<'t> {
+    /// On to the first field that is declared under this name.
+    #[inline(always)]
+    fn begin_field_move<'k>(&self, name: &str) -> Result<Move<'k>, ReflectErrorKind>
+        ensures decides { Decides self.now (Call.BeginField name.now) result }
+    {
+        let (shape, piece) = self.place();
+        let table = self.table();
+        if let Some(operation) = named_refusal(table, shape, piece) {
+            return Err(ReflectErrorKind::OperationFailed { shape, operation });
+        }
+        match field_named(&self.parts, shape, selected(piece), name) {
+            Some(i) => Ok(Move::Go(Way::Child(i, opening_at(table, shape, piece, i)))),
+            None => Err(ReflectErrorKind::FieldError { shape }),
+        }
+    }
+
+    /// On to the field or element of this number.
+    #[inline(always)]
+    fn begin_nth_field_move<'k>(&self, idx: usize) -> Result<Move<'k>, ReflectErrorKind>
+        ensures decides { Decides self.now (Call.BeginNthField idx) result }
+    {
+        let (shape, piece) = self.place();
+        match nth_opening(self.table(), shape, piece, idx) {
+            Ok(opening) => Ok(Move::Go(Way::Child(idx, opening))),
+            Err(operation) => Err(ReflectErrorKind::OperationFailed { shape, operation }),
+        }
+    }
+
+    /// A copy of its default takes the place of the field of this number.
+    fn set_nth_field_to_default_move<'k>(&self, idx: usize) -> Result<Move<'k>, ReflectErrorKind>
+        ensures decides { Decides self.now (Call.SetNthFieldToDefault idx) result }
+    {
+        self.law_sound();
+        let (shape, piece) = self.place();
+        let table = self.table();
+        let template = match default_in(table, shape, piece, idx) {
+            Ok(template) => template,
+            Err(kind) => return Err(kind),
+        };
+        let opening = opening_at(table, shape, piece, idx);
+        match copy_template(self.alloc(), template) {
+            Ok(value) => Ok(Move::Stay(Change::PutChild(idx, opening, value))),
+            Err(OutOfMemory) => Err(ReflectErrorKind::OutOfMemory),
+        }
+    }
+}
 
 impl<'t, H: Hooks> Partial<'t, H> {
     /// Enters the first field that is declared under this name, of a struct or of the variant that is selected. One that holds
@@ -22,34 +71,11 @@ impl<'t, H: Hooks> Partial<'t, H> {
         ledger: &mut Ledger,
     ) -> Result<Partial<'t, H>, ReflectError>
         requires room { Room (holds self) ledger.old }
-        ensures step { IsStep (H.means self.entry.hooks) self.entry
-            (Call.BeginField field_name.now) result }
-        ensures path { TellsPlaceBefore self.entry result }
-        ensures tokens { Conserved (holds self.entry) ledger.old (left result) ledger.new }
-        ensures removed { RisesByRemoved (H.means self.entry.hooks) self.entry
-            (Call.BeginField field_name.now) result ledger.old ledger.new }
-        ensures refused { RefusesBeforeMemory (H.means self.entry.hooks) self.entry
-            (Call.BeginField field_name.now) result }
+        ensures call { IsCall (H.means self.entry.hooks) self.entry (Call.BeginField field_name.now) result
+            ledger.old ledger.new }
     {
-        law_removed();
-        let work = &*self.work;
-        let table = work.table;
-        let root = work.root;
-        let plan = work.plan.core();
-        let (slots, stack) = (&work.slots, &work.stack);
-        let (shape, piece) = place_here(table, root, plan, slots, stack);
-        if let Some(operation) = named_refusal(table, shape, piece) {
-            let kind = ReflectErrorKind::OperationFailed { shape, operation };
-            return Err(self.refuse(kind, ledger));
-        }
-        let variant = selected(piece);
-        match field_named(table, root, plan, slots, stack, shape, variant, field_name) {
-            Some(i) => {
-                let opening = opening_at(table, shape, piece, i);
-                self.enter(i, opening, ledger)
-            }
-            None => Err(self.refuse(ReflectErrorKind::FieldError { shape }, ledger)),
-        }
+        let decided = self.work.begin_field_move(field_name);
+        self.run(decided, ledger)
     }
 
     /// Enters the field or element of this number, counted from 0. One that holds something already keeps it. Where it
@@ -60,27 +86,11 @@ impl<'t, H: Hooks> Partial<'t, H> {
         ledger: &mut Ledger,
     ) -> Result<Partial<'t, H>, ReflectError>
         requires room { Room (holds self) ledger.old }
-        ensures step { IsStep (H.means self.entry.hooks) self.entry
-            (Call.BeginNthField idx) result }
-        ensures path { TellsPlaceBefore self.entry result }
-        ensures tokens { Conserved (holds self.entry) ledger.old (left result) ledger.new }
-        ensures removed { RisesByRemoved (H.means self.entry.hooks) self.entry
-            (Call.BeginNthField idx) result ledger.old ledger.new }
-        ensures refused { RefusesBeforeMemory (H.means self.entry.hooks) self.entry
-            (Call.BeginNthField idx) result }
+        ensures call { IsCall (H.means self.entry.hooks) self.entry (Call.BeginNthField idx) result
+            ledger.old ledger.new }
     {
-        law_removed();
-        let work = &*self.work;
-        let plan = work.plan.core();
-        let (slots, stack) = (&work.slots, &work.stack);
-        let (shape, piece) = place_here(work.table, work.root, plan, slots, stack);
-        match nth_opening(work.table, shape, piece, idx) {
-            Ok(opening) => self.enter(idx, opening, ledger),
-            Err(operation) => {
-                let kind = ReflectErrorKind::OperationFailed { shape, operation };
-                Err(self.refuse(kind, ledger))
-            }
-        }
+        let decided = self.work.begin_nth_field_move(idx);
+        self.run(decided, ledger)
     }
 
     /// Sets the field of this number, counted from 0, of a struct or of the variant that is selected, to its default: a copy of its own
@@ -94,29 +104,10 @@ impl<'t, H: Hooks> Partial<'t, H> {
         ledger: &mut Ledger,
     ) -> Result<Partial<'t, H>, ReflectError>
         requires room { Room (holds self) ledger.old }
-        ensures step { IsStep (H.means self.entry.hooks) self.entry
-            (Call.SetNthFieldToDefault idx) result }
-        ensures path { TellsPlaceBefore self.entry result }
-        ensures tokens { Conserved (holds self.entry) ledger.old (left result) ledger.new }
-        ensures removed { RisesByRemoved (H.means self.entry.hooks) self.entry
-            (Call.SetNthFieldToDefault idx) result ledger.old ledger.new }
-        ensures refused { RefusesBeforeMemory (H.means self.entry.hooks) self.entry
-            (Call.SetNthFieldToDefault idx) result }
+        ensures call { IsCall (H.means self.entry.hooks) self.entry (Call.SetNthFieldToDefault idx) result
+            ledger.old ledger.new }
     {
-        law_removed();
-        let work = &*self.work;
-        let table = work.table;
-        let plan = work.plan.core();
-        let (slots, stack) = (&work.slots, &work.stack);
-        let (shape, piece) = place_here(table, work.root, plan, slots, stack);
-        let template = match default_in(table, shape, piece, idx) {
-            Ok(template) => template,
-            Err(kind) => return Err(self.refuse(kind, ledger)),
-        };
-        let opening = opening_at(table, shape, piece, idx);
-        match copy_template(self.alloc, template) {
-            Ok(value) => self.put_child(idx, opening, value, ledger),
-            Err(_) => Err(self.refuse(ReflectErrorKind::OutOfMemory, ledger)),
-        }
+        let decided = self.work.set_nth_field_to_default_move(idx);
+        self.run(decided, ledger)
     }
 }

@@ -1,44 +1,43 @@
 //! `Partial`: a builder of a value of a type known at run time, one call at a time.
 #![tactic(auto)]
 
+mod above;
 mod admitting;
 mod arrays;
 mod beginning;
+mod building;
 mod built;
 mod choosing;
-mod contents;
 mod converting;
 mod deferring;
 mod dynamic_places;
-mod entering;
-mod entries;
-mod enums;
+mod eenum;
+mod ending;
 mod field_defaults;
 mod fields;
-mod finish;
-mod finishing;
+mod going;
 mod held_plan;
-mod items;
 mod lists;
+mod making;
 mod maps;
+mod misc;
 mod mode;
+mod moves;
 mod objects;
 mod opening;
-mod options;
+mod option;
 mod partial;
-mod parts;
 mod paths;
 mod placing;
-mod pointers;
+mod ptr;
 mod reading;
 mod reflect_error;
-mod results;
-mod selecting;
+mod result;
 mod set;
-mod set_items;
 mod sets;
 mod slices;
 mod starting;
+mod staying;
 mod work;
 
 pub use built::Built;

@@ -1,22 +1,23 @@
 //! `init_list`, `init_list_with_capacity` and `begin_list_item`: a list, a dynamic array or a slice behind a pointer, item by item.
 ghost use Rattle.std.specs.Prelude.{◌≡◌, ℕ, true, None, Some, IfErr, IfOk, OnOk};
 ghost use Rattle.fr_shape.specs.Look.{def_of};
-ghost use Rattle.fr_shape.specs.Released.{Room, Conserved};
-ghost use Rattle.fr_model.specs.Commands.{Call};
 ghost use Rattle.fr_model.specs.Items.{begun_item_refusal, item_refusal, is_list_like, unbegun_refusal, unless_list};
 ghost use Rattle.fr_model.specs.Step.{at_shape, init_list_refusal};
 ghost use Rattle.fr_model.specs.Tree.{cursor_tree, tracker_of};
 ghost use Rattle.fr_frame.specs.Bodies.{own_tree};
 ghost use Rattle.fr_frame.specs.Heap.{as_form, body_of};
-ghost use Rattle.fr_partial.specs.Builder.{holds, left, IsNotOutOfMemory, IsStep, RefusesBeforeMemory, RisesByRemoved, TellsPlaceBefore};
 ghost use Rattle.fr_partial.specs.Openings.{is_begun, HasItems};
+ghost use Rattle.fr_shape.specs.Released.{Room};
+ghost use Rattle.fr_model.specs.Commands.{Call};
+ghost use Rattle.fr_partial.specs.Builder.{holds, IsCall, IsNotOutOfMemory};
+ghost use Rattle.fr_partial.specs.Moving.{Decides, NeedsNone};
 
 use crate::admitting::Opening;
 use crate::dynamic_places::{Parts, is_dynamic};
-use crate::placing::place_here;
+use crate::moves::{Change, Move, Way};
+use crate::work::Work;
 use crate::{Partial, ReflectError};
 use fr_frame::{Form, Piece};
-use fr_model::{law_paths, law_removed};
 use fr_shape::{
     Def, Hooks, InitCall, Ledger, Operation, ReflectErrorKind, ShapeId, ShapeTable, TrackerKind,
 };
@@ -116,6 +117,43 @@ fn item_opening(table: &ShapeTable, shape: ShapeId, piece: &Piece) -> Result<Ope
     }
 }
 
+impl<'t> Work<'t> {
+    /// A list is begun, or a dynamic array.
+    fn init_list_move<'k>(&self) -> Result<Move<'k>, ReflectErrorKind>
+        ensures decides { Decides self.now Call.InitList result }
+        ensures memory { is_begun (cursor_tree self.now.state) ≡ true
+            → NeedsNone (cursor_tree self.now.state) result }
+    {
+        self.law_sound();
+        let (shape, piece) = self.place();
+        let table = self.table();
+        let dynamic = is_dynamic(table, shape);
+        match init_list_refusal(table, shape, piece) {
+            Some(kind) => Err(kind),
+            None => {
+                if dynamic {
+                    Ok(Move::Stay(Change::Gather(Parts::Elements)))
+                } else {
+                    let (form, count) = (Form::List, 0);
+                    Ok(Move::Stay(Change::Open(Opening { form, count })))
+                }
+            }
+        }
+    }
+
+    /// On to a new item of a list, a slice or a dynamic array.
+    #[inline(always)]
+    fn begin_list_item_move<'k>(&self) -> Result<Move<'k>, ReflectErrorKind>
+        ensures decides { Decides self.now Call.BeginListItem result }
+    {
+        let (shape, piece) = self.place();
+        match item_opening(self.table(), shape, piece) {
+            Ok(opening) => Ok(Move::Go(Way::Item(opening))),
+            Err(operation) => Err(ReflectErrorKind::OperationFailed { shape, operation }),
+        }
+    }
+}
+
 impl<'t, H: Hooks> Partial<'t, H> {
     /// Begins a list: a whole one keeps its items, in front of those that come. A list that is begun, and a pointer to a slice that
     /// is, stays as it is. A dynamic value becomes an array: one that is an array already keeps its elements, and any other starts anew.
@@ -123,32 +161,12 @@ impl<'t, H: Hooks> Partial<'t, H> {
     #[inline(never)]
     pub fn init_list(self, ledger: &mut Ledger) -> Result<Partial<'t, H>, ReflectError>
         requires room { Room (holds self) ledger.old }
-        ensures step { IsStep (H.means self.entry.hooks) self.entry Call.InitList result }
-        ensures path { TellsPlaceBefore self.entry result }
-        ensures tokens { Conserved (holds self.entry) ledger.old (left result) ledger.new }
-        ensures removed { RisesByRemoved (H.means self.entry.hooks) self.entry
-            Call.InitList result ledger.old ledger.new }
+        ensures call { IsCall (H.means self.entry.hooks) self.entry Call.InitList result
+            ledger.old ledger.new }
         ensures memory { is_begun (cursor_tree self.entry.state) ≡ true → IsNotOutOfMemory result }
-        ensures refused { RefusesBeforeMemory (H.means self.entry.hooks) self.entry
-            Call.InitList result }
     {
-        law_paths();
-        law_removed();
-        let work = &*self.work;
-        let plan = work.plan.core();
-        let (slots, stack) = (&work.slots, &work.stack);
-        let (shape, piece) = place_here(work.table, work.root, plan, slots, stack);
-        match init_list_refusal(work.table, shape, piece) {
-            Some(kind) => Err(self.refuse(kind, ledger)),
-            None => {
-                let dynamic = is_dynamic(work.table, shape);
-                if dynamic {
-                    self.begin_dynamic(Parts::Elements, ledger)
-                } else {
-                    self.open(Form::List, 0, ledger)
-                }
-            }
-        }
+        let decided = self.work.init_list_move();
+        self.run(decided, ledger)
     }
 
     /// The same as `init_list`: the capacity is a hint that changes nothing.
@@ -159,15 +177,9 @@ impl<'t, H: Hooks> Partial<'t, H> {
         ledger: &mut Ledger,
     ) -> Result<Partial<'t, H>, ReflectError>
         requires room { Room (holds self) ledger.old }
-        ensures step { IsStep (H.means self.entry.hooks) self.entry
-            (Call.InitListWithCapacity capacity) result }
-        ensures path { TellsPlaceBefore self.entry result }
-        ensures tokens { Conserved (holds self.entry) ledger.old (left result) ledger.new }
-        ensures removed { RisesByRemoved (H.means self.entry.hooks) self.entry
+        ensures call { IsCall (H.means self.entry.hooks) self.entry
             (Call.InitListWithCapacity capacity) result ledger.old ledger.new }
         ensures memory { is_begun (cursor_tree self.entry.state) ≡ true → IsNotOutOfMemory result }
-        ensures refused { RefusesBeforeMemory (H.means self.entry.hooks) self.entry
-            (Call.InitListWithCapacity capacity) result }
     {
         let _hint = capacity;
         self.init_list(ledger)
@@ -177,26 +189,10 @@ impl<'t, H: Hooks> Partial<'t, H> {
     /// takes no items, that is the refusal, and never out of memory.
     pub fn begin_list_item(self, ledger: &mut Ledger) -> Result<Partial<'t, H>, ReflectError>
         requires room { Room (holds self) ledger.old }
-        ensures step { IsStep (H.means self.entry.hooks) self.entry Call.BeginListItem result }
-        ensures path { TellsPlaceBefore self.entry result }
-        ensures tokens { Conserved (holds self.entry) ledger.old (left result) ledger.new }
-        ensures removed { RisesByRemoved (H.means self.entry.hooks) self.entry
-            Call.BeginListItem result ledger.old ledger.new }
-        ensures refused { RefusesBeforeMemory (H.means self.entry.hooks) self.entry
-            Call.BeginListItem result }
+        ensures call { IsCall (H.means self.entry.hooks) self.entry Call.BeginListItem result
+            ledger.old ledger.new }
     {
-        law_paths();
-        law_removed();
-        let work = &*self.work;
-        let plan = work.plan.core();
-        let (slots, stack) = (&work.slots, &work.stack);
-        let (shape, piece) = place_here(work.table, work.root, plan, slots, stack);
-        match item_opening(work.table, shape, piece) {
-            Ok(opening) => self.enter_item(opening, ledger),
-            Err(operation) => {
-                let kind = ReflectErrorKind::OperationFailed { shape, operation };
-                Err(self.refuse(kind, ledger))
-            }
-        }
+        let decided = self.work.begin_list_item_move();
+        self.run(decided, ledger)
     }
 }

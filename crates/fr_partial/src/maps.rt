@@ -1,25 +1,26 @@
 //! `init_map`, `begin_key` and `begin_value`: a map, entry by entry.
 ghost use Rattle.std.specs.Prelude.{◌≡◌, suc, true, None, Some, IfErr, IfOk, OnOk};
 ghost use Rattle.fr_shape.specs.Look.{def_of};
-ghost use Rattle.fr_shape.specs.Released.{Room, Conserved};
 ghost use Rattle.fr_model.specs.Collections.{is_map_form, is_map_like, unless_map};
-ghost use Rattle.fr_model.specs.Commands.{Call};
 ghost use Rattle.fr_model.specs.Step.{init_map_refusal};
 ghost use Rattle.fr_model.specs.Tree.{cursor_tree};
 ghost use Rattle.fr_frame.specs.Bodies.{own_tree};
 ghost use Rattle.fr_frame.specs.Heap.{as_form, body_of};
-ghost use Rattle.fr_partial.specs.Builder.{holds, left, IsNotOutOfMemory, IsStep, RefusesBeforeMemory, RisesByRemoved, TellsPlaceBefore};
 ghost use Rattle.fr_partial.specs.Entries.{key_refusal_by, value_refusal_by};
 ghost use Rattle.fr_partial.specs.Looks.{ends_absent, lacks_last};
 ghost use Rattle.fr_partial.specs.Openings.{is_begun, HasItems};
+ghost use Rattle.fr_shape.specs.Released.{Room};
+ghost use Rattle.fr_model.specs.Commands.{Call};
+ghost use Rattle.fr_partial.specs.Builder.{holds, IsCall, IsNotOutOfMemory};
+ghost use Rattle.fr_partial.specs.Moving.{Decides, NeedsNone};
 
 use crate::admitting::Opening;
 use crate::dynamic_places::{Parts, is_dynamic};
 use crate::lists::tracker;
-use crate::placing::place_here;
+use crate::moves::{Change, Move, Way};
+use crate::work::Work;
 use crate::{Partial, ReflectError};
 use fr_frame::{Children, Form, Piece};
-use fr_model::{law_paths, law_removed};
 use fr_shape::{Def, Hooks, InitCall, Ledger, Operation, ReflectErrorKind, ShapeId, ShapeTable};
 
 /// Nothing, where the shape is a map or a dynamic one; else this refusal.
@@ -141,6 +142,55 @@ fn value_opening(piece: &Piece) -> Result<Opening, Operation>
     Ok(Opening { form, count })
 }
 
+impl<'t> Work<'t> {
+    /// A map is begun, or a dynamic object.
+    fn init_map_move<'k>(&self) -> Result<Move<'k>, ReflectErrorKind>
+        ensures decides { Decides self.now Call.InitMap result }
+        ensures memory { is_begun (cursor_tree self.now.state) ≡ true
+            → NeedsNone (cursor_tree self.now.state) result }
+    {
+        self.law_sound();
+        let (shape, piece) = self.place();
+        let table = self.table();
+        let dynamic = is_dynamic(table, shape);
+        match init_map_refusal(table, shape, piece) {
+            Some(kind) => Err(kind),
+            None => {
+                if dynamic {
+                    Ok(Move::Stay(Change::Gather(Parts::Entries)))
+                } else {
+                    let (form, count) = (Form::Map(0), 0);
+                    Ok(Move::Stay(Change::Open(Opening { form, count })))
+                }
+            }
+        }
+    }
+
+    /// On to the key of a new entry.
+    #[inline(always)]
+    fn begin_key_move<'k>(&self) -> Result<Move<'k>, ReflectErrorKind>
+        ensures decides { Decides self.now Call.BeginKey result }
+    {
+        let (shape, piece) = self.place();
+        match key_opening(piece) {
+            Ok(opening) => Ok(Move::Go(Way::Key(opening))),
+            Err(operation) => Err(ReflectErrorKind::OperationFailed { shape, operation }),
+        }
+    }
+
+    /// On to the value that the last entry lacks.
+    #[inline(always)]
+    fn begin_value_move<'k>(&self) -> Result<Move<'k>, ReflectErrorKind>
+        ensures decides { Decides self.now Call.BeginValue result }
+    {
+        let (shape, piece) = self.place();
+        match value_opening(piece) {
+            Ok(opening) => Ok(Move::Go(Way::Value(opening))),
+            Err(operation) => Err(ReflectErrorKind::OperationFailed { shape, operation }),
+        }
+    }
+}
+
 impl<'t, H: Hooks> Partial<'t, H> {
     /// Begins a map: a whole one keeps its entries, in front of those that come. A map that is begun stays as it is. A dynamic value
     /// becomes an object: one that is an object already keeps its entries, and any other starts anew. Anything else is refused, and
@@ -148,83 +198,33 @@ impl<'t, H: Hooks> Partial<'t, H> {
     #[inline(never)]
     pub fn init_map(self, ledger: &mut Ledger) -> Result<Partial<'t, H>, ReflectError>
         requires room { Room (holds self) ledger.old }
-        ensures step { IsStep (H.means self.entry.hooks) self.entry Call.InitMap result }
-        ensures path { TellsPlaceBefore self.entry result }
-        ensures tokens { Conserved (holds self.entry) ledger.old (left result) ledger.new }
-        ensures removed { RisesByRemoved (H.means self.entry.hooks) self.entry
-            Call.InitMap result ledger.old ledger.new }
+        ensures call { IsCall (H.means self.entry.hooks) self.entry Call.InitMap result
+            ledger.old ledger.new }
         ensures memory { is_begun (cursor_tree self.entry.state) ≡ true → IsNotOutOfMemory result }
-        ensures refused { RefusesBeforeMemory (H.means self.entry.hooks) self.entry
-            Call.InitMap result }
     {
-        law_paths();
-        law_removed();
-        let work = &*self.work;
-        let plan = work.plan.core();
-        let (slots, stack) = (&work.slots, &work.stack);
-        let (shape, piece) = place_here(work.table, work.root, plan, slots, stack);
-        match init_map_refusal(work.table, shape, piece) {
-            Some(kind) => Err(self.refuse(kind, ledger)),
-            None => {
-                let dynamic = is_dynamic(work.table, shape);
-                if dynamic {
-                    self.begin_dynamic(Parts::Entries, ledger)
-                } else {
-                    self.open(Form::Map(0), 0, ledger)
-                }
-            }
-        }
+        let decided = self.work.init_map_move();
+        self.run(decided, ledger)
     }
 
     /// Enters the key of a new entry, behind the others, of a map that is begun. Where the last entry has no value yet, or the place
     /// isn't such a map, that is the refusal, and never out of memory.
     pub fn begin_key(self, ledger: &mut Ledger) -> Result<Partial<'t, H>, ReflectError>
         requires room { Room (holds self) ledger.old }
-        ensures step { IsStep (H.means self.entry.hooks) self.entry Call.BeginKey result }
-        ensures path { TellsPlaceBefore self.entry result }
-        ensures tokens { Conserved (holds self.entry) ledger.old (left result) ledger.new }
-        ensures removed { RisesByRemoved (H.means self.entry.hooks) self.entry
-            Call.BeginKey result ledger.old ledger.new }
-        ensures refused { RefusesBeforeMemory (H.means self.entry.hooks) self.entry
-            Call.BeginKey result }
+        ensures call { IsCall (H.means self.entry.hooks) self.entry Call.BeginKey result
+            ledger.old ledger.new }
     {
-        law_removed();
-        let work = &*self.work;
-        let plan = work.plan.core();
-        let (slots, stack) = (&work.slots, &work.stack);
-        let (shape, piece) = place_here(work.table, work.root, plan, slots, stack);
-        match key_opening(piece) {
-            Ok(opening) => self.enter_key(opening, ledger),
-            Err(operation) => {
-                let kind = ReflectErrorKind::OperationFailed { shape, operation };
-                Err(self.refuse(kind, ledger))
-            }
-        }
+        let decided = self.work.begin_key_move();
+        self.run(decided, ledger)
     }
 
     /// Enters the value of the last entry of a map that is begun, where that entry has none yet. Anywhere else it is refused, and never
     /// out of memory.
     pub fn begin_value(self, ledger: &mut Ledger) -> Result<Partial<'t, H>, ReflectError>
         requires room { Room (holds self) ledger.old }
-        ensures step { IsStep (H.means self.entry.hooks) self.entry Call.BeginValue result }
-        ensures path { TellsPlaceBefore self.entry result }
-        ensures tokens { Conserved (holds self.entry) ledger.old (left result) ledger.new }
-        ensures removed { RisesByRemoved (H.means self.entry.hooks) self.entry
-            Call.BeginValue result ledger.old ledger.new }
-        ensures refused { RefusesBeforeMemory (H.means self.entry.hooks) self.entry
-            Call.BeginValue result }
+        ensures call { IsCall (H.means self.entry.hooks) self.entry Call.BeginValue result
+            ledger.old ledger.new }
     {
-        law_removed();
-        let work = &*self.work;
-        let plan = work.plan.core();
-        let (slots, stack) = (&work.slots, &work.stack);
-        let (shape, piece) = place_here(work.table, work.root, plan, slots, stack);
-        match value_opening(piece) {
-            Ok(opening) => self.enter_value(opening, ledger),
-            Err(operation) => {
-                let kind = ReflectErrorKind::OperationFailed { shape, operation };
-                Err(self.refuse(kind, ledger))
-            }
-        }
+        let decided = self.work.begin_value_move();
+        self.run(decided, ledger)
     }
 }

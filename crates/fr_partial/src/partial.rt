@@ -1,21 +1,27 @@
 //! The builder.
-ghost use Rattle.std.specs.Prelude.{◌≡◌};
+ghost use Rattle.std.specs.Prelude.{◌+◌, List, ℕ, IfOk};
 ghost use Rattle.fr_shape.specs.Checked.{IsChecked};
 ghost use Rattle.fr_shape.specs.Numbered.{IsNumbered};
+ghost use Rattle.fr_shape.specs.Released.{Room};
+ghost use Rattle.fr_model.specs.Commands.{Call};
 ghost use Rattle.fr_model.specs.Served.{IsServed};
+ghost use Rattle.fr_model.specs.Tree.{cursor_tree};
 ghost use Rattle.fr_model.specs.Well.{IsInOrder};
+ghost use Rattle.fr_partial.specs.Builder.{holds, site_of, IsCall, IsNotOutOfMemory};
+ghost use Rattle.fr_partial.specs.Moving.{carries, Decides, IsMeant, NeedsNone, WasDecided};
 
+use crate::ReflectError;
+use crate::moves::Move;
 use crate::work::Work;
-use fr_shape::{Hooks, ShapeTable};
-use std::alloc::Global;
+use fr_model::law_removed;
+use fr_shape::{Hooks, Ledger, ReflectErrorKind};
 use std::marker::Model;
 
 /// A builder of one value of a shape of `table`. Each consuming call spends it and returns it again, or is refused;
 /// a refusal has released every token that it held. It has no `Drop`: `build` or `abandon` ends it.
 pub struct Partial<'t, H> {
-    pub(crate) alloc: Global,
     pub(crate) hooks: &'t H,
-    pub(crate) work: Box<Work<'t>>,
+    pub(crate) work: Work<'t>,
 }
 
 impl<'t, H> Model for Partial<'t, H> {
@@ -25,22 +31,12 @@ impl<'t, H> Model for Partial<'t, H> {
 
     ghost coded = { builder_code H.code };
 
-    ghost use Rattle.fr_partial.specs.HeldPlan.{plan_in};
-    ghost use Rattle.fr_partial.specs.Modes.{mode_of};
-    ghost use Rattle.fr_partial.specs.Underway.{state_of, IsUnderway};
-
     ghost view = { λ p. record {
-      shapes = p.work.value.table.now;
+      shapes = p.work.shapes;
       hooks = p.hooks.now;
-      root = p.work.value.root.0;
-      state = state_of p.work.value.slots p.work.value.stack (mode_of p.work.value.mode)
-          p.work.value.calls;
+      root = p.work.root;
+      state = p.work.state;
     } };
-
-    ghost invariant = { λ p.
-        IsUnderway p.work.value.table.now p.work.value.root (plan_in p.work.value.plan)
-        p.work.value.path p.work.value.slots p.work.value.stack p.work.value.store
-        (mode_of p.work.value.mode) p.work.value.calls };
 }
 
 impl<'t, H: Hooks> Partial<'t, H> {
@@ -53,6 +49,33 @@ impl<'t, H: Hooks> Partial<'t, H> {
         ensures served { IsServed self.now.shapes }
         ensures in_order { IsInOrder self.now.shapes self.now.root self.now.state }
     {
-        let _work = &self.work;
+        self.work.law_sound();
+    }
+
+    /// Does what was decided of a call. Where it is refused, or there is no memory, all is released.
+    #[inline(always)]
+    pub(crate) fn run(
+        self,
+        decided: Result<Move, ReflectErrorKind>,
+        ledger: &mut Ledger,
+    ) -> Result<Partial<'t, H>, ReflectError>
+        requires meant { IfOk decided (IsMeant (site_of self)) }
+        requires room { Room (λ t. holds self t + carries decided t) ledger.old }
+        ensures call { (call : Call) → Decides (site_of self.entry) call decided.entry
+            → (before : List ℕ) → WasDecided call decided.entry before ledger.old
+            → IsCall (H.means self.entry.hooks) self.entry call result before ledger.new }
+        ensures memory { NeedsNone (cursor_tree self.entry.state) decided.entry
+            → IsNotOutOfMemory result }
+    {
+        law_removed();
+        let Partial { hooks, work } = self;
+        work.law_sound();
+        match decided {
+            Ok(decided) => match work.make(hooks, decided, ledger) {
+                Ok(work) => Ok(Partial { hooks, work }),
+                Err(error) => Err(error),
+            },
+            Err(kind) => Err(work.refuse(kind, ledger)),
+        }
     }
 }

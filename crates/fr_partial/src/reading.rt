@@ -6,9 +6,7 @@ ghost use Rattle.fr_partial.specs.Builder.{here};
 
 use crate::mode::Mode;
 use crate::paths::copy_path;
-use crate::placing::place_here;
 use crate::{Partial, ReflectError};
-use fr_model::law_paths;
 use fr_path::Path;
 use fr_shape::{Hooks, OutOfMemory, ReflectErrorKind, ShapeId, ShapeTable};
 
@@ -17,14 +15,14 @@ impl<'t, H: Hooks> Partial<'t, H> {
     pub fn path(&self) -> &Path
         ensures path { result.now ≡ path_of self.now.state }
     {
-        &self.work.path
+        self.work.path()
     }
 
     /// Whether the builder is in deferred mode.
     pub fn is_deferred(&self) -> bool
         ensures mode { IsTrue result ↔ (self.now.state.mode ≢ strict) }
     {
-        self.work.mode != Mode::Strict
+        self.work.mode() != Mode::Strict
     }
 
     /// The path of the place at which it works, in deferred mode alone.
@@ -32,9 +30,9 @@ impl<'t, H: Hooks> Partial<'t, H> {
         ensures path { IfSome result (λ path. path.now ≡ path_of self.now.state) }
         ensures strict { IsNone result ↔ (self.now.state.mode ≡ strict) }
     {
-        match self.work.mode {
+        match self.work.mode() {
             Mode::Strict => None,
-            Mode::Deferred(_) => Some(&self.work.path),
+            Mode::Deferred(_) => Some(self.work.path()),
         }
     }
 
@@ -42,37 +40,28 @@ impl<'t, H: Hooks> Partial<'t, H> {
     pub fn frame_count(&self) -> usize
         ensures count { result ≡ length (path_of self.now.state) + 1 }
     {
-        law_paths();
-        self.work.stack.len()
+        self.work.frame_count()
     }
 
     /// The shape of the place at which it works.
     pub fn shape(&self) -> ShapeId
         ensures shape { result.0 ≡ here self.now }
     {
-        let work = &*self.work;
-        place_here(
-            work.table,
-            work.root,
-            work.plan.core(),
-            &work.slots,
-            &work.stack,
-        )
-        .0
+        self.work.place().0
     }
 
     /// The table whose shapes it builds.
     pub fn table(&self) -> &ShapeTable
         ensures table { result.now ≡ self.now.shapes }
     {
-        self.work.table
+        self.work.table()
     }
 
     /// The shape of what it builds.
     pub fn root_shape(&self) -> ShapeId
         ensures root { result.0 ≡ self.now.root }
     {
-        self.work.root
+        self.work.root()
     }
 
     /// An error of this kind at the place at which it works, for a caller who refuses something there.
@@ -80,7 +69,7 @@ impl<'t, H: Hooks> Partial<'t, H> {
         ensures kind { IfOk result (λ error. error.kind ≡ kind) }
         ensures path { IfOk result (λ error. error.path ≡ path_of self.now.state) }
     {
-        let path = copy_path(self.alloc, &self.work.path)?;
+        let path = copy_path(self.work.alloc(), self.work.path())?;
         Ok(ReflectError { kind, path })
     }
 }

@@ -1,21 +1,24 @@
 //! `set_shape` and `set_default`: a whole value at the place at which the builder works.
-ghost use Rattle.std.specs.Prelude.{◌≡◌, ◌+◌, [], true, false, IfOk};
+ghost use Rattle.std.specs.Prelude.{◌≡◌, ◌+◌, [], true, false, IfOk, OnErr, OnOk};
 ghost use Rattle.fr_shape.specs.Fits.{fits};
 ghost use Rattle.fr_shape.specs.Look.{def_of};
-ghost use Rattle.fr_shape.specs.Released.{Room, Conserved};
+ghost use Rattle.fr_shape.specs.Released.{Room, RoseBy};
 ghost use Rattle.fr_shape.specs.Tokens.{occurs, tokens};
 ghost use Rattle.fr_shape.specs.Val.{dyn};
 ghost use Rattle.fr_shape.specs.View.{dyn_view, view};
 ghost use Rattle.fr_model.specs.Commands.{Call};
 ghost use Rattle.fr_model.specs.Step.{is_str, is_owned_string, takes_shape};
-ghost use Rattle.fr_partial.specs.Builder.{here, holds, left, IsStep, IsNotOutOfMemory, RefusesBeforeMemory, RisesByRemoved, TellsPlaceBefore};
-ghost use Rattle.fr_partial.specs.Conversions.{copies_to_convert};
+ghost use Rattle.fr_partial.specs.Builder.{here, holds, IsCall, IsNotOutOfMemory};
+ghost use Rattle.fr_partial.specs.Moving.{Decides, NeedsNone};
 ghost use Rattle.fr_partial.specs.Setting.{converts, copies_at};
+ghost use Rattle.fr_partial.specs.Sites.{shape_at};
+ghost use Rattle.fr_model.specs.Tree.{cursor_tree};
 
 use crate::converting::converted;
 use crate::dynamic_places::is_dynamic;
+use crate::moves::{Change, Move};
+use crate::work::Work;
 use crate::{Partial, ReflectError};
-use fr_model::law_removed;
 use fr_shape::{
     Def, Dyn, Hooks, Ledger, Operation, OutOfMemory, ReflectErrorKind, ScalarKind, ShapeId,
     ShapeTable, Shaped, Template, Value, clone_template, release,
@@ -71,102 +74,86 @@ fn dynamic(made: Dyn) -> Value
     Value::Dyn(made)
 }
 
+impl<'t> Work<'t> {
+    /// A value takes the place, or what a dynamic place makes of it. Where it is refused, or there is no memory to convert it, its tokens
+    /// are released.
+    fn set_shape_move<'k>(
+        &self,
+        value: Shaped,
+        ledger: &mut Ledger,
+    ) -> Result<Move<'k>, ReflectErrorKind>
+        requires fits { fits self.now.shapes value.shape value.value ≡ true }
+        requires room { Room (occurs value.value) ledger.old }
+        ensures decides { Decides self.now (Call.Set value.shape value.value) result }
+        ensures memory { copies_at self.now.shapes (shape_at self.now) value.shape ≡ false
+            → NeedsNone (cursor_tree self.now.state) result }
+        ensures unreleased { OnOk result (ledger.new ≡ ledger.old) }
+        ensures released { OnErr result (RoseBy (occurs value.value) ledger.old ledger.new) }
+    {
+        self.law_sound();
+        let (expected, _) = self.place();
+        let table = self.table();
+        let actual = value.shape();
+        let plain = value.into_value();
+        if converts(table, expected, actual) {
+            match converted(self.alloc(), table, expected, actual, plain, ledger) {
+                Ok(made) => Ok(Move::Stay(Change::Put(dynamic(made)))),
+                Err(kind) => Err(kind),
+            }
+        } else if takes_shape(table, expected, actual) {
+            Ok(Move::Stay(Change::Put(plain)))
+        } else {
+            release(plain, ledger);
+            Err(ReflectErrorKind::WrongShape { expected, actual })
+        }
+    }
+
+    /// A copy of the default of the place's shape takes the place.
+    fn set_default_move<'k>(&self) -> Result<Move<'k>, ReflectErrorKind>
+        ensures decides { Decides self.now Call.SetDefault result }
+    {
+        self.law_sound();
+        let (shape, _) = self.place();
+        let Some(template) = self.table().preset(shape) else {
+            let operation = Operation::NoDefault;
+            return Err(ReflectErrorKind::OperationFailed { shape, operation });
+        };
+        match copy_template(self.alloc(), template) {
+            Ok(value) => Ok(Move::Stay(Change::Put(value))),
+            Err(OutOfMemory) => Err(ReflectErrorKind::OutOfMemory),
+        }
+    }
+}
+
 impl<'t, H: Hooks> Partial<'t, H> {
     /// Puts a value of the place's own shape there, or at a `str` an owned text, in the stead of all that was put at the place and
     /// beneath it. A dynamic place takes values of other shapes besides, as dynamic ones: truths, characters, numbers of up to 64
     /// bits, texts and, where its shape says so, lists of bytes; a character and a list are copied, which takes memory. Any other value
     /// is refused, and never out of memory.
     pub fn set_shape(
-        mut self,
+        self,
         value: Shaped,
         ledger: &mut Ledger,
     ) -> Result<Partial<'t, H>, ReflectError>
         requires fits { fits self.shapes value.shape value.value ≡ true }
         requires room { Room (λ t. holds self t + occurs value.value t) ledger.old }
-        ensures step { IsStep (H.means self.entry.hooks) self.entry
-            (Call.Set value.shape value.value) result }
-        ensures path { TellsPlaceBefore self.entry result }
-        ensures tokens { Conserved (λ t. holds self.entry t + occurs value.value t) ledger.old
-            (left result) ledger.new }
-        ensures removed { RisesByRemoved (H.means self.entry.hooks) self.entry
+        ensures call { IsCall (H.means self.entry.hooks) self.entry
             (Call.Set value.shape value.value) result ledger.old ledger.new }
         ensures memory { copies_at self.entry.shapes (here self.entry) value.shape ≡ false
             → IsNotOutOfMemory result }
-        ensures refused { RefusesBeforeMemory (H.means self.entry.hooks) self.entry
-            (Call.Set value.shape value.value) result }
     {
-        law_removed();
-        self.law_in_order();
-        let expected = self.shape();
-        let actual = value.shape();
-        if converts(self.work.table, expected, actual) {
-            self.set_converted(value, ledger)
-        } else if takes_shape(self.work.table, expected, actual) {
-            self.put(value.into_value(), ledger);
-            Ok(self)
-        } else {
-            release(value.into_value(), ledger);
-            Err(self.refuse(ReflectErrorKind::WrongShape { expected, actual }, ledger))
-        }
-    }
-
-    /// Puts what a dynamic place makes of a value of another shape.
-    fn set_converted(
-        mut self,
-        value: Shaped,
-        ledger: &mut Ledger,
-    ) -> Result<Partial<'t, H>, ReflectError>
-        requires fits { fits self.shapes value.shape value.value ≡ true }
-        requires room { Room (λ t. holds self t + occurs value.value t) ledger.old }
-        requires converts { converts self.shapes (here self) value.shape ≡ true }
-        ensures step { IsStep (H.means self.entry.hooks) self.entry
-            (Call.Set value.shape value.value) result }
-        ensures path { TellsPlaceBefore self.entry result }
-        ensures tokens { Conserved (λ t. holds self.entry t + occurs value.value t) ledger.old
-            (left result) ledger.new }
-        ensures memory { copies_to_convert (def_of self.entry.shapes value.shape) ≡ false
-            → IsNotOutOfMemory result }
-        ensures refused { RefusesBeforeMemory (H.means self.entry.hooks) self.entry
-            (Call.Set value.shape value.value) result }
-    {
-        let place = self.shape();
-        let given = value.shape();
-        let plain = value.into_value();
-        match converted(self.alloc, self.work.table, place, given, plain, ledger) {
-            Ok(made) => {
-                let free = dynamic(made);
-                self.put(free, ledger);
-                Ok(self)
-            }
-            Err(kind) => Err(self.refuse(kind, ledger)),
-        }
+        let decided = self.work.set_shape_move(value, ledger);
+        self.run(decided, ledger)
     }
 
     /// Puts a copy of the default of the place's shape there, in the stead of all that was put at the place and beneath
     /// it. Where there is no default, that is the refusal, and never out of memory.
-    pub fn set_default(mut self, ledger: &mut Ledger) -> Result<Partial<'t, H>, ReflectError>
+    pub fn set_default(self, ledger: &mut Ledger) -> Result<Partial<'t, H>, ReflectError>
         requires room { Room (holds self) ledger.old }
-        ensures step { IsStep (H.means self.entry.hooks) self.entry Call.SetDefault result }
-        ensures path { TellsPlaceBefore self.entry result }
-        ensures tokens { Conserved (holds self.entry) ledger.old (left result) ledger.new }
-        ensures removed { RisesByRemoved (H.means self.entry.hooks) self.entry
-            Call.SetDefault result ledger.old ledger.new }
-        ensures refused { RefusesBeforeMemory (H.means self.entry.hooks) self.entry
-            Call.SetDefault result }
+        ensures call { IsCall (H.means self.entry.hooks) self.entry Call.SetDefault result
+            ledger.old ledger.new }
     {
-        law_removed();
-        let shape = self.shape();
-        let Some(template) = self.work.table.preset(shape) else {
-            let operation = Operation::NoDefault;
-            let kind = ReflectErrorKind::OperationFailed { shape, operation };
-            return Err(self.refuse(kind, ledger));
-        };
-        match copy_template(self.alloc, template) {
-            Ok(value) => {
-                self.put(value, ledger);
-                Ok(self)
-            }
-            Err(_) => Err(self.refuse(ReflectErrorKind::OutOfMemory, ledger)),
-        }
+        let decided = self.work.set_default_move();
+        self.run(decided, ledger)
     }
 }

@@ -1,22 +1,23 @@
 //! `init_set` and `begin_set_item`: a set, item by item.
 ghost use Rattle.std.specs.Prelude.{◌≡◌, true, None, Some, IfErr, IfOk, OnOk};
 ghost use Rattle.fr_shape.specs.Look.{def_of};
-ghost use Rattle.fr_shape.specs.Released.{Room, Conserved};
 ghost use Rattle.fr_model.specs.Collections.{is_set_form, set_item_refusal, unless_set};
-ghost use Rattle.fr_model.specs.Commands.{Call};
 ghost use Rattle.fr_model.specs.Step.{init_set_refusal};
 ghost use Rattle.fr_model.specs.Tree.{cursor_tree};
 ghost use Rattle.fr_frame.specs.Bodies.{own_tree, TakesItems};
 ghost use Rattle.fr_frame.specs.Heap.{as_form, body_of};
-ghost use Rattle.fr_partial.specs.Builder.{holds, left, IsNotOutOfMemory, IsStep, RefusesBeforeMemory, RisesByRemoved, TellsPlaceBefore};
 ghost use Rattle.fr_partial.specs.Openings.{is_begun, HasItems};
+ghost use Rattle.fr_shape.specs.Released.{Room};
+ghost use Rattle.fr_model.specs.Commands.{Call};
+ghost use Rattle.fr_partial.specs.Builder.{holds, IsCall, IsNotOutOfMemory};
+ghost use Rattle.fr_partial.specs.Moving.{Decides, NeedsNone};
 
 use crate::admitting::Opening;
 use crate::lists::tracker;
-use crate::placing::place_here;
+use crate::moves::{Change, Move, Way};
+use crate::work::Work;
 use crate::{Partial, ReflectError};
 use fr_frame::{Form, Piece};
-use fr_model::{law_paths, law_removed};
 use fr_shape::{
     Def, Hooks, InitCall, Ledger, Operation, ReflectErrorKind, ShapeId, ShapeTable, TrackerKind,
 };
@@ -91,57 +92,59 @@ fn set_item_opening(table: &ShapeTable, shape: ShapeId, piece: &Piece) -> Result
     Ok(Opening { form, count })
 }
 
+impl<'t> Work<'t> {
+    /// A set is begun.
+    fn init_set_move<'k>(&self) -> Result<Move<'k>, ReflectErrorKind>
+        ensures decides { Decides self.now Call.InitSet result }
+        ensures memory { is_begun (cursor_tree self.now.state) ≡ true
+            → NeedsNone (cursor_tree self.now.state) result }
+    {
+        self.law_sound();
+        let (shape, piece) = self.place();
+        match init_set_refusal(self.table(), shape, piece) {
+            Some(kind) => Err(kind),
+            None => {
+                let (form, count) = (Form::Set, 0);
+                Ok(Move::Stay(Change::Open(Opening { form, count })))
+            }
+        }
+    }
+
+    /// On to a new item of a set.
+    #[inline(always)]
+    fn begin_set_item_move<'k>(&self) -> Result<Move<'k>, ReflectErrorKind>
+        ensures decides { Decides self.now Call.BeginSetItem result }
+    {
+        let (shape, piece) = self.place();
+        match set_item_opening(self.table(), shape, piece) {
+            Ok(opening) => Ok(Move::Go(Way::Item(opening))),
+            Err(operation) => Err(ReflectErrorKind::OperationFailed { shape, operation }),
+        }
+    }
+}
+
 impl<'t, H: Hooks> Partial<'t, H> {
     /// Begins a set: a whole one keeps its items, in front of those that come. A set that is begun stays as it is. Anything else is
     /// refused, and never out of memory.
     #[inline(never)]
     pub fn init_set(self, ledger: &mut Ledger) -> Result<Partial<'t, H>, ReflectError>
         requires room { Room (holds self) ledger.old }
-        ensures step { IsStep (H.means self.entry.hooks) self.entry Call.InitSet result }
-        ensures path { TellsPlaceBefore self.entry result }
-        ensures tokens { Conserved (holds self.entry) ledger.old (left result) ledger.new }
-        ensures removed { RisesByRemoved (H.means self.entry.hooks) self.entry
-            Call.InitSet result ledger.old ledger.new }
+        ensures call { IsCall (H.means self.entry.hooks) self.entry Call.InitSet result
+            ledger.old ledger.new }
         ensures memory { is_begun (cursor_tree self.entry.state) ≡ true → IsNotOutOfMemory result }
-        ensures refused { RefusesBeforeMemory (H.means self.entry.hooks) self.entry
-            Call.InitSet result }
     {
-        law_paths();
-        law_removed();
-        let work = &*self.work;
-        let plan = work.plan.core();
-        let (slots, stack) = (&work.slots, &work.stack);
-        let (shape, piece) = place_here(work.table, work.root, plan, slots, stack);
-        match init_set_refusal(work.table, shape, piece) {
-            Some(kind) => Err(self.refuse(kind, ledger)),
-            None => self.open(Form::Set, 0, ledger),
-        }
+        let decided = self.work.init_set_move();
+        self.run(decided, ledger)
     }
 
     /// Enters a new item behind the others of a set that is begun. It comes to the set as it ends, if that doesn't have it yet. Anywhere
     /// else it is refused, and never out of memory.
     pub fn begin_set_item(self, ledger: &mut Ledger) -> Result<Partial<'t, H>, ReflectError>
         requires room { Room (holds self) ledger.old }
-        ensures step { IsStep (H.means self.entry.hooks) self.entry Call.BeginSetItem result }
-        ensures path { TellsPlaceBefore self.entry result }
-        ensures tokens { Conserved (holds self.entry) ledger.old (left result) ledger.new }
-        ensures removed { RisesByRemoved (H.means self.entry.hooks) self.entry
-            Call.BeginSetItem result ledger.old ledger.new }
-        ensures refused { RefusesBeforeMemory (H.means self.entry.hooks) self.entry
-            Call.BeginSetItem result }
+        ensures call { IsCall (H.means self.entry.hooks) self.entry Call.BeginSetItem result
+            ledger.old ledger.new }
     {
-        law_paths();
-        law_removed();
-        let work = &*self.work;
-        let plan = work.plan.core();
-        let (slots, stack) = (&work.slots, &work.stack);
-        let (shape, piece) = place_here(work.table, work.root, plan, slots, stack);
-        match set_item_opening(work.table, shape, piece) {
-            Ok(opening) => self.enter_item(opening, ledger),
-            Err(operation) => {
-                let kind = ReflectErrorKind::OperationFailed { shape, operation };
-                Err(self.refuse(kind, ledger))
-            }
-        }
+        let decided = self.work.begin_set_item_move();
+        self.run(decided, ledger)
     }
 }

@@ -15,7 +15,7 @@ ghost use Rattle.fr_partial.specs.Starting.{IsPlanFrom, RefusedWith};
 use crate::Partial;
 use crate::held_plan::HeldPlan;
 use crate::mode::Mode;
-use crate::work::Work;
+use crate::work::{Parts, Work};
 use fr_frame::{FrameOwner, Slots};
 use fr_model::law_well;
 use fr_path::Path;
@@ -190,7 +190,8 @@ impl<'t, H: Hooks> Partial<'t, H> {
         let Ok((slots, stack)) = first_place(alloc, table, plan.core(), root) else {
             return Err(PlanError::OutOfMemory);
         };
-        let work = Work {
+        let parts = Parts {
+            alloc,
             table,
             root,
             plan,
@@ -201,9 +202,10 @@ impl<'t, H: Hooks> Partial<'t, H> {
             mode: Mode::Strict,
             calls: 0,
         };
-        let Ok(work) = Box::new(alloc, work) else {
+        let Ok(parts) = Box::new(alloc, parts) else {
             return Err(PlanError::OutOfMemory);
         };
-        Ok(Partial { alloc, hooks, work })
+        let work = Work { parts };
+        Ok(Partial { hooks, work })
     }
 }

@@ -1,20 +1,42 @@
-//! What a builder works with.
-ghost use Rattle.std.specs.Prelude.{◌≡◌};
-ghost use Rattle.fr_shape.specs.Released.{Room, RoseBy};
-ghost use Rattle.fr_frame.specs.Heap.{slots_occur};
+//! What a builder works with, and its moves as a whole: what is decided is made, or all is released.
+ghost use Rattle.std.specs.Prelude.{◌≡◌, ◌+◌, false, true, IfErr, IsErr, length};
+ghost use Rattle.fr_shape.specs.Checked.{IsChecked};
+ghost use Rattle.fr_shape.specs.Numbered.{IsNumbered};
+ghost use Rattle.fr_shape.specs.Released.{Conserved, Room, RoseBy};
+ghost use Rattle.fr_model.specs.Collections.{is_map, lacks_value};
+ghost use Rattle.fr_model.specs.Paths.{path_of};
+ghost use Rattle.fr_model.specs.Served.{IsServed};
+ghost use Rattle.fr_model.specs.Step.{begin_deferred};
+ghost use Rattle.fr_model.specs.Tree.{strict};
+ghost use Rattle.fr_model.specs.Well.{IsInOrder};
+ghost use Rattle.fr_frame.specs.Bodies.{own_tree};
+ghost use Rattle.fr_frame.specs.Heap.{body_of, slots_occur};
+ghost use Rattle.fr_partial.specs.Builder.{IsNotOutOfMemory};
+ghost use Rattle.fr_partial.specs.Looks.{lacks_last, LooksLike};
+ghost use Rattle.fr_partial.specs.Making.{left_at, IsMoved};
+ghost use Rattle.fr_partial.specs.Modes.{mode_of};
+ghost use Rattle.fr_partial.specs.Moving.{carried, is_late, meant_by, needs_none, IsMeant};
+ghost use Rattle.fr_partial.specs.Sites.{held_at, shape_at, tree_at_site};
 
 use crate::ReflectError;
+use crate::deferring::defer;
 use crate::held_plan::HeldPlan;
+use crate::making::make;
 use crate::mode::Mode;
-use fr_frame::Slots;
+use crate::moves::Move;
+use crate::placing::place_here;
+use fr_frame::{Piece, Slots};
+use fr_model::law_paths;
 use fr_path::Path;
-use fr_shape::{Ledger, ReflectErrorKind, ShapeId, ShapeTable};
+use fr_shape::{Hooks, Ledger, ReflectErrorKind, ShapeId, ShapeTable};
 use fr_store::{FrameStore, Stack};
+use std::alloc::Global;
+use std::marker::Model;
 
-/// What a builder goes by, and all that its calls change. It lies on the heap, so that a call moves no more than where it is; one
-/// loan of it lends its parts, so that a call changes them where they are.
+/// What a builder goes by, and all that its calls change.
 #[derive(Drop)]
-pub struct Work<'t> {
+pub struct Parts<'t> {
+    pub alloc: Global,
     pub table: &'t ShapeTable,
     pub root: ShapeId,
     pub plan: HeldPlan<'t>,
@@ -31,16 +53,36 @@ pub struct Work<'t> {
     pub calls: u32,
 }
 
-/// The error of a call that failed when it had changed something already: all that was put at the places, open or not, is released.
+/// The same on the heap, so that a call moves no more than where it is. Contracts see the table, the root's shape and the state.
+#[derive(Drop)]
+pub struct Work<'t> {
+    pub(crate) parts: Box<Parts<'t>>,
+}
+
+impl<'t> Model for Work<'t> {
+    ghost use Rattle.fr_partial.specs.Sites.{Site, site_code};
+
+    ghost Value = { Site };
+
+    ghost coded = { site_code };
+
+    ghost use Rattle.fr_partial.specs.Works.{site, IsSound};
+
+    ghost view = { λ work. site work.parts.value };
+
+    ghost invariant = { λ work. IsSound work.parts.value };
+}
+
+/// Releases all that was put at the places, open or not. The path is left.
 #[cold]
 #[inline(never)]
-pub fn fail(work: Box<Work>, kind: ReflectErrorKind, ledger: &mut Ledger) -> ReflectError
-    requires room { Room (slots_occur work.value.slots) ledger.old }
-    ensures kind { result.kind ≡ kind }
-    ensures path { result.path ≡ work.entry.value.path }
-    ensures released { RoseBy (slots_occur work.entry.value.slots) ledger.old ledger.new }
+fn release(parts: Box<Parts>, ledger: &mut Ledger) -> Path
+    requires room { Room (slots_occur parts.value.slots) ledger.old }
+    ensures path { result ≡ parts.entry.value.path }
+    ensures released { RoseBy (slots_occur parts.entry.value.slots) ledger.old ledger.new }
 {
-    let Work {
+    let Parts {
+        alloc: _,
         table: _,
         root: _,
         plan,
@@ -50,8 +92,147 @@ pub fn fail(work: Box<Work>, kind: ReflectErrorKind, ledger: &mut Ledger) -> Ref
         path,
         mode: _,
         calls: _,
-    } = Box::into_inner(work);
+    } = Box::into_inner(parts);
     slots.release(ledger);
     drop(plan);
-    ReflectError { kind, path }
+    path
+}
+
+impl<'t> Work<'t> {
+    /// Does nothing: what is true of all that a builder works with.
+    pub fn law_sound(&self)
+        ensures numbered { IsNumbered self.now.shapes }
+        ensures checked { IsChecked self.now.shapes }
+        ensures served { IsServed self.now.shapes }
+        ensures in_order { IsInOrder self.now.shapes self.now.root self.now.state }
+    {
+        let _parts = &self.parts;
+    }
+
+    /// The allocator.
+    pub fn alloc(&self) -> Global {
+        self.parts.alloc
+    }
+
+    /// The table that its shapes come from.
+    pub fn table(&self) -> &ShapeTable
+        ensures table { result.now ≡ self.now.shapes }
+    {
+        self.parts.table
+    }
+
+    /// The shape of what is built.
+    pub fn root(&self) -> ShapeId
+        ensures root { result.0 ≡ self.now.root }
+    {
+        self.parts.root
+    }
+
+    /// The path of the place at which the builder works.
+    pub fn path(&self) -> &Path
+        ensures path { result.now ≡ path_of self.now.state }
+    {
+        &self.parts.path
+    }
+
+    /// How many places are open: the one at which the builder works, and those above it.
+    pub fn frame_count(&self) -> usize
+        ensures count { result ≡ length (path_of self.now.state) + 1 }
+    {
+        law_paths();
+        self.parts.stack.len()
+    }
+
+    /// How many levels the place lies below the root.
+    pub fn depth(&self) -> usize
+        ensures depth { result ≡ length self.now.state.cursor }
+    {
+        self.parts.stack.len() - 1
+    }
+
+    /// The mode.
+    pub fn mode(&self) -> Mode
+        ensures mode { mode_of result ≡ self.now.state.mode }
+    {
+        self.parts.mode
+    }
+
+    /// The shape of the place at which the builder works, and what was put there, in which a child that is stored isn't told, but of
+    /// a map whether the last one is there.
+    #[inline]
+    pub fn place(&self) -> (ShapeId, &Piece)
+        ensures shape { result.0.0 ≡ shape_at self.now }
+        ensures piece { LooksLike (own_tree (body_of result.1.now)) (tree_at_site self.now) }
+        ensures last { is_map (tree_at_site self.now) ≡ true
+            → lacks_last (body_of result.1.now) ≡ lacks_value (tree_at_site self.now) }
+    {
+        let parts = &*self.parts;
+        let (slots, stack) = (&parts.slots, &parts.stack);
+        place_here(parts.table, parts.root, parts.plan.core(), slots, stack)
+    }
+
+    /// From now on places that are left stay as they are. Takes no memory.
+    pub fn defer(mut self) -> Work<'t>
+        requires strict { self.state.mode ≡ strict }
+        ensures state { begin_deferred self.entry.state ≡ Ok result.state }
+        ensures shapes { result.shapes ≡ self.entry.shapes }
+        ensures root { result.root ≡ self.entry.root }
+    {
+        match defer(&mut *self.parts) {
+            Ok(()) => self,
+            Err(_) => unreachable!(),
+        }
+    }
+
+    /// Releases all. The path of the place at which the builder worked is left.
+    pub fn release(self, ledger: &mut Ledger) -> Path
+        requires room { Room (held_at self) ledger.old }
+        ensures path { result ≡ path_of self.entry.state }
+        ensures released { RoseBy (held_at self.entry) ledger.old ledger.new }
+    {
+        let Work { parts } = self;
+        release(parts, ledger)
+    }
+
+    /// The error of a call that is refused before it changes anything: all is released.
+    pub fn refuse(self, kind: ReflectErrorKind, ledger: &mut Ledger) -> ReflectError
+        requires room { Room (held_at self) ledger.old }
+        ensures kind { result.kind ≡ kind }
+        ensures path { result.path ≡ path_of self.entry.state }
+        ensures released { RoseBy (held_at self.entry) ledger.old ledger.new }
+    {
+        let path = self.release(ledger);
+        ReflectError { kind, path }
+    }
+
+    /// Makes a move that some call comes to. Where it is refused, or there is no memory, all is released.
+    #[inline(always)]
+    pub fn make<H: Hooks>(
+        mut self,
+        hooks: &H,
+        decided: Move,
+        ledger: &mut Ledger,
+    ) -> Result<Work<'t>, ReflectError>
+        requires meant { IsMeant self decided }
+        requires room { Room (λ t. held_at self t + carried decided t) ledger.old }
+        ensures moved { IsMoved self.entry
+            (meant_by (H.means hooks.now) self.entry decided.entry) result }
+        ensures path { IfErr result (λ error. error.path ≡ path_of self.entry.state) }
+        ensures tokens { Conserved (λ t. held_at self.entry t + carried decided.entry t) ledger.old
+            (left_at result) ledger.new }
+        ensures refused { is_late decided.entry ≡ false
+            → IsErr (meant_by (H.means hooks.now) self.entry decided.entry)
+            → IsNotOutOfMemory result }
+        ensures memory { needs_none decided.entry (tree_at_site self.entry) ≡ true
+            → IsNotOutOfMemory result }
+    {
+        match make(&mut *self.parts, hooks, decided, ledger) {
+            Ok(()) => Ok(self),
+            Err(kind) => {
+                let Work { parts } = self;
+                let path = release(parts, ledger);
+                Err(ReflectError { kind, path })
+            }
+        }
+    }
 }

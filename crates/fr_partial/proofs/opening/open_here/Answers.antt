@@ -7,7 +7,7 @@ use Rattle.fr_store.specs.Moves.{cursor_in, tree_here, tree_in_slots, IsOpenAt}
 use Rattle.fr_partial.specs.Underway.{shape_here}
 use Rattle.fr_partial.proofs.HereLaws.{may_open_here}
 use Rattle.fr_partial.proofs.KeptLaws.{on_ok}
-use Rattle.fr_partial.proofs.ListLaws.{opened_so, stays_so}
+use Rattle.fr_partial.proofs.OpeningLaws.{opened_so, stays_so}
 use Rattle.fr_partial.proofs.LookLaws.{begun_alike}
 use Rattle.fr_partial.proofs.opening.open_here.Goals as goal
 
@@ -15,7 +15,7 @@ pub begin-requires-clause-may_open : goal.begin-requires-clause-may_open
 begin-requires-clause-may_open c =
     may_open_here c.args.plan.now c.args.slots.now c.args.stack.now c.requires.ready.shown
     (def_of c.args.table.now (shape_here c.args.table.now c.args.root.0 c.args.slots.now c.args.stack.now))
-    (as_form c.args.form) c.args.count c.requires.may_open
+    (as_form c.args.opening.form) c.args.opening.count c.requires.may_open
 
 pub returns-then-begun-clause-opened : goal.returns-then-begun-clause-opened
 returns-then-begun-clause-opened c = record {
@@ -38,6 +38,6 @@ returns-else-begun-clause-opened c =
     (cursor_in c.args.slots.now c.args.stack.now) t)
     (opened_so
     (def_of c.args.table.now (shape_here c.args.table.now c.args.root.0 c.args.slots.now c.args.stack.now))
-    (as_form c.args.form) c.args.count (cursor_in c.args.slots.now c.args.stack.now)
+    (as_form c.args.opening.form) c.args.opening.count (cursor_in c.args.slots.now c.args.stack.now)
     (tree_in_slots c.args.slots.now c.args.stack.now) c.requires.may_open))
     c.begin.ensures.begun

@@ -1,74 +1,16 @@
-use Rattle.std.proofs.Common.{◌≡◌, None, true, false, Result, Err, inr, sym, ap, ◌∙◌, subst, arith}
-use Rattle.fr_shape.specs.declared.error.ReflectErrorKind.{ReflectErrorKind}
-use Rattle.fr_shape.specs.Look.{def_of}
+use Rattle.std.proofs.Common.{refl}
 use Rattle.fr_model.specs.Commands.{Call}
-use Rattle.fr_model.specs.DynamicPlaces.{entry_refusal}
-use Rattle.fr_model.specs.Tree.{State, cursor_tree}
-use Rattle.fr_frame.specs.Bodies.{own_tree}
-use Rattle.fr_frame.specs.Heap.{body_of}
-use Rattle.fr_partial.specs.Builder.{here, holds, IsStepTo}
-use Rattle.fr_partial.proofs.ObjectLaws.{entry_begins, entry_refused, entry_seen}
-use Rattle.fr_partial.proofs.RemovedLaws.{rises_by_removed, all_released}
-use Rattle.fr_partial.proofs.SeenLaws.{Sees, sees}
-use Rattle.fr_partial.proofs.StateLaws.{in_order}
-use Rattle.fr_partial.proofs.WorkLaws.{works_with}
+use Rattle.fr_partial.proofs.CallLaws.{decided_of, nothing_spent, some_call}
 use Rattle.fr_partial.proofs.partial.Partial.begin_object_entry.Goals as goal
-use Rattle.fr_partial.proofs.partial.Partial.begin_object_entry.Given.{Over}
-use Rattle.fr_partial.proofs.partial.Partial.begin_object_entry.Goals.{In-None, In-Some}
 
-seen : (g : Over) (c : In-None g)
-    → Sees c.args.self c.deref-work.result.now.table.now c.place_here.result.0 (own_tree (body_of c.place_here.result.1.now))
-seen g c =
-    let lent = works_with c.deref-work.ensures c.self.view_is c.self.invariant in
-    sees c.deref-work.result.now.slots c.deref-work.result.now.stack lent.view_is c.place_here.result.0
-    (own_tree (body_of c.place_here.result.1.now)) c.place_here.ensures.shape c.place_here.ensures.piece
+pub run-requires-clause-meant : goal.run-requires-clause-meant
+run-requires-clause-meant g c =
+    some_call _ (Call.BeginObjectEntry c.args.key.now) c.begin_object_entry_move-decided.result
+    (decided_of c.self.inside.work c.self.view_is (Call.BeginObjectEntry c.args.key.now) c.begin_object_entry_move-decided.result c.begin_object_entry_move-decided.ensures.decides)
 
-seen_refused : (g : Over) (c : In-Some g)
-    → Sees c.args.self c.deref-work.result.now.table.now c.place_here.result.0 (own_tree (body_of c.place_here.result.1.now))
-seen_refused g c =
-    let lent = works_with c.deref-work.ensures c.self.view_is c.self.invariant in
-    sees c.deref-work.result.now.slots c.deref-work.result.now.stack lent.view_is c.place_here.result.0
-    (own_tree (body_of c.place_here.result.1.now)) c.place_here.ensures.shape c.place_here.ensures.piece
-
-admitted : (g : Over) (c : In-None g)
-    → entry_refusal (def_of c.args.self.shapes (here c.args.self)) (cursor_tree c.args.self.state) ≡ None
-admitted g c = sym (entry_seen (seen g c)) ∙ sym c.in-None.ensures
-
-pub enter_entry-requires-clause-admitted : goal.enter_entry-requires-clause-admitted
-enter_entry-requires-clause-admitted g c = admitted g (goal.at.enter_entry-requires-clause-admitted g c).In-None
-
-pub returns-in-Some-clause-step : goal.returns-in-Some-clause-step
-returns-in-Some-clause-step g c =
-    inr
-    (entry_refused (seen_refused g (goal.at.returns-in-Some-clause-step g c).In-Some) c.args.key.now c.in-Some.operation
-    (sym c.in-Some.ensures)
-    ∙ ap Err (sym c.refuse.ensures.kind))
-
-pub returns-in-None-clause-step : goal.returns-in-None-clause-step
-returns-in-None-clause-step g c =
-    let here_at = (goal.at.returns-in-None-clause-step g c).In-None in
-    subst (λ (meant : Result State ReflectErrorKind). IsStepTo c.args.self meant c.enter_entry.result)
-    (sym (entry_begins c.args.self.shapes (here c.args.self) c.args.self.state c.args.key.now (admitted g here_at)))
-    c.enter_entry.ensures.step
-
-pub returns-in-None-clause-refused : goal.returns-in-None-clause-refused
-returns-in-None-clause-refused g c refused =
-    let here_at = (goal.at.returns-in-None-clause-refused g c).In-None in
-    let no : false ≡ true =
-    rw (entry_begins c.args.self.shapes (here c.args.self) c.args.self.state c.args.key.now (admitted g here_at)) at refused in
-    absurd (cc)
-
-pub returns-in-Some-clause-removed : goal.returns-in-Some-clause-removed
-returns-in-Some-clause-removed g c =
-    rises_by_removed (g.H.Hooks.means c.args.self.hooks) c.law_removed.ensures.step c.args.self
-    (in_order c.self.invariant c.self.view_is)
-    (Call.BeginObjectEntry c.args.key.now) (holds c.args.self) (λ t. omega arith) (Err c.refuse.result) c.args.ledger.now
-    c.refuse.new.ledger (returns-in-Some-clause-step g c)
-    (all_released (holds c.args.self) c.args.ledger.now c.refuse.new.ledger c.refuse.ensures.released)
-
-pub returns-in-None-clause-removed : goal.returns-in-None-clause-removed
-returns-in-None-clause-removed g c =
-    rises_by_removed (g.H.Hooks.means c.args.self.hooks) c.law_removed.ensures.step c.args.self
-    (in_order c.self.invariant c.self.view_is)
-    (Call.BeginObjectEntry c.args.key.now) (holds c.args.self) (λ t. omega arith) c.enter_entry.result c.args.ledger.now
-    c.enter_entry.new.ledger (returns-in-None-clause-step g c) c.enter_entry.ensures.tokens
+pub returns : goal.returns
+returns g c = record {
+  call = c.run.ensures.call (Call.BeginObjectEntry c.args.key.now)
+      (decided_of c.self.inside.work c.self.view_is (Call.BeginObjectEntry c.args.key.now) c.begin_object_entry_move-decided.result c.begin_object_entry_move-decided.ensures.decides)
+      c.args.ledger.now (nothing_spent (Call.BeginObjectEntry c.args.key.now) (λ t. refl) c.begin_object_entry_move-decided.result c.args.ledger.now);
+}

@@ -1,12 +1,16 @@
-use Rattle.std.proofs.Common.{arith}
+use Rattle.std.proofs.Common.{refl}
 use Rattle.fr_model.specs.Commands.{Call}
-use Rattle.fr_partial.specs.Builder.{holds}
-use Rattle.fr_partial.proofs.RemovedLaws.{rises_by_removed}
-use Rattle.fr_partial.proofs.StateLaws.{in_order}
+use Rattle.fr_partial.proofs.CallLaws.{decided_of, nothing_spent, some_call}
 use Rattle.fr_partial.proofs.partial.Partial.finish_deferred.Goals as goal
 
-pub returns-in-Deferred-clause-removed : goal.returns-in-Deferred-clause-removed
-returns-in-Deferred-clause-removed g c =
-    rises_by_removed (g.H.Hooks.means c.args.self.hooks) c.law_removed.ensures.step c.args.self
-    (in_order c.self.invariant c.self.view_is) Call.FinishDeferred (holds c.args.self) (λ t. omega arith) c.finish_all.result
-    c.args.ledger.now c.finish_all.new.ledger c.finish_all.ensures.step c.finish_all.ensures.tokens
+pub run-requires-clause-meant : goal.run-requires-clause-meant
+run-requires-clause-meant g c =
+    some_call _ Call.FinishDeferred c.finish_deferred_move-decided.result
+    (decided_of c.self.inside.work c.self.view_is Call.FinishDeferred c.finish_deferred_move-decided.result c.finish_deferred_move-decided.ensures.decides)
+
+pub returns : goal.returns
+returns g c = record {
+  call = c.run.ensures.call Call.FinishDeferred
+      (decided_of c.self.inside.work c.self.view_is Call.FinishDeferred c.finish_deferred_move-decided.result c.finish_deferred_move-decided.ensures.decides)
+      c.args.ledger.now (nothing_spent Call.FinishDeferred (λ t. refl) c.finish_deferred_move-decided.result c.args.ledger.now);
+}

@@ -1,87 +1,15 @@
-use Rattle.std.proofs.Common.{◌≡◌, None, true, false, Result, Err, inr, sym, ap, ◌∙◌, subst, arith}
-use Rattle.fr_shape.specs.declared.error.ReflectErrorKind.{ReflectErrorKind}
-use Rattle.fr_shape.specs.declared.shape.Def.{Def}
-use Rattle.fr_shape.specs.Look.{def_of}
+use Rattle.std.proofs.Common.{refl}
 use Rattle.fr_model.specs.Commands.{Call}
-use Rattle.fr_model.specs.Items.{init_array_refusal}
-use Rattle.fr_model.specs.Tree.{State, cursor_tree}
-use Rattle.fr_model.specs.Well.{HasElements}
-use Rattle.fr_frame.specs.Bodies.{own_tree}
-use Rattle.fr_frame.specs.Heap.{body_of}
-use Rattle.fr_partial.specs.Builder.{here, holds, IsStepTo}
-use Rattle.fr_partial.proofs.ListLaws.{array_begins, array_opens, array_refused}
-use Rattle.fr_partial.proofs.RemovedLaws.{rises_by_removed, all_released}
-use Rattle.fr_partial.proofs.SeenLaws.{array_seen, def_seen, Sees, sees}
-use Rattle.fr_partial.proofs.StateLaws.{in_order}
-use Rattle.fr_partial.proofs.WorkLaws.{works_with}
+use Rattle.fr_partial.proofs.CallLaws.{decided_of, nothing_spent, some_call}
 use Rattle.fr_partial.proofs.partial.Partial.init_array.Goals as goal
-use Rattle.fr_partial.proofs.partial.Partial.init_array.Given.{Over}
-use Rattle.fr_partial.proofs.partial.Partial.init_array.Goals.{In-Ok, In-Err}
 
-seen : (g : Over) (c : In-Ok g)
-    → Sees c.args.self c.deref-work.result.now.table.now c.place_here.result.0 (own_tree (body_of c.place_here.result.1.now))
-seen g c =
-    let lent = works_with c.deref-work.ensures c.self.view_is c.self.invariant in
-    sees c.deref-work.result.now.slots c.deref-work.result.now.stack lent.view_is c.place_here.result.0
-    (own_tree (body_of c.place_here.result.1.now)) c.place_here.ensures.shape c.place_here.ensures.piece
+pub run-requires-clause-meant : goal.run-requires-clause-meant
+run-requires-clause-meant g c =
+    some_call _ Call.InitArray c.init_array_move-decided.result
+    (decided_of c.self.inside.work c.self.view_is Call.InitArray c.init_array_move-decided.result c.init_array_move-decided.ensures.decides)
 
-seen_refused : (g : Over) (c : In-Err g)
-    → Sees c.args.self c.deref-work.result.now.table.now c.place_here.result.0 (own_tree (body_of c.place_here.result.1.now))
-seen_refused g c =
-    let lent = works_with c.deref-work.ensures c.self.view_is c.self.invariant in
-    sees c.deref-work.result.now.slots c.deref-work.result.now.stack lent.view_is c.place_here.result.0
-    (own_tree (body_of c.place_here.result.1.now)) c.place_here.ensures.shape c.place_here.ensures.piece
-
-admitted : (g : Over) (c : In-Ok g)
-    → init_array_refusal (def_of c.args.self.shapes (here c.args.self)) (cursor_tree c.args.self.state) ≡ None
-admitted g c = sym (array_seen (seen g c)) ∙ c.in-Ok.ensures.admitted
-
-pub open-requires-clause-may_open : goal.open-requires-clause-may_open
-open-requires-clause-may_open g c =
-    let at = (goal.at.open-requires-clause-may_open g c).In-Ok in
-    array_opens (def_of c.args.self.shapes (here c.args.self)) c.in-Ok.count (cursor_tree c.args.self.state)
-    (subst (λ (def : Def). HasElements def c.in-Ok.count) (def_seen (seen g at)) c.in-Ok.ensures.elements) (admitted g at)
-
-pub open-requires-clause-meant : goal.open-requires-clause-meant
-open-requires-clause-meant g c = record {
-  call = Call.InitArray;
-  fitting = tt;
-  meant = array_begins c.args.self (admitted g (goal.at.open-requires-clause-meant g c).In-Ok);
-  path_is =
-      c.law_paths.ensures.open c.args.self.shapes (here c.args.self) c.args.self.state
-      (in_order c.self.invariant c.self.view_is).state.leads;
-}
-
-pub returns-in-Err-clause-step : goal.returns-in-Err-clause-step
-returns-in-Err-clause-step g c =
-    inr
-    (array_refused (seen_refused g (goal.at.returns-in-Err-clause-step g c).In-Err) c.in-Err.operation
-    c.in-Err.ensures.refused
-    ∙ ap Err (sym c.refuse.ensures.kind))
-
-pub returns-in-Ok-clause-step : goal.returns-in-Ok-clause-step
-returns-in-Ok-clause-step g c =
-    subst (λ (meant : Result State ReflectErrorKind). IsStepTo c.args.self meant c.open.result)
-    (sym (array_begins c.args.self (admitted g (goal.at.returns-in-Ok-clause-step g c).In-Ok)))
-    c.open.ensures.step
-
-pub returns-in-Ok-clause-refused : goal.returns-in-Ok-clause-refused
-returns-in-Ok-clause-refused g c refused =
-    let no : false ≡ true =
-    rw (array_begins c.args.self (admitted g (goal.at.returns-in-Ok-clause-refused g c).In-Ok)) at refused in
-    absurd (cc)
-
-pub returns-in-Err-clause-removed : goal.returns-in-Err-clause-removed
-returns-in-Err-clause-removed g c =
-    rises_by_removed (g.H.Hooks.means c.args.self.hooks) c.law_removed.ensures.step c.args.self
-    (in_order c.self.invariant c.self.view_is)
-    Call.InitArray (holds c.args.self) (λ t. omega arith) (Err c.refuse.result) c.args.ledger.now
-    c.refuse.new.ledger (returns-in-Err-clause-step g c)
-    (all_released (holds c.args.self) c.args.ledger.now c.refuse.new.ledger c.refuse.ensures.released)
-
-pub returns-in-Ok-clause-removed : goal.returns-in-Ok-clause-removed
-returns-in-Ok-clause-removed g c =
-    rises_by_removed (g.H.Hooks.means c.args.self.hooks) c.law_removed.ensures.step c.args.self
-    (in_order c.self.invariant c.self.view_is)
-    Call.InitArray (holds c.args.self) (λ t. omega arith) c.open.result c.args.ledger.now
-    c.open.new.ledger (returns-in-Ok-clause-step g c) c.open.ensures.tokens
+pub returns-clause-call : goal.returns-clause-call
+returns-clause-call g c =
+    c.run.ensures.call Call.InitArray
+    (decided_of c.self.inside.work c.self.view_is Call.InitArray c.init_array_move-decided.result c.init_array_move-decided.ensures.decides)
+    c.args.ledger.now (nothing_spent Call.InitArray (λ t. refl) c.init_array_move-decided.result c.args.ledger.now)

@@ -1,0 +1,15 @@
+use Rattle.std.proofs.Common.{ap}
+use Rattle.fr_frame.specs.Heap.{Node}
+use Rattle.fr_partial.proofs.PlaceLaws.{none_found, found_is}
+use Rattle.fr_partial.proofs.going.node_here.Goals as goal
+
+pub unreachable-requires-in-None : goal.unreachable-requires-in-None
+unreachable-requires-in-None c =
+    none_found c.args.plan.now c.args.slots.now c.args.stack.now c.requires c.in-Some.top.0 c.in-Some.ensures.last
+    c.in-None.ensures.place
+
+pub returns : goal.returns
+returns c =
+    ap (λ (found : Node). found.node)
+    (found_is c.args.plan.now c.args.slots.now c.args.stack.now c.requires c.in-Some.top.0 c.in-Some.ensures.last
+    c.in-Some-place.place.now c.in-Some-place.ensures.place)

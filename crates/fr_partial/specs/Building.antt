@@ -1,0 +1,33 @@
+-- The end of a builder: when there is something to be built, and what comes of it.
+use Rattle.std.specs.Prelude.{◌≡◌, ◌⊎◌, ℕ, Option, Some, None, Result, Ok, Err, if◌then◌else◌}
+use Rattle.fr_shape.specs.declared.error.Invariant.{Invariant}
+use Rattle.fr_shape.specs.declared.error.ReflectErrorKind.{ReflectErrorKind}
+use Rattle.fr_shape.specs.Hooks.{Meanings}
+use Rattle.fr_shape.specs.Tokens.{occurs}
+use Rattle.fr_model.specs.Places.{is_root}
+use Rattle.fr_model.specs.Step.{build}
+use Rattle.fr_model.specs.Tree.{Mode, strict, deferred, State}
+use Rattle.fr_partial.specs.declared.reflect_error.ReflectError.{ReflectError}
+use Rattle.fr_partial.specs.BuiltValue.{BuiltValue}
+use Rattle.fr_partial.specs.Sites.{Site}
+
+abbrev pub build_refusal_in : Mode → (at_root : Option Invariant) → Option Invariant
+build_refusal_in (deferred start) at_root = Some Invariant.BuildDeferred
+build_refusal_in strict at_root = at_root
+
+-- why there is nothing to be built yet, if so: deferred mode isn't over, or the builder isn't at the root
+abbrev pub build_refusal : State → Option Invariant
+build_refusal state =
+    build_refusal_in state.mode (if is_root state.cursor then None else Some Invariant.BuildOpenFrames)
+
+-- what is meant was built, by as many calls as there were, or it was refused so; or memory ran out
+abbrev pub IsBuiltSo : Meanings → Site → Result BuiltValue ReflectError → Type 0
+IsBuiltSo hooks before (Ok built) =
+    (build hooks before.shapes before.root before.state ≡ Ok built.value) × (built.calls ≡ before.state.calls)
+IsBuiltSo hooks before (Err error) =
+    (error.kind ≡ ReflectErrorKind.OutOfMemory) ⊎ (build hooks before.shapes before.root before.state ≡ Err error.kind)
+
+-- how often a token stands in what was built
+abbrev pub left_in : Result BuiltValue ReflectError → ℕ → ℕ
+left_in (Ok built) t = occurs built.value t
+left_in (Err error) t = 0

@@ -1,0 +1,275 @@
+-- What a call comes to, once it is decided: the state then, or the refusal, and when it may come to that.
+use Rattle.std.specs.Prelude.{◌≡◌, ◌≢◌, ◌⊎◌, ℕ, suc, Bool, true, false, List, [], length, Option, Some, None, Result, Ok, Err, IsOk, unwrap_or}
+use Rattle.fr_shape.specs.declared.error.ReflectErrorKind.{ReflectErrorKind}
+use Rattle.fr_shape.specs.Fits.{fits}
+use Rattle.fr_shape.specs.Hooks.{Meanings}
+use Rattle.fr_shape.specs.Look.{Table, def_of}
+use Rattle.fr_shape.specs.Released.{RoseBy}
+use Rattle.fr_shape.specs.Tokens.{occurs, tokens}
+use Rattle.fr_shape.specs.Val.{Val}
+use Rattle.fr_shape.specs.View.{view}
+use Rattle.fr_path.specs.declared.path_steps.PathStep.{PathStep}
+use Rattle.fr_model.specs.Collections.{is_map_form, key_refusal, set_item_refusal, value_refusal}
+use Rattle.fr_model.specs.Commands.{Call}
+use Rattle.fr_model.specs.Complete.{complete}
+use Rattle.fr_model.specs.Contents.{kept_slice, kept_so, slice_anew, variant_anew}
+use Rattle.fr_model.specs.DynamicPlaces.{entry_refusal}
+use Rattle.fr_model.specs.Finish.{finished}
+use Rattle.fr_model.specs.Items.{closed_slice, is_open_slice, item_refusal}
+use Rattle.fr_model.specs.Paths.{path_of, step_as}
+use Rattle.fr_model.specs.Places.{is_root, up}
+use Rattle.fr_model.specs.Scripts.{brings, IsFitting}
+use Rattle.fr_model.specs.Step.{cause_by, field_refusal, finishes, is_set_item, leaves, opened, put_child, puts, puts_and_leaves, step, takes_item}
+use Rattle.fr_model.specs.Tree.{Mode, strict, deferred, State, Tree, as_variant, base_of_form, change_at, cursor_tree, one_more_call, tree_at, whole}
+use Rattle.fr_model.specs.Well.{IsFullAs}
+use Rattle.fr_frame.specs.Bodies.{is_around, TakesItems}
+use Rattle.fr_frame.specs.Heap.{as_form}
+use Rattle.fr_store.specs.Moves.{takes_at_end, TakesMany}
+use Rattle.fr_partial.specs.declared.moves.Change.{Change}
+use Rattle.fr_partial.specs.declared.moves.Move.{Move}
+use Rattle.fr_partial.specs.declared.moves.Rules.{Rules}
+use Rattle.fr_partial.specs.declared.moves.Taker.{Taker}
+use Rattle.fr_partial.specs.declared.moves.Way.{Way}
+use Rattle.fr_partial.specs.Beginnings.{kept_by, MayBegin}
+use Rattle.fr_partial.specs.DynamicBeginnings.{anew_as, kept_as}
+use Rattle.fr_partial.specs.Entering.{Describes}
+use Rattle.fr_partial.specs.Ending.{column_of, completes_late, needs_none_by}
+use Rattle.fr_partial.specs.Modes.{IsBelowStart}
+use Rattle.fr_model.specs.Entering.{Way as Onward, enters}
+use Rattle.fr_partial.specs.Openings.{is_begun, HasItems, MayOpenAs}
+use Rattle.fr_partial.specs.Sites.{Site, shape_at}
+
+-- Going on
+
+-- the child's number, as the way tells it (0 for an entry, whose number it doesn't tell)
+abbrev pub number_told : Way → ℕ
+number_told (Way.Child i opening) = i
+number_told (Way.Item opening) = opening.count
+number_told (Way.Key opening) = opening.count
+number_told (Way.Value opening) = opening.count
+number_told (Way.Entry key) = 0
+number_told (Way.Content form beginning) = 0
+
+-- the step to it
+abbrev pub step_told : Way → PathStep
+step_told (Way.Child i opening) = step_as (as_form opening.form) i
+step_told (Way.Item opening) = step_as (as_form opening.form) opening.count
+step_told (Way.Key opening) = step_as (as_form opening.form) opening.count
+step_told (Way.Value opening) = step_as (as_form opening.form) opening.count
+step_told (Way.Entry key) = PathStep.Entry key.now
+step_told (Way.Content form beginning) = step_as (as_form form) 0
+
+-- the same way, as the commands tell it, from a place at which this stands
+abbrev pub onward : Way → Tree → Onward
+onward (Way.Child i opening) tree = Onward.Child i
+onward (Way.Item opening) tree = Onward.Item
+onward (Way.Key opening) tree = Onward.Key
+onward (Way.Value opening) tree = Onward.Value opening.count
+onward (Way.Entry key) tree = Onward.Entry key.now
+onward (Way.Content form beginning) tree = Onward.Content (as_form form) (kept_by beginning tree)
+
+-- the state then
+abbrev pub gone : Table → (s : ℕ) → State → Way → State
+gone table s state way = enters table s state (onward way (cursor_tree state))
+
+-- a way that may be taken from a place of shape s at which this stands
+abbrev pub MayGo : Table → (s : ℕ) → Tree → Way → Type 0
+MayGo table s tree (Way.Child i opening) = Describes table s tree opening × (field_refusal (def_of table s) tree i ≡ None)
+MayGo table s tree (Way.Item opening) =
+    HasItems (as_form opening.form) opening.count tree
+    × TakesItems (as_form opening.form)
+    × ((item_refusal (def_of table s) tree ≡ None) ⊎ (set_item_refusal (def_of table s) tree ≡ None))
+MayGo table s tree (Way.Key opening) =
+    HasItems (as_form opening.form) opening.count tree × (is_map_form (as_form opening.form) ≡ true) × (key_refusal tree ≡ None)
+MayGo table s tree (Way.Value opening) =
+    HasItems (as_form opening.form) (suc opening.count) tree
+    × (is_map_form (as_form opening.form) ≡ true)
+    × (value_refusal tree ≡ None)
+MayGo table s tree (Way.Entry key) = entry_refusal (def_of table s) tree ≡ None
+MayGo table s tree (Way.Content form beginning) =
+    (is_around (as_form form) ≡ true) × IsFullAs (def_of table s) (as_form form) 1 × MayBegin beginning (as_form form) tree
+
+-- Staying
+
+-- what comes of a place of shape s at which this stands
+abbrev pub changed : Table → (s : ℕ) → Mode → Tree → Change → Tree → Tree
+changed table s mode tree (Change.Put v) = λ old. whole (view v)
+changed table s mode tree (Change.PutChild i opening v) = put_child (def_of table s) i (view v)
+changed table s mode tree (Change.Open opening) = opened (def_of table s)
+changed table s mode tree (Change.Select chosen) =
+    λ old. unwrap_or (kept_so (as_variant chosen.variant) tree) (variant_anew (def_of table s) chosen.variant)
+changed table s mode tree (Change.Gather parts) = λ old. unwrap_or (kept_as parts tree) (anew_as parts)
+changed table s mode tree Change.OpenSlice = λ old. unwrap_or (kept_slice mode tree) slice_anew
+changed table s mode tree Change.CloseSlice = closed_slice
+
+-- the state then
+abbrev pub stays : Table → (s : ℕ) → State → Change → State
+stays table s state change = record state {
+  tree = change_at state.cursor (changed table s state.mode (cursor_tree state) change) state.tree;
+  calls = one_more_call state.calls;
+}
+
+-- a change that may come of it
+abbrev pub MayStay : Table → (s : ℕ) → Tree → Change → Type 0
+MayStay table s tree (Change.Put v) = fits table s (view v) ≡ true
+MayStay table s tree (Change.PutChild i opening v) =
+    Describes table s tree opening × (field_refusal (def_of table s) tree i ≡ None) × (tokens (view v) ≡ [])
+MayStay table s tree (Change.Open opening) =
+    MayOpenAs (def_of table s) (as_form opening.form) opening.count tree
+    × TakesMany (as_form opening.form)
+    × (base_of_form (as_form opening.form) ≡ 0)
+MayStay table s tree (Change.Select chosen) = IsFullAs (def_of table s) (as_variant chosen.variant) chosen.count
+MayStay table s tree (Change.Gather parts) = Unit {0}
+MayStay table s tree Change.OpenSlice = Unit {0}
+MayStay table s tree Change.CloseSlice = is_open_slice tree ≡ true
+
+-- Completing
+
+-- the state when the value of the place at the cursor was handed over
+abbrev pub handed : Taker → State → Val → State
+handed Taker.Above state v = puts_and_leaves state v
+handed Taker.Set state v = takes_item state v
+handed Taker.Itself state v = puts state v
+
+abbrev pub handed_if : Rules → Taker → Meanings → Table → (s : ℕ) → State → Option Val → Result State ReflectErrorKind
+handed_if rules taker hooks table s state (Some v) = Ok (handed taker state v)
+handed_if rules taker hooks table s state None =
+    Err (cause_by (column_of rules) hooks table s (path_of state) (cursor_tree state))
+
+-- the place at the cursor is completed and its value handed over, or is refused where it makes none
+abbrev pub completes : Rules → Taker → Meanings → Table → (s : ℕ) → State → Result State ReflectErrorKind
+completes rules taker hooks table s state =
+    handed_if rules taker hooks table s state (complete (column_of rules) hooks table s (cursor_tree state))
+
+-- by the rules of strict mode in that mode, and in deferred mode below the place at which that began
+abbrev pub RulesServe : Rules → State → Type 0
+RulesServe Rules.Strict state = state.mode ≡ strict
+RulesServe Rules.Deferred state = IsBelowStart state.mode state.cursor
+
+-- the value may go there: up from any place below the root that is no item of a set; to a set from its item alone; it stays in strict
+-- mode alone
+abbrev pub MayTake : Rules → Taker → State → Type 0
+MayTake rules Taker.Above state = (is_root state.cursor ≡ false) × (is_set_item state ≡ false)
+MayTake rules Taker.Set state = (is_root state.cursor ≡ false) × (is_set_item state ≡ true)
+MayTake Rules.Strict Taker.Itself state = Unit {0}
+MayTake Rules.Deferred Taker.Itself state = ⊥
+
+-- Moves
+
+-- What a move means: the state after it, or why it is refused.
+abbrev pub meant_by : Meanings → Site → Move → Result State ReflectErrorKind
+meant_by hooks site (Move.Go way) = Ok (gone site.shapes (shape_at site) site.state way)
+meant_by hooks site (Move.Stay change) = Ok (stays site.shapes (shape_at site) site.state change)
+meant_by hooks site Move.Leave = Ok (leaves site.state)
+meant_by hooks site (Move.Complete rules taker) = completes rules taker hooks site.shapes (shape_at site) site.state
+meant_by hooks site Move.Defer =
+    Ok (record site.state { mode = deferred (length site.state.cursor); calls = one_more_call site.state.calls })
+meant_by hooks site Move.Finish =
+    finishes hooks site.shapes site.root site.state
+    (finished hooks site.shapes site.root site.state.cursor site.state.tree)
+
+-- a move that may be made
+abbrev pub MayMove : Table → (s : ℕ) → State → Move → Type 0
+MayMove table s state (Move.Go way) = MayGo table s (cursor_tree state) way
+MayMove table s state (Move.Stay change) = MayStay table s (cursor_tree state) change
+MayMove table s state Move.Leave =
+    IsBelowStart state.mode state.cursor × (takes_at_end (tree_at (up state.cursor) state.tree) ≡ false)
+MayMove table s state (Move.Complete rules taker) = RulesServe rules state × MayTake rules taker state
+MayMove table s state Move.Defer = state.mode ≡ strict
+MayMove table s state Move.Finish = state.mode ≢ strict
+
+-- how often it carries a token: a value that is to be put (one that is put at a child has none)
+abbrev pub carried_by : Change → ℕ → ℕ
+carried_by (Change.Put v) t = occurs (view v) t
+carried_by (Change.PutChild i opening v) t = 0
+carried_by (Change.Open opening) t = 0
+carried_by (Change.Select chosen) t = 0
+carried_by (Change.Gather parts) t = 0
+carried_by Change.OpenSlice t = 0
+carried_by Change.CloseSlice t = 0
+
+abbrev pub carried : Move → ℕ → ℕ
+carried (Move.Go way) t = 0
+carried (Move.Stay change) t = carried_by change t
+carried Move.Leave t = 0
+carried (Move.Complete rules taker) t = 0
+carried Move.Defer t = 0
+carried Move.Finish t = 0
+
+-- where what was left beneath a place is completed, memory may be wanting before the first place that fails is met
+abbrev pub is_late_by : Rules → Bool
+is_late_by Rules.Strict = false
+is_late_by Rules.Deferred = true
+
+abbrev pub is_late : Move → Bool
+is_late (Move.Go way) = false
+is_late (Move.Stay change) = false
+is_late Move.Leave = false
+is_late (Move.Complete rules taker) = is_late_by rules
+is_late Move.Defer = false
+is_late Move.Finish = true
+
+-- it takes no memory at a place at which this stands
+abbrev pub needs_none_for : Change → Tree → Bool
+needs_none_for (Change.Put v) tree = true
+needs_none_for (Change.PutChild i opening v) tree = false
+needs_none_for (Change.Open opening) tree = is_begun tree
+needs_none_for (Change.Select chosen) tree = false
+needs_none_for (Change.Gather parts) tree = is_begun tree
+needs_none_for Change.OpenSlice tree = false
+needs_none_for Change.CloseSlice tree = true
+
+abbrev pub needs_none : Move → Tree → Bool
+needs_none (Move.Go way) tree = false
+needs_none (Move.Stay change) tree = needs_none_for change tree
+needs_none Move.Leave tree = false
+needs_none (Move.Complete rules taker) tree = needs_none_by rules tree
+needs_none Move.Defer tree = true
+needs_none Move.Finish tree = false
+
+-- Deciding
+
+-- A call comes to a move, whatever the hooks mean.
+pub record ComesTo (site : Site) (call : Call) (move : Move) : Type 0 where
+  -- the value that it brings fits the shape that it names
+  pub fitting : IsFitting site.shapes call
+  -- the move carries the tokens that it brings
+  pub same_tokens : (t : ℕ) → brings call t ≡ carried move t
+  -- the move may be made here
+  pub may : MayMove site.shapes (shape_at site) site.state move
+  -- only one that completes what was left beneath a place comes to a late move
+  pub late : is_late move ≡ true → completes_late site.state call ≡ true
+  -- and means what the call means
+  pub means : (hooks : Meanings) → step hooks site.shapes site.root site.state call ≡ meant_by hooks site move
+
+-- A call is refused so, whatever the hooks mean; or it isn't refused, and to decide it there was no memory.
+abbrev pub IsRefusedWith : Site → Call → ReflectErrorKind → Type 0
+IsRefusedWith site call kind =
+    ((kind ≢ ReflectErrorKind.OutOfMemory)
+    × ((hooks : Meanings) → step hooks site.shapes site.root site.state call ≡ Err kind))
+    ⊎ ((kind ≡ ReflectErrorKind.OutOfMemory)
+    × ((hooks : Meanings) → IsOk (step hooks site.shapes site.root site.state call)))
+
+-- what a call means was decided: which move it comes to, or why it is refused, or there was no memory to decide it
+abbrev pub Decides : Site → Call → Result Move ReflectErrorKind → Type 0
+Decides site call (Ok move) = ComesTo site call move
+Decides site call (Err kind) = IsRefusedWith site call kind
+
+-- some call comes to it
+abbrev pub IsMeant : Site → Move → Type 0
+IsMeant site move = (call : Call) × ComesTo site call move
+
+-- what was decided takes no memory at a place at which this stands, or its refusal isn't want of memory
+abbrev pub NeedsNone : Tree → Result Move ReflectErrorKind → Type 0
+NeedsNone tree (Ok move) = needs_none move tree ≡ true
+NeedsNone tree (Err kind) = kind ≢ ReflectErrorKind.OutOfMemory
+
+-- how often what was decided carries a token
+abbrev pub carries : Result Move ReflectErrorKind → ℕ → ℕ
+carries (Ok move) t = carried move t
+carries (Err kind) t = 0
+
+-- what deciding a call has released: the tokens that it brings, where it is refused or there is no memory
+abbrev pub WasDecided : Call → Result Move ReflectErrorKind → (old now : List ℕ) → Type 0
+WasDecided call (Ok move) old now = now ≡ old
+WasDecided call (Err kind) old now = RoseBy (brings call) old now

@@ -1,0 +1,68 @@
+//! The end of a builder: the value of the root.
+ghost use Rattle.std.specs.Prelude.{◌≡◌, ◌≢◌, None, IfErr, IfOk, IsErr, true};
+ghost use Rattle.fr_shape.specs.declared.error.ReflectErrorKind.{ReflectErrorKind as Kind};
+ghost use Rattle.fr_shape.specs.Fits.{fits};
+ghost use Rattle.fr_shape.specs.Released.{Conserved, Room};
+ghost use Rattle.fr_model.specs.Paths.{path_of};
+ghost use Rattle.fr_model.specs.Step.{build};
+ghost use Rattle.fr_model.specs.Tree.{cursor_tree};
+ghost use Rattle.fr_partial.specs.Filling.{takes_no_memory};
+ghost use Rattle.fr_partial.specs.Building.{build_refusal, left_in, IsBuiltSo};
+ghost use Rattle.fr_partial.specs.Sites.{held_at};
+
+use crate::ending::take_root;
+use crate::mode::Mode;
+use crate::work::{Parts, Work};
+use crate::{Built, ReflectError};
+use fr_model::{law_completes, law_well};
+use fr_shape::{Hooks, Invariant, Ledger};
+
+impl<'t> Work<'t> {
+    /// Why there is nothing to be built yet, if so: deferred mode isn't over, or the builder isn't at the root.
+    pub fn build_refusal(&self) -> Option<Invariant>
+        ensures refusal { result ≡ build_refusal self.now.state }
+    {
+        match self.mode() {
+            Mode::Deferred(_) => Some(Invariant::BuildDeferred),
+            Mode::Strict if self.depth() == 0 => None,
+            Mode::Strict => Some(Invariant::BuildOpenFrames),
+        }
+    }
+
+    /// Completes the root and hands its value over. Where that can't be, all is released.
+    pub fn take_root<H: Hooks>(self, hooks: &H, ledger: &mut Ledger) -> Result<Built, ReflectError>
+        requires room { Room (held_at self) ledger.old }
+        requires admitted { build_refusal self.state ≡ None }
+        ensures built { IsBuiltSo (H.means hooks.now) self.entry result }
+        ensures path { IfErr result (λ error. error.path ≡ path_of self.entry.state) }
+        ensures fits { IfOk result (λ built.
+            fits self.entry.shapes self.entry.root built.value ≡ true) }
+        ensures tokens { Conserved (held_at self.entry) ledger.old (left_in result) ledger.new }
+        ensures refused { IsErr (build (H.means hooks.now) self.entry.shapes self.entry.root
+            self.entry.state) → IfErr result (λ error. error.kind ≢ Kind.OutOfMemory) }
+        ensures memory { takes_no_memory (cursor_tree self.entry.state) ≡ true
+            → IfErr result (λ error. error.kind ≢ Kind.OutOfMemory) }
+    {
+        law_completes();
+        law_well();
+        let Work { parts } = self;
+        let Parts {
+            alloc: _,
+            table,
+            root,
+            plan,
+            slots,
+            stack,
+            store: _,
+            path,
+            mode: _,
+            calls,
+        } = Box::into_inner(parts);
+        let result = take_root(table, root, plan.core(), hooks, slots, stack, ledger);
+        drop(plan);
+        match result {
+            Ok(value) => Ok(Built { value, calls }),
+            Err(kind) => Err(ReflectError { kind, path }),
+        }
+    }
+}

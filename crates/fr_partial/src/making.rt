@@ -1,0 +1,51 @@
+//! Making a move, whichever it is, where a builder's parts are.
+ghost use Rattle.std.specs.Prelude.{◌≡◌, ◌≢◌, ◌+◌, false, true, IfErr, IsErr, OnErr, OnOk};
+ghost use Rattle.fr_shape.specs.declared.error.ReflectErrorKind.{ReflectErrorKind as Kind};
+ghost use Rattle.fr_shape.specs.Released.{Conserved, Room};
+ghost use Rattle.fr_model.specs.Tree.{cursor_tree};
+ghost use Rattle.fr_frame.specs.Heap.{slots_occur};
+ghost use Rattle.fr_partial.specs.Making.{IsMade};
+ghost use Rattle.fr_partial.specs.Moving.{carried, is_late, meant_by, needs_none, IsMeant};
+ghost use Rattle.fr_partial.specs.Works.{site, IsSound};
+
+use crate::deferring::{defer, finish};
+use crate::ending::{complete, leave};
+use crate::going::go;
+use crate::moves::Move;
+use crate::staying::stay;
+use crate::work::Parts;
+use fr_shape::{Hooks, Ledger, OutOfMemory, ReflectErrorKind};
+
+/// Makes a move that some call comes to. Where it is refused, or there is no memory, what isn't released is still there, and so is the
+/// path.
+#[inline(always)]
+pub fn make<H: Hooks>(
+    parts: &mut Parts,
+    hooks: &H,
+    decided: Move,
+    ledger: &mut Ledger,
+) -> Result<(), ReflectErrorKind>
+    requires sound { IsSound parts.old }
+    requires meant { IsMeant (site parts.old) decided }
+    requires room { Room (λ t. slots_occur parts.old.slots t + carried decided t) ledger.old }
+    ensures sound { OnOk result (IsSound parts.new) }
+    ensures moved { IsMade parts.old parts.new
+        (meant_by (H.means hooks.now) (site parts.old) decided.entry) result }
+    ensures path { OnErr result (parts.new.path ≡ parts.old.path) }
+    ensures tokens { Conserved (λ t. slots_occur parts.old.slots t + carried decided.entry t)
+        ledger.old (slots_occur parts.new.slots) ledger.new }
+    ensures refused { is_late decided.entry ≡ false
+        → IsErr (meant_by (H.means hooks.now) (site parts.old) decided.entry)
+        → IfErr result (λ kind. kind ≢ Kind.OutOfMemory) }
+    ensures memory { needs_none decided.entry (cursor_tree (site parts.old).state) ≡ true
+        → IfErr result (λ kind. kind ≢ Kind.OutOfMemory) }
+{
+    match decided {
+        Move::Go(way) => go(parts, way, ledger),
+        Move::Stay(change) => stay(parts, change, ledger),
+        Move::Leave => leave(parts),
+        Move::Complete(rules, taker) => complete(parts, hooks, rules, taker, ledger),
+        Move::Defer => defer(parts),
+        Move::Finish => finish(parts, hooks, ledger),
+    }
+}

@@ -1,0 +1,187 @@
+//! `end`, `build` and `abandon`, and deferred mode: `begin_deferred` and `finish_deferred`.
+ghost use Rattle.std.specs.Prelude.{◌≡◌, ◌≢◌, false, length, None, Some, true};
+ghost use Rattle.fr_shape.specs.Released.{Room, RoseBy};
+ghost use Rattle.fr_model.specs.Commands.{Call};
+ghost use Rattle.fr_model.specs.Items.{is_open_slice};
+ghost use Rattle.fr_model.specs.Places.{is_root};
+ghost use Rattle.fr_model.specs.Step.{begin_deferred};
+ghost use Rattle.fr_model.specs.Tree.{cursor_tree, strict};
+ghost use Rattle.fr_partial.specs.Builder.{holds, IsBuild, IsCall, IsNotOutOfMemory};
+ghost use Rattle.fr_partial.specs.Filling.{takes_no_memory};
+ghost use Rattle.fr_partial.specs.Moving.{Decides, NeedsNone};
+
+use crate::mode::Mode;
+use crate::moves::{Change, Move, Rules, Taker};
+use crate::slices::is_open_slice;
+use crate::work::Work;
+use crate::{Built, Partial, ReflectError};
+use fr_model::law_removed;
+use fr_shape::{Hooks, Invariant, Ledger, ReflectErrorKind};
+
+impl<'t> Work<'t> {
+    /// How the place ends.
+    #[inline(always)]
+    fn end_move<'k>(&self) -> Result<Move<'k>, ReflectErrorKind>
+        ensures decides { Decides self.now Call.End result }
+        ensures memory { self.now.state.mode ≡ strict
+            → takes_no_memory (cursor_tree self.now.state) ≡ true
+            → NeedsNone (cursor_tree self.now.state) result }
+    {
+        let (_, piece) = self.place();
+        if is_open_slice(piece) {
+            return match self.mode() {
+                Mode::Strict => Ok(Move::Complete(Rules::Strict, Taker::Itself)),
+                Mode::Deferred(_) => Ok(Move::Stay(Change::CloseSlice)),
+            };
+        }
+        let depth = self.depth();
+        if depth == 0 {
+            let invariant = Invariant::EndAtRoot;
+            return Err(ReflectErrorKind::InvariantViolation { invariant });
+        }
+        self.leaving_move(depth)
+    }
+
+    /// How a place ends that lies this deep, below the root, and is no open pointer to a slice.
+    #[inline(always)]
+    fn leaving_move<'k>(&self, depth: usize) -> Result<Move<'k>, ReflectErrorKind>
+        requires not_open { is_open_slice (cursor_tree self.now.state) ≡ false }
+        requires depth { depth ≡ length self.now.state.cursor }
+        requires below { is_root self.now.state.cursor ≡ false }
+        ensures decides { Decides self.now Call.End result }
+        ensures memory { self.now.state.mode ≡ strict
+            → takes_no_memory (cursor_tree self.now.state) ≡ true
+            → NeedsNone (cursor_tree self.now.state) result }
+    {
+        let item = self.is_set_item();
+        match self.mode() {
+            Mode::Strict if item => Ok(Move::Complete(Rules::Strict, Taker::Set)),
+            Mode::Strict => Ok(Move::Complete(Rules::Strict, Taker::Above)),
+            Mode::Deferred(start) if depth <= start => {
+                let invariant = Invariant::EndAtStart;
+                Err(ReflectErrorKind::InvariantViolation { invariant })
+            }
+            Mode::Deferred(_) if item => Ok(Move::Complete(Rules::Deferred, Taker::Set)),
+            Mode::Deferred(_) if self.is_dynamic_part() => {
+                Ok(Move::Complete(Rules::Deferred, Taker::Above))
+            }
+            Mode::Deferred(_) => Ok(Move::Leave),
+        }
+    }
+
+    /// Into deferred mode, from strict mode alone.
+    fn begin_deferred_move<'k>(&self) -> Result<Move<'k>, ReflectErrorKind>
+        ensures decides { Decides self.now Call.BeginDeferred result }
+        ensures memory { NeedsNone (cursor_tree self.now.state) result }
+    {
+        match self.mode() {
+            Mode::Strict => Ok(Move::Defer),
+            Mode::Deferred(_) => {
+                let invariant = Invariant::AlreadyDeferred;
+                Err(ReflectErrorKind::InvariantViolation { invariant })
+            }
+        }
+    }
+
+    /// Out of deferred mode.
+    fn finish_deferred_move<'k>(&self) -> Result<Move<'k>, ReflectErrorKind>
+        ensures decides { Decides self.now Call.FinishDeferred result }
+    {
+        match self.mode() {
+            Mode::Strict => {
+                let invariant = Invariant::NotDeferred;
+                Err(ReflectErrorKind::InvariantViolation { invariant })
+            }
+            Mode::Deferred(_) => Ok(Move::Finish),
+        }
+    }
+}
+
+impl<'t, H: Hooks> Partial<'t, H> {
+    /// Leaves the place for the one above. In strict mode it is completed, and its value written there: only copies of templates, what an
+    /// option, a result or a pointer holds, and what a set, a map or a dynamic value gathers, need memory, and what is lacking is found
+    /// before any is made. In deferred mode it is left as it is, to be entered again or completed by `finish_deferred`; it has to lie
+    /// deeper than the place at which deferred mode began. An item of a set is completed in either mode, and in deferred mode with all
+    /// that lies beneath it: its value comes to the set, which leaves it out where it has one that is the same. An element or an entry of a
+    /// dynamic value is completed so too. At either, in deferred mode, it may be out of memory before it has met the first place that
+    /// fails. At an open pointer to a slice the builder stays instead: the pointer becomes whole in strict mode, and in deferred mode it is
+    /// closed.
+    pub fn end(self, ledger: &mut Ledger) -> Result<Partial<'t, H>, ReflectError>
+        requires room { Room (holds self) ledger.old }
+        ensures call { IsCall (H.means self.entry.hooks) self.entry Call.End result
+            ledger.old ledger.new }
+        ensures memory { self.entry.state.mode ≡ strict
+            → takes_no_memory (cursor_tree self.entry.state) ≡ true → IsNotOutOfMemory result }
+    {
+        let decided = self.work.end_move();
+        self.run(decided, ledger)
+    }
+
+    /// From now on places that are left stay as they are, to be entered again or completed by `finish_deferred`. Refused in
+    /// deferred mode. Takes no memory.
+    pub fn begin_deferred(self, ledger: &mut Ledger) -> Result<Partial<'t, H>, ReflectError>
+        requires room { Room (holds self) ledger.old }
+        ensures call { IsCall (H.means self.entry.hooks) self.entry Call.BeginDeferred result
+            ledger.old ledger.new }
+        ensures memory { IsNotOutOfMemory result }
+    {
+        let decided = self.work.begin_deferred_move();
+        self.run(decided, ledger)
+    }
+
+    /// `begin_deferred` of a builder that is in strict mode.
+    pub fn enter_deferred(self) -> Partial<'t, H>
+        requires strict { self.state.mode ≡ strict }
+        ensures state { begin_deferred self.entry.state ≡ Ok result.state }
+        ensures shapes { result.shapes ≡ self.entry.shapes }
+        ensures root { result.root ≡ self.entry.root }
+        ensures hooks { result.hooks ≡ self.entry.hooks }
+    {
+        let Partial { hooks, work } = self;
+        let work = work.defer();
+        Partial { hooks, work }
+    }
+
+    /// Completes all that was left, the longest path first, then step by step; then the place at which the builder works, which
+    /// stays begun where it is; and goes back to strict mode. The first place that fails gives the refusal; memory may be wanting before
+    /// it is met. In strict mode it is refused, and never out of memory.
+    #[inline(never)]
+    pub fn finish_deferred(self, ledger: &mut Ledger) -> Result<Partial<'t, H>, ReflectError>
+        requires room { Room (holds self) ledger.old }
+        ensures call { IsCall (H.means self.entry.hooks) self.entry Call.FinishDeferred result
+            ledger.old ledger.new }
+    {
+        let decided = self.work.finish_deferred_move();
+        self.run(decided, ledger)
+    }
+
+    /// Completes the root and hands its value over. Only copies of templates, what an option, a result or a pointer holds, and what a set,
+    /// a map or a dynamic value gathers, need memory, and what is lacking is found before any is made. Refused in deferred mode, and then
+    /// below the root.
+    pub fn build(self, ledger: &mut Ledger) -> Result<Built, ReflectError>
+        requires room { Room (holds self) ledger.old }
+        ensures build { IsBuild (H.means self.entry.hooks) self.entry result ledger.old ledger.new }
+        ensures memory { takes_no_memory (cursor_tree self.entry.state) ≡ true
+            → IsNotOutOfMemory result }
+    {
+        law_removed();
+        let Partial { hooks, work } = self;
+        work.law_sound();
+        match work.build_refusal() {
+            Some(invariant) => {
+                let kind = ReflectErrorKind::InvariantViolation { invariant };
+                Err(work.refuse(kind, ledger))
+            }
+            None => work.take_root(hooks, ledger),
+        }
+    }
+
+    /// Gives the builder up, and with it all that was put into it.
+    pub fn abandon(self, ledger: &mut Ledger)
+        requires room { Room (holds self) ledger.old }
+        ensures released { RoseBy (holds self.entry) ledger.old ledger.new }
+    {
+        let Partial { hooks: _, work } = self;
+        work.release(ledger);
+    }
+}

@@ -1,0 +1,102 @@
+//! What a call comes to, once it is decided.
+ghost use Rattle.std.specs.Prelude.{◌≡◌, ◌<◌, ◌^◌, IfOk, OnOk};
+ghost use Rattle.fr_model.specs.Paths.{step_as};
+ghost use Rattle.fr_frame.specs.Heap.{as_form};
+ghost use Rattle.fr_partial.specs.Moving.{number_told, step_told};
+
+use crate::admitting::Opening;
+use crate::beginning::Beginning;
+use crate::choosing::Chosen;
+use crate::dynamic_places::Parts;
+use fr_frame::Form;
+use fr_path::PathStep;
+use fr_shape::{OutOfMemory, Text, Value};
+use std::alloc::Global;
+
+/// A child to go on to, and as what the place is begun for it: a field or an element, entered as it is; a new item behind the
+/// others; the key of a new entry of a map; the value that its last entry lacks; the entry of a key of a dynamic object; the content,
+/// a side or what is pointed to, of a place that comes to be begun so.
+#[derive(Clone, Copy)]
+pub enum Way<'k> {
+    Child(usize, Opening),
+    Item(Opening),
+    Key(Opening),
+    Value(Opening),
+    Entry(&'k str),
+    Content(Form, Beginning),
+}
+
+/// What comes of the place at which the builder works, which stays there: a value takes its place; a value without tokens takes the
+/// place of a child; it is begun as its definition tells; as a variant of an enum; with such parts of a dynamic value; as a pointer to
+/// a slice that is open for items, or closed.
+#[derive(Drop)]
+pub enum Change {
+    Put(Value),
+    PutChild(usize, Opening, Value),
+    Open(Opening),
+    Select(Chosen),
+    Gather(Parts),
+    OpenSlice,
+    CloseSlice,
+}
+
+/// The rules by which a place completes: those of strict mode, or those of the end of deferred mode, for all beneath it too.
+#[derive(Clone, Copy)]
+pub enum Rules {
+    Strict,
+    Deferred,
+}
+
+/// Where the value of a completed place goes: into the place above, as its child's; to the set above, which leaves it out where it has
+/// one that is the same; or it stays where it is.
+#[derive(Clone, Copy)]
+pub enum Taker {
+    Above,
+    Set,
+    Itself,
+}
+
+/// What a call does.
+#[derive(Drop)]
+pub enum Move<'k> {
+    /// On to a child.
+    Go(Way<'k>),
+    /// The builder stays, and the place becomes another.
+    Stay(Change),
+    /// Up, and the place is left as it is.
+    Leave,
+    /// The place is completed, and its value handed over.
+    Complete(Rules, Taker),
+    /// Into deferred mode.
+    Defer,
+    /// All that was left is completed, and strict mode is back.
+    Finish,
+}
+
+impl<'k> Way<'k> {
+    /// The step to the child. A number that doesn't fit into 32 bits is out of memory; else only the entry of a key takes memory.
+    pub fn step(self, alloc: Global) -> Result<PathStep, OutOfMemory>
+        ensures step { IfOk result (λ step. step ≡ step_told self.entry) }
+        ensures small { OnOk result (number_told self.entry < 2 ^ 32) }
+    {
+        match self {
+            Way::Child(i, opening) => step_of(opening.form, i),
+            Way::Item(opening) | Way::Key(opening) | Way::Value(opening) => {
+                step_of(opening.form, opening.count)
+            }
+            Way::Entry(key) => Ok(PathStep::Entry(Text::new(alloc, key)?)),
+            Way::Content(form, _) => Ok(form.step(0)),
+        }
+    }
+}
+
+/// The step to child `i` of a place that is begun so.
+fn step_of(form: Form, i: usize) -> Result<PathStep, OutOfMemory>
+    ensures step { IfOk result (λ step. step ≡ step_as (as_form form) i) }
+    ensures small { OnOk result (i < 2 ^ 32) }
+{
+    match u32::try_from(i) {
+        Ok(i) => Ok(form.step(i)),
+        Err(_) => Err(OutOfMemory),
+    }
+}

@@ -1,0 +1,63 @@
+//! `begin_some`: on to the content of an option.
+ghost use Rattle.std.specs.Prelude.{◌≡◌, IfSome, IfNone, true, false};
+ghost use Rattle.fr_shape.specs.Fills.{is_option};
+ghost use Rattle.fr_shape.specs.Look.{def_of};
+ghost use Rattle.fr_model.specs.Places.{content_shape};
+ghost use Rattle.fr_shape.specs.Released.{Room};
+ghost use Rattle.fr_model.specs.Commands.{Call};
+ghost use Rattle.fr_partial.specs.Builder.{holds, IsCall};
+ghost use Rattle.fr_partial.specs.Moving.{Decides};
+
+use crate::beginning::beginning_of_some;
+use crate::moves::{Move, Way};
+use crate::work::Work;
+use crate::{Partial, ReflectError};
+use fr_frame::Form;
+use fr_shape::{Def, Expected, Hooks, Ledger, ReflectErrorKind, ShapeId, ShapeTable};
+
+/// What an option of this shape holds, if it is one.
+fn content_of(table: &ShapeTable, shape: ShapeId) -> Option<ShapeId>
+    ensures content { IfSome result (λ content.
+        content.0 ≡ content_shape (def_of table.now shape.0)) }
+    ensures some { IfSome result (λ content. is_option (def_of table.now shape.0) ≡ true) }
+    ensures none { IfNone result (is_option (def_of table.now shape.0) ≡ false) }
+{
+    match &table.get(shape)?.def {
+        Def::Option(content) => Some(*content),
+        Def::Scalar(_) | Def::Str | Def::Opaque | Def::Struct(_) | Def::Enum(_) => None,
+        Def::Result(_, _) | Def::List(_) | Def::Map(_, _) | Def::Set(_) | Def::Array(_, _) => None,
+        Def::Pointer(_) | Def::Slice(_) | Def::Dynamic | Def::Undefined | Def::Other => None,
+    }
+}
+
+impl<'t> Work<'t> {
+    /// On to the content of an option.
+    fn begin_some_move<'k>(&self) -> Result<Move<'k>, ReflectErrorKind>
+        ensures decides { Decides self.now Call.BeginSome result }
+    {
+        self.law_sound();
+        let (shape, piece) = self.place();
+        let table = self.table();
+        let Some(content) = content_of(table, shape) else {
+            let (expected, actual) = (Expected::Option, shape);
+            return Err(ReflectErrorKind::WasNotA { expected, actual });
+        };
+        let beginning = beginning_of_some(table, content, self.mode(), piece);
+        Ok(Move::Go(Way::Content(Form::Some, beginning)))
+    }
+}
+
+impl<'t, H: Hooks> Partial<'t, H> {
+    /// Enters the content of an option. One that is begun is entered again as it is in deferred mode. A whole `Some` is entered in
+    /// place where more can be added to its content: a list, a map, a set or dynamic data, in deferred mode a struct or an enum
+    /// besides. Every other option starts anew. Where the place is no option, that is the refusal, and never out of memory.
+    #[inline(never)]
+    pub fn begin_some(self, ledger: &mut Ledger) -> Result<Partial<'t, H>, ReflectError>
+        requires room { Room (holds self) ledger.old }
+        ensures call { IsCall (H.means self.entry.hooks) self.entry Call.BeginSome result
+            ledger.old ledger.new }
+    {
+        let decided = self.work.begin_some_move();
+        self.run(decided, ledger)
+    }
+}

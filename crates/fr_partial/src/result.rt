@@ -1,0 +1,69 @@
+//! `begin_ok` and `begin_err`: on to either side of a result.
+ghost use Rattle.std.specs.Prelude.{◌≡◌};
+ghost use Rattle.fr_shape.specs.Look.{def_of};
+ghost use Rattle.fr_frame.specs.Heap.{as_form};
+ghost use Rattle.fr_model.specs.Contents.{is_result};
+ghost use Rattle.fr_shape.specs.Released.{Room};
+ghost use Rattle.fr_model.specs.Commands.{Call};
+ghost use Rattle.fr_partial.specs.Builder.{holds, IsCall};
+ghost use Rattle.fr_partial.specs.Moving.{Decides};
+ghost use Rattle.fr_partial.specs.Beginnings.{side_call, IsSide};
+
+use crate::beginning::beginning_in;
+use crate::moves::{Move, Way};
+use crate::work::Work;
+use crate::{Partial, ReflectError};
+use fr_frame::Form;
+use fr_shape::{Def, Expected, Hooks, Ledger, ReflectErrorKind, ShapeId, ShapeTable};
+
+/// Whether the shape is a result.
+fn is_result(table: &ShapeTable, shape: ShapeId) -> bool
+    ensures { result ≡ is_result (def_of table.now shape.0) }
+{
+    match table.get(shape) {
+        Some(entry) => matches!(&entry.def, Def::Result(_, _)),
+        None => false,
+    }
+}
+
+impl<'t> Work<'t> {
+    /// On to this side of a result.
+    fn begin_side_move<'k>(&self, side: Form) -> Result<Move<'k>, ReflectErrorKind>
+        requires side { IsSide (as_form side) }
+        ensures decides { Decides self.now (side_call (as_form side)) result }
+    {
+        self.law_sound();
+        let (actual, piece) = self.place();
+        if !is_result(self.table(), actual) {
+            let expected = Expected::Result;
+            return Err(ReflectErrorKind::WasNotA { expected, actual });
+        }
+        let beginning = beginning_in(self.mode(), side, piece);
+        Ok(Move::Go(Way::Content(side, beginning)))
+    }
+}
+
+impl<'t, H: Hooks> Partial<'t, H> {
+    /// Enters the ok side of a result. One that is begun on that side is entered again as it is in deferred mode; any other, on
+    /// the other side too, starts anew. Where the place is no result, that is the refusal, and never out of memory.
+    #[inline(never)]
+    pub fn begin_ok(self, ledger: &mut Ledger) -> Result<Partial<'t, H>, ReflectError>
+        requires room { Room (holds self) ledger.old }
+        ensures call { IsCall (H.means self.entry.hooks) self.entry Call.BeginOk result
+            ledger.old ledger.new }
+    {
+        let decided = self.work.begin_side_move(Form::Ok);
+        self.run(decided, ledger)
+    }
+
+    /// The same for the err side.
+    #[inline(never)]
+    pub fn begin_err(self, ledger: &mut Ledger) -> Result<Partial<'t, H>, ReflectError>
+        requires room { Room (holds self) ledger.old }
+        ensures call { IsCall (H.means self.entry.hooks) self.entry Call.BeginErr result
+            ledger.old ledger.new }
+    {
+        let decided = self.work.begin_side_move(Form::Err);
+        self.run(decided, ledger)
+    }
+}
