@@ -1,9 +1,8 @@
 pub mod Loop
 pub mod Making
 pub mod Pairs
+pub mod Placing
 pub mod Putting
 pub mod Sized
-pub mod SlotLaws
 pub mod Slots
-pub mod TestLaws
 pub mod Tokens

@@ -1,5 +1,5 @@
 -- The loop over the pairs, and what is built in the end.
-use Rattle.std.proofs.Common.{◌≡◌, inl, inr, ℕ, ◌*◌, min, true, List, [], ◌∷◌, ◌++◌, length, append_assoc, length-append, Option, Some, None, Result, Ok, Err, refl, sym, ◌∙◌, ap, subst, arith}
+use Rattle.std.proofs.Common.{◌≡◌, inl, inr, ℕ, zero, suc, ◌*◌, min, true, List, [], ◌∷◌, ◌++◌, length, append_assoc, length-append, Option, Some, None, Result, Ok, Err, refl, sym, ◌∙◌, ap, subst, arith}
 use Rattle.std.specs.Option.{option_or}
 use Rattle.fr_shape.specs.declared.error.ReflectErrorKind.{ReflectErrorKind}
 use Rattle.fr_shape.specs.declared.shape.Def.{Def}
@@ -7,7 +7,7 @@ use Rattle.fr_shape.specs.declared.shape.ScalarKind.{ScalarKind}
 use Rattle.fr_shape.specs.declared.shape.StructDef.{StructDef}
 use Rattle.fr_shape.specs.Checked.{IsChecked}
 use Rattle.fr_shape.specs.Hooks.{no_hooks}
-use Rattle.fr_shape.specs.Look.{Table, def_of}
+use Rattle.fr_shape.specs.Look.{Table, IsIn, def_of}
 use Rattle.fr_model.specs.Served.{IsServed}
 use Rattle.fr_shape.specs.Val.{Val}
 use Rattle.fr_model.specs.Step.{unless_refused, build}
@@ -24,9 +24,15 @@ use Rattle.fr_example.proofs.Making.{makes}
 use Rattle.fr_example.proofs.Pairs.{first_refusal_later}
 use Rattle.fr_example.proofs.Putting.{filling, puts_pair_is}
 
-struct_of : (def : Def) → is_struct def ≡ true → (struct : StructDef) × (def ≡ Def.Struct struct)
+pub struct_of : (def : Def) → is_struct def ≡ true → (struct : StructDef) × (def ≡ Def.Struct struct)
 struct_of (Def.Struct struct) e = (struct, refl)
 struct_of _ e = cc
+
+-- a struct is in its table
+pub struct_within : (table : Table) (id : ℕ) → is_struct (def_of table id) ≡ true → IsIn table id
+struct_within [] id struct = cc
+struct_within (shape ∷ shapes) zero struct = omega arith
+struct_within (shape ∷ shapes) (suc id) struct = let within = struct_within shapes id struct in omega arith
 
 -- the builder works at a struct that is filled with these pairs, none of which was refused
 pub record IsFilled (table : Table) (root string : ℕ) (pairs : List Pair) (here : State) : Type 0 where
@@ -74,8 +80,24 @@ filled_more table root string pairs pair here after checked struct text_shape at
           ∙ ap (λ (o : Option ReflectErrorKind). option_or o None) none;
     }
 
--- it was refused, and that is what is meant
-pub put_refused : (table : Table) (root string : ℕ) (pairs : List Pair) (pair : Pair) (others : List Pair) (here : State)
+-- it was refused, for the reason of its own
+pub pair_refused : (table : Table) (root string : ℕ) (pairs : List Pair) (pair : Pair) (here : State) (kind : ReflectErrorKind)
+    → IsChecked table → is_struct (def_of table root) ≡ true → def_of table string ≡ Def.Scalar ScalarKind.String
+    → IsFilled table root string pairs here → puts_pair table root string here pair ≡ Err kind
+    → refusal_of table root string pair ≡ Some kind
+pair_refused table root string pairs pair here kind checked struct text_shape at e =
+    go (refusal_of table root string pair) (sym (put_means table root string pairs pair here checked struct text_shape at) ∙ e)
+  where
+    go : (refusal : Option ReflectErrorKind)
+        → unless_refused refusal
+        (filling table root (pairs ++ pair ∷ []) (min (3 * length (pairs ++ pair ∷ [])) most_calls))
+        ≡ Err kind
+        → refusal ≡ Some kind
+    go (Some other) e = cc
+    go None e = cc
+
+-- and that is what is meant
+put_refused : (table : Table) (root string : ℕ) (pairs : List Pair) (pair : Pair) (others : List Pair) (here : State)
     (kind : ReflectErrorKind) → IsChecked table → is_struct (def_of table root) ≡ true
     → def_of table string ≡ Def.Scalar ScalarKind.String → IsFilled table root string pairs here
     → puts_pair table root string here pair ≡ Err kind
@@ -85,15 +107,7 @@ put_refused table root string pairs pair others here kind checked struct text_sh
     (λ (o : Option ReflectErrorKind). refused_or o (unrefused table root (pairs ++ pair ∷ others)))
     (first_refusal_later table root string pairs (pair ∷ others) at.unrefused
     ∙ ap (λ (o : Option ReflectErrorKind). option_or o (first_refusal table root string others))
-    (go (refusal_of table root string pair) (sym (put_means table root string pairs pair here checked struct text_shape at) ∙ e)))
-  where
-    go : (refusal : Option ReflectErrorKind)
-        → unless_refused refusal
-        (filling table root (pairs ++ pair ∷ []) (min (3 * length (pairs ++ pair ∷ [])) most_calls))
-        ≡ Err kind
-        → refusal ≡ Some kind
-    go (Some other) e = cc
-    go None e = cc
+    (pair_refused table root string pairs pair here kind checked struct text_shape at e))
 
 -- what the whole loop meets where a pair isn't put
 pub loop_refused : {H : Type 0} (table : Table) (root string : ℕ) (pairs : List Pair) (pair : Pair) (others all : List Pair)
@@ -144,12 +158,12 @@ planned_means table root string pairs result none =
 
 -- the list of what is left, and of what was taken
 
+pub nothing_more : (pairs : List Pair) → pairs ++ [] ≡ pairs
+nothing_more [] = refl
+nothing_more (pair ∷ pairs) = ap (λ (ps : List Pair). pair ∷ ps) (nothing_more pairs)
+
 pub all_taken : (pairs left all : List Pair) → all ≡ pairs ++ left → length left ≡ 0 → all ≡ pairs
 all_taken pairs [] all e none = e ∙ nothing_more pairs
-  where
-    nothing_more : (pairs : List Pair) → pairs ++ [] ≡ pairs
-    nothing_more [] = refl
-    nothing_more (pair ∷ pairs) = ap (λ (ps : List Pair). pair ∷ ps) (nothing_more pairs)
 all_taken pairs (pair ∷ left) all e none = absurd (omega (arith, none))
 
 pub one_taken : (pairs left rest all : List Pair) (pair : Pair) → all ≡ pairs ++ left → left ≡ pair ∷ rest

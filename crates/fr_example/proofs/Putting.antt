@@ -41,7 +41,7 @@ abbrev pub filling : Table → ℕ → List Pair → ℕ → State
 filling table root pairs calls = record { tree = tree_of table root pairs; cursor = []; mode = strict; calls = calls }
 
 -- the builder at field i of a struct with these children
-abbrev at_field : ℕ → Trees → ℕ → State
+abbrev pub at_field : ℕ → Trees → ℕ → State
 at_field i ts calls = record { tree = begun as_struct ts; cursor = i ∷ []; mode = strict; calls = calls }
 
 opened_fresh : (fields : List Field) (i count : ℕ) → i < length fields
@@ -119,7 +119,7 @@ begun_as_struct : (table : Table) (root : ℕ) (struct : StructDef) (pairs : Lis
 begun_as_struct table root struct [] is = rw is (struct_of_fresh struct (is_nil struct.fields))
 begun_as_struct table root struct (pair ∷ pairs) is = refl
 
-begins : (table : Table) (root : ℕ) (struct : StructDef) (name : List ℕ) (pairs : List Pair) (calls : ℕ)
+pub begins : (table : Table) (root : ℕ) (struct : StructDef) (name : List ℕ) (pairs : List Pair) (calls : ℕ)
     → def_of table root ≡ Def.Struct struct
     → step no_hooks table root (filling table root pairs calls) (Call.BeginField name)
     ≡ enters_named table root (filling table root pairs calls) (field_named name (def_of table root))
@@ -133,12 +133,12 @@ begins table root struct name pairs calls is =
     ∙ rw is refl
 
 -- the children with field i entered
-abbrev with_entered : Table → ℕ → List Pair → ℕ → Trees
+abbrev pub with_entered : Table → ℕ → List Pair → ℕ → Trees
 with_entered table root pairs i =
     change_nth i (enter (def_of table (child_shape table root i)))
     (slots (last_given table root pairs) (child_count table root) 0)
 
-entered_field : (table : Table) (root : ℕ) (struct : StructDef) (i : ℕ) (pairs : List Pair) (calls : ℕ)
+pub entered_field : (table : Table) (root : ℕ) (struct : StructDef) (i : ℕ) (pairs : List Pair) (calls : ℕ)
     → def_of table root ≡ Def.Struct struct → i < length struct.fields
     → enters_named table root (filling table root pairs calls) (Some i)
     ≡ Ok (at_field i (with_entered table root pairs i) (one_more_call calls))
@@ -206,7 +206,7 @@ dynamic_apart table s string dynamic text_shape = go (s == string) refl
         cc
 
 -- a place that has a size takes the text, or refuses its shape
-sets : (table : Table) (s string : ℕ) (here : State) (codes : List ℕ) → def_of table string ≡ Def.Scalar ScalarKind.String
+pub sets : (table : Table) (s string : ℕ) (here : State) (codes : List ℕ) → def_of table string ≡ Def.Scalar ScalarKind.String
     → is_sized (def_of table s) ≡ true
     → set table s here string (text codes)
     ≡ unless_refused
@@ -254,7 +254,7 @@ entered_or_not table root string struct pairs pair calls found is e =
     (begins table root struct pair.name pairs calls is
     ∙ ap (λ (o : Option ℕ). enters_named table root (filling table root pairs calls) o) e)
 
-within : (table : Table) (root : ℕ) (struct : StructDef) (name : List ℕ) (i : ℕ) → def_of table root ≡ Def.Struct struct
+pub within : (table : Table) (root : ℕ) (struct : StructDef) (name : List ℕ) (i : ℕ) → def_of table root ≡ Def.Struct struct
     → field_named name (def_of table root) ≡ Some i → i < length struct.fields
 within table root struct name i is e =
     let below : i < 0 + length struct.fields = found_within name 0 i struct.fields (rw is at e) in omega arith

@@ -8,7 +8,7 @@ use Rattle.fr_shape.specs.declared.value.Value.TheVariants.{rolls-Text}
 use Rattle.fr_shape.specs.declared.value.Value.TheOpen.{Value-F}
 use Rattle.fr_shape.specs.Fits.{fits}
 use Rattle.fr_shape.specs.Look.{Table, def_of, settled}
-use Rattle.fr_shape.specs.Released.{Room, Conserved}
+use Rattle.fr_shape.specs.Released.{Conserved, Room}
 use Rattle.fr_shape.specs.Tokens.{occurs}
 use Rattle.fr_shape.specs.Val.{Val, text}
 use Rattle.fr_shape.specs.View.{view, view_step}
@@ -24,7 +24,7 @@ pub text_fits : (table : Table) (s : ℕ) (bytes : List ℕ) → def_of table s 
 text_fits table s bytes e = rw (settled_string table s e) refl
 
 -- and so does the value that holds it
-text_value : (bytes : List ℕ) → view (Value.Text bytes) ≡ text bytes
+pub text_value : (bytes : List ℕ) → view (Value.Text bytes) ≡ text bytes
 text_value bytes = ap view (sym (rolls-Text bytes)) ∙ fold-roll-Value Val view_step (Value-F.Text bytes)
 
 pub text_value_fits : (table : Table) (s : ℕ) (bytes : List ℕ) → def_of table s ≡ Def.Scalar ScalarKind.String
@@ -44,9 +44,9 @@ pub with_text : (held : ℕ → ℕ) (v : Val) (bytes : List ℕ) → ((t : ℕ)
 with_text held v bytes none e t =
     let nothing : occurs v t ≡ 0 = ap (λ (u : Val). occurs u t) (e ∙ text_value bytes) in omega (arith, none t)
 
--- where no token is held, no room is needed
-pub no_room : (held : ℕ → ℕ) (ledger : List ℕ) → ((t : ℕ) → held t ≡ 0) → Room held ledger
-no_room held ledger none t some = absurd (omega (arith, none t))
+-- where a call brings nothing besides what is held, none is there
+pub none_brought : (held : ℕ → ℕ) → ((t : ℕ) → held t ≡ 0) → (t : ℕ) → held t + 0 ≡ 0
+none_brought held none t = omega (arith, none t)
 
 -- where none is held, no count rises
 pub stays : (held left : ℕ → ℕ) (before after : List ℕ) → Conserved held before left after → ((t : ℕ) → held t ≡ 0)
@@ -60,3 +60,7 @@ pub none_left : (held left : ℕ → ℕ) (before after : List ℕ) → Conserve
     → ((t : ℕ) → held t ≡ 0) → (t : ℕ) → left t ≡ 0
 none_left held left before after conserved none t =
     omega (arith, conserved.kept_or_released t, conserved.none_falls t, none t)
+
+-- where none is held, no room is needed
+pub no_room : (held : ℕ → ℕ) (ledger : List ℕ) → ((t : ℕ) → held t ≡ 0) → Room held ledger
+no_room held ledger none t some = absurd (omega (arith, some, none t))

@@ -1,5 +1,5 @@
 -- What pairs of a field's name and a text make of a struct.
-use Rattle.std.specs.Prelude.{◌≡◌, ◌⊎◌, ◌==◌, ◌||◌, ℕ, zero, suc, Bool, true, false, List, [], ◌∷◌, Option, Some, None, Result, Ok, Err, if◌then◌else◌}
+use Rattle.std.specs.Prelude.{◌≡◌, ◌≢◌, ◌⊎◌, ◌==◌, ◌||◌, ℕ, zero, suc, Bool, true, false, List, [], ◌∷◌, Option, Some, None, Result, Ok, Err, if◌then◌else◌}
 use Rattle.std.specs.Option.{option_or}
 use Rattle.fr_shape.specs.declared.error.AllocError.{AllocError}
 use Rattle.fr_shape.specs.declared.error.PlanError.{PlanError}
@@ -11,6 +11,7 @@ use Rattle.fr_shape.specs.Named.{field_named}
 use Rattle.fr_shape.specs.Plannable.{is_dynamic}
 use Rattle.fr_shape.specs.Val.{Val, Vals, text, product, dyn, no_vals, first}
 use Rattle.fr_shape.specs.Val.{dyn_text}
+use Rattle.fr_path.specs.declared.path_steps.PathStep.{PathStep}
 use Rattle.fr_model.specs.Complete.{missing_field}
 use Rattle.fr_model.specs.Places.{strict_column, child_count, child_shape, fill_at}
 use Rattle.fr_model.specs.Run.{alloc_refusal}
@@ -147,3 +148,43 @@ record_meant table root string pairs =
 abbrev pub IsMeant : (meant : Result Val ReflectErrorKind) → Result BuiltValue ReflectError → Type 0
 IsMeant meant (Ok built) = meant ≡ Ok built.value
 IsMeant meant (Err error) = (error.kind ≡ ReflectErrorKind.OutOfMemory) ⊎ (meant ≡ Err error.kind)
+
+-- Places
+
+-- the path of the field that was found under a name, or of the root where none was
+abbrev pub place_found : Option ℕ → List PathStep
+place_found (Some i) = PathStep.Field i ∷ []
+place_found None = []
+
+-- the path of the field that a pair names, or of the root where it names none
+abbrev pub place_of : Table → (root : ℕ) → Pair → List PathStep
+place_of table root pair = place_found (field_named pair.name (def_of table root))
+
+-- this path where there is a refusal, else the other
+abbrev pub refused_here_or : Option ReflectErrorKind → (here other : List PathStep) → List PathStep
+refused_here_or (Some kind) here other = here
+refused_here_or None here other = other
+
+-- the path at which pairs are refused: that of the first pair that is refused, or the root's where none is
+abbrev pub place_refused : Table → (root string : ℕ) → List Pair → List PathStep
+place_refused table root string [] = []
+place_refused table root string (pair ∷ pairs) =
+    refused_here_or (refusal_of table root string pair) (place_of table root pair) (place_refused table root string pairs)
+
+-- the same where the struct may have no builder, which is refused at the root
+abbrev pub record_place : Table → (root string : ℕ) → List Pair → List PathStep
+record_place table root string pairs =
+    refused_here_or (unplanned (alloc_refusal table root)) [] (place_refused table root string pairs)
+
+-- the path is that of one of these pairs' fields, or of the root
+abbrev pub IsPlaceOfAny : Table → (root : ℕ) → List Pair → List PathStep → Type 0
+IsPlaceOfAny table root [] path = path ≡ []
+IsPlaceOfAny table root (pair ∷ pairs) path = (path ≡ place_of table root pair) ⊎ IsPlaceOfAny table root pairs path
+
+-- The error tells the path of the place before the call that was refused.
+pub record TellsPlace (table : Table) (root string : ℕ) (pairs : List Pair) (error : ReflectError) : Type 0 where
+  -- A text is refused at the field that doesn't take it. All else is refused at the root: a struct that has no plan, a name that no field
+  -- has, and a field that was not named and has no fill.
+  pub refused : error.kind ≢ ReflectErrorKind.OutOfMemory → error.path ≡ record_place table root string pairs
+  -- Memory runs out at a field that one of the pairs names, or at the root.
+  pub anywhere : IsPlaceOfAny table root pairs error.path

@@ -1,5 +1,5 @@
 //! A record of texts.
-ghost use Rattle.std.specs.Prelude.{◌≡◌, ℕ, ◌*◌, min, true, [], length, IfOk};
+ghost use Rattle.std.specs.Prelude.{◌≡◌, ℕ, ◌*◌, min, true, [], length, IfErr, IfOk};
 ghost use Rattle.fr_shape.specs.declared.shape.Def.{Def};
 ghost use Rattle.fr_shape.specs.declared.shape.ScalarKind.{ScalarKind};
 ghost use Rattle.fr_shape.specs.Checked.{IsChecked};
@@ -9,8 +9,8 @@ ghost use Rattle.fr_shape.specs.Numbered.{IsNumbered};
 ghost use Rattle.fr_model.specs.Served.{IsServed};
 ghost use Rattle.fr_model.specs.Tree.{most_calls};
 ghost use Rattle.fr_partial.specs.Builder.{holds, IsStepTo};
-ghost use Rattle.fr_example.specs.Meant.{is_struct, kind_of, record_meant, IsMeant};
-ghost use Rattle.fr_example.specs.Putting.{puts_pair};
+ghost use Rattle.fr_example.specs.Meant.{is_struct, kind_of, record_meant, IsMeant, TellsPlace};
+ghost use Rattle.fr_example.specs.Putting.{puts_pair, FailsPutting};
 
 use fr_partial::{Built, Partial, ReflectError};
 use fr_path::Path;
@@ -32,7 +32,8 @@ pub struct Pair {
 /// `FieldError` for a name that no field has, `WrongShape` for a field that takes no text, and last of all
 /// `UninitializedField` for a field that was not named and has no fill. Where there is no pair at all, the struct's own default
 /// comes before that. `root` is the shape of the struct, `string` that of the texts. Out of memory is `OutOfMemory`, at any pair
-/// or at the end.
+/// or at the end. The error's path is that of the place before the call that was refused: the field for `WrongShape`, the root for any
+/// other refusal, and either of them where memory ran out.
 pub fn record_of(
     alloc: Global,
     table: &ShapeTable,
@@ -47,6 +48,7 @@ pub fn record_of(
     requires checked { IsChecked table.now }
     requires served { IsServed table.now }
     ensures meant { IsMeant (record_meant table.now root.0 string.0 pairs) result }
+    ensures place { IfErr result (TellsPlace table.now root.0 string.0 pairs) }
     ensures fits { IfOk result (λ built. fits table.now root.0 built.value ≡ true) }
     ensures calls { IfOk result (λ built. built.calls ≡ min (3 * length pairs) most_calls) }
     ensures released { ledger.new ≡ ledger.old }
@@ -90,6 +92,8 @@ fn put<'t>(
     requires tokens { (t : ℕ) → holds partial t ≡ 0 }
     ensures put { IsStepTo partial.entry
         (puts_pair table.now partial.entry.root string.0 partial.entry.state pair) result }
+    ensures place { IfErr result
+        (FailsPutting table.now partial.entry.root string.0 partial.entry.state pair) }
     ensures released { ledger.new ≡ ledger.old }
     ensures tokens { IfOk result (λ after. (t : ℕ) → holds after t ≡ 0) }
 {

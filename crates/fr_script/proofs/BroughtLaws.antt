@@ -11,9 +11,9 @@ use Rattle.fr_shape.specs.Tokens.{tokens}
 use Rattle.fr_shape.specs.Val.{Val}
 use Rattle.fr_model.specs.declared.command.Command.{Command}
 use Rattle.fr_model.specs.Commands.{Call, call_of, calls_of}
-use Rattle.fr_model.specs.Scripts.{tokens_of}
-use Rattle.fr_script.specs.Documents.{is_new, are_new, is_valid_call, first_invalid}
-use Rattle.fr_script.specs.Marks.{AreMarks, marked, marked_by, here_or, first_unmarked}
+use Rattle.fr_model.specs.Scripts.{value_brought, tokens_if_any, tokens_of}
+use Rattle.fr_script.specs.Documents.{is_new, are_new, may_be_brought, first_invalid}
+use Rattle.fr_script.specs.Marks.{AreMarks, marked, marked_if_any, marked_by, here_or, first_unmarked}
 
 -- the same tokens were brought, in another order
 AreSame : List ℕ → List ℕ → Type 0
@@ -101,54 +101,31 @@ module _ (ledger : List ℕ) where
       (λ may. tokens_meet ss (s ∷ brought) (set marks s true) (one_marked brought marks s are (within brought s (sym test ∙ may))))
 
   module _ (table : Table) where
-    MeetsCall : List ℕ → Call → Option (List Bool) → Type 0
-    MeetsCall brought call None = is_valid_call table ledger brought call ≡ false
-    MeetsCall brought call (Some after) =
-        (is_valid_call table ledger brought call ≡ true) × AreMarks ledger (tokens_of call ++ brought) after
+    -- the marks are those after the value, if there is one, or it may not be brought
+    MeetsValue : List ℕ → Option (ℕ × Val) → Option (List Bool) → Type 0
+    MeetsValue brought value None = may_be_brought table ledger brought value ≡ false
+    MeetsValue brought value (Some after) =
+        (may_be_brought table ledger brought value ≡ true) × AreMarks ledger (tokens_if_any value ++ brought) after
 
-    set_meets : (brought : List ℕ) (shape : ℕ) (v : Val) (fitting : Bool) (found : Option (List Bool)) → fitting ≡ (nat_lt shape (length table) && fits table shape v) → Meets brought (tokens v) found → MeetsCall brought (Call.Set shape v) (cond fitting found None)
-    unfolding Meets MeetsCall
-    set_meets brought shape v true None is rest = ap (λ b. b && are_new ledger brought (tokens v)) (sym is) ∙ rest
-    set_meets brought shape v true (Some after) is rest =
+    fitting_meets : (brought : List ℕ) (shape : ℕ) (v : Val) (fitting : Bool) (found : Option (List Bool)) → fitting ≡ (nat_lt shape (length table) && fits table shape v) → Meets brought (tokens v) found → MeetsValue brought (Some (shape, v)) (cond fitting found None)
+    unfolding Meets MeetsValue
+    fitting_meets brought shape v true None is rest = ap (λ b. b && are_new ledger brought (tokens v)) (sym is) ∙ rest
+    fitting_meets brought shape v true (Some after) is rest =
         (ap (λ b. b && are_new ledger brought (tokens v)) (sym is) ∙ rest.0, rest.1)
-    set_meets brought shape v false found is rest = ap (λ b. b && are_new ledger brought (tokens v)) (sym is)
+    fitting_meets brought shape v false found is rest = ap (λ b. b && are_new ledger brought (tokens v)) (sym is)
 
-    call_meets : (brought : List ℕ) (marks : List Bool) (call : Call) → AreMarks ledger brought marks → MeetsCall brought call (marked_by table call marks)
-    unfolding Meets MeetsCall
-    call_meets brought marks (Call.Set shape v) are =
-        set_meets brought shape v (nat_lt shape (length table) && fits table shape v) (marked (tokens v) marks) refl (tokens_meet (tokens v) brought marks are)
-    call_meets brought marks (Call.BeginField name) are = (refl, are)
-    call_meets brought marks (Call.BeginNthField i) are = (refl, are)
-    call_meets brought marks (Call.SetNthFieldToDefault i) are = (refl, are)
-    call_meets brought marks Call.SetDefault are = (refl, are)
-    call_meets brought marks Call.SetEmptySharedSlice are = (refl, are)
-    call_meets brought marks Call.InitList are = (refl, are)
-    call_meets brought marks (Call.InitListWithCapacity n) are = (refl, are)
-    call_meets brought marks Call.InitArray are = (refl, are)
-    call_meets brought marks Call.BeginListItem are = (refl, are)
-    call_meets brought marks Call.InitMap are = (refl, are)
-    call_meets brought marks Call.BeginKey are = (refl, are)
-    call_meets brought marks Call.BeginValue are = (refl, are)
-    call_meets brought marks Call.InitSet are = (refl, are)
-    call_meets brought marks Call.BeginSetItem are = (refl, are)
-    call_meets brought marks (Call.BeginObjectEntry key) are = (refl, are)
-    call_meets brought marks Call.BeginSome are = (refl, are)
-    call_meets brought marks Call.BeginOk are = (refl, are)
-    call_meets brought marks Call.BeginErr are = (refl, are)
-    call_meets brought marks Call.BeginSmartPtr are = (refl, are)
-    call_meets brought marks (Call.SelectNthVariant i) are = (refl, are)
-    call_meets brought marks (Call.SelectVariantNamed name) are = (refl, are)
-    call_meets brought marks (Call.SelectVariant discriminant) are = (refl, are)
-    call_meets brought marks Call.End are = (refl, are)
-    call_meets brought marks Call.BeginDeferred are = (refl, are)
-    call_meets brought marks Call.FinishDeferred are = (refl, are)
+    value_meets : (brought : List ℕ) (marks : List Bool) (value : Option (ℕ × Val)) → AreMarks ledger brought marks → MeetsValue brought value (marked_if_any table value marks)
+    unfolding MeetsValue
+    value_meets brought marks (Some (shape, v)) are =
+        fitting_meets brought shape v (nat_lt shape (length table) && fits table shape v) (marked (tokens v) marks) refl (tokens_meet (tokens v) brought marks are)
+    value_meets brought marks None are = (refl, are)
 
-    decided : (brought : List ℕ) (call : Call) (calls : List Call) (i : ℕ) (found : Option (List Bool)) → MeetsCall brought call found
+    decided : (brought : List ℕ) (call : Call) (calls : List Call) (i : ℕ) (found : Option (List Bool)) → MeetsValue brought (value_brought call) found
         → ((after : List Bool) → AreMarks ledger (tokens_of call ++ brought) after
         → first_unmarked table after (i + 1) calls ≡ first_invalid table ledger (tokens_of call ++ brought) (i + 1) calls)
         → here_or i (λ after. first_unmarked table after (i + 1) calls) found
         ≡ first_invalid table ledger brought i (call ∷ calls)
-    unfolding MeetsCall
+    unfolding MeetsValue
     decided brought call calls i None wrong rest = rw wrong refl
     decided brought call calls i (Some after) meets rest = rw meets.0 (rest after meets.1)
 
@@ -157,7 +134,7 @@ module _ (ledger : List ℕ) where
         → first_unmarked table marks i calls ≡ first_invalid table ledger brought i calls
     unmarked_invalid [] brought marks i are = refl
     unmarked_invalid (call ∷ calls) brought marks i are =
-        decided brought call calls i (marked_by table call marks) (call_meets brought marks call are)
+        decided brought call calls i (marked_by table call marks) (value_meets brought marks (value_brought call) are)
         (λ after those. unmarked_invalid calls (tokens_of call ++ brought) after (i + 1) those)
 
 -- a new ledger has no mark

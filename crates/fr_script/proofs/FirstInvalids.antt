@@ -6,9 +6,10 @@ use Rattle.std.specs.List.{list_any}
 use Rattle.fr_shape.specs.Look.{Table}
 use Rattle.fr_shape.specs.Tokens.{tokens, times, occurs}
 use Rattle.fr_shape.specs.TokenLaws.{times_append, occurs_times}
+use Rattle.fr_shape.specs.Val.{Val}
 use Rattle.fr_model.specs.Commands.{Call}
-use Rattle.fr_model.specs.Scripts.{brought, AllFitting, IsValid, tokens_of}
-use Rattle.fr_script.specs.Documents.{are_new, is_valid_call, first_invalid}
+use Rattle.fr_model.specs.Scripts.{value_brought, tokens_if_any, occurs_if_any, FitsIfAny, brought, AllFitting, IsValid, tokens_of}
+use Rattle.fr_script.specs.Documents.{are_new, may_be_brought, is_valid_call, first_invalid}
 use Rattle.fr_script.specs.FirstInvalid.{IsFirstInvalid}
 use Rattle.fr_script.proofs.ValidScripts.{times_more, valid_where_none_invalid}
 
@@ -62,40 +63,24 @@ module _ (ledger : List ℕ) where
     valid_goes_on true rest i is none = none
     valid_goes_on false rest i is none = cc
 
+    -- the value, if there is one, may be brought, and what comes after it may come
+    value_may : (value : Option (ℕ × Val)) (before : List ℕ) (others : ℕ → ℕ) → FitsIfAny table value
+        → ((t : ℕ) → MayCome ledger before t (occurs_if_any value t + others t))
+        → (may_be_brought table ledger before value ≡ true) × ((t : ℕ) → MayCome ledger (tokens_if_any value ++ before) t (others t))
+    value_may (Some (shape, v)) before others fitting may =
+        let same : (t : ℕ) → occurs v t ≡ times (tokens v) t = occurs_times v in (
+          and_from _ _ (and_from _ _ (lt-ltb shape (length table) fitting.0) fitting.1)
+              (tokens_new (tokens v) before (λ t. let is = same t in fewer before t (times (tokens v) t) (occurs v t + others t) (omega arith) (may t))),
+          λ t. later before (tokens v) t (others t) (subst (λ n. MayCome ledger before t (n + others t)) (same t) (may t)),
+        )
+    value_may None before others fitting may = (refl, λ t. fewer before t (others t) (0 + others t) (omega arith) (may t))
+
     none_among : (script : List Call) (before : List ℕ) (i : ℕ) → AllFitting table script → ((t : ℕ) → MayCome ledger before t (brought script t)) → first_invalid table ledger before i script ≡ None
     none_among [] before i fitting may = refl
-    none_among (Call.Set shape v ∷ calls) before i fitting may =
-        let same : (t : ℕ) → occurs v t ≡ times (tokens v) t = occurs_times v in
-        valid_goes_on (is_valid_call table ledger before (Call.Set shape v)) (first_invalid table ledger (tokens v ++ before) (i + 1) calls) i
-        (and_from _ _ (and_from _ _ (lt-ltb shape (length table) fitting.0.0) fitting.0.1)
-        (tokens_new (tokens v) before (λ t. let is = same t in fewer before t (times (tokens v) t) (occurs v t + brought calls t) (omega arith) (may t))))
-        (none_among calls (tokens v ++ before) (i + 1) fitting.1
-        (λ t. later before (tokens v) t (brought calls t) (subst (λ n. MayCome ledger before t (n + brought calls t)) (same t) (may t))))
-    none_among (Call.BeginField name ∷ calls) before i fitting may = none_among calls before (i + 1) fitting.1 (λ t. fewer before t (brought calls t) (0 + brought calls t) (omega arith) (may t))
-    none_among (Call.BeginNthField index ∷ calls) before i fitting may = none_among calls before (i + 1) fitting.1 (λ t. fewer before t (brought calls t) (0 + brought calls t) (omega arith) (may t))
-    none_among (Call.SetNthFieldToDefault index ∷ calls) before i fitting may = none_among calls before (i + 1) fitting.1 (λ t. fewer before t (brought calls t) (0 + brought calls t) (omega arith) (may t))
-    none_among (Call.SetDefault ∷ calls) before i fitting may = none_among calls before (i + 1) fitting.1 (λ t. fewer before t (brought calls t) (0 + brought calls t) (omega arith) (may t))
-    none_among (Call.SetEmptySharedSlice ∷ calls) before i fitting may = none_among calls before (i + 1) fitting.1 (λ t. fewer before t (brought calls t) (0 + brought calls t) (omega arith) (may t))
-    none_among (Call.InitList ∷ calls) before i fitting may = none_among calls before (i + 1) fitting.1 (λ t. fewer before t (brought calls t) (0 + brought calls t) (omega arith) (may t))
-    none_among (Call.InitListWithCapacity n ∷ calls) before i fitting may = none_among calls before (i + 1) fitting.1 (λ t. fewer before t (brought calls t) (0 + brought calls t) (omega arith) (may t))
-    none_among (Call.InitArray ∷ calls) before i fitting may = none_among calls before (i + 1) fitting.1 (λ t. fewer before t (brought calls t) (0 + brought calls t) (omega arith) (may t))
-    none_among (Call.BeginListItem ∷ calls) before i fitting may = none_among calls before (i + 1) fitting.1 (λ t. fewer before t (brought calls t) (0 + brought calls t) (omega arith) (may t))
-    none_among (Call.InitMap ∷ calls) before i fitting may = none_among calls before (i + 1) fitting.1 (λ t. fewer before t (brought calls t) (0 + brought calls t) (omega arith) (may t))
-    none_among (Call.BeginKey ∷ calls) before i fitting may = none_among calls before (i + 1) fitting.1 (λ t. fewer before t (brought calls t) (0 + brought calls t) (omega arith) (may t))
-    none_among (Call.BeginValue ∷ calls) before i fitting may = none_among calls before (i + 1) fitting.1 (λ t. fewer before t (brought calls t) (0 + brought calls t) (omega arith) (may t))
-    none_among (Call.InitSet ∷ calls) before i fitting may = none_among calls before (i + 1) fitting.1 (λ t. fewer before t (brought calls t) (0 + brought calls t) (omega arith) (may t))
-    none_among (Call.BeginSetItem ∷ calls) before i fitting may = none_among calls before (i + 1) fitting.1 (λ t. fewer before t (brought calls t) (0 + brought calls t) (omega arith) (may t))
-    none_among (Call.BeginObjectEntry key ∷ calls) before i fitting may = none_among calls before (i + 1) fitting.1 (λ t. fewer before t (brought calls t) (0 + brought calls t) (omega arith) (may t))
-    none_among (Call.BeginSome ∷ calls) before i fitting may = none_among calls before (i + 1) fitting.1 (λ t. fewer before t (brought calls t) (0 + brought calls t) (omega arith) (may t))
-    none_among (Call.BeginOk ∷ calls) before i fitting may = none_among calls before (i + 1) fitting.1 (λ t. fewer before t (brought calls t) (0 + brought calls t) (omega arith) (may t))
-    none_among (Call.BeginErr ∷ calls) before i fitting may = none_among calls before (i + 1) fitting.1 (λ t. fewer before t (brought calls t) (0 + brought calls t) (omega arith) (may t))
-    none_among (Call.BeginSmartPtr ∷ calls) before i fitting may = none_among calls before (i + 1) fitting.1 (λ t. fewer before t (brought calls t) (0 + brought calls t) (omega arith) (may t))
-    none_among (Call.SelectNthVariant index ∷ calls) before i fitting may = none_among calls before (i + 1) fitting.1 (λ t. fewer before t (brought calls t) (0 + brought calls t) (omega arith) (may t))
-    none_among (Call.SelectVariantNamed name ∷ calls) before i fitting may = none_among calls before (i + 1) fitting.1 (λ t. fewer before t (brought calls t) (0 + brought calls t) (omega arith) (may t))
-    none_among (Call.SelectVariant discriminant ∷ calls) before i fitting may = none_among calls before (i + 1) fitting.1 (λ t. fewer before t (brought calls t) (0 + brought calls t) (omega arith) (may t))
-    none_among (Call.End ∷ calls) before i fitting may = none_among calls before (i + 1) fitting.1 (λ t. fewer before t (brought calls t) (0 + brought calls t) (omega arith) (may t))
-    none_among (Call.BeginDeferred ∷ calls) before i fitting may = none_among calls before (i + 1) fitting.1 (λ t. fewer before t (brought calls t) (0 + brought calls t) (omega arith) (may t))
-    none_among (Call.FinishDeferred ∷ calls) before i fitting may = none_among calls before (i + 1) fitting.1 (λ t. fewer before t (brought calls t) (0 + brought calls t) (omega arith) (may t))
+    none_among (call ∷ calls) before i fitting may =
+        let first = value_may (value_brought call) before (brought calls) fitting.0 may in
+        valid_goes_on (is_valid_call table ledger before call) (first_invalid table ledger (tokens_of call ++ before) (i + 1) calls) i first.0
+        (none_among calls (tokens_of call ++ before) (i + 1) fitting.1 first.1)
 
     none_invalid : (script : List Call) → IsValid table script ledger → first_invalid table ledger [] 0 script ≡ None
     none_invalid script valid = none_among script [] 0 valid.fitting (λ t. record {

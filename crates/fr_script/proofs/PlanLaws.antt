@@ -126,12 +126,16 @@ planned_told table root plan is =
     ap (λ lines. planned lines plan.root.0) (lines_told table plan.lists plan.walk.nodes plan.nodes is.told)
     ∙ sym (ap (outcome_of_plan table) is.built)
 
--- so does a refusal
+-- a refusal is the one that is meant
+pub refused_so : (table : Table) (root : ShapeId) (told : PlanError) (error : AllocError) → told ≡ PlanError.Alloc error
+    → IsMeant (the_plan table root) told → the_plan table root ≡ Err error
+refused_so table root told error same = subst (IsMeant (the_plan table root)) same
+
+-- so it comes to what is meant too
 pub refused_told : (table : Table) (root : ShapeId) (told : PlanError) (error : AllocError) → told ≡ PlanError.Alloc error
     → IsMeant (the_plan table root) told → unplanned error.operation ≡ outcome_of_plan table (the_plan table root)
 refused_told table root told error same meant =
-    let is : the_plan table root ≡ Err error = subst (IsMeant (the_plan table root)) same meant in
-    sym (ap (outcome_of_plan table) is)
+    sym (ap (outcome_of_plan table) (refused_so table root told error same meant))
 
 -- a plan that isn't refused has the status of a plan
 not_refused : (table : Table) (made : Built Made) → refusal_in made ≡ None → status_of (outcome_of_plan table made) ≡ 0

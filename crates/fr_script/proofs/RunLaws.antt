@@ -20,7 +20,7 @@ use Rattle.fr_model.specs.Finish.{finished}
 use Rattle.fr_model.specs.Items.{init_array_refusal, item_refusal, is_open_slice, shared_slice_refusal}
 use Rattle.fr_model.specs.Places.{Column, strict_column, deferred_column, is_root}
 use Rattle.fr_model.specs.Run.{run_from, and_then}
-use Rattle.fr_model.specs.Step.{unless_refused, at_shape, was_not_a, field_refusal, named_refusal, set_refusal, enters, begins_named, puts, puts_default, field_default, puts_child_default, defaults_field, puts_dynamic, set_dynamic, begins_list, begins_map, enters_entry, init_list, option_kept, content_kept, enters_content, begins_pointer, opens, init_list_refusal, init_map_refusal, init_set_refusal, enters_item, enters_key, is_set_item, item_ended, ends_item, is_dynamic_part, part_ended, leaves_deferred, selects, select_found, ended, end_in, leaves_place, puts_made, closes_slice, begins_deferred, finishes, finish_in, violates, step_at, step}
+use Rattle.fr_model.specs.Step.{unless_refused, at_shape, was_not_a, field_refusal, named_refusal, set_refusal, Way, enters, begins_named, puts, puts_default, field_default, puts_child_default, defaults_field, puts_dynamic, set_dynamic, begins_list, begins_map, init_list, option_kept, content_kept, begins_pointer, opens, init_list_refusal, init_map_refusal, init_set_refusal, is_set_item, item_ended, ends_item, is_dynamic_part, part_ended, leaves_deferred, selects, select_found, ended, end_in, leaves_place, puts_made, closes_slice, begins_deferred, finishes, finish_in, violates, step_at, step}
 use Rattle.fr_model.specs.Tree.{as_some, as_ok, as_err, selected, Tree, Mode, strict, deferred, State, count_below, cursor_shape, cursor_tree, one_more_call}
 use Rattle.fr_model.specs.Variants.{is_enum, field_found, variant_numbered, variant_named, variant_told_by, selection_refusal}
 
@@ -230,7 +230,7 @@ module _ (hooks : Meanings) (table : Table) (root s : ℕ) (state : State) where
       named_counts (at_shape s (named_refusal (def_of table s) (cursor_tree state)))
       (field_found name (def_of table s) (selected (cursor_tree state)))
   step_counts (Call.BeginNthField i) =
-      unless_counts (at_shape s (field_refusal (def_of table s) (cursor_tree state) i)) (enters table s state i) refl
+      unless_counts (at_shape s (field_refusal (def_of table s) (cursor_tree state) i)) (enters table s state (Way.Child i)) refl
   step_counts (Call.SetNthFieldToDefault i) =
       field_default_counts i (at_shape s (named_refusal (def_of table s) (cursor_tree state)))
       (field_in (def_of table s) (selected (cursor_tree state)) i)
@@ -243,29 +243,29 @@ module _ (hooks : Meanings) (table : Table) (root s : ℕ) (state : State) where
   step_counts Call.InitArray =
       unless_counts (at_shape s (init_array_refusal (def_of table s) (cursor_tree state))) (opens table s state) refl
   step_counts Call.BeginListItem =
-      unless_counts (at_shape s (item_refusal (def_of table s) (cursor_tree state))) (enters_item table s state) refl
+      unless_counts (at_shape s (item_refusal (def_of table s) (cursor_tree state))) (enters table s state Way.Item) refl
   step_counts Call.InitMap =
       unless_counts (init_map_refusal s (def_of table s) (cursor_tree state))
       (begins_map table s state (is_dynamic (def_of table s))) (begins_map_counts (is_dynamic (def_of table s)))
   step_counts Call.BeginKey =
-      unless_counts (at_shape s (key_refusal (cursor_tree state))) (enters_key table s state) refl
+      unless_counts (at_shape s (key_refusal (cursor_tree state))) (enters table s state Way.Key) refl
   step_counts Call.BeginValue =
       unless_counts (at_shape s (value_refusal (cursor_tree state)))
-      (enters table s state (last_of (count_below (cursor_tree state)))) refl
+      (enters table s state (Way.Value (last_of (count_below (cursor_tree state))))) refl
   step_counts Call.InitSet =
       unless_counts (init_set_refusal s (def_of table s) (cursor_tree state)) (opens table s state) refl
   step_counts Call.BeginSetItem =
-      unless_counts (at_shape s (set_item_refusal (def_of table s) (cursor_tree state))) (enters_item table s state) refl
+      unless_counts (at_shape s (set_item_refusal (def_of table s) (cursor_tree state))) (enters table s state Way.Item) refl
   step_counts (Call.BeginObjectEntry key) =
-      unless_counts (at_shape s (entry_refusal (def_of table s) (cursor_tree state))) (enters_entry table s state key) refl
+      unless_counts (at_shape s (entry_refusal (def_of table s) (cursor_tree state))) (enters table s state (Way.Entry key)) refl
   step_counts Call.BeginSome =
-      where_counts (is_option (def_of table s)) (enters_content table s state as_some (option_kept table s state))
+      where_counts (is_option (def_of table s)) (enters table s state (Way.Content as_some (option_kept table s state)))
       (was_not_a Expected.Option s) refl
   step_counts Call.BeginOk =
-      where_counts (is_result (def_of table s)) (enters_content table s state as_ok (content_kept state as_ok))
+      where_counts (is_result (def_of table s)) (enters table s state (Way.Content as_ok (content_kept state as_ok)))
       (was_not_a Expected.Result s) refl
   step_counts Call.BeginErr =
-      where_counts (is_result (def_of table s)) (enters_content table s state as_err (content_kept state as_err))
+      where_counts (is_result (def_of table s)) (enters table s state (Way.Content as_err (content_kept state as_err)))
       (was_not_a Expected.Result s) refl
   step_counts Call.BeginSmartPtr =
       unless_counts (at_shape s (pointer_refusal table (def_of table s)))

@@ -8,9 +8,10 @@ use Rattle.fr_shape.specs.Fits.{fits}
 use Rattle.fr_shape.specs.Look.{Table}
 use Rattle.fr_shape.specs.Tokens.{tokens, times, occurs}
 use Rattle.fr_shape.specs.TokenLaws.{times_append, occurs_times}
+use Rattle.fr_shape.specs.Val.{Val}
 use Rattle.fr_model.specs.Commands.{Call}
-use Rattle.fr_model.specs.Scripts.{brought, AllFitting, IsValid}
-use Rattle.fr_script.specs.Documents.{is_new, are_new, is_valid_call, first_invalid}
+use Rattle.fr_model.specs.Scripts.{value_brought, tokens_if_any, tokens_of, occurs_if_any, FitsIfAny, brought, AllFitting, IsValid}
+use Rattle.fr_script.specs.Documents.{is_new, are_new, may_be_brought, is_valid_call, first_invalid}
 
 -- a token that comes n times comes as it may: once, as one of the ledger's, never released, and not brought before
 record ComesNew (ledger before : List ℕ) (t n : ℕ) : Type 0 where
@@ -102,70 +103,31 @@ module _ (ledger : List ℕ) where
     chosen true rest i is = (refl, is)
     chosen false rest i is = cc
 
+    -- the value, if there is one, comes as it may, and so does what comes after it
+    value_new : (value : Option (ℕ × Val)) (before : List ℕ) (t n : ℕ) → may_be_brought table ledger before value ≡ true → ComesNew ledger (tokens_if_any value ++ before) t n → ComesNew ledger before t (occurs_if_any value t + n)
+    value_new (Some (shape, v)) before t n may then =
+        let tests = both (nat_lt shape (length table) && fits table shape v) (are_new ledger before (tokens v)) may in
+        after before (tokens v) t (occurs v t) n (occurs_times v t) (tokens_new (tokens v) before t tests.1) then
+    value_new None before t n may then = rw zero-add then
+
     script_new : (script : List Call) (before : List ℕ) (i t : ℕ) → first_invalid table ledger before i script ≡ None → ComesNew ledger before t (brought script t)
     script_new [] before i t is = comes_never ledger before t 0 refl
-    script_new (Call.Set shape v ∷ calls) before i t is =
-        let parts = chosen (is_valid_call table ledger before (Call.Set shape v)) (first_invalid table ledger (tokens v ++ before) (i + 1) calls) i is in
-        let tests = both (nat_lt shape (length table) && fits table shape v) (are_new ledger before (tokens v)) parts.0 in
-        after before (tokens v) t (occurs v t) (brought calls t) (occurs_times v t) (tokens_new (tokens v) before t tests.1) (script_new calls (tokens v ++ before) (i + 1) t parts.1)
-    script_new (Call.BeginField name ∷ calls) before i t is = rw zero-add (script_new calls before (i + 1) t is)
-    script_new (Call.BeginNthField index ∷ calls) before i t is = rw zero-add (script_new calls before (i + 1) t is)
-    script_new (Call.SetNthFieldToDefault index ∷ calls) before i t is = rw zero-add (script_new calls before (i + 1) t is)
-    script_new (Call.SetDefault ∷ calls) before i t is = rw zero-add (script_new calls before (i + 1) t is)
-    script_new (Call.SetEmptySharedSlice ∷ calls) before i t is = rw zero-add (script_new calls before (i + 1) t is)
-    script_new (Call.InitList ∷ calls) before i t is = rw zero-add (script_new calls before (i + 1) t is)
-    script_new (Call.InitListWithCapacity n ∷ calls) before i t is = rw zero-add (script_new calls before (i + 1) t is)
-    script_new (Call.InitArray ∷ calls) before i t is = rw zero-add (script_new calls before (i + 1) t is)
-    script_new (Call.BeginListItem ∷ calls) before i t is = rw zero-add (script_new calls before (i + 1) t is)
-    script_new (Call.InitMap ∷ calls) before i t is = rw zero-add (script_new calls before (i + 1) t is)
-    script_new (Call.BeginKey ∷ calls) before i t is = rw zero-add (script_new calls before (i + 1) t is)
-    script_new (Call.BeginValue ∷ calls) before i t is = rw zero-add (script_new calls before (i + 1) t is)
-    script_new (Call.InitSet ∷ calls) before i t is = rw zero-add (script_new calls before (i + 1) t is)
-    script_new (Call.BeginSetItem ∷ calls) before i t is = rw zero-add (script_new calls before (i + 1) t is)
-    script_new (Call.BeginObjectEntry key ∷ calls) before i t is = rw zero-add (script_new calls before (i + 1) t is)
-    script_new (Call.BeginSome ∷ calls) before i t is = rw zero-add (script_new calls before (i + 1) t is)
-    script_new (Call.BeginOk ∷ calls) before i t is = rw zero-add (script_new calls before (i + 1) t is)
-    script_new (Call.BeginErr ∷ calls) before i t is = rw zero-add (script_new calls before (i + 1) t is)
-    script_new (Call.BeginSmartPtr ∷ calls) before i t is = rw zero-add (script_new calls before (i + 1) t is)
-    script_new (Call.SelectNthVariant index ∷ calls) before i t is = rw zero-add (script_new calls before (i + 1) t is)
-    script_new (Call.SelectVariantNamed name ∷ calls) before i t is = rw zero-add (script_new calls before (i + 1) t is)
-    script_new (Call.SelectVariant discriminant ∷ calls) before i t is = rw zero-add (script_new calls before (i + 1) t is)
-    script_new (Call.End ∷ calls) before i t is = rw zero-add (script_new calls before (i + 1) t is)
-    script_new (Call.BeginDeferred ∷ calls) before i t is = rw zero-add (script_new calls before (i + 1) t is)
-    script_new (Call.FinishDeferred ∷ calls) before i t is = rw zero-add (script_new calls before (i + 1) t is)
+    script_new (call ∷ calls) before i t is =
+        let parts = chosen (is_valid_call table ledger before call) (first_invalid table ledger (tokens_of call ++ before) (i + 1) calls) i is in
+        value_new (value_brought call) before t (brought calls t) parts.0 (script_new calls (tokens_of call ++ before) (i + 1) t parts.1)
+
+    value_fits : (value : Option (ℕ × Val)) (before : List ℕ) → may_be_brought table ledger before value ≡ true → FitsIfAny table value
+    value_fits (Some (shape, v)) before may =
+        let tests = both (nat_lt shape (length table) && fits table shape v) (are_new ledger before (tokens v)) may in
+        let fitting = both (nat_lt shape (length table)) (fits table shape v) tests.0 in
+        (ltb-true shape (length table) fitting.0, fitting.1)
+    value_fits None before may = tt
 
     all_fit : (script : List Call) (before : List ℕ) (i : ℕ) → first_invalid table ledger before i script ≡ None → AllFitting table script
     all_fit [] before i is = tt
-    all_fit (Call.Set shape v ∷ calls) before i is =
-        let parts = chosen (is_valid_call table ledger before (Call.Set shape v)) (first_invalid table ledger (tokens v ++ before) (i + 1) calls) i is in
-        let tests = both (nat_lt shape (length table) && fits table shape v) (are_new ledger before (tokens v)) parts.0 in
-        let fitting = both (nat_lt shape (length table)) (fits table shape v) tests.0 in
-        ((ltb-true shape (length table) fitting.0, fitting.1), all_fit calls (tokens v ++ before) (i + 1) parts.1)
-    all_fit (Call.BeginField name ∷ calls) before i is = (tt, all_fit calls before (i + 1) is)
-    all_fit (Call.BeginNthField index ∷ calls) before i is = (tt, all_fit calls before (i + 1) is)
-    all_fit (Call.SetNthFieldToDefault index ∷ calls) before i is = (tt, all_fit calls before (i + 1) is)
-    all_fit (Call.SetDefault ∷ calls) before i is = (tt, all_fit calls before (i + 1) is)
-    all_fit (Call.SetEmptySharedSlice ∷ calls) before i is = (tt, all_fit calls before (i + 1) is)
-    all_fit (Call.InitList ∷ calls) before i is = (tt, all_fit calls before (i + 1) is)
-    all_fit (Call.InitListWithCapacity n ∷ calls) before i is = (tt, all_fit calls before (i + 1) is)
-    all_fit (Call.InitArray ∷ calls) before i is = (tt, all_fit calls before (i + 1) is)
-    all_fit (Call.BeginListItem ∷ calls) before i is = (tt, all_fit calls before (i + 1) is)
-    all_fit (Call.InitMap ∷ calls) before i is = (tt, all_fit calls before (i + 1) is)
-    all_fit (Call.BeginKey ∷ calls) before i is = (tt, all_fit calls before (i + 1) is)
-    all_fit (Call.BeginValue ∷ calls) before i is = (tt, all_fit calls before (i + 1) is)
-    all_fit (Call.InitSet ∷ calls) before i is = (tt, all_fit calls before (i + 1) is)
-    all_fit (Call.BeginSetItem ∷ calls) before i is = (tt, all_fit calls before (i + 1) is)
-    all_fit (Call.BeginObjectEntry key ∷ calls) before i is = (tt, all_fit calls before (i + 1) is)
-    all_fit (Call.BeginSome ∷ calls) before i is = (tt, all_fit calls before (i + 1) is)
-    all_fit (Call.BeginOk ∷ calls) before i is = (tt, all_fit calls before (i + 1) is)
-    all_fit (Call.BeginErr ∷ calls) before i is = (tt, all_fit calls before (i + 1) is)
-    all_fit (Call.BeginSmartPtr ∷ calls) before i is = (tt, all_fit calls before (i + 1) is)
-    all_fit (Call.SelectNthVariant index ∷ calls) before i is = (tt, all_fit calls before (i + 1) is)
-    all_fit (Call.SelectVariantNamed name ∷ calls) before i is = (tt, all_fit calls before (i + 1) is)
-    all_fit (Call.SelectVariant discriminant ∷ calls) before i is = (tt, all_fit calls before (i + 1) is)
-    all_fit (Call.End ∷ calls) before i is = (tt, all_fit calls before (i + 1) is)
-    all_fit (Call.BeginDeferred ∷ calls) before i is = (tt, all_fit calls before (i + 1) is)
-    all_fit (Call.FinishDeferred ∷ calls) before i is = (tt, all_fit calls before (i + 1) is)
+    all_fit (call ∷ calls) before i is =
+        let parts = chosen (is_valid_call table ledger before call) (first_invalid table ledger (tokens_of call ++ before) (i + 1) calls) i is in
+        (value_fits (value_brought call) before parts.0, all_fit calls (tokens_of call ++ before) (i + 1) parts.1)
 
     pub valid_where_none_invalid : (script : List Call) → first_invalid table ledger [] 0 script ≡ None → IsValid table script ledger
     valid_where_none_invalid script none = record {

@@ -13,6 +13,7 @@ use Rattle.fr_shape.specs.Faults.{rules_of}
 use Rattle.fr_shape.specs.Fits.{fits}
 use Rattle.fr_model.specs.Served.{serves}
 use Rattle.fr_shape.specs.Tokens.{tokens}
+use Rattle.fr_shape.specs.Val.{Val}
 use Rattle.fr_doc.specs.declared.fault.DocFault.{DocFault}
 use Rattle.fr_doc.specs.declared.fault.DocPlace.{DocPlace}
 use Rattle.fr_doc.specs.declared.fault.DocSize.{DocSize}
@@ -21,7 +22,7 @@ use Rattle.fr_doc.specs.FaultSteps.{◌>>=◌, each_at}
 use Rattle.fr_doc.specs.Numerals.{whole_number}
 use Rattle.fr_doc.specs.ShapeForms.{shape_at}
 use Rattle.fr_model.specs.Commands.{Call}
-use Rattle.fr_model.specs.Scripts.{tokens_of}
+use Rattle.fr_model.specs.Scripts.{value_brought, tokens_of}
 use Rattle.fr_script.specs.declared.sizes.TheConstants.{SHAPE_LIMIT, PART_LIMIT, COMMAND_LIMIT, TOKEN_LIMIT, DEPTH_LIMIT}
 use Rattle.fr_script.specs.declared.word.Word.{Word}
 use Rattle.fr_script.specs.CommandForms.{call_form}
@@ -221,35 +222,15 @@ are_new ledger brought [] = true
 are_new ledger brought (t ∷ ts) =
     nat_lt t (length ledger) && (slice_index ledger t == 0) && is_new t brought && are_new ledger (t ∷ brought) ts
 
--- a value's shape is in the table, the value fits it, and its tokens are new
-abbrev pub is_valid_call : Table → List ℕ → List ℕ → Call → Bool
-is_valid_call table ledger brought (Call.Set shape v) =
+-- the value, if there is one, fits the shape that is named with it, which is in the table, and its tokens are new
+abbrev pub may_be_brought : Table → (ledger brought : List ℕ) → Option (ℕ × Val) → Bool
+may_be_brought table ledger brought (Some (shape, v)) =
     nat_lt shape (length table) && fits table shape v && are_new ledger brought (tokens v)
-is_valid_call table ledger brought (Call.BeginField name) = true
-is_valid_call table ledger brought (Call.BeginNthField i) = true
-is_valid_call table ledger brought (Call.SetNthFieldToDefault i) = true
-is_valid_call table ledger brought Call.SetDefault = true
-is_valid_call table ledger brought Call.SetEmptySharedSlice = true
-is_valid_call table ledger brought Call.InitList = true
-is_valid_call table ledger brought (Call.InitListWithCapacity n) = true
-is_valid_call table ledger brought Call.InitArray = true
-is_valid_call table ledger brought Call.BeginListItem = true
-is_valid_call table ledger brought Call.InitMap = true
-is_valid_call table ledger brought Call.BeginKey = true
-is_valid_call table ledger brought Call.BeginValue = true
-is_valid_call table ledger brought Call.InitSet = true
-is_valid_call table ledger brought Call.BeginSetItem = true
-is_valid_call table ledger brought (Call.BeginObjectEntry key) = true
-is_valid_call table ledger brought Call.BeginSome = true
-is_valid_call table ledger brought Call.BeginOk = true
-is_valid_call table ledger brought Call.BeginErr = true
-is_valid_call table ledger brought Call.BeginSmartPtr = true
-is_valid_call table ledger brought (Call.SelectNthVariant i) = true
-is_valid_call table ledger brought (Call.SelectVariantNamed name) = true
-is_valid_call table ledger brought (Call.SelectVariant discriminant) = true
-is_valid_call table ledger brought Call.End = true
-is_valid_call table ledger brought Call.BeginDeferred = true
-is_valid_call table ledger brought Call.FinishDeferred = true
+may_be_brought table ledger brought None = true
+
+-- a call is valid if what it brings may be brought
+abbrev pub is_valid_call : Table → (ledger brought : List ℕ) → Call → Bool
+is_valid_call table ledger brought call = may_be_brought table ledger brought (value_brought call)
 
 -- the first of these calls, counted from i, that isn't valid after what was brought before it
 abbrev pub first_invalid : Table → List ℕ → List ℕ → ℕ → List Call → Option ℕ

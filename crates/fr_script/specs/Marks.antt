@@ -3,7 +3,9 @@ use Rattle.std.specs.Prelude.{◌≡◌, ◌<◌, ℕ, ◌+◌, Bool, true, fals
 use Rattle.fr_shape.specs.Fits.{fits}
 use Rattle.fr_shape.specs.Look.{Table}
 use Rattle.fr_shape.specs.Tokens.{tokens}
+use Rattle.fr_shape.specs.Val.{Val}
 use Rattle.fr_model.specs.Commands.{Call}
+use Rattle.fr_model.specs.Scripts.{value_brought}
 use Rattle.fr_script.specs.Documents.{is_new}
 
 -- the token was released, or brought before
@@ -21,35 +23,15 @@ marked [] marks = Some marks
 marked (t ∷ ts) marks =
     if nat_lt t (length marks) && not (slice_index_or marks t false) then marked ts (slice_set marks t true) else None
 
--- the same with the tokens of a call, if its value's shape is in the table and the value fits it
-abbrev pub marked_by : Table → Call → List Bool → Option (List Bool)
-marked_by table (Call.Set shape v) marks =
+-- the same with the tokens of the value, if there is one, where it fits the shape that is named with it, which is in the table
+abbrev pub marked_if_any : Table → Option (ℕ × Val) → List Bool → Option (List Bool)
+marked_if_any table (Some (shape, v)) marks =
     if nat_lt shape (length table) && fits table shape v then marked (tokens v) marks else None
-marked_by table (Call.BeginField name) marks = Some marks
-marked_by table (Call.BeginNthField i) marks = Some marks
-marked_by table (Call.SetNthFieldToDefault i) marks = Some marks
-marked_by table Call.SetDefault marks = Some marks
-marked_by table Call.SetEmptySharedSlice marks = Some marks
-marked_by table Call.InitList marks = Some marks
-marked_by table (Call.InitListWithCapacity n) marks = Some marks
-marked_by table Call.InitArray marks = Some marks
-marked_by table Call.BeginListItem marks = Some marks
-marked_by table Call.InitMap marks = Some marks
-marked_by table Call.BeginKey marks = Some marks
-marked_by table Call.BeginValue marks = Some marks
-marked_by table Call.InitSet marks = Some marks
-marked_by table Call.BeginSetItem marks = Some marks
-marked_by table (Call.BeginObjectEntry key) marks = Some marks
-marked_by table Call.BeginSome marks = Some marks
-marked_by table Call.BeginOk marks = Some marks
-marked_by table Call.BeginErr marks = Some marks
-marked_by table Call.BeginSmartPtr marks = Some marks
-marked_by table (Call.SelectNthVariant i) marks = Some marks
-marked_by table (Call.SelectVariantNamed name) marks = Some marks
-marked_by table (Call.SelectVariant discriminant) marks = Some marks
-marked_by table Call.End marks = Some marks
-marked_by table Call.BeginDeferred marks = Some marks
-marked_by table Call.FinishDeferred marks = Some marks
+marked_if_any table None marks = Some marks
+
+-- the same with the tokens of what a call brings
+abbrev pub marked_by : Table → Call → List Bool → Option (List Bool)
+marked_by table call = marked_if_any table (value_brought call)
 
 -- the answer tells whether there are such marks, and then they were set
 abbrev pub Marks : Option (List Bool) → Bool → List Bool → Type 0

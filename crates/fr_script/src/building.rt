@@ -5,14 +5,14 @@ ghost use Rattle.fr_shape.specs.Fits.{fits};
 ghost use Rattle.fr_shape.specs.Look.{IsIn};
 ghost use Rattle.fr_shape.specs.Numbered.{IsNumbered};
 ghost use Rattle.fr_shape.specs.Plannable.{IsPlain};
-ghost use Rattle.fr_shape.specs.Released.{Room, RoseBy, Conserved};
+ghost use Rattle.fr_shape.specs.Released.{Room, RoseBy};
 ghost use Rattle.fr_model.specs.Served.{IsServed};
 ghost use Rattle.fr_model.specs.Commands.{call_of, calls_of, IsFieldScript};
 ghost use Rattle.fr_model.specs.Journal.{journal_run};
 ghost use Rattle.fr_model.specs.Run.{full_run};
 ghost use Rattle.fr_model.specs.Scripts.{IsFitting, IsValid, brings, brought};
 ghost use Rattle.fr_model.specs.Settled.{IsSettled};
-ghost use Rattle.fr_partial.specs.Builder.{holds, IsStep, left, TellsPlaceBefore};
+ghost use Rattle.fr_partial.specs.Builder.{holds, IsCall};
 ghost use Rattle.fr_script.specs.Outcomes.{IsRun, IsJournals, answered, kind_without_plan};
 
 use fr_model::{Command, Script, law_agree};
@@ -108,10 +108,8 @@ fn call<'t, H: Hooks>(
     requires same { partial.shapes ≡ table.now }
     requires fitting { IsFitting table.now (call_of command) }
     requires room { Room (λ t. holds partial t + brings (call_of command) t) ledger.old }
-    ensures step { IsStep (H.means partial.entry.hooks) partial.entry (call_of command) result }
-    ensures path { TellsPlaceBefore partial.entry result }
-    ensures tokens { Conserved (λ t. holds partial.entry t + brings (call_of command) t) ledger.old
-        (left result) ledger.new }
+    ensures call { IsCall (H.means partial.entry.hooks) partial.entry (call_of command) result
+        ledger.old ledger.new }
 {
     match command {
         Command::BeginField(name) => partial.begin_field(name.as_str(), ledger),
@@ -153,21 +151,13 @@ fn release_commands(mut commands: VecDeque<Command>, ledger: &mut Ledger)
     }
 }
 
+/// Releases the tokens of a command that isn't run.
 fn release_command(command: Command, ledger: &mut Ledger)
     requires { Room (brings (call_of command)) ledger.old }
     ensures { RoseBy (brings (call_of command)) ledger.old ledger.new }
 {
     match command {
         Command::Set(_, value) => release(value, ledger),
-        Command::BeginField(_) | Command::BeginNthField(_) => {}
-        Command::SetNthFieldToDefault(_) | Command::SetDefault => {}
-        Command::SetEmptySharedSlice | Command::InitList | Command::InitListWithCapacity(_) => {}
-        Command::InitArray | Command::BeginListItem => {}
-        Command::InitMap | Command::BeginKey | Command::BeginValue => {}
-        Command::InitSet | Command::BeginSetItem | Command::BeginObjectEntry(_) => {}
-        Command::BeginSome | Command::BeginOk | Command::BeginErr | Command::BeginSmartPtr => {}
-        Command::SelectNthVariant(_) | Command::SelectVariantNamed(_) => {}
-        Command::SelectVariant(_) | Command::End => {}
-        Command::BeginDeferred | Command::FinishDeferred => {}
+        _ => {}
     }
 }

@@ -3,37 +3,62 @@ use crate::tests::{check, check_each};
 use std::test::Fail;
 
 /// The shapes u32, String, Inner (x and b) and Outer (name and inner), with Outer as the root.
-const NESTED: &str =
-    r#"{"shapes":[{"name":"u32","def":"u32"},{"name":"String","def":"String"},{"name":"Inner","def":{"struct":[{"name":"x","shape":0},{"name":"b","shape":0}]}},{"name":"Outer","def":{"struct":[{"name":"name","shape":1},{"name":"inner","shape":2}]}}],"#;
+const NESTED: &str = r#"{"shapes":[
+    {"name":"u32","def":"u32"},
+    {"name":"String","def":"String"},
+    {"name":"Inner","def":{"struct":[{"name":"x","shape":0},{"name":"b","shape":0}]}},
+    {"name":"Outer","def":{"struct":[{"name":"name","shape":1},{"name":"inner","shape":2}]}}
+],"#;
 
 const COMING_BACK: [(&str, &str, u8, &str); 7] = [
     (
         "a field that is left half done and entered again keeps what it has",
-        r#""root":3,"commands":[["begin_deferred"],["begin_nth_field",1],["begin_nth_field",0],["set",0,42],["end"],["end"],["begin_nth_field",0],["set",1,"Hello, world!"],["end"],["begin_nth_field",1],["begin_nth_field",1],["set",0,43],["end"],["end"],["finish_deferred"]]}"#,
+        r#""root":3,"commands":[
+            ["begin_deferred"],["begin_nth_field",1],["begin_nth_field",0],["set",0,42],["end"],
+            ["end"],["begin_nth_field",0],["set",1,"Hello, world!"],["end"],
+            ["begin_nth_field",1],["begin_nth_field",1],["set",0,43],["end"],["end"],
+            ["finish_deferred"]
+        ]}"#,
         0,
         r#"{"ok":["Hello, world!",[42,43]],"released":[]}"#,
     ),
     (
         "deferred mode has to end before the value is built",
-        r#""root":3,"commands":[["begin_deferred"],["begin_nth_field",1],["begin_nth_field",0],["set",0,42],["end"],["end"],["begin_nth_field",0],["set",1,"Hello, world!"],["end"],["begin_nth_field",1],["begin_nth_field",1],["set",0,43],["end"],["end"]]}"#,
+        r#""root":3,"commands":[
+            ["begin_deferred"],["begin_nth_field",1],["begin_nth_field",0],["set",0,42],["end"],
+            ["end"],["begin_nth_field",0],["set",1,"Hello, world!"],["end"],
+            ["begin_nth_field",1],["begin_nth_field",1],["set",0,43],["end"],["end"]
+        ]}"#,
         1,
-        r#"{"error":{"command":14,"detail":"build() called but deferred mode is enabled","kind":"InvariantViolation","path":""},"released":[]}"#,
+        r#"{"error":{"command":14,"detail":"build() called but deferred mode is enabled",
+            "kind":"InvariantViolation","path":""},"released":[]}"#,
     ),
     (
         "the deepest failing place is told, though a shallower one comes first",
-        r#""root":3,"commands":[["begin_deferred"],["begin_nth_field",0],["end"],["begin_nth_field",1],["begin_nth_field",1],["end"],["end"],["finish_deferred"]]}"#,
+        r#""root":3,"commands":[
+            ["begin_deferred"],["begin_nth_field",0],["end"],
+            ["begin_nth_field",1],["begin_nth_field",1],["end"],["end"],["finish_deferred"]
+        ]}"#,
         1,
         r#"{"error":{"command":7,"detail":"u32","kind":"UninitializedValue","path":""},"released":[]}"#,
     ),
     (
         "deferred mode ends where the builder works, and strict mode goes on",
-        r#""root":3,"commands":[["begin_nth_field",1],["begin_deferred"],["begin_nth_field",0],["set",0,1],["end"],["begin_nth_field",1],["set",0,2],["end"],["finish_deferred"],["end"],["begin_nth_field",0],["set",1,"s"],["end"]]}"#,
+        r#""root":3,"commands":[
+            ["begin_nth_field",1],["begin_deferred"],["begin_nth_field",0],["set",0,1],["end"],
+            ["begin_nth_field",1],["set",0,2],["end"],["finish_deferred"],["end"],
+            ["begin_nth_field",0],["set",1,"s"],["end"]
+        ]}"#,
         0,
         r#"{"ok":["s",[1,2]],"released":[]}"#,
     ),
     (
         "it needn't have come back, and what is above stays open",
-        r#""root":3,"commands":[["begin_deferred"],["begin_nth_field",1],["begin_nth_field",0],["set",0,1],["end"],["begin_nth_field",1],["set",0,2],["finish_deferred"],["end"],["end"],["begin_nth_field",0],["set",1,"s"],["end"]]}"#,
+        r#""root":3,"commands":[
+            ["begin_deferred"],["begin_nth_field",1],["begin_nth_field",0],["set",0,1],["end"],
+            ["begin_nth_field",1],["set",0,2],["finish_deferred"],["end"],["end"],
+            ["begin_nth_field",0],["set",1,"s"],["end"]
+        ]}"#,
         0,
         r#"{"ok":["s",[1,2]],"released":[]}"#,
     ),
@@ -41,36 +66,57 @@ const COMING_BACK: [(&str, &str, u8, &str); 7] = [
         "no place is left above the one at which deferred mode began",
         r#""root":3,"commands":[["begin_nth_field",1],["begin_deferred"],["end"]]}"#,
         1,
-        r#"{"error":{"command":2,"detail":"Partial::end() called but would pop below deferred start depth","kind":"InvariantViolation","path":"inner"},"released":[]}"#,
+        r#"{"error":{"command":2,
+            "detail":"Partial::end() called but would pop below deferred start depth",
+            "kind":"InvariantViolation","path":"inner"},"released":[]}"#,
     ),
     (
         "a hole is found at the end",
-        r#""root":3,"commands":[["begin_deferred"],["begin_nth_field",1],["begin_nth_field",0],["set",0,1],["end"],["end"],["finish_deferred"]]}"#,
+        r#""root":3,"commands":[
+            ["begin_deferred"],["begin_nth_field",1],["begin_nth_field",0],["set",0,1],["end"],
+            ["end"],["finish_deferred"]
+        ]}"#,
         1,
         r#"{"error":{"command":6,"detail":"b","kind":"UninitializedField","path":""},"released":[]}"#,
     ),
 ];
 
 /// The shapes u32, Res, Cell (a Res and a u32) and Pair (p and q, two cells), before the root.
-const CELLS: &str =
-    r#"{"shapes":[{"name":"u32","def":"u32"},{"name":"Res","def":"opaque"},{"name":"Cell","def":{"struct":[{"name":"a","shape":1},{"name":"k","shape":0}]}},{"name":"Pair","def":{"struct":[{"name":"p","shape":2},{"name":"q","shape":2}]}}],"#;
+const CELLS: &str = r#"{"shapes":[
+    {"name":"u32","def":"u32"},
+    {"name":"Res","def":"opaque"},
+    {"name":"Cell","def":{"struct":[{"name":"a","shape":1},{"name":"k","shape":0}]}},
+    {"name":"Pair","def":{"struct":[{"name":"p","shape":2},{"name":"q","shape":2}]}}
+],"#;
 
 const OVERWRITTEN: [(&str, &str, u8, &str); 3] = [
     (
         "a whole value releases what was left beneath it",
-        r#""root":3,"tokens":3,"commands":[["begin_deferred"],["begin_nth_field",0],["begin_nth_field",0],["set",1,{"t":0}],["end"],["end"],["set",3,[[{"t":1},1],[{"t":2},2]]],["finish_deferred"]]}"#,
+        r#""root":3,"tokens":3,"commands":[
+            ["begin_deferred"],["begin_nth_field",0],["begin_nth_field",0],["set",1,{"t":0}],
+            ["end"],["end"],["set",3,[[{"t":1},1],[{"t":2},2]]],["finish_deferred"]
+        ]}"#,
         0,
         r#"{"ok":[[{"t":1},1],[{"t":2},2]],"released":[0]}"#,
     ),
     (
         "a refusal releases what was left",
-        r#""root":3,"tokens":2,"commands":[["begin_deferred"],["begin_nth_field",0],["begin_nth_field",0],["set",1,{"t":0}],["end"],["end"],["begin_nth_field",1],["begin_nth_field",0],["set",1,{"t":1}],["end"],["end"],["begin_nth_field",2]]}"#,
+        r#""root":3,"tokens":2,"commands":[
+            ["begin_deferred"],["begin_nth_field",0],["begin_nth_field",0],["set",1,{"t":0}],
+            ["end"],["end"],
+            ["begin_nth_field",1],["begin_nth_field",0],["set",1,{"t":1}],["end"],["end"],
+            ["begin_nth_field",2]
+        ]}"#,
         1,
         r#"{"error":{"command":11,"detail":"field index out of bounds","kind":"OperationFailed","path":""},"released":[0,1]}"#,
     ),
     (
         "the end that fails releases all",
-        r#""root":3,"tokens":2,"commands":[["begin_deferred"],["begin_nth_field",1],["set",2,[{"t":0},1]],["end"],["begin_nth_field",0],["begin_nth_field",0],["set",1,{"t":1}],["end"],["end"],["finish_deferred"]]}"#,
+        r#""root":3,"tokens":2,"commands":[
+            ["begin_deferred"],["begin_nth_field",1],["set",2,[{"t":0},1]],["end"],
+            ["begin_nth_field",0],["begin_nth_field",0],["set",1,{"t":1}],["end"],["end"],
+            ["finish_deferred"]
+        ]}"#,
         1,
         r#"{"error":{"command":9,"detail":"k","kind":"UninitializedField","path":""},"released":[0,1]}"#,
     ),
@@ -78,8 +124,13 @@ const OVERWRITTEN: [(&str, &str, u8, &str); 3] = [
 
 /// The shapes u32, Nums (a list with a default), Empty (a struct without fields, with a default), HasList and HasEmpty, before the
 /// root.
-const DEFAULTS: &str =
-    r#"{"shapes":[{"name":"u32","def":"u32"},{"name":"Nums","def":{"list":0},"preset":{"l":[]}},{"name":"Empty","def":{"unit":[]},"preset":[]},{"name":"HasList","def":{"struct":[{"name":"l","shape":1}]}},{"name":"HasEmpty","def":{"struct":[{"name":"e","shape":2},{"name":"k","shape":0}]}}],"#;
+const DEFAULTS: &str = r#"{"shapes":[
+    {"name":"u32","def":"u32"},
+    {"name":"Nums","def":{"list":0},"preset":{"l":[]}},
+    {"name":"Empty","def":{"unit":[]},"preset":[]},
+    {"name":"HasList","def":{"struct":[{"name":"l","shape":1}]}},
+    {"name":"HasEmpty","def":{"struct":[{"name":"e","shape":2},{"name":"k","shape":0}]}}
+],"#;
 
 const FILLED_AT_THE_END: [(&str, &str, u8, &str); 3] = [
     (
@@ -96,15 +147,21 @@ const FILLED_AT_THE_END: [(&str, &str, u8, &str); 3] = [
     ),
     (
         "which is whole as soon as it is entered",
-        r#""root":4,"commands":[["begin_deferred"],["begin_nth_field",0],["end"],["begin_nth_field",1],["set",0,1],["end"],["finish_deferred"]]}"#,
+        r#""root":4,"commands":[
+            ["begin_deferred"],["begin_nth_field",0],["end"],
+            ["begin_nth_field",1],["set",0,1],["end"],["finish_deferred"]
+        ]}"#,
         0,
         r#"{"ok":[[],1],"released":[]}"#,
     ),
 ];
 
 /// The shapes u32 (with the default 0), Dd (a field that is marked with 5) and Ss (two fields, with a default), before the root.
-const MARKED: &str =
-    r#"{"shapes":[{"name":"u32","def":"u32","preset":0},{"name":"Dd","def":{"struct":[{"name":"a","shape":0,"default":{"custom":5}}]}},{"name":"Ss","def":{"struct":[{"name":"x","shape":0},{"name":"y","shape":0}]},"preset":[1,2]}],"#;
+const MARKED: &str = r#"{"shapes":[
+    {"name":"u32","def":"u32","preset":0},
+    {"name":"Dd","def":{"struct":[{"name":"a","shape":0,"default":{"custom":5}}]}},
+    {"name":"Ss","def":{"struct":[{"name":"x","shape":0},{"name":"y","shape":0}]},"preset":[1,2]}
+],"#;
 
 const MARKED_AT_THE_END: [(&str, &str, u8, &str); 3] = [
     (
@@ -128,13 +185,20 @@ const MARKED_AT_THE_END: [(&str, &str, u8, &str); 3] = [
 ];
 
 /// The shapes u32, A64 and A3 (arrays of so many), before the root.
-const ARRAYS: &str =
-    r#"{"shapes":[{"name":"u32","def":"u32"},{"name":"A64","def":{"array":[0,64]}},{"name":"A3","def":{"array":[0,3]}}],"#;
+const ARRAYS: &str = r#"{"shapes":[
+    {"name":"u32","def":"u32"},
+    {"name":"A64","def":{"array":[0,64]}},
+    {"name":"A3","def":{"array":[0,3]}}
+],"#;
 
 const ELEMENTS: [(&str, &str, u8, &str); 2] = [
     (
         "an element that was only entered is set later",
-        r#""root":2,"commands":[["begin_deferred"],["begin_nth_field",0],["set",0,1],["end"],["begin_nth_field",1],["end"],["begin_nth_field",2],["set",0,3],["end"],["begin_nth_field",1],["set",0,2],["end"],["finish_deferred"]]}"#,
+        r#""root":2,"commands":[
+            ["begin_deferred"],["begin_nth_field",0],["set",0,1],["end"],
+            ["begin_nth_field",1],["end"],["begin_nth_field",2],["set",0,3],["end"],
+            ["begin_nth_field",1],["set",0,2],["end"],["finish_deferred"]
+        ]}"#,
         0,
         r#"{"ok":[1,2,3],"released":[]}"#,
     ),
@@ -183,8 +247,27 @@ fn elements_come_backwards_in_deferred_mode(rt: HostRuntime) -> Result<(), Fail>
 }
 
 /// The settings of a program, as examples/settings.json has them: the lines of its groups come in turn.
-const SETTINGS: &str =
-    r#"{"shapes":[{"name":"u16","def":"u16"},{"name":"String","def":"String"},{"name":"Server","def":{"struct":[{"name":"host","shape":1},{"name":"port","shape":0}]}},{"name":"Log","def":{"struct":[{"name":"level","shape":1},{"name":"file","shape":1}]}},{"name":"Limits","def":{"array":[0,3]}},{"name":"Settings","def":{"struct":[{"name":"name","shape":1},{"name":"server","shape":2},{"name":"log","shape":3},{"name":"limits","shape":4}]}}],"root":5,"commands":[["begin_deferred"],["begin_field","server"],["begin_field","host"],["set",1,"localhost"],["end"],["end"],["begin_field","log"],["begin_field","level"],["set",1,"info"],["end"],["end"],["begin_field","server"],["begin_field","port"],["set",0,8080],["end"],["end"],["begin_field","limits"],["begin_nth_field",2],["set",0,30],["end"],["end"],["begin_field","log"],["begin_field","file"],["set",1,"demo.log"],["end"],["end"],["begin_field","limits"],["begin_nth_field",0],["set",0,10],["end"],["begin_nth_field",1],["set",0,20],["end"],["end"],["begin_field","server"],["set",2,["example.org",443]],["end"],["begin_field","name"],["set",1,"demo"],["end"],["finish_deferred"]]}"#;
+const SETTINGS: &str = r#"{"shapes":[
+    {"name":"u16","def":"u16"},
+    {"name":"String","def":"String"},
+    {"name":"Server","def":{"struct":[{"name":"host","shape":1},{"name":"port","shape":0}]}},
+    {"name":"Log","def":{"struct":[{"name":"level","shape":1},{"name":"file","shape":1}]}},
+    {"name":"Limits","def":{"array":[0,3]}},
+    {"name":"Settings","def":{"struct":[
+        {"name":"name","shape":1},{"name":"server","shape":2},{"name":"log","shape":3},
+        {"name":"limits","shape":4}
+    ]}}
+],"root":5,"commands":[
+    ["begin_deferred"],["begin_field","server"],["begin_field","host"],["set",1,"localhost"],
+    ["end"],["end"],["begin_field","log"],["begin_field","level"],["set",1,"info"],["end"],["end"],
+    ["begin_field","server"],["begin_field","port"],["set",0,8080],["end"],["end"],
+    ["begin_field","limits"],["begin_nth_field",2],["set",0,30],["end"],["end"],
+    ["begin_field","log"],["begin_field","file"],["set",1,"demo.log"],["end"],["end"],
+    ["begin_field","limits"],["begin_nth_field",0],["set",0,10],["end"],
+    ["begin_nth_field",1],["set",0,20],["end"],["end"],
+    ["begin_field","server"],["set",2,["example.org",443]],["end"],
+    ["begin_field","name"],["set",1,"demo"],["end"],["finish_deferred"]
+]}"#;
 
 #[test]
 fn a_loader_reads_settings_whose_groups_are_interleaved(rt: HostRuntime) -> Result<(), Fail> {

@@ -1,14 +1,28 @@
 //! A document that is read, the test of its script, and the calls that answer it, with ample memory.
-use crate::document::read_document;
+ghost use Rattle.fr_script.specs.DocumentFacts.{IsBuildable};
+ghost use Rattle.fr_script.specs.Reading.{document_view};
+
+use crate::answering::Answer;
+use crate::building::build_script;
+use crate::document::{Document, read_document};
+use crate::document_laws::law_documents_in_order;
+use crate::plan_answer::PlanAnswer;
 use crate::planning::plan_document;
 use crate::serving::answer;
+use crate::tests::NESTED;
 use crate::validity::{ScriptFault, is_valid_script};
 use crate::word::Word;
-use fr_shape::Ledger;
+use fr_partial::Built;
+use fr_plan::TypePlanNodeKind;
+use fr_shape::{Ledger, NoHooks, Value};
+use std::alloc::Global;
 use std::test::Fail;
 
-const DOCUMENT: &str =
-    r#"{"shapes":[{"name":"id","def":"u32"},{"name":"Cell","def":{"struct":[{"name":"x","shape":2},{"name":"n","shape":0}]}},{"name":"any","def":"opaque"}],"root":1,"tokens":2,"commands":[["set",1,[{"t":1},7]],["begin_nth_field",1],["end"]]}"#;
+const DOCUMENT: &str = r#"{"shapes":[
+    {"name":"id","def":"u32"},
+    {"name":"Cell","def":{"struct":[{"name":"x","shape":2},{"name":"n","shape":0}]}},
+    {"name":"any","def":"opaque"}
+],"root":1,"tokens":2,"commands":[["set",1,[{"t":1},7]],["begin_nth_field",1],["end"]]}"#;
 
 #[test]
 fn a_document_is_read_and_its_script_is_valid(rt: HostRuntime) -> Result<(), Fail> {
@@ -34,6 +48,17 @@ fn a_document_is_answered(rt: HostRuntime) -> Result<(), Fail> {
     let answer = answer(rt.alloc(), DOCUMENT.as_bytes());
     let answer = answer.ok().ok_or("no memory")?;
     assert_eq!(rt; answer.status(), 0);
+    let Answer::Built(built, released) = answer else {
+        return Err(Fail::from("no value"));
+    };
+    assert_eq!(rt; built.calls(), 3);
+    assert_eq!(rt; released.len(), 0);
+    let Value::Product(fields) = built.into_value() else {
+        return Err(Fail::from("no struct"));
+    };
+    assert_eq!(rt; fields.len(), 2);
+    assert!(rt; matches!(fields.get(0), Some(Value::Token(1))));
+    assert!(rt; matches!(fields.get(1), Some(Value::Nat(7))));
     Ok(())
 }
 
@@ -42,5 +67,61 @@ fn a_document_is_planned(rt: HostRuntime) -> Result<(), Fail> {
     let planned = plan_document(rt.alloc(), DOCUMENT.as_bytes());
     let planned = planned.ok().ok_or("no memory")?;
     assert_eq!(rt; planned.status(), 0);
+    let PlanAnswer::Planned(table, plan) = planned else {
+        return Err(Fail::from("no plan"));
+    };
+    assert_eq!(rt; table.len(), 3);
+    assert_eq!(rt; plan.node_count(), 3);
+    assert_eq!(rt; plan.root().shape.0, 1);
+    assert!(rt; matches!(plan.root().kind, TypePlanNodeKind::Struct(_)));
+    Ok(())
+}
+
+/// What the script of a document comes to, over a ledger of its own.
+fn built_from(alloc: Global, document: Document) -> Result<Built, Fail>
+    requires { IsBuildable (document_view document) }
+{
+    let Document {
+        table,
+        root,
+        tokens,
+        script,
+    } = document;
+    let Ok(mut ledger) = Ledger::new(alloc, tokens) else {
+        return Err(Fail::from("no memory"));
+    };
+    match build_script(alloc, &table, root, &NoHooks, script, &mut ledger) {
+        Ok(built) => Ok(built),
+        Err(_) => Err(Fail::from("refused")),
+    }
+}
+
+/// The same of the bytes of a document.
+fn built_of(alloc: Global, bytes: &[u8]) -> Result<Built, Fail> {
+    match read_document(alloc, Word::Build, bytes) {
+        Ok(document) => {
+            law_documents_in_order();
+            built_from(alloc, document)
+        }
+        Err(_) => Err(Fail::from("a fault")),
+    }
+}
+
+/// With ample memory it isn't out of memory.
+#[test]
+fn a_script_is_built(rt: HostRuntime) -> Result<(), Fail> {
+    let built = built_of(rt.alloc(), NESTED.as_bytes())?;
+    assert_eq!(rt; built.calls(), 11);
+    let Value::Product(fields) = built.into_value() else {
+        return Err(Fail::from("no struct"));
+    };
+    assert!(rt;
+        matches!(fields.get(0), Some(Value::Text(text)) if text.as_str() == "Hello, world!")
+    );
+    let Some(Value::Product(inner)) = fields.get(1) else {
+        return Err(Fail::from("no struct in it"));
+    };
+    assert!(rt; matches!(inner.get(0), Some(Value::Nat(42))));
+    assert!(rt; matches!(inner.get(1), Some(Value::Nat(43))));
     Ok(())
 }

@@ -1,12 +1,50 @@
-//! Dynamic values in documents: values of other shapes that they take, arrays and objects that they are begun as, and what is refused
-//! there.
+//! Dynamic values in documents: values of other shapes that they take, and arrays and objects that they are begun as.
 use crate::tests::{check, check_each};
 use std::test::Fail;
 
 /// The shapes u32, String, Any (dynamic) and Blob (dynamic, and takes bytes), the other scalars, a shape or two of each other
 /// definition, and places with dynamic values in them, before the root.
-const SHAPES: &str =
-    r#"{"shapes":[{"name":"u32","def":"u32"},{"name":"String","def":"String"},{"name":"Any","def":"dynamic"},{"name":"Blob","def":"dynamic","bytes_ok":true},{"name":"bool","def":"bool"},{"name":"char","def":"char"},{"name":"i8","def":"i8"},{"name":"i16","def":"i16"},{"name":"i32","def":"i32"},{"name":"i64","def":"i64"},{"name":"isize","def":"isize"},{"name":"i128","def":"i128"},{"name":"u8","def":"u8"},{"name":"u16","def":"u16"},{"name":"u64","def":"u64"},{"name":"usize","def":"usize"},{"name":"u128","def":"u128"},{"name":"str","def":"str"},{"name":"CowStr","def":"CowStr"},{"name":"Bytes","def":{"list":12}},{"name":"Numbers","def":{"list":0}},{"name":"Res","def":"opaque"},{"name":"Nothing","def":{"unit":[]}},{"name":"Pick","def":{"enum":{"repr":"U8","variants":[{"name":"A","fields":[],"discriminant":0}]}}},{"name":"Maybe","def":{"option":0}},{"name":"Either","def":{"result":[0,1]}},{"name":"Names","def":{"map":[1,0]}},{"name":"Nums","def":{"set":0}},{"name":"Pair","def":{"array":[0,2]}},{"name":"Link","def":{"pointer":{"known":"Box","pointee":0}}},{"name":"Slice","def":{"slice":12}},{"name":"Unknown","def":"undefined"},{"name":"Holder","def":{"struct":[{"name":"n","shape":0},{"name":"d","shape":2}]}},{"name":"MaybeAny","def":{"option":2}},{"name":"Anys","def":{"list":2}},{"name":"Kept","def":{"struct":[{"name":"r","shape":21},{"name":"d","shape":2}]}},{"name":"AnySet","def":{"set":2}}],"#;
+pub(crate) const SHAPES: &str = r#"{"shapes":[
+    {"name":"u32","def":"u32"},
+    {"name":"String","def":"String"},
+    {"name":"Any","def":"dynamic"},
+    {"name":"Blob","def":"dynamic","bytes_ok":true},
+    {"name":"bool","def":"bool"},
+    {"name":"char","def":"char"},
+    {"name":"i8","def":"i8"},
+    {"name":"i16","def":"i16"},
+    {"name":"i32","def":"i32"},
+    {"name":"i64","def":"i64"},
+    {"name":"isize","def":"isize"},
+    {"name":"i128","def":"i128"},
+    {"name":"u8","def":"u8"},
+    {"name":"u16","def":"u16"},
+    {"name":"u64","def":"u64"},
+    {"name":"usize","def":"usize"},
+    {"name":"u128","def":"u128"},
+    {"name":"str","def":"str"},
+    {"name":"CowStr","def":"CowStr"},
+    {"name":"Bytes","def":{"list":12}},
+    {"name":"Numbers","def":{"list":0}},
+    {"name":"Res","def":"opaque"},
+    {"name":"Nothing","def":{"unit":[]}},
+    {"name":"Pick","def":{"enum":{"repr":"U8","variants":[
+        {"name":"A","fields":[],"discriminant":0}
+    ]}}},
+    {"name":"Maybe","def":{"option":0}},
+    {"name":"Either","def":{"result":[0,1]}},
+    {"name":"Names","def":{"map":[1,0]}},
+    {"name":"Nums","def":{"set":0}},
+    {"name":"Pair","def":{"array":[0,2]}},
+    {"name":"Link","def":{"pointer":{"known":"Box","pointee":0}}},
+    {"name":"Slice","def":{"slice":12}},
+    {"name":"Unknown","def":"undefined"},
+    {"name":"Holder","def":{"struct":[{"name":"n","shape":0},{"name":"d","shape":2}]}},
+    {"name":"MaybeAny","def":{"option":2}},
+    {"name":"Anys","def":{"list":2}},
+    {"name":"Kept","def":{"struct":[{"name":"r","shape":21},{"name":"d","shape":2}]}},
+    {"name":"AnySet","def":{"set":2}}
+],"#;
 
 /// What is put at an Any, and the dynamic value that comes of it.
 const CONVERTED: [(&str, &str, &str); 15] = [
@@ -116,13 +154,20 @@ const NOT_CONVERTED: [(&str, &str, &str); 14] = [
 const BUILT: [(&str, &str, u8, &str); 30] = [
     (
         "an object of a number and an array",
-        r#""root":2,"commands":[["init_map"],["begin_object_entry","a"],["set",0,5],["end"],["begin_object_entry","b"],["init_list"],["begin_list_item"],["set",1,"x"],["end"],["end"]]}"#,
+        r#""root":2,"commands":[
+            ["init_map"],["begin_object_entry","a"],["set",0,5],["end"],["begin_object_entry","b"],
+            ["init_list"],["begin_list_item"],["set",1,"x"],["end"],["end"]
+        ]}"#,
         0,
         r#"{"ok":{"d":{"o":[["a",5],["b",["x"]]]}},"released":[]}"#,
     ),
     (
         "the same in deferred mode",
-        r#""root":2,"commands":[["begin_deferred"],["init_map"],["begin_object_entry","a"],["set",0,5],["end"],["begin_object_entry","b"],["init_list"],["begin_list_item"],["set",1,"x"],["end"],["end"],["finish_deferred"]]}"#,
+        r#""root":2,"commands":[
+            ["begin_deferred"],["init_map"],["begin_object_entry","a"],["set",0,5],["end"],
+            ["begin_object_entry","b"],["init_list"],["begin_list_item"],["set",1,"x"],["end"],
+            ["end"],["finish_deferred"]
+        ]}"#,
         0,
         r#"{"ok":{"d":{"o":[["a",5],["b",["x"]]]}},"released":[]}"#,
     ),
@@ -140,13 +185,19 @@ const BUILT: [(&str, &str, u8, &str); 30] = [
     ),
     (
         "an array keeps its elements, whole or begun",
-        r#""root":2,"commands":[["set",2,{"d":[1]}],["init_list"],["begin_list_item"],["set",0,2],["end"],["init_list"],["begin_list_item"],["set",0,3],["end"]]}"#,
+        r#""root":2,"commands":[
+            ["set",2,{"d":[1]}],["init_list"],["begin_list_item"],["set",0,2],["end"],
+            ["init_list"],["begin_list_item"],["set",0,3],["end"]
+        ]}"#,
         0,
         r#"{"ok":{"d":[1,2,3]},"released":[]}"#,
     ),
     (
         "an object keeps its entries, whole or begun",
-        r#""root":2,"commands":[["set",2,{"d":{"o":[["a",true]]}}],["init_map"],["begin_object_entry","b"],["set",0,2],["end"],["init_map"],["begin_object_entry","a"],["set",0,3],["end"]]}"#,
+        r#""root":2,"commands":[
+            ["set",2,{"d":{"o":[["a",true]]}}],["init_map"],["begin_object_entry","b"],["set",0,2],
+            ["end"],["init_map"],["begin_object_entry","a"],["set",0,3],["end"]
+        ]}"#,
         0,
         r#"{"ok":{"d":{"o":[["a",3],["b",2]]}},"released":[]}"#,
     ),
@@ -158,25 +209,40 @@ const BUILT: [(&str, &str, u8, &str); 30] = [
     ),
     (
         "an entry that is begun again goes on",
-        r#""root":2,"commands":[["init_map"],["begin_object_entry","a"],["init_list"],["begin_list_item"],["set",0,1],["end"],["end"],["begin_object_entry","b"],["set",0,5],["end"],["begin_object_entry","a"],["init_list"],["begin_list_item"],["set",0,2],["end"],["end"]]}"#,
+        r#""root":2,"commands":[
+            ["init_map"],["begin_object_entry","a"],["init_list"],["begin_list_item"],["set",0,1],
+            ["end"],["end"],["begin_object_entry","b"],["set",0,5],["end"],
+            ["begin_object_entry","a"],["init_list"],["begin_list_item"],["set",0,2],["end"],["end"]
+        ]}"#,
         0,
         r#"{"ok":{"d":{"o":[["a",[1,2]],["b",5]]}},"released":[]}"#,
     ),
     (
         "the same in deferred mode",
-        r#""root":2,"commands":[["begin_deferred"],["init_map"],["begin_object_entry","a"],["init_list"],["begin_list_item"],["set",0,1],["end"],["end"],["begin_object_entry","b"],["set",0,5],["end"],["begin_object_entry","a"],["init_list"],["begin_list_item"],["set",0,2],["end"],["end"],["finish_deferred"]]}"#,
+        r#""root":2,"commands":[
+            ["begin_deferred"],["init_map"],["begin_object_entry","a"],["init_list"],
+            ["begin_list_item"],["set",0,1],["end"],["end"],
+            ["begin_object_entry","b"],["set",0,5],["end"],["begin_object_entry","a"],["init_list"],
+            ["begin_list_item"],["set",0,2],["end"],["end"],["finish_deferred"]
+        ]}"#,
         0,
         r#"{"ok":{"d":{"o":[["a",[1,2]],["b",5]]}},"released":[]}"#,
     ),
     (
         "an entry that is begun again keeps its value",
-        r#""root":2,"commands":[["init_map"],["begin_object_entry","a"],["set",0,1],["end"],["begin_object_entry","a"],["end"]]}"#,
+        r#""root":2,"commands":[
+            ["init_map"],["begin_object_entry","a"],["set",0,1],["end"],
+            ["begin_object_entry","a"],["end"]
+        ]}"#,
         0,
         r#"{"ok":{"d":{"o":[["a",1]]}},"released":[]}"#,
     ),
     (
         "an entry that is begun again takes another value",
-        r#""root":2,"commands":[["begin_deferred"],["init_map"],["begin_object_entry","a"],["set",0,1],["end"],["begin_object_entry","a"],["set",1,"x"],["end"],["finish_deferred"]]}"#,
+        r#""root":2,"commands":[
+            ["begin_deferred"],["init_map"],["begin_object_entry","a"],["set",0,1],["end"],
+            ["begin_object_entry","a"],["set",1,"x"],["end"],["finish_deferred"]
+        ]}"#,
         0,
         r#"{"ok":{"d":{"o":[["a","x"]]}},"released":[]}"#,
     ),
@@ -206,7 +272,10 @@ const BUILT: [(&str, &str, u8, &str); 30] = [
     ),
     (
         "an array starts anew as an object",
-        r#""root":2,"commands":[["begin_deferred"],["init_list"],["begin_list_item"],["set",0,1],["end"],["init_map"],["finish_deferred"]]}"#,
+        r#""root":2,"commands":[
+            ["begin_deferred"],["init_list"],["begin_list_item"],["set",0,1],["end"],
+            ["init_map"],["finish_deferred"]
+        ]}"#,
         0,
         r#"{"ok":{"d":{"o":[]}},"released":[]}"#,
     ),
@@ -224,31 +293,50 @@ const BUILT: [(&str, &str, u8, &str); 30] = [
     ),
     (
         "objects in an array in an object",
-        r#""root":2,"commands":[["begin_deferred"],["init_map"],["begin_object_entry","a"],["init_list"],["begin_list_item"],["init_map"],["begin_object_entry",""],["set",0,1],["end"],["end"],["begin_list_item"],["init_map"],["begin_object_entry","b"],["set",4,false],["end"],["end"],["end"],["finish_deferred"]]}"#,
+        r#""root":2,"commands":[
+            ["begin_deferred"],["init_map"],["begin_object_entry","a"],["init_list"],
+            ["begin_list_item"],["init_map"],["begin_object_entry",""],["set",0,1],["end"],["end"],
+            ["begin_list_item"],["init_map"],["begin_object_entry","b"],["set",4,false],["end"],
+            ["end"],["end"],["finish_deferred"]
+        ]}"#,
         0,
         r#"{"ok":{"d":{"o":[["a",[{"o":[["",1]]},{"o":[["b",false]]}]]]}},"released":[]}"#,
     ),
     (
         "a dynamic value in an option goes on",
-        r#""root":33,"commands":[["set",33,{"s":{"d":[1]}}],["begin_some"],["init_list"],["begin_list_item"],["set",0,2],["end"],["end"]]}"#,
+        r#""root":33,"commands":[
+            ["set",33,{"s":{"d":[1]}}],["begin_some"],["init_list"],["begin_list_item"],["set",0,2],
+            ["end"],["end"]
+        ]}"#,
         0,
         r#"{"ok":{"s":{"d":[1,2]}},"released":[]}"#,
     ),
     (
         "dynamic values in a list",
-        r#""root":34,"commands":[["init_list"],["begin_list_item"],["set",4,true],["end"],["begin_list_item"],["init_map"],["end"]]}"#,
+        r#""root":34,"commands":[
+            ["init_list"],["begin_list_item"],["set",4,true],["end"],
+            ["begin_list_item"],["init_map"],["end"]
+        ]}"#,
         0,
         r#"{"ok":{"l":[{"d":true},{"d":{"o":[]}}]},"released":[]}"#,
     ),
     (
         "a field that was left goes on",
-        r#""root":32,"commands":[["begin_deferred"],["begin_field","d"],["init_map"],["begin_object_entry","a"],["set",0,1],["end"],["end"],["begin_field","n"],["set",0,7],["end"],["begin_field","d"],["begin_object_entry","b"],["set",0,2],["end"],["end"],["finish_deferred"]]}"#,
+        r#""root":32,"commands":[
+            ["begin_deferred"],["begin_field","d"],["init_map"],["begin_object_entry","a"],
+            ["set",0,1],["end"],["end"],["begin_field","n"],["set",0,7],["end"],
+            ["begin_field","d"],["begin_object_entry","b"],["set",0,2],["end"],["end"],
+            ["finish_deferred"]
+        ]}"#,
         0,
         r#"{"ok":[7,{"d":{"o":[["a",1],["b",2]]}}],"released":[]}"#,
     ),
     (
         "deferred mode ends inside an entry",
-        r#""root":2,"commands":[["begin_deferred"],["init_map"],["begin_object_entry","a"],["set",0,1],["finish_deferred"],["end"],["begin_object_entry","b"],["set",0,2],["end"]]}"#,
+        r#""root":2,"commands":[
+            ["begin_deferred"],["init_map"],["begin_object_entry","a"],["set",0,1],
+            ["finish_deferred"],["end"],["begin_object_entry","b"],["set",0,2],["end"]
+        ]}"#,
         0,
         r#"{"ok":{"d":{"o":[["a",1],["b",2]]}},"released":[]}"#,
     ),
@@ -266,255 +354,49 @@ const BUILT: [(&str, &str, u8, &str); 30] = [
     ),
     (
         "bytes in an entry",
-        r#""root":3,"commands":[["begin_deferred"],["init_map"],["begin_object_entry","a"],["set",19,{"l":[0]}],["end"],["finish_deferred"]]}"#,
+        r#""root":3,"commands":[
+            ["begin_deferred"],["init_map"],["begin_object_entry","a"],["set",19,{"l":[0]}],["end"],
+            ["finish_deferred"]
+        ]}"#,
         0,
         r#"{"ok":{"d":{"o":[["a",{"b":[0]}]]}},"released":[]}"#,
     ),
     (
         "a set keeps equal arrays once",
-        r#""root":36,"commands":[["begin_deferred"],["init_set"],["begin_set_item"],["init_list"],["begin_list_item"],["set",0,1],["end"],["end"],["begin_set_item"],["set",2,{"d":[1]}],["end"],["finish_deferred"]]}"#,
+        r#""root":36,"commands":[
+            ["begin_deferred"],["init_set"],["begin_set_item"],["init_list"],["begin_list_item"],
+            ["set",0,1],["end"],["end"],["begin_set_item"],["set",2,{"d":[1]}],["end"],
+            ["finish_deferred"]
+        ]}"#,
         0,
         r#"{"ok":{"e":[{"d":[1]}]},"released":[]}"#,
     ),
     (
         "an object in a list",
-        r#""root":34,"commands":[["init_list"],["begin_list_item"],["init_map"],["begin_object_entry","k"],["set",1,"x"],["end"],["end"]]}"#,
+        r#""root":34,"commands":[
+            ["init_list"],["begin_list_item"],["init_map"],["begin_object_entry","k"],["set",1,"x"],
+            ["end"],["end"]
+        ]}"#,
         0,
         r#"{"ok":{"l":[{"d":{"o":[["k","x"]]}}]},"released":[]}"#,
     ),
     (
         "an object that becomes an array in deferred mode",
-        r#""root":2,"commands":[["begin_deferred"],["init_map"],["begin_object_entry","a"],["set",0,5],["end"],["init_list"],["begin_list_item"],["set",0,1],["end"],["finish_deferred"]]}"#,
+        r#""root":2,"commands":[
+            ["begin_deferred"],["init_map"],["begin_object_entry","a"],["set",0,5],["end"],
+            ["init_list"],["begin_list_item"],["set",0,1],["end"],["finish_deferred"]
+        ]}"#,
         0,
         r#"{"ok":{"d":[1]},"released":[]}"#,
     ),
     (
         "deferred mode that ends at an element",
-        r#""root":2,"commands":[["begin_deferred"],["init_list"],["begin_list_item"],["set",0,1],["finish_deferred"],["end"]]}"#,
+        r#""root":2,"commands":[
+            ["begin_deferred"],["init_list"],["begin_list_item"],["set",0,1],["finish_deferred"],
+            ["end"]
+        ]}"#,
         0,
         r#"{"ok":{"d":[1]},"released":[]}"#,
-    ),
-];
-
-const REFUSED: [(&str, &str, u8, &str); 33] = [
-    (
-        "nothing is put there",
-        r#""root":2,"commands":[]}"#,
-        1,
-        r#"{"error":{"command":0,"detail":"Any","kind":"UninitializedValue","path":""},"released":[]}"#,
-    ),
-    (
-        "an element without a value",
-        r#""root":2,"commands":[["init_list"],["begin_list_item"],["end"]]}"#,
-        1,
-        r#"{"error":{"command":2,"detail":"Any","kind":"UninitializedValue","path":"[0]"},"released":[]}"#,
-    ),
-    (
-        "in deferred mode as it ends",
-        r#""root":2,"commands":[["begin_deferred"],["init_list"],["begin_list_item"],["end"],["finish_deferred"]]}"#,
-        1,
-        r#"{"error":{"command":3,"detail":"Any","kind":"UninitializedValue","path":"[0]"},"released":[]}"#,
-    ),
-    (
-        "an entry without a value",
-        r#""root":2,"commands":[["init_map"],["begin_object_entry","a"],["end"]]}"#,
-        1,
-        r#"{"error":{"command":2,"detail":"Any","kind":"UninitializedValue","path":"[a]"},"released":[]}"#,
-    ),
-    (
-        "an entry in deferred mode as it ends",
-        r#""root":2,"commands":[["begin_deferred"],["init_map"],["begin_object_entry","a"],["set",0,1],["end"],["begin_object_entry","b"],["end"],["finish_deferred"]]}"#,
-        1,
-        r#"{"error":{"command":6,"detail":"Any","kind":"UninitializedValue","path":"[b]"},"released":[]}"#,
-    ),
-    (
-        "an element behind others",
-        r#""root":2,"commands":[["set",2,{"d":[1,2]}],["init_list"],["begin_list_item"],["set",0,3],["end"],["begin_list_item"],["end"]]}"#,
-        1,
-        r#"{"error":{"command":6,"detail":"Any","kind":"UninitializedValue","path":"[3]"},"released":[]}"#,
-    ),
-    (
-        "an element in an entry",
-        r#""root":2,"commands":[["begin_deferred"],["init_map"],["begin_object_entry","a"],["set",0,1],["end"],["begin_object_entry","b"],["init_list"],["begin_list_item"],["end"],["end"],["finish_deferred"]]}"#,
-        1,
-        r#"{"error":{"command":8,"detail":"Any","kind":"UninitializedValue","path":"[b][0]"},"released":[]}"#,
-    ),
-    (
-        "an element of a field",
-        r#""root":32,"commands":[["begin_deferred"],["begin_field","d"],["init_list"],["begin_list_item"],["set",0,1],["end"],["begin_list_item"],["end"],["end"],["finish_deferred"]]}"#,
-        1,
-        r#"{"error":{"command":7,"detail":"Any","kind":"UninitializedValue","path":"d[1]"},"released":[]}"#,
-    ),
-    (
-        "deferred mode that ends too early",
-        r#""root":2,"commands":[["begin_deferred"],["init_map"],["begin_object_entry","a"],["finish_deferred"]]}"#,
-        1,
-        r#"{"error":{"command":3,"detail":"Any","kind":"UninitializedValue","path":"[a]"},"released":[]}"#,
-    ),
-    (
-        "an entry that is left open",
-        r#""root":2,"commands":[["init_map"],["begin_object_entry","a"],["set",0,1]]}"#,
-        1,
-        r#"{"error":{"command":3,"detail":"build() called but more than one frame is on the stack","kind":"InvariantViolation","path":"[a]"},"released":[]}"#,
-    ),
-    (
-        "an entry of a number",
-        r#""root":0,"commands":[["begin_object_entry","a"]]}"#,
-        1,
-        r#"{"error":{"command":0,"detail":"begin_object_entry can only be called on DynamicValue types","kind":"OperationFailed","path":""},"released":[]}"#,
-    ),
-    (
-        "an entry of a map",
-        r#""root":26,"commands":[["init_map"],["begin_object_entry","a"]]}"#,
-        1,
-        r#"{"error":{"command":1,"detail":"begin_object_entry can only be called on DynamicValue types","kind":"OperationFailed","path":""},"released":[]}"#,
-    ),
-    (
-        "an entry before its object",
-        r#""root":2,"commands":[["begin_object_entry","a"]]}"#,
-        1,
-        r#"{"error":{"command":0,"detail":"must call init_map() before begin_object_entry()","kind":"OperationFailed","path":""},"released":[]}"#,
-    ),
-    (
-        "an entry of an array",
-        r#""root":2,"commands":[["init_list"],["begin_object_entry","a"]]}"#,
-        1,
-        r#"{"error":{"command":1,"detail":"must call init_map() before begin_object_entry()","kind":"OperationFailed","path":""},"released":[]}"#,
-    ),
-    (
-        "an entry of a whole object",
-        r#""root":2,"commands":[["set",2,{"d":{"o":[]}}],["begin_object_entry","a"]]}"#,
-        1,
-        r#"{"error":{"command":1,"detail":"must call init_map() before begin_object_entry()","kind":"OperationFailed","path":""},"released":[]}"#,
-    ),
-    (
-        "an entry of an object that was ended",
-        r#""root":2,"commands":[["begin_deferred"],["init_map"],["begin_object_entry","a"],["init_map"],["begin_object_entry","x"],["set",0,1],["end"],["end"],["begin_object_entry","a"],["begin_object_entry","y"],["finish_deferred"]]}"#,
-        1,
-        r#"{"error":{"command":9,"detail":"must call init_map() before begin_object_entry()","kind":"OperationFailed","path":"[a]"},"released":[]}"#,
-    ),
-    (
-        "an element before its array",
-        r#""root":2,"commands":[["begin_list_item"]]}"#,
-        1,
-        r#"{"error":{"command":0,"detail":"push can only be called on List or DynamicValue types","kind":"OperationFailed","path":""},"released":[]}"#,
-    ),
-    (
-        "an element of an object",
-        r#""root":2,"commands":[["init_map"],["begin_list_item"]]}"#,
-        1,
-        r#"{"error":{"command":1,"detail":"push can only be called on List or DynamicValue types","kind":"OperationFailed","path":""},"released":[]}"#,
-    ),
-    (
-        "an element of an object beside a token",
-        r#""root":35,"tokens":1,"commands":[["begin_field","r"],["set",21,{"t":0}],["end"],["begin_field","d"],["init_map"],["begin_list_item"]]}"#,
-        1,
-        r#"{"error":{"command":5,"detail":"push can only be called on List or DynamicValue types","kind":"OperationFailed","path":"d"},"released":[0]}"#,
-    ),
-    (
-        "a key of an object",
-        r#""root":2,"commands":[["init_map"],["begin_key"]]}"#,
-        1,
-        r#"{"error":{"command":1,"detail":"must call init_map() before begin_key()","kind":"OperationFailed","path":""},"released":[]}"#,
-    ),
-    (
-        "a value of an object",
-        r#""root":2,"commands":[["init_map"],["begin_value"]]}"#,
-        1,
-        r#"{"error":{"command":1,"detail":"must complete key before begin_value()","kind":"OperationFailed","path":""},"released":[]}"#,
-    ),
-    (
-        "a set",
-        r#""root":2,"commands":[["init_set"]]}"#,
-        1,
-        r#"{"error":{"command":0,"detail":"init_set can only be called on Set types","kind":"OperationFailed","path":""},"released":[]}"#,
-    ),
-    (
-        "a set of an array",
-        r#""root":2,"commands":[["init_list"],["init_set"]]}"#,
-        1,
-        r#"{"error":{"command":1,"detail":"init_set called but tracker isn't something set-like","kind":"UnexpectedTracker","path":""},"released":[]}"#,
-    ),
-    (
-        "an item of a set",
-        r#""root":2,"commands":[["begin_set_item"]]}"#,
-        1,
-        r#"{"error":{"command":0,"detail":"init_set_item can only be called on Set types","kind":"OperationFailed","path":""},"released":[]}"#,
-    ),
-    (
-        "an array of fixed length",
-        r#""root":2,"commands":[["init_array"]]}"#,
-        1,
-        r#"{"error":{"command":0,"detail":"init_array can only be called on Array types","kind":"OperationFailed","path":""},"released":[]}"#,
-    ),
-    (
-        "a field",
-        r#""root":2,"commands":[["begin_field","a"]]}"#,
-        1,
-        r#"{"error":{"command":0,"detail":"cannot select a field from this type","kind":"OperationFailed","path":""},"released":[]}"#,
-    ),
-    (
-        "a list of numbers where bytes are taken",
-        r#""root":3,"commands":[["set",20,{"l":[1]}]]}"#,
-        1,
-        r#"{"error":{"command":0,"detail":"cannot convert this type to dynamic value","kind":"OperationFailed","path":""},"released":[]}"#,
-    ),
-    (
-        "a token",
-        r#""root":35,"tokens":2,"commands":[["begin_field","r"],["set",21,{"t":0}],["end"],["begin_field","d"],["set",21,{"t":1}]]}"#,
-        1,
-        r#"{"error":{"command":4,"detail":"cannot convert this type to dynamic value","kind":"OperationFailed","path":"d"},"released":[0,1]}"#,
-    ),
-    (
-        "a token of an undefined shape",
-        r#""root":2,"tokens":1,"commands":[["set",31,{"t":0}]]}"#,
-        1,
-        r#"{"error":{"command":0,"detail":"cannot convert this type to dynamic value","kind":"OperationFailed","path":""},"released":[0]}"#,
-    ),
-    (
-        "an element of an array that is whole",
-        r#""root":2,"commands":[["set",2,{"d":[1]}],["begin_list_item"]]}"#,
-        1,
-        r#"{"error":{"command":1,"detail":"push can only be called on List or DynamicValue types","kind":"OperationFailed","path":""},"released":[]}"#,
-    ),
-    (
-        "a field of a dynamic value",
-        r#""root":2,"commands":[["begin_nth_field",0]]}"#,
-        1,
-        r#"{"error":{"command":0,"detail":"cannot select a field from this type","kind":"OperationFailed","path":""},"released":[]}"#,
-    ),
-    (
-        "too wide a number in an entry",
-        r#""root":2,"commands":[["init_map"],["begin_object_entry","a"],["set",11,{"i":1}]]}"#,
-        1,
-        r#"{"error":{"command":2,"detail":"unsupported signed integer size for dynamic value","kind":"OperationFailed","path":"[a]"},"released":[]}"#,
-    ),
-    (
-        "the end of the entry at which deferred mode began",
-        r#""root":2,"commands":[["init_map"],["begin_object_entry","a"],["begin_deferred"],["set",0,1],["end"]]}"#,
-        1,
-        r#"{"error":{"command":4,"detail":"Partial::end() called but would pop below deferred start depth","kind":"InvariantViolation","path":"[a]"},"released":[]}"#,
-    ),
-];
-
-const BROKEN: [(&str, &str, u8, &str); 3] = [
-    (
-        "an entry without a key",
-        r#""root":2,"commands":[["begin_object_entry"]]}"#,
-        2,
-        r#"{"fault":"BadForm","place":"command 0"}"#,
-    ),
-    (
-        "an entry whose key is a number",
-        r#""root":2,"commands":[["begin_object_entry",1]]}"#,
-        2,
-        r#"{"fault":"BadForm","place":"command 0"}"#,
-    ),
-    (
-        "an entry of two keys",
-        r#""root":2,"commands":[["begin_object_entry","a","b"]]}"#,
-        2,
-        r#"{"fault":"BadForm","place":"command 0"}"#,
     ),
 ];
 
@@ -548,14 +430,4 @@ fn dynamic_places_refuse_other_values(rt: HostRuntime) -> Result<(), Fail> {
 #[test]
 fn arrays_and_objects_are_built_part_by_part(rt: HostRuntime) -> Result<(), Fail> {
     check_each(&rt, SHAPES, &BUILT)
-}
-
-#[test]
-fn dynamic_values_are_refused(rt: HostRuntime) -> Result<(), Fail> {
-    check_each(&rt, SHAPES, &REFUSED)
-}
-
-#[test]
-fn an_entry_has_one_key(rt: HostRuntime) -> Result<(), Fail> {
-    check_each(&rt, SHAPES, &BROKEN)
 }

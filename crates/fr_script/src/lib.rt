@@ -15,6 +15,8 @@ mod document_laws;
 #[cfg(test)]
 mod document_tests;
 #[cfg(test)]
+mod dynamic_refusal_tests;
+#[cfg(test)]
 mod dynamic_tests;
 #[cfg(test)]
 mod limit_tests;
@@ -22,6 +24,8 @@ mod limit_tests;
 mod list_tests;
 mod marking;
 mod members;
+#[cfg(test)]
+mod original_list_tests;
 #[cfg(test)]
 mod original_tests;
 mod plan_answer;

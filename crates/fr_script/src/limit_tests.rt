@@ -106,7 +106,8 @@ fn a_document_has_at_most_200_000_commands(rt: HostRuntime) -> Result<(), Fail> 
         200_000,
         (
             1,
-            r#"{"error":{"command":0,"detail":"Partial::end() called with only one frame on the stack","kind":"InvariantViolation","path":""},"released":[]}"#,
+            r#"{"error":{"command":0,"detail":"Partial::end() called with only one frame on the stack",
+                "kind":"InvariantViolation","path":""},"released":[]}"#,
         ),
         r#"{"fault":"TooLarge","what":"commands"}"#,
     )

@@ -19,16 +19,7 @@ pub fn mark_command(table: &ShapeTable, command: &Command, marks: &mut [bool]) -
                 && fits(table, *shape, value)
                 && mark_value(value, marks)
         }
-        Command::BeginField(_) | Command::BeginNthField(_) => true,
-        Command::SetNthFieldToDefault(_) | Command::SetDefault => true,
-        Command::SetEmptySharedSlice | Command::InitList | Command::InitListWithCapacity(_) => true,
-        Command::InitArray | Command::BeginListItem => true,
-        Command::InitMap | Command::BeginKey | Command::BeginValue => true,
-        Command::InitSet | Command::BeginSetItem | Command::BeginObjectEntry(_) => true,
-        Command::BeginSome | Command::BeginOk | Command::BeginErr | Command::BeginSmartPtr => true,
-        Command::SelectNthVariant(_) | Command::SelectVariantNamed(_) => true,
-        Command::SelectVariant(_) | Command::End => true,
-        Command::BeginDeferred | Command::FinishDeferred => true,
+        _ => true,
     }
 }
 

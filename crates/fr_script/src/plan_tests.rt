@@ -6,19 +6,47 @@ use std::test::Fail;
 const PLANS: [(&str, &str, u8, &str); 6] = [
     (
         "a struct that holds itself through a pointer refers back once",
-        r#"{"shapes":[{"name":"u32","def":"u32"},{"name":"Rec","def":{"struct":[{"name":"value","shape":0},{"name":"next","shape":3}]}},{"name":"BoxRec","def":{"pointer":{"known":"Box","pointee":1}}},{"name":"OptRec","def":{"option":2},"preset":null}],"root":1,"commands":[]}"#,
+        r#"{"shapes":[
+            {"name":"u32","def":"u32"},
+            {"name":"Rec","def":{"struct":[{"name":"value","shape":0},{"name":"next","shape":3}]}},
+            {"name":"BoxRec","def":{"pointer":{"known":"Box","pointee":1}}},
+            {"name":"OptRec","def":{"option":2},"preset":null}
+        ],"root":1,"commands":[]}"#,
         0,
-        r#"{"nodes":[{"kind":"Scalar","shape":"u32","strategy":"Scalar"},{"kind":"BackRef","shape":"Rec","strategy":"BackRef"},{"kind":"Pointer","shape":"BoxRec","strategy":"Pointer"},{"kind":"Option","shape":"OptRec","strategy":"Option"},{"kind":"Struct","shape":"Rec","strategy":"Struct"}],"root":4}"#,
+        r#"{"nodes":[
+            {"kind":"Scalar","shape":"u32","strategy":"Scalar"},
+            {"kind":"BackRef","shape":"Rec","strategy":"BackRef"},
+            {"kind":"Pointer","shape":"BoxRec","strategy":"Pointer"},
+            {"kind":"Option","shape":"OptRec","strategy":"Option"},
+            {"kind":"Struct","shape":"Rec","strategy":"Struct"}
+        ],"root":4}"#,
     ),
     (
         "a field with a proxy has a node of its own",
-        r#"{"shapes":[{"name":"u32","def":"u32"},{"name":"String","def":"String"},{"name":"W","def":{"struct":[{"name":"a","shape":0,"proxy":{"source":1,"convert":2}},{"name":"b","shape":0}]}}],"root":2,"commands":[]}"#,
+        r#"{"shapes":[
+            {"name":"u32","def":"u32"},
+            {"name":"String","def":"String"},
+            {"name":"W","def":{"struct":[
+                {"name":"a","shape":0,"proxy":{"source":1,"convert":2}},{"name":"b","shape":0}
+            ]}}
+        ],"root":2,"commands":[]}"#,
         0,
-        r#"{"nodes":[{"kind":"Scalar","shape":"String","strategy":"Scalar"},{"kind":"Scalar","shape":"u32","strategy":"Scalar"},{"kind":"BackRef","shape":"u32","strategy":"FieldProxy"},{"kind":"Struct","shape":"W","strategy":"Struct"}],"root":3}"#,
+        r#"{"nodes":[
+            {"kind":"Scalar","shape":"String","strategy":"Scalar"},
+            {"kind":"Scalar","shape":"u32","strategy":"Scalar"},
+            {"kind":"BackRef","shape":"u32","strategy":"FieldProxy"},
+            {"kind":"Struct","shape":"W","strategy":"Struct"}
+        ],"root":3}"#,
     ),
     (
         "an enum over one shape that both variants share",
-        r#"{"shapes":[{"name":"u32","def":"u32"},{"name":"L","def":{"enum":{"repr":"U8","variants":[{"name":"A","fields":[{"name":"f","shape":0}],"discriminant":0},{"name":"B","fields":[{"name":"f","shape":0}],"discriminant":1}]}}}],"root":1,"commands":[]}"#,
+        r#"{"shapes":[
+            {"name":"u32","def":"u32"},
+            {"name":"L","def":{"enum":{"repr":"U8","variants":[
+                {"name":"A","fields":[{"name":"f","shape":0}],"discriminant":0},
+                {"name":"B","fields":[{"name":"f","shape":0}],"discriminant":1}
+            ]}}}
+        ],"root":1,"commands":[]}"#,
         0,
         r#"{"nodes":[{"kind":"Scalar","shape":"u32","strategy":"Scalar"},{"kind":"Enum","shape":"L","strategy":"Enum"}],"root":1}"#,
     ),
@@ -30,7 +58,10 @@ const PLANS: [(&str, &str, u8, &str); 6] = [
     ),
     (
         "a shape that the root reaches can't be planned",
-        r#"{"shapes":[{"name":"Odd","def":"other"},{"name":"Bad","def":{"struct":[{"name":"o","shape":0}]}}],"root":1,"commands":[]}"#,
+        r#"{"shapes":[
+            {"name":"Odd","def":"other"},
+            {"name":"Bad","def":{"struct":[{"name":"o","shape":0}]}}
+        ],"root":1,"commands":[]}"#,
         1,
         r#"{"error":{"command":0,"detail":"unsupported type for deserialization","kind":"Alloc","path":""},"released":[]}"#,
     ),

@@ -1,7 +1,8 @@
 //! A document from its bytes to the plan of its root.
 ghost use Rattle.std.specs.Prelude.{◌≡◌, IfOk};
-ghost use Rattle.fr_script.specs.Answers.{plan_outcome};
+ghost use Rattle.fr_script.specs.Answers.{IsPlanAnswer, IsPlanned, plan_outcome};
 ghost use Rattle.fr_script.specs.DocumentFacts.{IsInOrder};
+ghost use Rattle.fr_script.specs.Documents.{document_of};
 ghost use Rattle.fr_script.specs.Reading.{document_view};
 ghost use Rattle.fr_script.specs.Reports.{outcome_of, outcome_of_plan, plan_of};
 ghost use Rattle.fr_script.specs.declared.word.Word.{Word as TheWord};
@@ -15,8 +16,10 @@ use fr_plan::TypePlanCore;
 use fr_shape::{OutOfMemory, PlanError};
 use std::alloc::Global;
 
-/// Reads a document and plans its root.
+/// Reads a document and plans its root. The answer is the document's first fault; or its own table, with the plan of its root; or the
+/// first shape that can't be planned, and why.
 pub fn plan_document(alloc: Global, bytes: &[u8]) -> Result<PlanAnswer, OutOfMemory>
+    ensures answer { IfOk result (IsPlanAnswer (document_of TheWord.Plan bytes.now)) }
     ensures outcome { IfOk result (λ answer.
         plan_outcome answer ≡ outcome_of TheWord.Plan bytes.now) }
 {
@@ -33,7 +36,8 @@ pub fn plan_document(alloc: Global, bytes: &[u8]) -> Result<PlanAnswer, OutOfMem
 /// Plans a document's root.
 pub(crate) fn plan_root(alloc: Global, document: Document) -> Result<PlanAnswer, OutOfMemory>
     requires { IsInOrder (document_view document) }
-    ensures { IfOk result (λ answer. plan_outcome answer
+    ensures planned { IfOk result (IsPlanned (document_view document)) }
+    ensures outcome { IfOk result (λ answer. plan_outcome answer
         ≡ outcome_of_plan document.table (plan_of (document_view document))) }
 {
     let Document { table, root, .. } = document;

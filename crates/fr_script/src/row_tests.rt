@@ -5,8 +5,13 @@ use std::test::Fail;
 
 /// The shapes u32, Nums (a list with a default), Empty (a struct without fields, with a default), HasList and HasEmpty,
 /// before the root.
-const DEFAULTS: &str =
-    r#"{"shapes":[{"name":"u32","def":"u32"},{"name":"Nums","def":{"list":0},"preset":{"l":[]}},{"name":"Empty","def":{"unit":[]},"preset":[]},{"name":"HasList","def":{"struct":[{"name":"l","shape":1}]}},{"name":"HasEmpty","def":{"struct":[{"name":"e","shape":2},{"name":"k","shape":0}]}}],"#;
+const DEFAULTS: &str = r#"{"shapes":[
+    {"name":"u32","def":"u32"},
+    {"name":"Nums","def":{"list":0},"preset":{"l":[]}},
+    {"name":"Empty","def":{"unit":[]},"preset":[]},
+    {"name":"HasList","def":{"struct":[{"name":"l","shape":1}]}},
+    {"name":"HasEmpty","def":{"struct":[{"name":"e","shape":2},{"name":"k","shape":0}]}}
+],"#;
 
 const DEFAULTS_TAKEN: [(&str, &str, u8, &str); 3] = [
     (
@@ -30,8 +35,12 @@ const DEFAULTS_TAKEN: [(&str, &str, u8, &str); 3] = [
 ];
 
 /// The shapes u32, A64, A3 and A5000 (arrays of so many), before the root.
-const ARRAYS: &str =
-    r#"{"shapes":[{"name":"u32","def":"u32"},{"name":"A64","def":{"array":[0,64]}},{"name":"A3","def":{"array":[0,3]}},{"name":"A5000","def":{"array":[0,5000]}}],"#;
+const ARRAYS: &str = r#"{"shapes":[
+    {"name":"u32","def":"u32"},
+    {"name":"A64","def":{"array":[0,64]}},
+    {"name":"A3","def":{"array":[0,3]}},
+    {"name":"A5000","def":{"array":[0,5000]}}
+],"#;
 
 const ARRAYS_BUILT: [(&str, &str, u8, &str); 8] = [
     (
@@ -44,7 +53,8 @@ const ARRAYS_BUILT: [(&str, &str, u8, &str); 8] = [
         "an array that is left open",
         r#""root":1,"commands":[["begin_nth_field",0]]}"#,
         1,
-        r#"{"error":{"command":1,"detail":"build() called but more than one frame is on the stack","kind":"InvariantViolation","path":"[0]"},"released":[]}"#,
+        r#"{"error":{"command":1,"detail":"build() called but more than one frame is on the stack",
+            "kind":"InvariantViolation","path":"[0]"},"released":[]}"#,
     ),
     (
         "an element past the end of a large array",
@@ -56,7 +66,8 @@ const ARRAYS_BUILT: [(&str, &str, u8, &str); 8] = [
         "an array that is too large to be entered",
         r#""root":3,"commands":[["begin_nth_field",0]]}"#,
         1,
-        r#"{"error":{"command":0,"detail":"arrays larger than 4096 elements are not yet supported","kind":"OperationFailed","path":""},"released":[]}"#,
+        r#"{"error":{"command":0,"detail":"arrays larger than 4096 elements are not yet supported",
+            "kind":"OperationFailed","path":""},"released":[]}"#,
     ),
     (
         "an array of which only the last element is there",
@@ -86,8 +97,11 @@ const ARRAYS_BUILT: [(&str, &str, u8, &str); 8] = [
 
 /// The shapes u32 (with the default 0), Dd (a field that is marked with 5) and Ss (two fields, with a default), before the
 /// root.
-const MARKED: &str =
-    r#"{"shapes":[{"name":"u32","def":"u32","preset":0},{"name":"Dd","def":{"struct":[{"name":"a","shape":0,"default":{"custom":5}}]}},{"name":"Ss","def":{"struct":[{"name":"x","shape":0},{"name":"y","shape":0}]},"preset":[1,2]}],"#;
+const MARKED: &str = r#"{"shapes":[
+    {"name":"u32","def":"u32","preset":0},
+    {"name":"Dd","def":{"struct":[{"name":"a","shape":0,"default":{"custom":5}}]}},
+    {"name":"Ss","def":{"struct":[{"name":"x","shape":0},{"name":"y","shape":0}]},"preset":[1,2]}
+],"#;
 
 const MARKS_TAKEN: [(&str, &str, u8, &str); 7] = [
     (
@@ -135,8 +149,13 @@ const MARKS_TAKEN: [(&str, &str, u8, &str); 7] = [
 ];
 
 /// The shapes Odd (which stands for nothing), Res, Bad (of both), str and Opt (an option of a Res), before the root.
-const UNPLANNED: &str =
-    r#"{"shapes":[{"name":"Odd","def":"other"},{"name":"Res","def":"opaque"},{"name":"Bad","def":{"struct":[{"name":"o","shape":0},{"name":"r","shape":1}]}},{"name":"str","def":"str"},{"name":"Opt","def":{"option":1}}],"#;
+const UNPLANNED: &str = r#"{"shapes":[
+    {"name":"Odd","def":"other"},
+    {"name":"Res","def":"opaque"},
+    {"name":"Bad","def":{"struct":[{"name":"o","shape":0},{"name":"r","shape":1}]}},
+    {"name":"str","def":"str"},
+    {"name":"Opt","def":{"option":1}}
+],"#;
 
 const WITHOUT_BUILDER: [(&str, &str, u8, &str); 3] = [
     (
@@ -160,13 +179,27 @@ const WITHOUT_BUILDER: [(&str, &str, u8, &str); 3] = [
 ];
 
 /// The shapes u32, Kind (an enum), Count (a map), Link (a pointer to a Kind) and All (a struct of these), before the root.
-const WHOLES: &str =
-    r#"{"shapes":[{"name":"u32","def":"u32"},{"name":"Kind","def":{"enum":{"repr":"U8","variants":[{"name":"A","fields":[],"discriminant":0},{"name":"B","fields":[{"name":"x","shape":0}],"discriminant":1}]}}},{"name":"Count","def":{"map":[0,0]}},{"name":"Link","def":{"pointer":{"known":"Box","pointee":1}}},{"name":"All","def":{"struct":[{"name":"kind","shape":1},{"name":"count","shape":2},{"name":"link","shape":3}]}}],"#;
+const WHOLES: &str = r#"{"shapes":[
+    {"name":"u32","def":"u32"},
+    {"name":"Kind","def":{"enum":{"repr":"U8","variants":[
+        {"name":"A","fields":[],"discriminant":0},
+        {"name":"B","fields":[{"name":"x","shape":0}],"discriminant":1}
+    ]}}},
+    {"name":"Count","def":{"map":[0,0]}},
+    {"name":"Link","def":{"pointer":{"known":"Box","pointee":1}}},
+    {"name":"All","def":{"struct":[
+        {"name":"kind","shape":1},{"name":"count","shape":2},{"name":"link","shape":3}
+    ]}}
+],"#;
 
 const WHOLES_SET: [(&str, &str, u8, &str); 4] = [
     (
         "values of all definitions are set whole",
-        r#""root":4,"commands":[["begin_field","kind"],["set",1,{"v":[1,[7]]}],["end"],["begin_field","count"],["set",2,{"m":[[1,2]]}],["end"],["begin_field","link"],["set",3,{"p":{"v":[0,[]]}}],["end"]]}"#,
+        r#""root":4,"commands":[
+            ["begin_field","kind"],["set",1,{"v":[1,[7]]}],["end"],
+            ["begin_field","count"],["set",2,{"m":[[1,2]]}],["end"],
+            ["begin_field","link"],["set",3,{"p":{"v":[0,[]]}}],["end"]
+        ]}"#,
         0,
         r#"{"ok":[{"v":[1,[7]]},{"m":[[1,2]]},{"p":{"v":[0,[]]}}],"released":[]}"#,
     ),
@@ -174,19 +207,22 @@ const WHOLES_SET: [(&str, &str, u8, &str); 4] = [
         "a field of an enum whose variant isn't selected",
         r#""root":4,"commands":[["begin_field","kind"],["begin_nth_field",0]]}"#,
         1,
-        r#"{"error":{"command":1,"detail":"must call select_variant before selecting enum fields","kind":"OperationFailed","path":"kind"},"released":[]}"#,
+        r#"{"error":{"command":1,"detail":"must call select_variant before selecting enum fields",
+            "kind":"OperationFailed","path":"kind"},"released":[]}"#,
     ),
     (
         "a field of such an enum by its name",
         r#""root":4,"commands":[["begin_field","kind"],["begin_field","x"]]}"#,
         1,
-        r#"{"error":{"command":1,"detail":"must select variant before selecting enum fields","kind":"OperationFailed","path":"kind"},"released":[]}"#,
+        r#"{"error":{"command":1,"detail":"must select variant before selecting enum fields",
+            "kind":"OperationFailed","path":"kind"},"released":[]}"#,
     ),
     (
         "a field of a pointer by its name",
         r#""root":4,"commands":[["begin_nth_field",2],["begin_field","x"]]}"#,
         1,
-        r#"{"error":{"command":1,"detail":"cannot select a field from a pointer type","kind":"OperationFailed","path":"link"},"released":[]}"#,
+        r#"{"error":{"command":1,"detail":"cannot select a field from a pointer type",
+            "kind":"OperationFailed","path":"link"},"released":[]}"#,
     ),
 ];
 
@@ -233,12 +269,16 @@ fn elements_may_come_in_any_order(rt: HostRuntime) -> Result<(), Fail> {
 #[test]
 fn a_script_may_begin_a_thousand_places(rt: HostRuntime) -> Result<(), Fail> {
     let alloc = rt.alloc();
-    let front =
-        r#"{"shapes":[{"name":"u32","def":"u32"},{"name":"String","def":"String"},{"name":"Inner","def":{"struct":[{"name":"x","shape":0},{"name":"b","shape":0}]}},{"name":"Outer","def":{"struct":[{"name":"name","shape":1},{"name":"inner","shape":2}]}}],"root":3,"commands":["#;
+    let front = r#"{"shapes":[
+        {"name":"u32","def":"u32"},
+        {"name":"String","def":"String"},
+        {"name":"Inner","def":{"struct":[{"name":"x","shape":0},{"name":"b","shape":0}]}},
+        {"name":"Outer","def":{"struct":[{"name":"name","shape":1},{"name":"inner","shape":2}]}}
+    ],"root":3,"commands":["#;
     let begin = r#"["begin_nth_field",1]"#;
     let most = joined(alloc, front, begin, 1_000, "]}")?;
-    let refused =
-        r#"{"error":{"command":2,"detail":"cannot select a field from this type","kind":"OperationFailed","path":"inner.b"},"released":[]}"#;
+    let refused = r#"{"error":{"command":2,"detail":"cannot select a field from this type",
+        "kind":"OperationFailed","path":"inner.b"},"released":[]}"#;
     check(&rt, "at the limit", most.as_bytes(), 1, refused)?;
     let past = joined(alloc, front, begin, 1_001, "]}")?;
     check(

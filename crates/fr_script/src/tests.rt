@@ -11,14 +11,26 @@ use std::test::Fail;
 const PIECE: usize = 4096;
 
 /// A struct of a text and a struct of two numbers, built in the order of its fields.
-const NESTED: &str =
-    r#"{"shapes":[{"name":"u32","def":"u32"},{"name":"String","def":"String"},{"name":"Inner","def":{"struct":[{"name":"x","shape":0},{"name":"b","shape":0}]}},{"name":"Outer","def":{"struct":[{"name":"name","shape":1},{"name":"inner","shape":2}]}}],"root":3,"commands":[["begin_nth_field",0],["set",1,"Hello, world!"],["end"],["begin_nth_field",1],["begin_nth_field",0],["set",0,42],["end"],["begin_nth_field",1],["set",0,43],["end"],["end"]]}"#;
+pub(crate) const NESTED: &str = r#"{"shapes":[
+    {"name":"u32","def":"u32"},
+    {"name":"String","def":"String"},
+    {"name":"Inner","def":{"struct":[{"name":"x","shape":0},{"name":"b","shape":0}]}},
+    {"name":"Outer","def":{"struct":[{"name":"name","shape":1},{"name":"inner","shape":2}]}}
+],"root":3,"commands":[
+    ["begin_nth_field",0],["set",1,"Hello, world!"],["end"],
+    ["begin_nth_field",1],["begin_nth_field",0],["set",0,42],["end"],
+    ["begin_nth_field",1],["set",0,43],["end"],["end"]
+]}"#;
 
 const NESTED_REPORT: &str = "{\"ok\":[\"Hello, world!\",[42,43]],\"released\":[]}\n";
 
 /// The shapes u32, Res (opaque), Cell (a Res and a u32) and Pair (two Cells), before the root.
-const CELLS: &str =
-    r#"{"shapes":[{"name":"u32","def":"u32"},{"name":"Res","def":"opaque"},{"name":"Cell","def":{"struct":[{"name":"a","shape":1},{"name":"k","shape":0}]}},{"name":"Pair","def":{"struct":[{"name":"p","shape":2},{"name":"q","shape":2}]}}],"#;
+const CELLS: &str = r#"{"shapes":[
+    {"name":"u32","def":"u32"},
+    {"name":"Res","def":"opaque"},
+    {"name":"Cell","def":{"struct":[{"name":"a","shape":1},{"name":"k","shape":0}]}},
+    {"name":"Pair","def":{"struct":[{"name":"p","shape":2},{"name":"q","shape":2}]}}
+],"#;
 
 /// Scripts over the cells, from the root on, with what is reported on each.
 const SCRIPTS: [(&str, &str, u8, &str); 13] = [
@@ -30,25 +42,37 @@ const SCRIPTS: [(&str, &str, u8, &str); 13] = [
     ),
     (
         "a builder that is left open is refused at build",
-        r#""root":3,"tokens":1,"commands":[["begin_nth_field",0],["begin_nth_field",0],["set",1,{"t":0}],["end"],["begin_nth_field",1],["set",0,5],["end"]]}"#,
+        r#""root":3,"tokens":1,"commands":[
+            ["begin_nth_field",0],["begin_nth_field",0],["set",1,{"t":0}],["end"],
+            ["begin_nth_field",1],["set",0,5],["end"]
+        ]}"#,
         1,
-        r#"{"error":{"command":7,"detail":"build() called but more than one frame is on the stack","kind":"InvariantViolation","path":"p"},"released":[0]}"#,
+        r#"{"error":{"command":7,"detail":"build() called but more than one frame is on the stack",
+            "kind":"InvariantViolation","path":"p"},"released":[0]}"#,
     ),
     (
         "a field that is entered again keeps what it holds",
-        r#""root":2,"tokens":1,"commands":[["set",2,[{"t":0},1]],["begin_nth_field",1],["set",0,9],["end"],["begin_nth_field",0],["end"]]}"#,
+        r#""root":2,"tokens":1,"commands":[
+            ["set",2,[{"t":0},1]],["begin_nth_field",1],["set",0,9],["end"],
+            ["begin_nth_field",0],["end"]
+        ]}"#,
         0,
         r#"{"ok":[{"t":0},9],"released":[]}"#,
     ),
     (
         "a value of another shape",
-        r#""root":3,"tokens":2,"commands":[["begin_nth_field",0],["set",1,{"t":0}],["begin_nth_field",0],["set",1,{"t":1}]]}"#,
+        r#""root":3,"tokens":2,"commands":[
+            ["begin_nth_field",0],["set",1,{"t":0}],["begin_nth_field",0],["set",1,{"t":1}]
+        ]}"#,
         1,
         r#"{"error":{"command":1,"detail":"expected Cell, got Res","kind":"WrongShape","path":"p"},"released":[0,1]}"#,
     ),
     (
         "a refusal far down releases what stands above and what was to come",
-        r#""root":3,"tokens":3,"commands":[["begin_nth_field",0],["begin_nth_field",0],["set",1,{"t":0}],["end"],["end"],["begin_nth_field",1],["set",2,[{"t":2},7]],["set",1,{"t":1}]]}"#,
+        r#""root":3,"tokens":3,"commands":[
+            ["begin_nth_field",0],["begin_nth_field",0],["set",1,{"t":0}],["end"],["end"],
+            ["begin_nth_field",1],["set",2,[{"t":2},7]],["set",1,{"t":1}]
+        ]}"#,
         1,
         r#"{"error":{"command":4,"detail":"k","kind":"UninitializedField","path":"p"},"released":[0,1,2]}"#,
     ),
@@ -56,7 +80,8 @@ const SCRIPTS: [(&str, &str, u8, &str); 13] = [
         "an end at the root",
         r#""root":2,"tokens":1,"commands":[["set",2,[{"t":0},1]],["end"]]}"#,
         1,
-        r#"{"error":{"command":1,"detail":"Partial::end() called with only one frame on the stack","kind":"InvariantViolation","path":""},"released":[0]}"#,
+        r#"{"error":{"command":1,"detail":"Partial::end() called with only one frame on the stack",
+            "kind":"InvariantViolation","path":""},"released":[0]}"#,
     ),
     (
         "a field past the last",
@@ -68,11 +93,14 @@ const SCRIPTS: [(&str, &str, u8, &str); 13] = [
         "a field of an opaque value",
         r#""root":2,"tokens":1,"commands":[["begin_nth_field",0],["set",1,{"t":0}],["begin_nth_field",0]]}"#,
         1,
-        r#"{"error":{"command":2,"detail":"cannot select a field from an opaque type","kind":"OperationFailed","path":"a"},"released":[0]}"#,
+        r#"{"error":{"command":2,"detail":"cannot select a field from an opaque type",
+            "kind":"OperationFailed","path":"a"},"released":[0]}"#,
     ),
     (
         "a value that was only entered",
-        r#""root":2,"tokens":1,"commands":[["begin_nth_field",0],["set",1,{"t":0}],["end"],["begin_nth_field",1],["end"]]}"#,
+        r#""root":2,"tokens":1,"commands":[
+            ["begin_nth_field",0],["set",1,{"t":0}],["end"],["begin_nth_field",1],["end"]
+        ]}"#,
         1,
         r#"{"error":{"command":4,"detail":"u32","kind":"UninitializedValue","path":"k"},"released":[0]}"#,
     ),
@@ -152,7 +180,9 @@ const FAULTS: [(&str, &str, &str); 17] = [
     ),
     (
         "the first of three broken commands",
-        r#"{"shapes":[{"name":"a","def":"u32"}],"root":0,"commands":[["end"],["init_list_with_capacity",-1],["ends"],["end",0]]}"#,
+        r#"{"shapes":[
+            {"name":"a","def":"u32"}
+        ],"root":0,"commands":[["end"],["init_list_with_capacity",-1],["ends"],["end",0]]}"#,
         r#"{"fault":"BadForm","place":"command 1"}"#,
     ),
     (
@@ -177,7 +207,10 @@ const FAULTS: [(&str, &str, &str); 17] = [
     ),
     (
         "an option whose default is something",
-        r#"{"shapes":[{"name":"u","def":"u8"},{"name":"o","def":{"option":0},"preset":{"s":1}}],"root":0,"commands":[]}"#,
+        r#"{"shapes":[
+            {"name":"u","def":"u8"},
+            {"name":"o","def":{"option":0},"preset":{"s":1}}
+        ],"root":0,"commands":[]}"#,
         r#"{"entry":1,"fault":"Unchecked","rule":9}"#,
     ),
     (
@@ -208,7 +241,17 @@ fn run_on(
     Ok((status, sink.taken().to_vec(alloc)?))
 }
 
-/// Runs `build` and compares the status and the report, whose line feed is left out of `want`.
+/// The one line of a report that is laid out over lines.
+fn unfolded(alloc: Global, report: &str) -> Result<String, Fail> {
+    let mut line = String::new(alloc);
+    for part in report.lines() {
+        line.push_str(part.trim_start())?;
+    }
+    line.push_str("\n")?;
+    Ok(line)
+}
+
+/// Runs `build` and compares the status and the report, which `want` may lay out over lines.
 pub(crate) fn check(
     rt: &(impl Abort + AllocGlobal),
     name: &str,
@@ -230,8 +273,7 @@ pub(crate) fn check_under(
 ) -> Result<(), Fail> {
     let alloc = rt.alloc();
     let (ended, taken) = run_on(alloc, word, input, PIECE, Items::new(alloc))?;
-    let mut line = String::from_str(alloc, want)?;
-    line.push_str("\n")?;
+    let line = unfolded(alloc, want)?;
     assert_eq!(rt; ended, status, "{name}");
     assert_eq!(rt; taken.as_slice(), line.as_bytes(), "{name}");
     Ok(())

@@ -6,8 +6,23 @@ use std::test::Fail;
 /// The shapes 0 u32, 1 String, 2 opaque, 3 an enum, 4 undefined, 5 a pointer, 6 an array of three, 7 an option, 8 a struct of
 /// an array and a u32, 9 a shape that can't be planned, 10 one without a size, 11 an array that can't be
 /// entered, 12 a struct whose field is marked to take a default that there isn't.
-const SHAPES: &str =
-    r#"{"shapes":[{"name":"u32","def":"u32"},{"name":"String","def":"String"},{"name":"Res","def":"opaque"},{"name":"Choice","def":{"enum":{"repr":"U8","variants":[{"name":"A","fields":[],"discriminant":0}]}}},{"name":"Nothing","def":"undefined"},{"name":"Link","def":{"pointer":{"known":"Box","pointee":0}}},{"name":"Three","def":{"array":[0,3]}},{"name":"Maybe","def":{"option":0}},{"name":"Pair","def":{"struct":[{"name":"first","shape":6},{"name":"second","shape":0}]}},{"name":"Odd","def":"other"},{"name":"str","def":"str"},{"name":"Many","def":{"array":[0,4097]}},{"name":"Marked","def":{"struct":[{"name":"a","shape":0,"default":"trait"}]}}],"#;
+const SHAPES: &str = r#"{"shapes":[
+    {"name":"u32","def":"u32"},
+    {"name":"String","def":"String"},
+    {"name":"Res","def":"opaque"},
+    {"name":"Choice","def":{"enum":{"repr":"U8","variants":[
+        {"name":"A","fields":[],"discriminant":0}
+    ]}}},
+    {"name":"Nothing","def":"undefined"},
+    {"name":"Link","def":{"pointer":{"known":"Box","pointee":0}}},
+    {"name":"Three","def":{"array":[0,3]}},
+    {"name":"Maybe","def":{"option":0}},
+    {"name":"Pair","def":{"struct":[{"name":"first","shape":6},{"name":"second","shape":0}]}},
+    {"name":"Odd","def":"other"},
+    {"name":"str","def":"str"},
+    {"name":"Many","def":{"array":[0,4097]}},
+    {"name":"Marked","def":{"struct":[{"name":"a","shape":0,"default":"trait"}]}}
+],"#;
 
 /// The root, the commands, and of the error the command, the kind, the detail and the path.
 const TEXTS: [(u32, &str, u32, &str, &str, &str); 30] = [

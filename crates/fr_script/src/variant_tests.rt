@@ -3,8 +3,14 @@ use crate::tests::check_each;
 use std::test::Fail;
 
 /// The shapes u32, Res (opaque) and FooBar (an enum of Foo, which has no fields, and of Bar), before the root.
-const FOO_BAR: &str =
-    r#"{"shapes":[{"name":"u32","def":"u32"},{"name":"Res","def":"opaque"},{"name":"FooBar","def":{"enum":{"repr":"U8","variants":[{"name":"Foo","fields":[],"discriminant":0},{"name":"Bar","fields":[{"name":"x","shape":0},{"name":"r","shape":1}],"discriminant":1}]}}}],"#;
+const FOO_BAR: &str = r#"{"shapes":[
+    {"name":"u32","def":"u32"},
+    {"name":"Res","def":"opaque"},
+    {"name":"FooBar","def":{"enum":{"repr":"U8","variants":[
+        {"name":"Foo","fields":[],"discriminant":0},
+        {"name":"Bar","fields":[{"name":"x","shape":0},{"name":"r","shape":1}],"discriminant":1}
+    ]}}}
+],"#;
 
 const SELECTED: [(&str, &str, u8, &str); 11] = [
     (
@@ -27,13 +33,19 @@ const SELECTED: [(&str, &str, u8, &str); 11] = [
     ),
     (
         "another variant releases the fields of the one before",
-        r#""root":2,"tokens":1,"commands":[["select_variant_named","Bar"],["begin_nth_field",1],["set",1,{"t":0}],["end"],["select_variant_named","Foo"]]}"#,
+        r#""root":2,"tokens":1,"commands":[
+            ["select_variant_named","Bar"],["begin_nth_field",1],["set",1,{"t":0}],["end"],
+            ["select_variant_named","Foo"]
+        ]}"#,
         0,
         r#"{"ok":{"v":[0,[]]},"released":[0]}"#,
     ),
     (
         "a variant that is selected again keeps its fields",
-        r#""root":2,"tokens":1,"commands":[["select_variant_named","Bar"],["begin_nth_field",1],["set",1,{"t":0}],["end"],["select_variant_named","Bar"],["begin_field","x"],["set",0,5],["end"]]}"#,
+        r#""root":2,"tokens":1,"commands":[
+            ["select_variant_named","Bar"],["begin_nth_field",1],["set",1,{"t":0}],["end"],
+            ["select_variant_named","Bar"],["begin_field","x"],["set",0,5],["end"]
+        ]}"#,
         0,
         r#"{"ok":{"v":[1,[5,{"t":0}]]},"released":[]}"#,
     ),
@@ -57,27 +69,48 @@ const SELECTED: [(&str, &str, u8, &str); 11] = [
     ),
     (
         "a variant over a whole value starts anew",
-        r#""root":2,"tokens":1,"commands":[["set",2,{"v":[1,[5,{"t":0}]]}],["select_variant_named","Bar"],["begin_nth_field",0],["set",0,6],["end"]]}"#,
+        r#""root":2,"tokens":1,"commands":[
+            ["set",2,{"v":[1,[5,{"t":0}]]}],["select_variant_named","Bar"],["begin_nth_field",0],
+            ["set",0,6],["end"]
+        ]}"#,
         1,
         r#"{"error":{"command":5,"detail":"r","kind":"UninitializedField","path":""},"released":[0]}"#,
     ),
     (
         "half a variant is left in deferred mode and gone on with",
-        r#""root":2,"tokens":1,"commands":[["begin_deferred"],["select_variant_named","Bar"],["begin_nth_field",0],["set",0,5],["end"],["select_variant_named","Bar"],["begin_nth_field",1],["set",1,{"t":0}],["end"],["finish_deferred"]]}"#,
+        r#""root":2,"tokens":1,"commands":[
+            ["begin_deferred"],["select_variant_named","Bar"],["begin_nth_field",0],["set",0,5],
+            ["end"],["select_variant_named","Bar"],["begin_nth_field",1],["set",1,{"t":0}],["end"],
+            ["finish_deferred"]
+        ]}"#,
         0,
         r#"{"ok":{"v":[1,[5,{"t":0}]]},"released":[]}"#,
     ),
     (
         "a variant is switched in deferred mode",
-        r#""root":2,"tokens":1,"commands":[["begin_deferred"],["select_variant_named","Bar"],["begin_nth_field",1],["set",1,{"t":0}],["end"],["select_variant_named","Foo"],["finish_deferred"]]}"#,
+        r#""root":2,"tokens":1,"commands":[
+            ["begin_deferred"],["select_variant_named","Bar"],["begin_nth_field",1],
+            ["set",1,{"t":0}],["end"],["select_variant_named","Foo"],["finish_deferred"]
+        ]}"#,
         0,
         r#"{"ok":{"v":[0,[]]},"released":[0]}"#,
     ),
 ];
 
 /// The shapes u32, Level (an enum of four variants) and Loose (one without a layout of its own), before the root.
-const LEVELS: &str =
-    r#"{"shapes":[{"name":"u32","def":"u32"},{"name":"Level","def":{"enum":{"repr":"I8","variants":[{"name":"Low","fields":[],"discriminant":-1},{"name":"High","rename":"high","fields":[{"name":"x","shape":0,"default":{"custom":7}}],"discriminant":1},{"name":"Same","fields":[],"discriminant":1},{"name":"Else","fields":[]}]}}},{"name":"Loose","def":{"enum":{"repr":"Rust","variants":[{"name":"A","fields":[],"discriminant":0}]}}}],"#;
+const LEVELS: &str = r#"{"shapes":[
+    {"name":"u32","def":"u32"},
+    {"name":"Level","def":{"enum":{"repr":"I8","variants":[
+        {"name":"Low","fields":[],"discriminant":-1},
+        {"name":"High","rename":"high","fields":[
+            {"name":"x","shape":0,"default":{"custom":7}}
+        ],"discriminant":1},
+        {"name":"Same","fields":[],"discriminant":1},{"name":"Else","fields":[]}
+    ]}}},
+    {"name":"Loose","def":{"enum":{"repr":"Rust","variants":[
+        {"name":"A","fields":[],"discriminant":0}
+    ]}}}
+],"#;
 
 const TOLD: [(&str, &str, u8, &str); 11] = [
     (
@@ -108,7 +141,8 @@ const TOLD: [(&str, &str, u8, &str); 11] = [
         "no variant has the discriminant",
         r#""root":1,"commands":[["select_variant",9]]}"#,
         1,
-        r#"{"error":{"command":0,"detail":"No variant found with the given discriminant","kind":"OperationFailed","path":""},"released":[]}"#,
+        r#"{"error":{"command":0,"detail":"No variant found with the given discriminant",
+            "kind":"OperationFailed","path":""},"released":[]}"#,
     ),
     (
         "a variant by the name that it goes by",
@@ -126,13 +160,16 @@ const TOLD: [(&str, &str, u8, &str); 11] = [
         "a variant without a discriminant",
         r#""root":1,"commands":[["select_nth_variant",3]]}"#,
         1,
-        r#"{"error":{"command":0,"detail":"trying to select an enum variant without a discriminant","kind":"OperationFailed","path":""},"released":[]}"#,
+        r#"{"error":{"command":0,"detail":"trying to select an enum variant without a discriminant",
+            "kind":"OperationFailed","path":""},"released":[]}"#,
     ),
     (
         "an enum whose layout is left to the compiler",
         r#""root":2,"commands":[["select_nth_variant",0]]}"#,
         1,
-        r#"{"error":{"command":0,"detail":"Rust enums with unspecified discriminant layout are not supported for incremental building","kind":"OperationFailed","path":""},"released":[]}"#,
+        r#"{"error":{"command":0,
+            "detail":"Rust enums with unspecified discriminant layout are not supported for incremental building",
+            "kind":"OperationFailed","path":""},"released":[]}"#,
     ),
     (
         "a place that is no enum",
@@ -148,15 +185,136 @@ const TOLD: [(&str, &str, u8, &str); 11] = [
     ),
 ];
 
+/// The shapes u32 and Wide, which has more variants than are searched one by one: one goes by another name, one takes unknown names, and
+/// two have the discriminants of others before them. The root is Wide.
+const WIDE: &str = r#"{"shapes":[
+    {"name":"u32","def":"u32"},
+    {"name":"Wide","def":{"enum":{"repr":"U8","variants":[
+        {"name":"Nine","fields":[],"discriminant":9},
+        {"name":"Eight","fields":[{"name":"x","shape":0}],"discriminant":8},
+        {"name":"Seven","rename":"seven","fields":[],"discriminant":7},
+        {"name":"Six","fields":[],"discriminant":6},
+        {"name":"Five","fields":[],"discriminant":5},
+        {"name":"Rest","fields":[],"discriminant":4,"other":true},
+        {"name":"Three","fields":[],"discriminant":8},
+        {"name":"Two","fields":[],"discriminant":2},
+        {"name":"One","fields":[],"discriminant":9},
+        {"name":"Zero","fields":[],"discriminant":0},
+        {"name":"Bare","fields":[]}
+    ]}}}
+],"root":1,"commands":["#;
+
+/// What is reported where a name or a discriminant is that of no variant.
+const NO_NAME: &str = r#"{"error":{"command":0,"detail":"No variant found with the given name",
+    "kind":"OperationFailed","path":""},"released":[]}"#;
+
+const NO_DISCRIMINANT: &str = r#"{"error":{"command":0,
+    "detail":"No variant found with the given discriminant","kind":"OperationFailed","path":""},"released":[]}"#;
+
+const AMONG_MANY: [(&str, &str, u8, &str); 13] = [
+    (
+        "the first name",
+        r#"["select_variant_named","Nine"]]}"#,
+        0,
+        r#"{"ok":{"v":[0,[]]},"released":[]}"#,
+    ),
+    (
+        "a name far down",
+        r#"["select_variant_named","Zero"]]}"#,
+        0,
+        r#"{"ok":{"v":[9,[]]},"released":[]}"#,
+    ),
+    (
+        "the name of a variant whose discriminant another has too",
+        r#"["select_variant_named","Three"]]}"#,
+        0,
+        r#"{"ok":{"v":[6,[]]},"released":[]}"#,
+    ),
+    (
+        "the name that a variant goes by",
+        r#"["select_variant_named","seven"]]}"#,
+        0,
+        r#"{"ok":{"v":[2,[]]},"released":[]}"#,
+    ),
+    (
+        "the name that it is declared under",
+        r#"["select_variant_named","Seven"]]}"#,
+        1,
+        NO_NAME,
+    ),
+    (
+        "the name of the variant that takes unknown names",
+        r#"["select_variant_named","Rest"]]}"#,
+        1,
+        NO_NAME,
+    ),
+    (
+        "a name between others",
+        r#"["select_variant_named","Thr"]]}"#,
+        1,
+        NO_NAME,
+    ),
+    (
+        "the name of a variant without a discriminant",
+        r#"["select_variant_named","Bare"]]}"#,
+        1,
+        r#"{"error":{"command":0,"detail":"trying to select an enum variant without a discriminant",
+            "kind":"OperationFailed","path":""},"released":[]}"#,
+    ),
+    (
+        "the first of two with one discriminant has a field",
+        r#"["select_variant",8],["begin_nth_field",0],["set",0,3],["end"]]}"#,
+        0,
+        r#"{"ok":{"v":[1,[3]]},"released":[]}"#,
+    ),
+    (
+        "the first of two with another",
+        r#"["select_variant",9]]}"#,
+        0,
+        r#"{"ok":{"v":[0,[]]},"released":[]}"#,
+    ),
+    (
+        "the last discriminant",
+        r#"["select_variant",0]]}"#,
+        0,
+        r#"{"ok":{"v":[9,[]]},"released":[]}"#,
+    ),
+    (
+        "the discriminant of the variant that takes unknown names",
+        r#"["select_variant",4]]}"#,
+        0,
+        r#"{"ok":{"v":[5,[]]},"released":[]}"#,
+    ),
+    (
+        "a discriminant between others",
+        r#"["select_variant",3]]}"#,
+        1,
+        NO_DISCRIMINANT,
+    ),
+];
+
 /// The shapes u32 (with the default 0), Res, Conf (of two marked fields, one whose shape has a default, and a Res) and Mode (an
 /// enum whose variant has a marked field), before the root.
-const DEFAULTS: &str =
-    r#"{"shapes":[{"name":"u32","def":"u32","preset":0},{"name":"Res","def":"opaque"},{"name":"Conf","def":{"struct":[{"name":"a","shape":0,"default":{"custom":5}},{"name":"b","shape":0,"default":"trait"},{"name":"c","shape":0},{"name":"r","shape":1}]}},{"name":"Mode","def":{"enum":{"repr":"U8","variants":[{"name":"Fast","fields":[{"name":"n","shape":0,"default":{"custom":9}}],"discriminant":0}]}}}],"#;
+const DEFAULTS: &str = r#"{"shapes":[
+    {"name":"u32","def":"u32","preset":0},
+    {"name":"Res","def":"opaque"},
+    {"name":"Conf","def":{"struct":[
+        {"name":"a","shape":0,"default":{"custom":5}},{"name":"b","shape":0,"default":"trait"},
+        {"name":"c","shape":0},{"name":"r","shape":1}
+    ]}},
+    {"name":"Mode","def":{"enum":{"repr":"U8","variants":[
+        {"name":"Fast","fields":[{"name":"n","shape":0,"default":{"custom":9}}],"discriminant":0}
+    ]}}}
+],"#;
 
 const DEFAULTED: [(&str, &str, u8, &str); 5] = [
     (
         "fields are set to their defaults",
-        r#""root":2,"tokens":1,"commands":[["begin_nth_field",0],["set",0,1],["end"],["set_nth_field_to_default",0],["set_nth_field_to_default",1],["set_nth_field_to_default",2],["begin_nth_field",3],["set",1,{"t":0}],["end"]]}"#,
+        r#""root":2,"tokens":1,"commands":[
+            ["begin_nth_field",0],["set",0,1],["end"],["set_nth_field_to_default",0],
+            ["set_nth_field_to_default",1],["set_nth_field_to_default",2],["begin_nth_field",3],
+            ["set",1,{"t":0}],["end"]
+        ]}"#,
         0,
         r#"{"ok":[5,0,0,{"t":0}],"released":[]}"#,
     ),
@@ -182,7 +340,8 @@ const DEFAULTED: [(&str, &str, u8, &str); 5] = [
         "a field of an enum of which no variant is selected",
         r#""root":3,"commands":[["set_nth_field_to_default",0]]}"#,
         1,
-        r#"{"error":{"command":0,"detail":"must select variant before selecting enum fields","kind":"OperationFailed","path":""},"released":[]}"#,
+        r#"{"error":{"command":0,"detail":"must select variant before selecting enum fields",
+            "kind":"OperationFailed","path":""},"released":[]}"#,
     ),
 ];
 
@@ -194,6 +353,11 @@ fn a_variant_keeps_its_fields_until_another_is_selected(rt: HostRuntime) -> Resu
 #[test]
 fn a_variant_is_told_by_number_name_or_discriminant(rt: HostRuntime) -> Result<(), Fail> {
     check_each(&rt, LEVELS, &TOLD)
+}
+
+#[test]
+fn a_variant_is_told_among_many(rt: HostRuntime) -> Result<(), Fail> {
+    check_each(&rt, WIDE, &AMONG_MANY)
 }
 
 #[test]

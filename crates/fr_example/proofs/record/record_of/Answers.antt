@@ -1,7 +1,8 @@
 use Rattle.std.proofs.Common.{◌++◌, length, Err, sym, ◌∙◌, ap, arith, rules}
 use Rattle.std.specs.Vec.Iter.{into_iter_items}
-use Rattle.fr_example.specs.Meant.{pairs_meant, IsMeant}
-use Rattle.fr_example.proofs.Loop.{planned_means, filled_more, loop_refused, loop_built, all_taken, one_taken}
+use Rattle.fr_example.specs.Meant.{pairs_meant, IsMeant, TellsPlace}
+use Rattle.fr_example.proofs.Loop.{struct_within, planned_means, filled_more, loop_refused, loop_built, all_taken, one_taken}
+use Rattle.fr_example.proofs.Placing.{unplanned_place, loop_place, if_built_place}
 use Rattle.fr_example.proofs.Tokens.{stays}
 use Rattle.fr_example.proofs.record.record_of.Goals as goal
 
@@ -48,7 +49,33 @@ returns-clause-meant c =
     c.loop-pair.invariant.filled
     (all_taken c.loop-pair.yielded (into_iter_items c.loop-pair.pair-iterator) c.args.pairs
     c.loop-pair.invariant.pairs (sym c.loop-pair.invariant.left ∙ c.in-None.ensures.steps.0))
-    c.build.ensures.built)
+    c.build.ensures.build.built)
 
 pub returns-clause-released : goal.returns-clause-released
-returns-clause-released c = stays _ _ _ _ c.build.ensures.tokens c.loop-pair.invariant.tokens ∙ c.loop-pair.invariant.ledger
+returns-clause-released c = stays _ _ _ _ c.build.ensures.build.tokens c.loop-pair.invariant.tokens ∙ c.loop-pair.invariant.ledger
+
+pub alloc_shape-requires-clause-shape : goal.alloc_shape-requires-clause-shape
+alloc_shape-requires-clause-shape c = struct_within c.args.table.now c.args.root.0 c.requires.root
+
+pub returns-in-Err-clause-place : goal.returns-in-Err-clause-place
+returns-in-Err-clause-place c =
+    unplanned_place c.args.table.now c.args.root.0 c.args.string.0 c.args.pairs c.in-Err.refused c.unplanned.result c.in-Err.ensures.refused
+    c.unplanned.ensures.kind c.unplanned.ensures.path
+
+pub returns-in_err-partial-clause-place : goal.returns-in_err-partial-clause-place
+returns-in_err-partial-clause-place c =
+    let told : TellsPlace c.args.table.now c.args.root.0 c.args.string.0 c.args.pairs c.in_err-partial.field-0.0
+    = loop_place c.args.table.now c.args.root.0 c.args.string.0 c.loop-pair.yielded c.in-Some.pair (into_iter_items c.next.new.self)
+    c.args.pairs c.loop-pair.partial c.in_err-partial.field-0.0 c.requires.checked c.requires.root c.requires.string
+    c.loop-pair.invariant.root c.loop-pair.invariant.filled
+    (c.loop-pair.invariant.pairs ∙ ap (λ left. c.loop-pair.yielded ++ left) c.in-Some.ensures.steps.0) c.in-Ok.ensures.refused
+    c.in_err-partial.ensures.put c.in_err-partial.ensures.place in
+    search rules
+
+pub returns-clause-place : goal.returns-clause-place
+returns-clause-place c =
+    if_built_place c.args.table.now c.args.root.0 c.args.string.0 c.loop-pair.yielded c.args.pairs c.loop-pair.partial c.build.result
+    c.in-Ok.ensures.refused c.loop-pair.invariant.filled
+    (all_taken c.loop-pair.yielded (into_iter_items c.loop-pair.pair-iterator) c.args.pairs
+    c.loop-pair.invariant.pairs (sym c.loop-pair.invariant.left ∙ c.in-None.ensures.steps.0))
+    c.build.ensures.build.path

@@ -42,7 +42,7 @@ release_commands-requires-in-Err-call g c =
     Room_same (both nothing (brought (calls_of c.pop_front.new.self.items)))
     (brought (calls_of c.pop_front.new.self.items)) c.call.new.ledger (λ t. omega arith)
     (Room_aside (λ t. holds c.loop-command.partial t + brings (call_of c.in-Some.command) t) c.loop-command.ledger
-    nothing c.call.new.ledger (brought (calls_of c.pop_front.new.self.items)) c.in-Err-call.ensures.tokens
+    nothing c.call.new.ledger (brought (calls_of c.pop_front.new.self.items)) c.in-Err-call.ensures.call.tokens
     (room g (goal.at.release_commands-requires-in-Err-call g c).In-Some))
 
 -- where there is no builder and memory isn't wanting, no run gives a value
@@ -78,16 +78,16 @@ loop-command-preserved g c =
     let meant : step means c.args.table.now c.args.root.0 before.state (call_of c.in-Some.command) ≡ Ok c.in-Ok-call.next.state
     = same_step (g.H.Hooks.means before.hooks) means before.shapes c.args.table.now before.root c.args.root.0 before.state
     (call_of c.in-Some.command) (Ok c.in-Ok-call.next.state) (ap g.H.Hooks.means c.loop-command.invariant.hooks)
-    c.loop-command.invariant.shapes c.loop-command.invariant.root c.in-Ok-call.ensures.step.0 in
+    c.loop-command.invariant.shapes c.loop-command.invariant.root c.in-Ok-call.ensures.call.step.0 in
     let counted : c.in-Ok-call.next.state.calls ≡ one_more_call before.state.calls
     = one_call_more means c.args.table.now c.args.root.0 before.state c.in-Ok-call.next.state (call_of c.in-Some.command) meant in
     let fewer : length c.loop-command.commands.items ≡ 1 + length rest
     = one_fewer c.loop-command.commands.items rest c.in-Some.command c.in-Some.ensures.items in
     record {
       count = omega (arith, fewer, c.loop-command.invariant.count);
-      shapes = c.in-Ok-call.ensures.step.1 ∙ c.loop-command.invariant.shapes;
-      hooks = c.in-Ok-call.ensures.step.3 ∙ c.loop-command.invariant.hooks;
-      root = c.in-Ok-call.ensures.step.2 ∙ c.loop-command.invariant.root;
+      shapes = c.in-Ok-call.ensures.call.step.1 ∙ c.loop-command.invariant.shapes;
+      hooks = c.in-Ok-call.ensures.call.step.3 ∙ c.loop-command.invariant.hooks;
+      root = c.in-Ok-call.ensures.call.step.2 ∙ c.loop-command.invariant.root;
       made = omega (arith, counted, fewer, c.loop-command.invariant.made, c.loop-command.invariant.count, c.requires.few);
       run =
           runs_on means c.args.table.now c.args.root.0 c.loop-command.number before.state c.in-Ok-call.next.state
@@ -100,23 +100,23 @@ loop-command-preserved g c =
           (subst (λ (commands : List Command). AllFitting c.args.table.now (calls_of commands)) c.in-Some.ensures.items
           c.loop-command.invariant.fitting).1;
       conserved = record {
-        same_length = c.in-Ok-call.ensures.tokens.same_length ∙ c.loop-command.invariant.conserved.same_length;
+        same_length = c.in-Ok-call.ensures.call.tokens.same_length ∙ c.loop-command.invariant.conserved.same_length;
         kept_or_released = λ t.
             omega (
               arith,
               c.loop-command.invariant.conserved.kept_or_released t,
-              c.in-Ok-call.ensures.tokens.kept_or_released t,
+              c.in-Ok-call.ensures.call.tokens.kept_or_released t,
               split g (goal.at.loop-command-preserved g c).In-Some t,
             );
         none_falls = λ t.
             omega (
               arith,
               c.loop-command.invariant.conserved.none_falls t,
-              c.in-Ok-call.ensures.tokens.none_falls t,
+              c.in-Ok-call.ensures.call.tokens.none_falls t,
             );
       };
       room =
           Room_aside (λ t. holds before t + brings (call_of c.in-Some.command) t) c.loop-command.ledger
-          (holds c.in-Ok-call.next) c.call.new.ledger (brought (calls_of rest)) c.in-Ok-call.ensures.tokens
+          (holds c.in-Ok-call.next) c.call.new.ledger (brought (calls_of rest)) c.in-Ok-call.ensures.call.tokens
           (room g (goal.at.loop-command-preserved g c).In-Some);
     }

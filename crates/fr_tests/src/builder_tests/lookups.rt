@@ -1,0 +1,312 @@
+//! What a plan tells of a type: its fields and variants by name, the nodes of its parts and proxies, and where it refers back. The
+//! tables are read from documents, and the type is the second of each.
+ghost use Rattle.std.specs.Prelude.{◌<◌, length};
+ghost use Rattle.fr_shape.specs.Checked.{IsChecked};
+ghost use Rattle.fr_frame.specs.Completing.{IsPlanFor};
+
+use super::validators::plan_of;
+use fr_doc::shapes_of;
+use fr_plan::{
+    FieldPlan, NodeId, TypePlanCore, TypePlanNodeKind, VariantPlanMeta, law_plan_lookups,
+};
+use fr_rules::FieldLookup;
+use fr_shape::{ShapeId, ShapeTable};
+use serde_json::Value as Json;
+use std::alloc::Global;
+use std::process::Abort;
+use std::test::Fail;
+
+/// The table of these shapes.
+fn table_of(alloc: Global, shapes: &str) -> Result<ShapeTable, Fail> {
+    let json = Json::from_str(alloc, shapes)?;
+    match shapes_of(alloc, &json) {
+        Ok(shapes) => Ok(ShapeTable::new(alloc, shapes)),
+        Err(_) => Err(Fail::from("not read")),
+    }
+}
+
+/// The plans of a struct's fields. Of any other shape there are none.
+fn fields_of<'a>(table: &ShapeTable, plan: &'a TypePlanCore, node: NodeId) -> &'a [FieldPlan]
+    requires checked { IsChecked table.now }
+    requires planned { IsPlanFor table.now plan.now }
+    requires inside { node.0 < length plan.now.nodes }
+{
+    let _table = table;
+    law_plan_lookups();
+    match plan.struct_plan_by_id(node) {
+        Some(described) => plan.fields(described.fields),
+        None => &[],
+    }
+}
+
+/// The plans of an enum's variants. Of any other shape there are none.
+fn variants_of<'a>(
+    table: &ShapeTable,
+    plan: &'a TypePlanCore,
+    node: NodeId,
+) -> &'a [VariantPlanMeta]
+    requires checked { IsChecked table.now }
+    requires planned { IsPlanFor table.now plan.now }
+    requires inside { node.0 < length plan.now.nodes }
+{
+    let _table = table;
+    law_plan_lookups();
+    match plan.enum_plan_by_id(node) {
+        Some(described) => plan.variants(described.variants),
+        None => &[],
+    }
+}
+
+/// The number of the field of this name, by a lookup of few names.
+fn found(lookup: &FieldLookup, name: &str) -> Option<usize> {
+    match lookup {
+        FieldLookup::Small(_) => lookup.find_small(name),
+        FieldLookup::PrefixBuckets { .. } => None,
+    }
+}
+
+/// The number of a node's shape, if there is such a node.
+fn shape_at(plan: &TypePlanCore, node: Option<NodeId>) -> Option<u32> {
+    let node = node?;
+    if (node.0 as usize) < plan.node_count() {
+        Some(plan.node(node).shape.0)
+    } else {
+        None
+    }
+}
+
+/// A person's name and age, and an email that has a default.
+const PERSON: &str = r#"[
+    {"name":"String","def":"String"},
+    {"name":"Person","def":{"struct":[
+        {"name":"name","shape":0},
+        {"name":"age","shape":2},
+        {"name":"email","shape":3}
+    ]}},
+    {"name":"u32","def":"u32"},
+    {"name":"OptString","def":{"option":0},"preset":null}
+]"#;
+
+#[test]
+fn fields_are_found_by_name(rt: HostRuntime) -> Result<(), Fail> {
+    let table = table_of(rt.alloc(), PERSON)?;
+    let plan = plan_of(rt.alloc(), &table).ok().ok_or("no plan")?;
+    let person = plan.as_struct_plan(plan.root()).ok_or("no struct")?;
+    for (name, want) in [
+        ("name", Some(0)),
+        ("age", Some(1)),
+        ("email", Some(2)),
+        ("unknown", None),
+    ] {
+        assert_eq!(rt; found(&person.field_lookup, name), want, "{name}");
+    }
+    Ok(())
+}
+
+#[test]
+fn a_field_without_a_default_is_required(rt: HostRuntime) -> Result<(), Fail> {
+    let table = table_of(rt.alloc(), PERSON)?;
+    let Ok(plan) = plan_of(rt.alloc(), &table) else {
+        return Err(Fail::from("no plan"));
+    };
+    assert!(rt; !plan.root().has_default);
+    let fields = fields_of(&table, &plan, plan.root_id());
+    assert_eq!(rt; fields.len(), 3);
+    for (i, field) in fields.iter().enumerate() {
+        assert_eq!(rt; field.is_required(), i < 2, "field {i}");
+    }
+    Ok(())
+}
+
+#[test]
+fn an_option_has_a_node_of_its_content(rt: HostRuntime) -> Result<(), Fail> {
+    let table = table_of(rt.alloc(), PERSON)?;
+    let plan = plan_of(rt.alloc(), &table).ok().ok_or("no plan")?;
+    let email = plan.struct_field_node(plan.root(), 2).ok_or("no field")?;
+    assert!(rt; matches!(email.kind, TypePlanNodeKind::Option));
+    let content = plan.option_inner_node(email).ok_or("no content")?;
+    assert!(rt; matches!(content.kind, TypePlanNodeKind::Scalar));
+    Ok(())
+}
+
+/// A variant of each kind: without fields, with one, and with one that has a name.
+const CHOICE: &str = r#"[
+    {"name":"u32","def":"u32"},
+    {"name":"Choice","def":{"enum":{"repr":"U8","variants":[
+        {"name":"Unit","kind":"unit","fields":[],"discriminant":0},
+        {"name":"Tuple","kind":"tuple","fields":[{"name":"0","shape":0}],"discriminant":1},
+        {"name":"Struct","fields":[{"name":"value","shape":2}],"discriminant":2}
+    ]}}},
+    {"name":"String","def":"String"}
+]"#;
+
+#[test]
+fn variants_are_found_by_name(rt: HostRuntime) -> Result<(), Fail> {
+    let table = table_of(rt.alloc(), CHOICE)?;
+    let plan = plan_of(rt.alloc(), &table).ok().ok_or("no plan")?;
+    let choice = plan.as_enum_plan(plan.root()).ok_or("no enum")?;
+    assert_eq!(rt; choice.num_variants, 3);
+    for (name, want) in [
+        ("Unit", Some(0)),
+        ("Tuple", Some(1)),
+        ("Struct", Some(2)),
+        ("Unknown", None),
+    ] {
+        assert_eq!(rt; choice.variant_lookup.find(name), want, "{name}");
+    }
+    Ok(())
+}
+
+#[test]
+fn a_variants_fields_are_found_by_name(rt: HostRuntime) -> Result<(), Fail> {
+    let table = table_of(rt.alloc(), CHOICE)?;
+    let Ok(plan) = plan_of(rt.alloc(), &table) else {
+        return Err(Fail::from("no plan"));
+    };
+    let variants = variants_of(&table, &plan, plan.root_id());
+    assert_eq!(rt; variants.len(), 3);
+    let last = variants.last().ok_or("no variant")?;
+    assert_eq!(rt; found(&last.field_lookup, "value"), Some(0));
+    assert_eq!(rt; found(&last.field_lookup, "0"), None);
+    Ok(())
+}
+
+#[test]
+fn a_list_has_a_node_of_its_items(rt: HostRuntime) -> Result<(), Fail> {
+    let shapes = r#"[{"name":"u32","def":"u32"},{"name":"Numbers","def":{"list":0}}]"#;
+    let table = table_of(rt.alloc(), shapes)?;
+    let plan = plan_of(rt.alloc(), &table).ok().ok_or("no plan")?;
+    let item = plan.list_item_node(plan.root()).ok_or("no items")?;
+    assert!(rt; matches!(item.kind, TypePlanNodeKind::Scalar));
+    Ok(())
+}
+
+/// A field that goes by another name, one of which there are at least 5, and an enum.
+const DECLARED: &str = r#"[
+    {"name":"u32","def":"u32"},
+    {"name":"Declared","def":{"struct":[
+        {"name":"plain","shape":0},
+        {"name":"old","rename":"new","shape":0,"validators":[{"min":5}]},
+        {"name":"choice","shape":2}
+    ]}},
+    {"name":"Choice","def":{"enum":{"repr":"U8","variants":[
+        {"name":"Unit","kind":"unit","fields":[],"discriminant":0},
+        {"name":"Struct","fields":[{"name":"a","shape":0},{"name":"b","shape":0}],"discriminant":1}
+    ]}}}
+]"#;
+
+/// By the name that it is declared under, and not by that which it goes by.
+#[test]
+fn a_declared_field_is_found(rt: HostRuntime) -> Result<(), Fail> {
+    let table = table_of(rt.alloc(), DECLARED)?;
+    let plan = plan_of(rt.alloc(), &table).ok().ok_or("no plan")?;
+    for (shape, variant, name, want) in [
+        (1, None, "plain", Some(0)),
+        (1, None, "old", Some(1)),
+        (1, None, "new", None),
+        (2, Some(0), "b", None),
+        (2, Some(1), "b", Some(1)),
+        (2, Some(2), "b", None),
+    ] {
+        let at = plan.declared_field(&table, ShapeId(shape), variant, name);
+        assert_eq!(rt; at, want, "{name} of {shape}");
+    }
+    Ok(())
+}
+
+#[test]
+fn a_struct_with_a_validator_has_validators(rt: HostRuntime) -> Result<(), Fail> {
+    let table = table_of(rt.alloc(), DECLARED)?;
+    let plan = plan_of(rt.alloc(), &table).ok().ok_or("no plan")?;
+    assert!(rt; plan.has_validators(ShapeId(1), None));
+    assert!(rt; !plan.has_validators(ShapeId(2), Some(1)));
+    Ok(())
+}
+
+/// Links from a struct back to itself, each with the name of what it leads through.
+const LINKS: [(&str, &str); 6] = [
+    ("an option", r#"{"option":1}"#),
+    ("a list", r#"{"list":1}"#),
+    ("a map's value", r#"{"map":[0,1]}"#),
+    ("a set", r#"{"set":1}"#),
+    ("a result", r#"{"result":[0,1]}"#),
+    ("a pointer", r#"{"pointer":{"known":"Box","pointee":1}}"#),
+];
+
+/// How many nodes refer back. Each of them stands for the root, which is a struct.
+fn count_back_references(rt: &impl Abort, plan: &TypePlanCore, name: &str) -> u32 {
+    let mut count = 0u32;
+    for i in 0..plan.node_count() {
+        let Ok(number) = u32::try_from(i) else {
+            panic!(rt; "too many nodes");
+        };
+        let node = plan.node(NodeId(number));
+        if matches!(node.kind, TypePlanNodeKind::BackRef(_)) {
+            let own = plan.resolve_backref(node);
+            assert!(rt; matches!(own.kind, TypePlanNodeKind::Struct(_)), "{name}");
+            let root = plan.resolve_backref_id(NodeId(number));
+            assert!(rt; root == plan.root_id(), "{name}");
+            count = count.saturating_add(1);
+        }
+    }
+    count
+}
+
+#[test]
+fn a_struct_that_holds_itself_refers_back_once(rt: HostRuntime) -> Result<(), Fail> {
+    let alloc = rt.alloc();
+    for (name, link) in LINKS {
+        let mut shapes = String::from_str(alloc, r#"[{"name":"u32","def":"u32"},"#)?;
+        shapes.push_str(r#"{"name":"Own","def":{"struct":[{"name":"next","shape":2}]}},"#)?;
+        shapes.push_str(r#"{"name":"Link","def":"#)?;
+        shapes.push_str(link)?;
+        shapes.push_str("}]")?;
+        let table = table_of(alloc, shapes.as_str())?;
+        let plan = plan_of(alloc, &table).ok().ok_or("no plan")?;
+        assert_eq!(rt; count_back_references(&rt, &plan, name), 1, "{name}");
+    }
+    Ok(())
+}
+
+/// A shape with proxies for all formats and for two, and a field of another with one for a format alone.
+const PROXIES: &str = r#"[
+    {"name":"u32","def":"u32"},
+    {"name":"Proxied","def":{"struct":[
+        {"name":"a","shape":0,"format_proxies":[{"format":"json","source":2,"convert":0}]}
+    ]},"proxy":{"source":3,"convert":0},"format_proxies":[
+        {"format":"json","source":2,"convert":0},
+        {"format":"toml","source":0,"convert":0}
+    ]},
+    {"name":"String","def":"String"},
+    {"name":"char","def":"char"}
+]"#;
+
+#[test]
+fn a_format_takes_its_own_proxy_or_that_of_all(rt: HostRuntime) -> Result<(), Fail> {
+    let table = table_of(rt.alloc(), PROXIES)?;
+    let plan = plan_of(rt.alloc(), &table).ok().ok_or("no plan")?;
+    let proxies = &plan.root().proxies;
+    for (format, shape) in [
+        (None, 3),
+        (Some("json"), 2),
+        (Some("toml"), 0),
+        (Some("yaml"), 3),
+    ] {
+        assert_eq!(rt; shape_at(&plan, proxies.node_for(format)), Some(shape));
+    }
+    assert!(rt; proxies.has_any() && !proxies.is_empty());
+    Ok(())
+}
+
+#[test]
+fn a_format_without_a_proxy_has_no_node(rt: HostRuntime) -> Result<(), Fail> {
+    let table = table_of(rt.alloc(), PROXIES)?;
+    let plan = plan_of(rt.alloc(), &table).ok().ok_or("no plan")?;
+    let field = plan.struct_field_node(plan.root(), 0).ok_or("no field")?;
+    for (format, shape) in [(None, None), (Some("json"), Some(2)), (Some("yaml"), None)] {
+        assert_eq!(rt; shape_at(&plan, field.proxies.node_for(format)), shape);
+    }
+    let own = plan.resolve_backref(field);
+    assert!(rt; own.proxies.is_empty() && own.proxies.node_for(None).is_none());
+    Ok(())
+}
