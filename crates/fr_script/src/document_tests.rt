@@ -48,8 +48,10 @@ fn a_document_is_answered(rt: HostRuntime) -> Result<(), Fail> {
     let answer = answer(rt.alloc(), DOCUMENT.as_bytes());
     let answer = answer.ok().ok_or("no memory")?;
     assert_eq!(rt; answer.status(), 0);
-    let Answer::Built(built, released) = answer else {
-        return Err(Fail::from("no value"));
+    let (built, released) = match answer {
+        Answer::Built(built, released) => (built, released),
+        Answer::Refused(_error, _released) => return Err(Fail::from("refused")),
+        Answer::Fault(_fault) => return Err(Fail::from("a fault")),
     };
     assert_eq!(rt; built.calls(), 3);
     assert_eq!(rt; released.len(), 0);

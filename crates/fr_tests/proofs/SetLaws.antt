@@ -4,15 +4,20 @@ use Rattle.std.specs.Prelude.{Result, Ok, Err, IfOk}
 use Rattle.std.proofs.lemmas.Bool.Decides.{eqb_tells}
 use Rattle.fr_shape.specs.Released.{Conserved, Room}
 use Rattle.fr_shape.specs.Tokens.{occurs, tokens, times}
-use Rattle.fr_shape.specs.TokenLaws.{Room_conserved, occurs_times, times_append}
+use Rattle.fr_shape.specs.TokenLaws.{Room_conserved, Room_same, occurs_times, times_append}
 use Rattle.fr_shape.specs.Val.{Val}
 use Rattle.fr_partial.specs.Builder.{Builder, holds, left}
 use Rattle.fr_partial.specs.declared.reflect_error.ReflectError.{ReflectError}
 
--- a call that brings nothing leaves nothing more than was held
-pub fewer : (held : ℕ → ℕ) (before : List ℕ) (left : ℕ → ℕ) (after : List ℕ) → Conserved held before left after
-    → (t : ℕ) → left t ≤ held t
-fewer held before left after kept t = omega (arith, kept.kept_or_released t, kept.none_falls t)
+-- a call that brings nothing leaves nothing more than was held, and what is left has its room
+module _ (held brought : ℕ → ℕ) (before : List ℕ) (left : ℕ → ℕ) (after : List ℕ) (kept : Conserved (λ t. held t + brought t) before left after) (none : (t : ℕ) → brought t ≡ 0) where
+  pub fewer : (t : ℕ) → left t ≤ held t
+  fewer t = omega (arith, kept.kept_or_released t, kept.none_falls t, none t)
+
+  pub room_after : Room held before → Room left after
+  room_after room =
+      Room_conserved (λ t. held t + brought t) before left after kept
+      (Room_same held (λ t. held t + brought t) before (λ t. omega (arith, none t)) room)
 
 times_cons : (s : ℕ) (ts : List ℕ) (t : ℕ) → times (s ∷ ts) t ≡ cond (nat_eq s t) 1 0 + times ts t
 times_cons s ts t = omega (arith, times_append (s ∷ []) ts t)
@@ -60,7 +65,8 @@ pub few_left : {H : Type 0} (result : Result (Builder H) ReflectError) (most : �
 few_left (Ok after) most few = few
 few_left (Err error) most few = tt
 
-pub room_left : {H : Type 0} (result : Result (Builder H) ReflectError) (held : ℕ → ℕ) (before after : List ℕ) → Room held before
-    → Conserved held before (left result) after → IfOk result (λ (next : Builder H). Room (holds next) after)
-room_left (Ok next) held before after room kept = Room_conserved held before (holds next) after kept room
-room_left (Err error) held before after room kept = tt
+pub room_left : {H : Type 0} (result : Result (Builder H) ReflectError) (held brought : ℕ → ℕ) (before after : List ℕ)
+    → Conserved (λ t. held t + brought t) before (left result) after → ((t : ℕ) → brought t ≡ 0) → Room held before
+    → IfOk result (λ (next : Builder H). Room (holds next) after)
+room_left (Ok next) held brought before after kept none room = room_after held brought before (holds next) after kept none room
+room_left (Err error) held brought before after kept none room = tt

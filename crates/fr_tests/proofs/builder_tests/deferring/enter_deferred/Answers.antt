@@ -4,7 +4,7 @@ use Rattle.fr_model.specs.Step.{begin_deferred}
 use Rattle.fr_model.specs.Tree.{State, Tree, deferred, one_more_call, strict, tree_occurs}
 use Rattle.fr_tests.proofs.builder_tests.deferring.enter_deferred.Goals as goal
 
-begun : State → State
+abbrev begun : State → State
 begun state = record state {
   mode = deferred (length state.cursor);
   calls = one_more_call state.calls;
