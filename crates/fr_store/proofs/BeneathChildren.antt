@@ -8,32 +8,31 @@ use Rattle.fr_path.specs.declared.path_steps.PathStep.{PathStep}
 use Rattle.fr_path.specs.Order.{step_order, walk_order}
 use Rattle.fr_model.specs.Paths.{step_as, step_below, steps_in}
 use Rattle.fr_model.specs.Places.{Place, entry_of}
-use Rattle.fr_model.specs.Tree.{Form, as_struct, as_array, as_variant, as_some, as_ok, as_err, as_pointer, as_list, as_slice, as_closed_slice, as_set, as_map, as_dyn_array, as_dyn_object, Tree, child_tree, tree_at}
+use Rattle.fr_model.specs.Tree.{Form, as_set, as_map, as_dyn_object, Tree, child_tree, tree_at}
 use Rattle.fr_model.specs.Collections.{is_map_form}
 use Rattle.fr_plan.specs.declared.nodes.NodeId.{NodeId}
 use Rattle.fr_plan.specs.TypePlan.{Plan}
 use Rattle.fr_frame.specs.declared.places.FrameOwner.{FrameOwner}
 use Rattle.fr_frame.specs.Cells.{Cell, slot_at, slot_of_cell}
 use Rattle.fr_frame.specs.Heap.{Heap}
-use Rattle.fr_frame.specs.Kids.{Kid, gone, there, at, Plot, entered_plot, whole_plot, begun_plot, Kids, no_kids, kid, MayHave, is_stored, tree_of, cell_of, cells_in, body_in, Holds, IsThere, IsLeftRightly, AreLeftRightly, AreLeftAll}
+use Rattle.fr_frame.specs.Kids.{Kid, gone, there, at, begun_plot, Kids, no_kids, kid, MayHave, is_stored, tree_of, cell_of, cells_in, body_in, Holds, IsThere, IsLeftRightly, AreLeftRightly, AreLeftAll}
 use Rattle.fr_store.specs.Beneath.{from_last, number_if, slot_if, slotted_numbers, slotted, is_map_body, is_map_found}
 use Rattle.fr_store.specs.HoldLaws.{holds_at, may_have_all}
+use Rattle.fr_store.specs.LeaveLaws.{kid_at_append}
 use Rattle.fr_store.specs.LeftLaws.{left_at}
 use Rattle.fr_store.specs.Places.{Pairs, IsHere, IsPlaced, slot_here, slot_at as slot_of_place}
-use Rattle.fr_store.specs.Prunes.{kids_below, kids_in_plot, cells_found, cells_in_body}
+use Rattle.fr_store.specs.Prunes.{kids_below, cells_found}
+use Rattle.fr_store.specs.TopLaws.{cells_count}
 use Rattle.fr_store.specs.Walks.{ComesBefore}
 use Rattle.fr_store.specs.Ways.{count_kids, kid_nth, kid_below, kid_at, AllMarked, AllMarkedIn, node_along, owner_along}
 use Rattle.fr_store.specs.WayLaws.{tree_of_at, marked_nth}
 use Rattle.fr_store.proofs.ChildOrder.{HasOwnStep, from_last_within, from_last_onto, listed_order}
 use Rattle.fr_store.proofs.PairLaws.{first_in, in_map, pairs_append, pairs_map}
 use Rattle.fr_store.proofs.PathOrder.{first_last}
-use Rattle.fr_store.proofs.PlaceLaws.{placed_below, placed_child, way_on}
+use Rattle.fr_store.proofs.PlaceLaws.{placed_below, placed_child}
+use Rattle.fr_store.proofs.PruneLaws.{plot_cells}
 
 -- Cells and children.
-
-cells_long : (ks : Kids) → length (cells_in ks) ≡ count_kids ks
-cells_long no_kids = refl
-cells_long (kid k ks) = ap suc (cells_long ks)
 
 slot_of_kid : (c : ℕ) (ks : Kids) → slot_at (cells_in ks) c ≡ slot_of_cell (cell_of (kid_nth c ks))
 slot_of_kid c no_kids = refl
@@ -52,8 +51,7 @@ here_told (at n stored plot) here = refl
 
 slot_same : (x : Kid) → slot_here x ≡ slot_if (slot_of_cell (cell_of x))
 slot_same gone = refl
-slot_same (there v) = refl
-slot_same (at n stored plot) = refl
+slot_same _ = refl
 
 -- Their numbers.
 
@@ -90,7 +88,7 @@ module _ (of_map : Bool) (ks : Kids) where
       go (Some slot) e =
           All-cons (IsAmong of_map ks (suc i)) (next i) []
           (record {
-            within = omega (arith, from_last_within of_map (length (cells_in ks)) i h, cells_long ks);
+            within = omega (arith, from_last_within of_map (length (cells_in ks)) i h, cells_count ks);
             here = here_is (kid_nth (next i) ks) slot (sym (slot_of_kid (next i) ks) ∙ e);
             j = i;
             early = omega arith;
@@ -167,7 +165,7 @@ module _ (of_map : Bool) (ks : Kids) where
 
   listed_all : (c : ℕ) → c < count_kids ks → IsHere (kid_nth c ks) → Contains (numbers (length (cells_in ks))) c
   listed_all c h here =
-      let onto = from_last_onto of_map (length (cells_in ks)) c (omega (arith, cells_long ks)) in
+      let onto = from_last_onto of_map (length (cells_in ks)) c (omega (arith, cells_count ks)) in
       subst (Contains (numbers (length (cells_in ks)))) onto.2
       (listed_by (length (cells_in ks)) onto.0 onto.1 (subst (λ (m : ℕ). IsHere (kid_nth m ks)) (sym onto.2) here))
 
@@ -182,24 +180,14 @@ there_unstored (there v) there_now = refl
 there_unstored (at slot stored plot) there_now = absurd there_now
 
 own_step : (form : Form) (c : ℕ) (x : Kid) → is_stored x ≡ true → IsLeftRightly form c x → HasOwnStep form c
-own_step as_struct c x stored left = tt
-own_step as_array c x stored left = tt
-own_step (as_variant k) c x stored left = tt
-own_step as_some c x stored left = tt
-own_step as_ok c x stored left = tt
-own_step as_err c x stored left = tt
-own_step as_pointer c x stored left = tt
-own_step as_list c x stored left = tt
-own_step as_slice c x stored left = tt
-own_step as_closed_slice c x stored left = tt
 own_step as_set c x stored left = not_both x stored left
 own_step (as_map base) c x stored left = go (ltb (entry_of c) base) refl
   where
     go : (b : Bool) → ltb (entry_of c) base ≡ b → base ≤ entry_of c
     go true e = absurd (not_both x stored (there_unstored x (left (ltb-true (entry_of c) base e))))
     go false e = ltb-false (entry_of c) base e
-own_step as_dyn_array c x stored left = tt
 own_step (as_dyn_object keys) c x stored left = not_both x stored left
+own_step _ c x stored left = tt
 
 left_nth : (form : Form) (first c m : ℕ) (ks : Kids) → m ≡ first + c → c < count_kids ks → AreLeftAll form first ks
     → IsLeftRightly form m (kid_nth c ks) × AreLeftRightly (kid_nth c ks)
@@ -221,11 +209,8 @@ beneath_any (there v) all = tt
 beneath_any (at slot stored plot) all = all.1
 
 beneath_child : (i : ℕ) (k : Kid) → BeneathIsStored k → AllMarked true (kid_below i k)
-beneath_child i gone all = tt
-beneath_child i (there v) all = tt
-beneath_child i (at slot stored entered_plot) all = tt
-beneath_child i (at slot stored (whole_plot v)) all = tt
 beneath_child i (at slot stored (begun_plot form kids)) all = marked_nth true i kids all
+beneath_child i _ all = tt
 
 pub beneath_at : (place : Place) (k : Kid) → BeneathIsStored k → BeneathIsStored (kid_at place k)
 beneath_at [] k all = all
@@ -243,11 +228,6 @@ is_map_kid gone = false
 is_map_kid (there v) = false
 is_map_kid (at slot stored plot) = is_map_body (body_in plot)
 
-plot_cells_are : (plot : Plot) → cells_in_body (body_in plot) ≡ cells_in (kids_in_plot plot)
-plot_cells_are entered_plot = refl
-plot_cells_are (whole_plot v) = refl
-plot_cells_are (begun_plot form kids) = refl
-
 -- what is found in its slot
 found_of : (plan : Plan) (heap : Heap) (node : NodeId) (owner : FrameOwner) (depth : ℕ) (x : Kid)
     → Holds plan heap node owner depth x → IsHere x
@@ -255,41 +235,28 @@ found_of : (plan : Plan) (heap : Heap) (node : NodeId) (owner : FrameOwner) (dep
 found_of plan heap node owner depth gone holds here = absurd here
 found_of plan heap node owner depth (there v) holds here = absurd here
 found_of plan heap node owner depth (at slot stored plot) holds here =
-    (ap cells_found holds.0 ∙ plot_cells_are plot, ap is_map_found holds.0)
+    (ap cells_found holds.0 ∙ plot_cells plot, ap is_map_found holds.0)
 
 child_reached : (c : ℕ) (x : Kid) → c < count_kids (kids_below x) → IsHere (kid_nth c (kids_below x)) → IsPlaced x (c ∷ [])
-child_reached c gone h here = absurd (omega arith)
-child_reached c (there v) h here = absurd (omega arith)
-child_reached c (at slot stored entered_plot) h here = absurd (omega arith)
-child_reached c (at slot stored (whole_plot v)) h here = absurd (omega arith)
 child_reached c (at slot stored (begun_plot form kids)) h here = record { reaches = (h, tt); here = here }
+child_reached c _ h here = absurd (omega arith)
 
 reached_child : (c : ℕ) (x : Kid) → IsPlaced x (c ∷ []) → (c < count_kids (kids_below x)) × IsHere (kid_nth c (kids_below x))
-reached_child c gone placed = absurd placed.reaches
-reached_child c (there v) placed = absurd placed.reaches
-reached_child c (at slot stored entered_plot) placed = absurd placed.reaches
-reached_child c (at slot stored (whole_plot v)) placed = absurd placed.reaches
 reached_child c (at slot stored (begun_plot form kids)) placed = (placed.reaches.0, placed.here)
+reached_child c _ placed = absurd placed.reaches
 
 kid_of_number : (c : ℕ) (x : Kid) → kid_at (c ∷ []) x ≡ kid_nth c (kids_below x)
-kid_of_number c gone = refl
-kid_of_number c (there v) = refl
-kid_of_number c (at slot stored entered_plot) = refl
-kid_of_number c (at slot stored (whole_plot v)) = refl
 kid_of_number c (at slot stored (begun_plot form kids)) = refl
+kid_of_number c _ = refl
 
 -- their steps
 steps_differ : (plan : Plan) (heap : Heap) (node : NodeId) (owner : FrameOwner) (depth : ℕ) (x : Kid) (c d : ℕ)
     → Holds plan heap node owner depth x → AreLeftRightly x → BeneathIsStored x → d < count_kids (kids_below x)
     → IsHere (kid_nth d (kids_below x)) → AreListed (is_map_kid x) (length (cells_in (kids_below x))) c d
     → step_order (step_below d (tree_of x)) (step_below c (tree_of x)) ≡ Less
-steps_differ plan heap node owner depth gone c d holds left all h here listed = absurd (omega arith)
-steps_differ plan heap node owner depth (there v) c d holds left all h here listed = absurd (omega arith)
-steps_differ plan heap node owner depth (at slot stored entered_plot) c d holds left all h here listed = absurd (omega arith)
-steps_differ plan heap node owner depth (at slot stored (whole_plot v)) c d holds left all h here listed = absurd (omega arith)
 steps_differ plan heap node owner depth (at slot stored (begun_plot form kids)) c d holds left all h here listed =
     let may : MayHave form (length (cells_in kids))
-    = subst (MayHave form) (sym (cells_long kids)) (may_have_all plan heap node slot form (suc depth) kids holds.2) in
+    = subst (MayHave form) (sym (cells_count kids)) (may_have_all plan heap node slot form (suc depth) kids holds.2) in
     let own : HasOwnStep form d
     = own_step form d (kid_nth d kids) (marked_here (kid_nth d kids) here (marked_nth true d kids all))
     (left_nth form 0 d d kids (omega arith) h left).0 in
@@ -297,8 +264,9 @@ steps_differ plan heap node owner depth (at slot stored (begun_plot form kids)) 
     ∙ ap (λ (m : ℕ). step_order (step_as form (from_last (is_map_form form) (length (cells_in kids)) listed.i)) (step_as form m)) listed.first
     ∙ listed_order form (length (cells_in kids)) listed.j listed.i listed.later listed.within may
     (subst (HasOwnStep form) listed.second own)
+steps_differ plan heap node owner depth _ c d holds left all h here listed = absurd (omega arith)
 
-steps_of_child : (place : Place) (i : ℕ) (t : Tree) → steps_in (place ++ i ∷ []) t ≡ steps_in place t ++ step_below i (tree_at place t) ∷ []
+pub steps_of_child : (place : Place) (i : ℕ) (t : Tree) → steps_in (place ++ i ∷ []) t ≡ steps_in place t ++ step_below i (tree_at place t) ∷ []
 steps_of_child [] i t = refl
 steps_of_child (j ∷ place) i t = ap (λ (steps : List PathStep). step_below j t ∷ steps) (steps_of_child place i (child_tree j t))
 
@@ -389,7 +357,7 @@ module _ (plan : Plan) (heap : Heap) (node : NodeId) (owner : FrameOwner) (depth
 
       one : (c : ℕ) → slot_of_place k (p ++ c ∷ []) ≡ slot_if (slot_at (cells_in (kids_below (kid_at p k))) c)
       one c =
-          ap slot_here (way_on p (c ∷ []) k ∙ kid_of_number c (kid_at p k)) ∙ slot_same (kid_nth c (kids_below (kid_at p k)))
+          ap slot_here (kid_at_append p (c ∷ []) k ∙ kid_of_number c (kid_at p k)) ∙ slot_same (kid_nth c (kids_below (kid_at p k)))
           ∙ ap slot_if (sym (slot_of_kid c (kids_below (kid_at p k))))
 
       go : (cs : List ℕ) → map (slot_of_place k) (map (λ c. p ++ c ∷ []) cs)

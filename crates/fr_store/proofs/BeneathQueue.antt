@@ -1,24 +1,24 @@
 -- The queue of the places that lie beneath one: each place is followed by its children.
-use Rattle.std.proofs.Common.{◌≡◌, ◌≢◌, ◌⊎◌, ℕ, zero, suc, ◌+◌, ◌-◌, ◌<◌, ◌≤◌, true, false, List, [], ◌∷◌, ◌++◌, length, length-append, get_or, map, nat_eq, reverse, take, append_assoc, inl, inr, refl, sym, ◌∙◌, ap, subst, arith}
+use Rattle.std.proofs.Common.{◌≡◌, ◌≢◌, ◌⊎◌, ℕ, ◌+◌, ◌-◌, ◌<◌, ◌≤◌, true, false, List, [], ◌∷◌, ◌++◌, length, length-append, get_or, map, reverse, take, append_assoc, inl, inr, refl, sym, ◌∙◌, ap, subst, arith}
 use Rattle.std.specs.List.{All, Contains}
 use Rattle.std.proofs.Math.Seq.{take-append_seam}
 use Rattle.std.proofs.lemmas.List.{append-nil, length-map, map-append, reverse-append}
-use Rattle.std.proofs.lemmas.List.Elements.{All-nil, All-cons, All-head, All-tail, All-append, All-contains, Contains-append_left, Contains-append_right, Contains-get_or, Contains-push, Contains-push_cases}
+use Rattle.std.proofs.lemmas.List.Elements.{All-nil, All-cons, All-head, All-tail, All-append, All-contains, Contains-append_left, Contains-append_right, Contains-push, Contains-push_cases}
 use Rattle.fr_path.specs.declared.path_steps.PathStep.{PathStep}
 use Rattle.fr_path.specs.Order.{walk_order}
 use Rattle.fr_model.specs.Paths.{step_below, steps_in}
 use Rattle.fr_model.specs.Places.{Place}
-use Rattle.fr_model.specs.Tree.{Tree, child_tree, tree_at}
-use Rattle.fr_frame.specs.Kids.{Kid, gone, there, at, Plot, entered_plot, whole_plot, begun_plot, tree_of}
-use Rattle.fr_store.specs.HeadLaws.{before_itself}
-use Rattle.fr_store.specs.Places.{Pairs, AreOnce, IsHere, IsPlaced, counts_in, slot_at, slot_here, stored_here}
+use Rattle.fr_model.specs.Tree.{tree_at}
+use Rattle.fr_frame.specs.Kids.{Kid, gone, there, at, Plot, begun_plot, tree_of}
+use Rattle.fr_store.specs.Places.{Pairs, AreOnce, IsHere, IsPlaced, slot_at, slot_here, stored_here}
 use Rattle.fr_store.specs.Walks.{IsStoredAt, AreStoredAt, AreInWalkOrder, IsWalk}
-use Rattle.fr_store.specs.Ways.{counts_if, kid_at, kid_below, uses, AllMarked}
-use Rattle.fr_store.specs.WayLaws.{counts_same, counts_other, marked_at, marked_nth, same_or_other}
-use Rattle.fr_store.proofs.BeneathChildren.{AreChildrenHere, ComesAfter, BeneathIsStored}
-use Rattle.fr_store.proofs.PairLaws.{all_reverse, all_right, first_in, in_cases, in_reverse, map_reverse, none_counted, of_map, pairs_append, pairs_cross, pairs_reverse}
+use Rattle.fr_store.specs.Ways.{kid_at, kid_below, uses, AllMarked}
+use Rattle.fr_store.specs.WayLaws.{marked_at, marked_nth}
+use Rattle.fr_store.proofs.BeneathChildren.{AreChildrenHere, ComesAfter, BeneathIsStored, steps_of_child}
+use Rattle.fr_store.proofs.HeadLaws.{before_itself}
+use Rattle.fr_store.proofs.PairLaws.{all_reverse, all_right, first_in, in_cases, in_reverse, map_reverse, of_map, pairs_append, pairs_cross, pairs_reverse, parts}
 use Rattle.fr_store.proofs.PathOrder.{first_on, longer_first}
-use Rattle.fr_store.proofs.PlaceLaws.{placed_above, same_place}
+use Rattle.fr_store.proofs.PlaceLaws.{placed_above, behind, slots_once}
 
 -- where a place comes from: it is the first, or a child of one of these
 abbrev pub IsFrom : List Place → Place → Type 0
@@ -47,29 +47,20 @@ lists_root k here = record {
 
 -- Steps.
 
-steps_on : (place : Place) (i : ℕ) (t : Tree) → steps_in (place ++ i ∷ []) t ≡ steps_in place t ++ step_below i (tree_at place t) ∷ []
-steps_on [] i t = refl
-steps_on (j ∷ place) i t = ap (λ (steps : List PathStep). step_below j t ∷ steps) (steps_on place i (child_tree j t))
-
 -- children of two places come as those do
 children_after : (k : Kid) (p q : Place) (i j : ℕ) → ComesAfter k p q → ComesAfter k (p ++ i ∷ []) (q ++ j ∷ [])
 children_after k p q i j after =
-    ap (λ (steps : List PathStep). walk_order steps (steps_in (p ++ i ∷ []) (tree_of k))) (steps_on q j (tree_of k))
-    ∙ ap (walk_order (steps_in q (tree_of k) ++ step_below j (tree_at q (tree_of k)) ∷ [])) (steps_on p i (tree_of k))
+    ap (λ (steps : List PathStep). walk_order steps (steps_in (p ++ i ∷ []) (tree_of k))) (steps_of_child q j (tree_of k))
+    ∙ ap (walk_order (steps_in q (tree_of k) ++ step_below j (tree_at q (tree_of k)) ∷ [])) (steps_of_child p i (tree_of k))
     ∙ first_on (steps_in q (tree_of k)) (steps_in p (tree_of k)) (step_below j (tree_at q (tree_of k)))
     (step_below i (tree_at p (tree_of k))) after
 
 -- and every other place comes before the first
 child_before : (k : Kid) (q : Place) (j : ℕ) → ComesAfter k [] (q ++ j ∷ [])
 child_before k q j =
-    ap (λ (steps : List PathStep). walk_order steps []) (steps_on q j (tree_of k))
+    ap (λ (steps : List PathStep). walk_order steps []) (steps_of_child q j (tree_of k))
     ∙ longer_first (steps_in q (tree_of k) ++ step_below j (tree_at q (tree_of k)) ∷ []) []
     (omega (arith, length-append (steps_in q (tree_of k)) (step_below j (tree_at q (tree_of k)) ∷ [])))
-
--- One place more.
-parts : (done rest : List Place) (p : Place) (added : List Place)
-    → (done ++ p ∷ []) ++ (rest ++ added) ≡ (done ++ p ∷ rest) ++ added
-parts done rest p added = append_assoc done (p ∷ []) (rest ++ added) ∙ sym (append_assoc done (p ∷ rest) added)
 
 first_placed : (k : Kid) (done rest : List Place) (p : Place) → IsListing k done (p ∷ rest) → IsPlaced k p
 first_placed k done rest p s = All-head (IsPlaced k) p rest (all_right (IsPlaced k) done (p ∷ rest) s.placed)
@@ -158,46 +149,13 @@ queue_begins k n here e = record {
   head_is = refl;
 }
 
-slots_once : (k : Kid) → ((n : ℕ) → uses k n ≤ 1) → (places : List Place) → All (IsPlaced k) places
-    → Pairs (ComesAfter k) places → AreOnce (map (slot_at k) places)
-slots_once k once [] placed order n = omega arith
-slots_once k once (p ∷ places) placed order n =
-    go (same_or_other (slot_at k p) n) (slots_once k once places others order.1 n)
-  where
-    others : All (IsPlaced k) places
-    others = All-tail (IsPlaced k) p places placed
-
-    apart : All (λ (m : ℕ). m ≢ slot_at k p) (map (slot_at k) places)
-    apart i d h e =
-        let from = of_map (slot_at k) places (get_or (map (slot_at k) places) i d)
-        (Contains-get_or (map (slot_at k) places) i d h) in
-        let after = All-contains (ComesAfter k p) places from.0 order.0 from.1 in
-        let same : p ≡ from.0
-        = same_place p from.0 k once (All-head (IsPlaced k) p places placed)
-        (All-contains (IsPlaced k) places from.0 others from.1) (sym e ∙ sym from.2) in
-        before_itself (tree_of k) p (subst (λ (q : Place). ComesAfter k p q) (sym same) after)
-
-    go : (slot_at k p ≡ n) ⊎ (slot_at k p ≢ n) → counts_in n (map (slot_at k) places) ≤ 1
-        → counts_if (nat_eq (slot_at k p) n) + counts_in n (map (slot_at k) places) ≤ 1
-    go (inl e) less =
-        let none = none_counted (slot_at k p) (map (slot_at k) places) apart in
-        let same : counts_in (slot_at k p) (map (slot_at k) places) ≡ counts_in n (map (slot_at k) places)
-        = ap (λ (m : ℕ). counts_in m (map (slot_at k) places)) e in
-        let one : counts_if (nat_eq (slot_at k p) n) ≡ 1 = ap (λ (m : ℕ). counts_if (nat_eq m n)) e ∙ counts_same n in
-        omega arith
-    go (inr ne) less = omega (arith, counts_other (slot_at k p) n ne)
-
-behind : (xs : List ℕ) (y : ℕ) (ys : List ℕ) (i d : ℕ) → i ≡ length xs → get_or (xs ++ y ∷ ys) i d ≡ y
-behind [] y ys zero d e = refl
-behind [] y ys (suc i) d e = absurd (omega arith)
-behind (x ∷ xs) y ys zero d e = absurd (omega arith)
-behind (x ∷ xs) y ys (suc i) d e = behind xs y ys i d (omega arith)
-
 module _ (k : Kid) (queue : List ℕ) (head : ℕ) (q : IsQueueBeneath k queue head) where
   -- none stands in it twice
   pub queue_once : ((n : ℕ) → uses k n ≤ 1) → AreOnce queue
   queue_once once =
-      subst AreOnce (sym q.queue_is) (slots_once k once (q.done ++ q.waiting) q.listing.placed q.listing.order)
+      subst AreOnce (sym q.queue_is) (slots_once k once (ComesAfter k)
+      (λ p other after e. before_itself (tree_of k) p (subst (λ (x : Place). ComesAfter k p x) (sym e) after))
+      (q.done ++ q.waiting) q.listing.placed q.listing.order)
 
   queue_long : length queue ≡ head + length q.waiting
   queue_long =
@@ -290,11 +248,8 @@ module _ (k : Kid) (queue : List ℕ) (head : ℕ) (q : IsQueueBeneath k queue h
     stored_below (at slot stored plot) here all = all.0
 
     marked_child : (i : ℕ) (x : Kid) → BeneathIsStored x → AllMarked true (kid_below i x)
-    marked_child i gone all = tt
-    marked_child i (there v) all = tt
-    marked_child i (at slot stored entered_plot) all = tt
-    marked_child i (at slot stored (whole_plot v)) all = tt
     marked_child i (at slot stored (begun_plot form kids)) all = marked_nth true i kids all
+    marked_child i _ all = tt
 
     -- one that isn't the first is stored
     is_stored_there : (p : Place) → IsPlaced k p → p ≢ [] → stored_here (kid_at p k) ≡ true

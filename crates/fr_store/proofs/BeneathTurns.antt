@@ -1,5 +1,5 @@
 -- The turns of the places that lie beneath the one at which a builder works, one after another.
-use Rattle.std.proofs.Common.{◌≡◌, ◌≢◌, ◌↔◌, ℕ, zero, suc, ◌≤◌, Bool, true, false, List, [], ◌∷◌, ◌++◌, append-nil, Option, Some, None, refl, sym, ◌∙◌, ap, subst, arith}
+use Rattle.std.proofs.Common.{◌≡◌, ◌≢◌, ◌↔◌, ℕ, zero, suc, ◌≤◌, Bool, true, false, List, [], ◌∷◌, ◌++◌, append-nil, Option, Some, None, refl, sym, ◌∙◌, ap, ap₂, subst, arith}
 use Rattle.std.specs.Prelude.{is_some}
 use Rattle.std.specs.List.{Contains}
 use Rattle.fr_shape.specs.declared.error.ReflectErrorKind.{ReflectErrorKind}
@@ -8,32 +8,28 @@ use Rattle.fr_shape.specs.Hooks.{Meanings}
 use Rattle.fr_shape.specs.Look.{Table}
 use Rattle.fr_path.specs.declared.path_steps.PathStep.{PathStep}
 use Rattle.fr_model.specs.Failing.{Failure, failures, first_by_walk, own_lack}
-use Rattle.fr_model.specs.FailingLaws.{FirstByWalkIs, LackingFails}
-use Rattle.fr_model.specs.FinishLaws.{closed_at}
+use Rattle.fr_model.specs.FailingLaws.{EachFailureHasItsPlace, FirstByWalkIs, LackingFails}
+use Rattle.fr_model.specs.FinishLaws.{closed_at, Closes, ClosingKeepsFinish}
 use Rattle.fr_model.specs.Laws.{CompletesOrFails, CompletingFits}
 use Rattle.fr_model.specs.Paths.{steps_in}
 use Rattle.fr_model.specs.Places.{Place, deferred_column}
 use Rattle.fr_model.specs.Relation.{HasPlace}
-use Rattle.fr_model.specs.Tree.{Tree, whole, shape_in, tree_at}
-use Rattle.fr_model.specs.Well.{Suits}
+use Rattle.fr_model.specs.Tree.{strict, Tree, whole, shape_in, tree_at}
+use Rattle.fr_model.specs.Well.{AtCursor, Suits}
 use Rattle.fr_plan.specs.TypePlan.{Plan}
 use Rattle.fr_frame.specs.declared.places.FrameOwner.{FrameOwner}
 use Rattle.fr_frame.specs.declared.places.Slot.{Slot}
 use Rattle.fr_frame.specs.Bodies.{IsClosed}
 use Rattle.fr_frame.specs.Heap.{Node, heap_of, marked, stored_in}
-use Rattle.fr_frame.specs.Kids.{Kid, gone, there, at, Plot, entered_plot, whole_plot, begun_plot, Kids, no_kids, kid, tree_of, body_in}
-use Rattle.fr_store.specs.Beneath.{IsCompleteBeneath, IsHeldUpHere, kid_on_top, shape_here}
-use Rattle.fr_store.specs.BeneathLaws.{cause_is, none_made}
-use Rattle.fr_store.specs.ClosingLaws.{shape_append, suits_at, suits_change, tree_append}
-use Rattle.fr_store.specs.HeadLaws.{Head, head_closed, head_of, one_place, walk_on}
-use Rattle.fr_store.specs.HeldLaws.{no_marks}
+use Rattle.fr_frame.specs.Kids.{Kid, gone, there, at, Plot, begun_plot, Kids, no_kids, kid, tree_of, body_in}
+use Rattle.fr_store.specs.Beneath.{IsCompleteBeneath, IsHeldUpHere, completed_beneath, kid_on_top, shape_here}
+use Rattle.fr_store.specs.ClosingLaws.{closes_with, shape_append, suits_at, suits_change, tree_append}
 use Rattle.fr_store.specs.LeaveLaws.{kid_at_append, put_append}
 use Rattle.fr_store.specs.MoveLaws.{open_reach, open_top, so_top, top_node}
-use Rattle.fr_store.specs.Moves.{cursor_in, tree_in_slots}
+use Rattle.fr_store.specs.Moves.{cursor_in, tree_here, tree_in_slots}
 use Rattle.fr_store.specs.Numbers.{IsLast}
-use Rattle.fr_store.specs.OffLaws.{reach_place, stored_beside, stored_still}
+use Rattle.fr_store.specs.OffLaws.{off_stored, reach_place, stored_beside, stored_still}
 use Rattle.fr_store.specs.Places.{IsHere, IsPlaced, slot_at, slot_here, stored_here}
-use Rattle.fr_store.specs.StayLaws.{stay_but_beneath}
 use Rattle.fr_store.specs.Stands.{IsOpen, kid_here}
 use Rattle.fr_store.specs.Staying.{StayPutButBeneath}
 use Rattle.fr_store.specs.Stored.{IsKept}
@@ -43,9 +39,13 @@ use Rattle.fr_store.specs.Turns.{CompletesAsBefore, root_shape}
 use Rattle.fr_store.specs.Walks.{AreStoredAt, IsStoredAt, IsWalk}
 use Rattle.fr_store.specs.Ways.{kid_at, kid_nth, put_at, put_nth, uses, AllMarked, Leads, NoneStored, Reaches}
 use Rattle.fr_store.specs.WayLaws.{kid_put_at, leads_at, put_at_twice, tree_of_at, tree_put_at, uses_at}
-use Rattle.fr_store.proofs.BeneathFails.{first_beneath}
+use Rattle.fr_store.proofs.BeneathMeant.{nothing_left, same_within}
+use Rattle.fr_store.proofs.FailLaws.{cause_is, fails_beneath, none_made}
+use Rattle.fr_store.proofs.HeadLaws.{Head, head_closed, head_of, one_place, walk_on}
+use Rattle.fr_store.proofs.HeldLaws.{closed_cursor, first_fails, no_marks}
 use Rattle.fr_store.proofs.OpenLaws.{open_stay}
 use Rattle.fr_store.proofs.PlaceLaws.{mark_at, place_of, placed_below}
+use Rattle.fr_store.proofs.StayLaws.{stay_but_beneath}
 
 -- What lies at a place, put there, changes nothing.
 
@@ -59,10 +59,7 @@ put_same [] k reach = refl
 put_same (i ∷ place) (at slot stored (begun_plot form kids)) reach =
     ap (λ (x : Kid). at slot stored (begun_plot form (put_nth i x kids))) (put_same place (kid_nth i kids) reach.1)
     ∙ ap (λ (ks : Kids). at slot stored (begun_plot form ks)) (put_nth_same i kids)
-put_same (i ∷ place) (at slot stored entered_plot) reach = absurd reach
-put_same (i ∷ place) (at slot stored (whole_plot v)) reach = absurd reach
-put_same (i ∷ place) gone reach = absurd reach
-put_same (i ∷ place) (there v) reach = absurd reach
+put_same (i ∷ place) _ reach = absurd reach
 
 -- The place on top of an open builder, and what lies beneath it.
 module _ (plan : Plan) (slots : List Slot) (stack : List ℕ) (open_now : IsOpen plan slots stack) where
@@ -106,6 +103,9 @@ pub record WalkedBeneath (means : Meanings) (table : Table) (plan : Plan) (befor
   pub here :
       CompletesAsBefore means table (root_shape plan) (tree_in_slots before stack) (tree_in_slots now stack)
       (cursor_in before stack)
+  pub meant :
+      completed_beneath means table (shape_here table plan now stack) (tree_here now stack)
+      ≡ completed_beneath means table (shape_here table plan before stack) (tree_here before stack)
 
 module _ (means : Meanings) (table : Table) (plan : Plan) (before : List Slot) (stack : List ℕ) (open_first : IsOpen plan before stack) where
   pub beneath_begins : (walk : List ℕ) → Suits table (root_shape plan) (tree_in_slots before stack)
@@ -117,6 +117,7 @@ module _ (means : Meanings) (table : Table) (plan : Plan) (before : List Slot) (
     left = left;
     beside = sym (put_same (cursor_in before stack) (kid_here before stack) (open_reach plan before stack open_first));
     here = record { value = refl; failing = λ path. refl };
+    meant = refl;
   }
 
   module _ (now : List Slot) (rest : List ℕ) (n : ℕ) (walked : WalkedBeneath means table plan before stack now (n ∷ rest)) where
@@ -221,9 +222,23 @@ module _ (means : Meanings) (table : Table) (plan : Plan) (before : List Slot) (
           (tree_at turned.place (tree_in_slots now stack)) turned.value checked
           (suits_at table (root_shape plan) turned.place (tree_in_slots now stack) has walked.suits) turned.meant)
 
-      pub beneath_goes_on : CompletingFits → IsChecked table → KeepsTheRest means table plan now stack next
+      -- the same is to come of what lies at the top
+      meant_next : ClosingKeepsFinish
+          → completed_beneath means table (shape_here table plan next stack) (tree_here next stack)
+          ≡ completed_beneath means table (shape_here table plan now stack) (tree_here now stack)
+      meant_next closing =
+          ap₂
+          (λ (p : Place) (t : Tree). completed_beneath means table (shape_in table (root_shape plan) p t) (tree_at p t))
+          turned.stands.cursor
+          (turned.stands.built ∙ ap (λ (p : Place). closed_at p turned.value (tree_in_slots now stack)) same)
+          ∙ same_within means table closing (root_shape plan) (cursor_in now stack) head.place turned.value
+          (tree_in_slots now stack) (λ e. off_stored [] head.place x n head.stored.plot leads head.stored.is [] (sym e ∙ sym (append-nil head.place)))
+          (subst (λ (p : Place). Closes means table (root_shape plan) p turned.value (tree_in_slots now stack)) same
+          (closes_with means table (root_shape plan) turned.place turned.value (tree_in_slots now stack) has turned.meant))
+
+      pub beneath_goes_on : CompletingFits → IsChecked table → ClosingKeepsFinish → KeepsTheRest means table plan now stack next
           → WalkedBeneath means table plan before stack next rest
-      beneath_goes_on fitting checked keeps = record {
+      beneath_goes_on fitting checked closing keeps = record {
         still = turned.stands.open_still;
         cursor = turned.stands.cursor ∙ walked.cursor;
         suits = subst (Suits table (root_shape plan)) (sym turned.stands.built) (suits_on fitting checked);
@@ -239,6 +254,7 @@ module _ (means : Meanings) (table : Table) (plan : Plan) (before : List Slot) (
               value = one.value ∙ walked.here.value;
               failing = λ path. one.failing path ∙ walked.here.failing path;
             };
+        meant = meant_next closing ∙ walked.meant;
       }
 
       -- it is taken out of the store, and all others that are stored are in it
@@ -291,9 +307,9 @@ module _ (means : Meanings) (table : Table) (plan : Plan) (before : List Slot) (
               ∙ ap stored_here stored_next.is
 
     -- it makes no value: it is the first place that fails
-    pub beneath_held_up : LackingFails → FirstByWalkIs → CompletesOrFails → (kind : ReflectErrorKind)
+    pub beneath_held_up : EachFailureHasItsPlace → LackingFails → FirstByWalkIs → CompletesOrFails → (kind : ReflectErrorKind)
         → IsLackingAt means table plan now stack n kind → IsHeldUpHere means table plan before stack kind
-    beneath_held_up lacking first fails kind lacks = record {
+    beneath_held_up each lacking first fails kind lacks = record {
       incomplete =
           none_made fails means table (shape_here table plan before stack) []
           (tree_at (cursor_in before stack) (tree_in_slots before stack)) (failure_of []) (first_before []);
@@ -338,9 +354,12 @@ module _ (means : Meanings) (table : Table) (plan : Plan) (before : List Slot) (
             (failures means table (shape_here table plan now stack) path (tree_at (cursor_in now stack) (tree_in_slots now stack)))
             ≡ Some (failure_of path)
         first_now path =
+            let off = first_fails means table (shape_here table plan now stack) path (kid_on_top now stack) [] leads n rest
+            walked.left head kind lacks_beneath each lacking first in
             ap (λ (t : Tree). first_by_walk (failures means table (shape_here table plan now stack) path t)) (sym tree_on_top)
-            ∙ first_beneath means table (shape_here table plan now stack) path (kid_on_top now stack) leads n rest walked.left
-            head kind lacks_beneath lacking first
+            ∙ ap first_by_walk
+            (fails_beneath means table (shape_here table plan now stack) path (tree_of (kid_on_top now stack)) (failure_of path) off)
+            ∙ off
 
         first_before : (path : List PathStep)
             → first_by_walk
@@ -394,10 +413,21 @@ module _ (means : Meanings) (table : Table) (plan : Plan) (before : List Slot) (
         let top = open_top plan now stack walked.still in
         closed_by_marks top.plot top.stored (subst (AllMarked false) top.is nothing_stored).1
 
+    top_is : tree_of (kid_on_top now stack) ≡ tree_here now stack
+    top_is = tree_of_at (cursor_in now stack) (kid_here now stack)
+
+    done_now : AtCursor strict (tree_here now stack)
+    done_now =
+        let top = open_top plan now stack walked.still in
+        subst (AtCursor strict) (ap tree_of (sym top.is) ∙ top_is) (closed_cursor top.plot closed_now)
+
     pub beneath_complete : IsCompleteBeneath means table plan before stack now
     unfolding top_node
     beneath_complete = record {
       tree = tree_of (kid_on_top now stack);
+      meant =
+          sym walked.meant ∙ nothing_left means table (shape_here table plan now stack) (tree_here now stack) done_now
+          ∙ ap (λ (t : Tree). Some t) (sym top_is);
       stands = record {
         open_still = walked.still;
         cursor = walked.cursor;

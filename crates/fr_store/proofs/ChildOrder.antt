@@ -2,7 +2,7 @@
 use Rattle.std.proofs.Common.{◌≡◌, ◌⊎◌, ℕ, zero, suc, ◌-◌, ◌*◌, ◌<◌, ◌≤◌, Bool, true, false, ltb, inl, inr, refl, ◌∙◌, ap, arith}
 use Rattle.std.specs.Prelude.{if◌then◌else◌}
 use Rattle.std.specs.declared.cmp.Ordering.{Ordering}
-use Rattle.std.specs.declared.cmp.Ordering.TheVariants.{Less, Equal}
+use Rattle.std.specs.declared.cmp.Ordering.TheVariants.{Less}
 use Rattle.std.specs.Ordering.{ordering_then}
 use Rattle.std.proofs.lemmas.Bool.{lt-ltb, le-ltb, ltb-true, ltb-false}
 use Rattle.fr_path.specs.declared.path_steps.PathStep.{PathStep}
@@ -14,6 +14,7 @@ use Rattle.fr_model.specs.Tree.{Form, as_struct, as_array, as_variant, as_some, 
 use Rattle.fr_frame.specs.Kids.{MayHave}
 use Rattle.fr_store.specs.Beneath.{from_last}
 use Rattle.fr_store.proofs.PathOrder.{number_less}
+use Rattle.fr_store.proofs.StepLaws.{field_less, index_less, key_less, value_less}
 
 -- Keys and values.
 
@@ -113,18 +114,6 @@ HasOwnStep (as_map base) i = base ≤ entry_of i
 HasOwnStep as_dyn_array i = Unit {0}
 HasOwnStep (as_dyn_object keys) i = ⊥
 
-field_first : (i j : ℕ) → i < j → step_order (PathStep.Field i) (PathStep.Field j) ≡ Less
-field_first i j less = ap (λ (o : Ordering). ordering_then o Equal) (number_less i j less)
-
-index_first : (i j : ℕ) → i < j → step_order (PathStep.Index i) (PathStep.Index j) ≡ Less
-index_first i j less = ap (λ (o : Ordering). ordering_then o Equal) (number_less i j less)
-
-key_first : (i j : ℕ) → i < j → step_order (PathStep.MapKey i) (PathStep.MapKey j) ≡ Less
-key_first i j less = ap (λ (o : Ordering). ordering_then o Equal) (number_less i j less)
-
-in_values : (i j : ℕ) → i < j → step_order (PathStep.MapValue i) (PathStep.MapValue j) ≡ Less
-in_values i j less = ap (λ (o : Ordering). ordering_then o Equal) (number_less i j less)
-
 keys_first : (i j : ℕ) → step_order (PathStep.MapKey i) (PathStep.MapValue j) ≡ Less
 keys_first i j = ap (λ (o : Ordering). ordering_then o (step_order (PathStep.Field i) (PathStep.Field j))) (number_less 6 7 (omega arith))
 
@@ -160,7 +149,7 @@ map_first base count j i later within own = go (ltb j (entry_of count)) (ltb i (
         both (PathStep.MapValue (entry_of count - suc i - base)) (PathStep.MapValue (entry_of count - suc j - base))
         (step_of_value base (from_last true count i) (entry_of count - suc i) (value_first count i second))
         (step_of_value base (from_last true count j) (entry_of count - suc j) (value_first count j first))
-        (in_values (entry_of count - suc i - base) (entry_of count - suc j - base)
+        (value_less (entry_of count - suc i - base) (entry_of count - suc j - base)
         (omega (arith, later, own, past, first, second)))
     go true false e f =
         let first = ltb-true j (entry_of count) e in
@@ -178,23 +167,19 @@ map_first base count j i later within own = go (ltb j (entry_of count)) (ltb i (
         both (PathStep.MapKey (count - suc i - base)) (PathStep.MapKey (count - suc j - base))
         (step_of_key base (from_last true count i) (count - suc i) (key_last count i second))
         (step_of_key base (from_last true count j) (count - suc j) (key_last count j first))
-        (key_first (count - suc i - base) (count - suc j - base) (omega (arith, later, own, past, within)))
+        (key_less (count - suc i - base) (count - suc j - base) (omega (arith, later, own, past, within)))
 
 -- what comes as the i-th is before what came as the j-th
 pub listed_order : (form : Form) (count j i : ℕ) → j < i → i < count → MayHave form count
     → HasOwnStep form (from_last (is_map_form form) count i)
     → step_order (step_as form (from_last (is_map_form form) count i)) (step_as form (from_last (is_map_form form) count j)) ≡ Less
-listed_order as_struct count j i later within may own = field_first (count - suc i) (count - suc j) (omega arith)
-listed_order as_array count j i later within may own = index_first (count - suc i) (count - suc j) (omega arith)
-listed_order (as_variant k) count j i later within may own = field_first (count - suc i) (count - suc j) (omega arith)
+listed_order as_struct count j i later within may own = field_less (count - suc i) (count - suc j) (omega arith)
+listed_order (as_variant k) count j i later within may own = field_less (count - suc i) (count - suc j) (omega arith)
 listed_order as_some count j i later within may own = absurd (omega arith)
 listed_order as_ok count j i later within may own = absurd (omega arith)
 listed_order as_err count j i later within may own = absurd (omega arith)
 listed_order as_pointer count j i later within may own = absurd (omega arith)
-listed_order as_list count j i later within may own = index_first (count - suc i) (count - suc j) (omega arith)
-listed_order as_slice count j i later within may own = index_first (count - suc i) (count - suc j) (omega arith)
-listed_order as_closed_slice count j i later within may own = index_first (count - suc i) (count - suc j) (omega arith)
 listed_order as_set count j i later within may own = absurd own
 listed_order (as_map base) count j i later within may own = map_first base count j i later within own
-listed_order as_dyn_array count j i later within may own = index_first (count - suc i) (count - suc j) (omega arith)
 listed_order (as_dyn_object keys) count j i later within may own = absurd own
+listed_order _ count j i later within may own = index_less (count - suc i) (count - suc j) (omega arith)

@@ -15,11 +15,11 @@ use Rattle.fr_store.specs.MoveLaws.{open_reach, open_top, top_changed, top_stand
 use Rattle.fr_store.specs.Moves.{IsOpenAt, around_content, around_some, cursor_in, tree_in_slots}
 use Rattle.fr_store.specs.Numbers.{IsLast}
 use Rattle.fr_store.specs.Stands.{IsOpen, kid_here, kid_shown}
-use Rattle.fr_store.specs.StayLaws.{stay_all, stay_shown}
 use Rattle.fr_store.specs.Staying.{AllStayPut}
 use Rattle.fr_store.specs.TopLaws.{MayHaveIts, keeps_closed, keeps_same, KeepsChildren, LosesNone}
 use Rattle.fr_store.specs.Ways.{put_at}
 use Rattle.fr_store.specs.WayLaws.{tree_of_at, tree_put_at, tree_change_at}
+use Rattle.fr_store.proofs.StayLaws.{stay_all, stay_shown}
 
 abbrev content_plot : Val → (content : Option Val) → Plot
 content_plot v (Some held) = begun_plot as_some (kid (there held) no_kids)
@@ -69,8 +69,7 @@ around_keeps (begun_plot form kids) = keeps_same (begun_plot form kids)
 
 around_loses : (plot : Plot) → LosesNone plot (around_plot plot)
 around_loses entered_plot n = omega arith
-around_loses (whole_plot v) n = omega arith
-around_loses (begun_plot form kids) n = omega arith
+around_loses _ n = omega arith
 
 content_tokens : (v : Val) (t : ℕ) → plot_occurs (content_plot v (content_of v)) t ≡ occurs v t
 content_tokens (some held) t = omega arith

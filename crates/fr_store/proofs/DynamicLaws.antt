@@ -7,23 +7,23 @@ use Rattle.fr_shape.specs.Val.{Val, dyn, Dynamics, Members, no_dynamics, first_d
 use Rattle.fr_model.specs.DynamicPlaces.{array_of, begun_array, begun_object, object_of}
 use Rattle.fr_model.specs.Dynamics.{dynamic_in, element_vals, elements_in, member_keys, member_vals, members_of_object}
 use Rattle.fr_model.specs.Places.{Place}
-use Rattle.fr_model.specs.Tree.{Form, as_struct, as_array, as_variant, as_some, as_ok, as_err, as_pointer, as_list, as_slice, as_closed_slice, as_set, as_map, as_dyn_array, as_dyn_object, Tree, Trees, begun, whole, change_at}
+use Rattle.fr_model.specs.Tree.{Form, as_struct, as_dyn_array, as_dyn_object, Tree, Trees, begun, whole, change_at}
 use Rattle.fr_plan.specs.TypePlan.{Plan}
 use Rattle.fr_frame.specs.declared.places.Slot.{Slot}
 use Rattle.fr_frame.specs.Bodies.{Body, begun_body, opened_array, opened_elements, opened_members, opened_object}
 use Rattle.fr_frame.specs.Changes.{SameTokens, Shows}
 use Rattle.fr_frame.specs.Heap.{heap_of, with_body}
 use Rattle.fr_frame.specs.Kids.{Kid, at, Plot, entered_plot, whole_plot, begun_plot, kids_occur, tree_of, tree_in, trees_in, body_in, plot_occurs}
-use Rattle.fr_store.specs.BeginLaws.{theres, theres_cells, theres_left, theres_trees, theres_unplaced}
 use Rattle.fr_store.specs.MoveLaws.{open_reach, open_top, top_changed, top_stands}
 use Rattle.fr_store.specs.Moves.{IsOpenAt, around_elements, around_members, cursor_in, tree_in_slots}
 use Rattle.fr_store.specs.Numbers.{IsLast}
 use Rattle.fr_store.specs.Stands.{IsOpen, kid_here, kid_shown}
-use Rattle.fr_store.specs.StayLaws.{stay_all, stay_shown}
 use Rattle.fr_store.specs.Staying.{AllStayPut}
 use Rattle.fr_store.specs.TopLaws.{keeps_closed, keeps_same, KeepsChildren, LosesNone}
 use Rattle.fr_store.specs.Ways.{put_at}
 use Rattle.fr_store.specs.WayLaws.{tree_of_at, tree_put_at, tree_change_at}
+use Rattle.fr_store.proofs.BeginLaws.{theres, theres_cells, theres_left, theres_trees, theres_unplaced}
+use Rattle.fr_store.proofs.StayLaws.{stay_all, stay_shown}
 
 -- So a place is opened: what was whole may be begun with parts that are there, whose tokens are those of the value; what was begun stays.
 record Opens (old new : Plot) (change : Body → Body) (changed : Tree → Tree) : Type 1 where
@@ -67,19 +67,7 @@ array_plot (begun_plot form kids) = begun_plot form kids
 
 array_stays : (form : Form) (ts : Trees) → unwrap_or (begun_array form ts) (begun form ts) ≡ begun form ts
 array_stays as_struct ts = refl
-array_stays as_array ts = refl
-array_stays (as_variant k) ts = refl
-array_stays as_some ts = refl
-array_stays as_ok ts = refl
-array_stays as_err ts = refl
-array_stays as_pointer ts = refl
-array_stays as_list ts = refl
-array_stays as_slice ts = refl
-array_stays as_closed_slice ts = refl
-array_stays as_set ts = refl
-array_stays (as_map base) ts = refl
-array_stays as_dyn_array ts = refl
-array_stays (as_dyn_object keys) ts = refl
+array_stays _ ts = refl
 
 -- what holds parts of a dynamic value is one, and has no tokens
 no_tokens_elements : (v : Val) (ds : Dynamics) (t : ℕ) → elements_in (dynamic_in v) ≡ Some ds → occurs v t ≡ 0
@@ -127,19 +115,7 @@ object_plot (begun_plot form kids) = begun_plot form kids
 
 object_stays : (form : Form) (ts : Trees) → unwrap_or (begun_object form ts) (begun form ts) ≡ begun form ts
 object_stays as_struct ts = refl
-object_stays as_array ts = refl
-object_stays (as_variant k) ts = refl
-object_stays as_some ts = refl
-object_stays as_ok ts = refl
-object_stays as_err ts = refl
-object_stays as_pointer ts = refl
-object_stays as_list ts = refl
-object_stays as_slice ts = refl
-object_stays as_closed_slice ts = refl
-object_stays as_set ts = refl
-object_stays (as_map base) ts = refl
-object_stays as_dyn_array ts = refl
-object_stays (as_dyn_object keys) ts = refl
+object_stays _ ts = refl
 
 no_tokens_members : (v : Val) (ms : Members) (t : ℕ) → members_of_object (dynamic_in v) ≡ Some ms → occurs v t ≡ 0
 no_tokens_members (dyn d) ms t e = refl

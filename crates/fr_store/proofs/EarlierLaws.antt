@@ -1,39 +1,28 @@
 -- The order of ways by their length and, among ways of one length, from the last to the first; and the order of the walk.
-use Rattle.std.proofs.Common.{◌≡◌, ◌≢◌, ℕ, suc, ◌<◌, List, [], ◌∷◌, ◌++◌, length, length-append, get_or, inl, inr, refl, ◌∙◌, ap, arith}
+use Rattle.std.proofs.Common.{◌≡◌, ◌≢◌, ℕ, suc, List, [], ◌∷◌, ◌++◌, length, length-append, get_or, inl, inr, refl, ◌∙◌, ap, arith}
 use Rattle.std.specs.declared.cmp.Ordering.{Ordering}
-use Rattle.std.specs.declared.cmp.Ordering.TheVariants.{Less, Equal}
 use Rattle.std.specs.Cmp.Lexicographic.{slice_cmp}
-use Rattle.std.specs.Ordering.{nat_cmp, ordering_then}
-use Rattle.std.proofs.lemmas.Bool.Decides.{nat_tests}
-use Rattle.std.proofs.lemmas.Grind.{common_steps}
+use Rattle.std.specs.Ordering.{ordering_then}
 use Rattle.std.specs.List.{All}
 use Rattle.std.proofs.lemmas.List.Elements.{All-head, All-tail}
 use Rattle.fr_path.specs.Order.{step_order}
 use Rattle.fr_model.specs.Paths.{steps_in}
 use Rattle.fr_model.specs.Places.{Place}
-use Rattle.fr_model.specs.Tree.{Tree, child_tree}
 use Rattle.fr_plan.specs.TypePlan.{Plan}
 use Rattle.fr_frame.specs.declared.places.FrameOwner.{FrameOwner}
 use Rattle.fr_frame.specs.Heap.{Heap}
-use Rattle.fr_frame.specs.Kids.{Kid, gone, there, at, entered_plot, whole_plot, begun_plot, tree_of}
+use Rattle.fr_frame.specs.Kids.{Kid, at, begun_plot, tree_of}
 use Rattle.fr_store.specs.Places.{Pairs, IsAbove, IsAfterBelow, IsPlaced, ComesEarlier}
 use Rattle.fr_store.specs.Stands.{Stands}
-use Rattle.fr_store.specs.StepLaws.{after_differs, steps_less}
 use Rattle.fr_store.specs.Walks.{ComesBefore, AreInWalkOrder}
 use Rattle.fr_store.specs.Ways.{kid_at, kid_below}
+use Rattle.fr_store.proofs.HeadLaws.{steps_count}
+use Rattle.fr_store.proofs.PathOrder.{number_less, number_equal}
+use Rattle.fr_store.proofs.StepLaws.{after_differs, steps_less}
 
 after_below_differs : (k : Kid) (i j : ℕ) → IsAfterBelow k i j → i ≢ j
-after_below_differs gone i j after e = omega (arith, after, e)
-after_below_differs (there v) i j after e = omega (arith, after, e)
-after_below_differs (at slot stored entered_plot) i j after e = omega (arith, after, e)
-after_below_differs (at slot stored (whole_plot v)) i j after e = omega (arith, after, e)
 after_below_differs (at slot stored (begun_plot form kids)) i j after e = after_differs form i j after e
-
-nat_less : (i j : ℕ) → i < j → nat_cmp i j ≡ Less
-nat_less i j less = grind (arith, common_steps, nat_tests)
-
-nat_equal : (i j : ℕ) → i ≡ j → nat_cmp i j ≡ Equal
-nat_equal i j e = grind (arith, common_steps, nat_tests)
+after_below_differs _ i j after e = omega (arith, after, e)
 
 above_differs : (k : Kid) (p q : Place) → IsAbove k p q → p ≢ q
 above_differs k [] q above e = absurd above
@@ -73,20 +62,16 @@ root_earlier k p i = inl (omega (arith, one_longer p i))
 
 -- Paths.
 
-steps_long : (p : Place) (t : Tree) → length (steps_in p t) ≡ length p
-steps_long [] t = refl
-steps_long (i ∷ p) t = ap suc (steps_long p (child_tree i t))
-
 module _ (plan : Plan) (heap : Heap) (stack : List ℕ) (cursor : Place) (k : Kid) (stands : Stands plan heap stack cursor k) where
   pub before_earlier : (p q : Place) → IsPlaced k p → IsPlaced k q → ComesEarlier k p q → ComesBefore (tree_of k) q p
   before_earlier p q one other (inl shorter) =
       ap (λ (o : Ordering). ordering_then o (slice_cmp step_order (steps_in q (tree_of k)) (steps_in p (tree_of k))))
-      (nat_less (length (steps_in p (tree_of k))) (length (steps_in q (tree_of k)))
-      (omega (arith, steps_long p (tree_of k), steps_long q (tree_of k))))
+      (number_less (length (steps_in p (tree_of k))) (length (steps_in q (tree_of k)))
+      (omega (arith, steps_count p (tree_of k), steps_count q (tree_of k))))
   before_earlier p q one other (inr above) =
       ap (λ (o : Ordering). ordering_then o (slice_cmp step_order (steps_in q (tree_of k)) (steps_in p (tree_of k))))
-      (nat_equal (length (steps_in p (tree_of k))) (length (steps_in q (tree_of k)))
-      (omega (arith, steps_long p (tree_of k), steps_long q (tree_of k), above.0)))
+      (number_equal (length (steps_in p (tree_of k))) (length (steps_in q (tree_of k)))
+      (omega (arith, steps_count p (tree_of k), steps_count q (tree_of k), above.0)))
       ∙ steps_less plan heap plan.root FrameOwner.Root 0 p q k stands.holds stands.left (inl (cursor, stands.leads)) one.reaches
       one.here other.reaches other.here above.1
 

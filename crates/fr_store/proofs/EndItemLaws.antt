@@ -1,8 +1,6 @@
 -- Laws of a set's item that ends, for proofs: it is left, and its value comes behind the items that the set has.
 use Rattle.std.proofs.Common.{◌≡◌, ◌≢◌, ◌⊎◌, ℕ, suc, ◌+◌, ◌≤◌, true, false, List, [], ◌∷◌, ◌++◌, append-nil, length, nat_eq, Option, Some, None, inl, inr, refl, sym, ◌∙◌, ap, subst, arith}
-use Rattle.std.specs.Option.{option_and_then}
 use Rattle.std.specs.Prelude.{is_some, IsSome, IsSomeAnd}
-use Rattle.fr_shape.specs.Released.{Room}
 use Rattle.fr_shape.specs.Val.{Val}
 use Rattle.fr_model.specs.Collections.{and_item, is_set, number_in, with_ended_item, without_nth}
 use Rattle.fr_model.specs.Places.{Place, is_root, up}
@@ -10,28 +8,28 @@ use Rattle.fr_model.specs.Tree.{Form, as_set, begun, Trees, tree_at, change_at}
 use Rattle.fr_plan.specs.TypePlan.{Plan}
 use Rattle.fr_frame.specs.declared.places.FrameOwner.{FrameOwner}
 use Rattle.fr_frame.specs.declared.places.Slot.{Slot}
-use Rattle.fr_frame.specs.Bodies.{Body, begun_body, body_occurs, cell_at, unlinked, value_of, and_item_cell, with_ended, AreUnplaced, IsClosed, IsSetBody}
-use Rattle.fr_frame.specs.Cells.{Cell, placed}
+use Rattle.fr_frame.specs.Bodies.{Body, begun_body, value_of, and_item_cell, with_ended, AreUnplaced, IsClosed, IsSetBody}
+use Rattle.fr_frame.specs.Cells.{Cell}
 use Rattle.fr_frame.specs.Changes.{IfInUse, SameMarks, Shows}
-use Rattle.fr_frame.specs.Heap.{Node, Heap, ends, held_by, heap_of, marked, stored_in, with_body, with_slot, without, IsItemOf}
+use Rattle.fr_frame.specs.Heap.{Node, Heap, ends, heap_of, marked, stored_in, with_body, with_slot, IsItemOf}
 use Rattle.fr_frame.specs.Kids.{Kid, gone, at, begun_plot, Kids, MayHave, tree_of, trees_in, cell_of, cells_in, body_in, child_owner, Holds, AreLeftRightly, AreLeftAll}
 use Rattle.fr_store.specs.HereLaws.{value_closed}
 use Rattle.fr_store.specs.HoldLaws.{AgreeBeside, Replaces, holds_at}
-use Rattle.fr_store.specs.LeaveLaws.{above_append, below_root, cells_nth, owner_append, up_append}
+use Rattle.fr_store.specs.LeaveLaws.{above_append, below_root, owner_append, up_append}
 use Rattle.fr_store.specs.LeftLaws.{at_for_at, left_at}
-use Rattle.fr_store.specs.MoveLaws.{open_at_held, open_top, same_front, same_last, top_node, top_room, top_so as first_so}
-use Rattle.fr_store.specs.Moves.{IsOpenAt, cursor_in, tokens_here, tree_in_slots}
+use Rattle.fr_store.specs.MoveLaws.{open_at_held, same_front, same_last}
+use Rattle.fr_store.specs.Moves.{IsOpenAt, cursor_in, tree_in_slots}
 use Rattle.fr_store.specs.Numbers.{IsLast}
 use Rattle.fr_store.specs.Places.{IsPlaced, slot_at}
 use Rattle.fr_store.specs.StandLaws.{all_kept_but, kid_is, stands_change, AllServe}
 use Rattle.fr_store.specs.Stands.{Stands, IsOpen, kid_here, kid_shown}
-use Rattle.fr_store.specs.StayLaws.{closed_below, stay_at}
 use Rattle.fr_store.specs.Staying.{StayPutBut, StaysPut}
-use Rattle.fr_store.specs.StoreLaws.{Parent, parent_of}
 use Rattle.fr_store.specs.TopLaws.{Top, body_here, body_other, closed_marked, closed_uses, marked_body, slot_here as there_now, slot_other, top_of, unplaced_holds, unplaced_uses, used_mapped}
 use Rattle.fr_store.specs.Ways.{count_kids, kid_at, kid_nth, put_at, put_nth, slots_above, counts_if, uses, uses_in, uses_among, Leads, Reaches, node_along, owner_along, owner_below}
 use Rattle.fr_store.specs.WayLaws.{counts_same, counts_other, same_or_other, leads_reach, tree_change_at, tree_of_at, uses_at, uses_put_nth}
 use Rattle.fr_store.proofs.SetKidLaws.{beside_unplaced, cells_item, cells_without, kids_and_item, kids_without, others_unplaced, set_form, set_left, trees_item, trees_without, unplaced_item, unplaced_without}
+use Rattle.fr_store.proofs.StayLaws.{closed_below, stay_at}
+use Rattle.fr_store.proofs.StoreLaws.{Parent, parent_of}
 
 number_append : (above : Place) (i : ℕ) → number_in (above ++ i ∷ []) ≡ i
 number_append [] i = refl
@@ -127,13 +125,6 @@ module _ (plan : Plan) (slots : List Slot) (stack : List ℕ) (open_now : IsOpen
       body = body_in top.plot;
     })
     top_so So so = subst (λ (o : Option Node). IsSomeAnd o So) top_is so
-
-    -- the set has it there
-    pub item_owned : IfInUse slots n (λ (x : Node). held_by (heap_of slots) x.owner ≡ Some (placed n))
-    item_owned =
-        so_top (λ (x : Node). held_by (heap_of slots) x.owner ≡ Some (placed n))
-        (ap (option_and_then (λ (x : Node). cell_at x.body i)) above_holds.0 ∙ cells_nth i found.kids found.within
-        ∙ ap (λ (x : Kid). Some (cell_of x)) child ∙ ap (λ (m : ℕ). Some (placed m)) slot_now)
 
     pub item_of_set : IfInUse slots n (λ (x : Node). IsItemOf x.owner (heap_of slots))
     item_of_set =
@@ -362,9 +353,6 @@ module _ (plan : Plan) (slots : List Slot) (stack : List ℕ) (open_now : IsOpen
   set_over : is_set (tree_at over (tree_in_slots slots stack)) ≡ true
   set_over = ap (λ (p : Place). is_set (tree_at p (tree_in_slots slots stack))) (sym up_is) ∙ of_set
 
-  pub owned_item : IfInUse slots n (λ (x : Node). held_by (heap_of slots) x.owner ≡ Some (placed n))
-  owned_item = item_owned plan slots stack open_now over number way set_over next n last
-
   pub of_set_item : IfInUse slots n (λ (x : Node). IsItemOf x.owner (heap_of slots))
   of_set_item = item_of_set plan slots stack open_now over number way set_over next n last
 
@@ -427,35 +415,3 @@ module _ (plan : Plan) (slots : List Slot) (stack : List ℕ) (open_now : IsOpen
     item_keeps_marks complete =
         let held = top_closed complete in
         marks_kept plan slots stack open_now over number way set_over next n last held.0 held.1 after (ended_so held.0 held.1)
-
-  -- Its slot is free, and its value lost.
-  pub item_lost : (after : List Slot)
-      → IfInUse slots n (λ (x : Node). Shows after (without (heap_of slots) n x.owner)) → SameMarks slots after
-  item_lost after left m =
-      let shows = top_so plan slots stack open_now over number way set_over next n last
-      (λ (x : Node). Shows after (without (heap_of slots) n x.owner)) left in
-      ap stored_in (shows m)
-      ∙ marked_body (with_slot (heap_of slots) n None) (found plan slots stack open_now over number way set_over).slot (unlinked n number) m
-      ∙ go (same_or_other m n)
-    where
-      go : (m ≡ n) ⊎ (m ≢ n) → marked (with_slot (heap_of slots) n None) m ≡ marked (heap_of slots) m
-      go (inl e) =
-          ap (marked (with_slot (heap_of slots) n None)) e ∙ ap stored_in (there_now (heap_of slots) n None)
-          ∙ sym (ap stored_in (top_is plan slots stack open_now over number way set_over next n last)) ∙ ap (marked (heap_of slots)) (sym e)
-      go (inr ne) = ap stored_in (slot_other (heap_of slots) n None m ne)
-
-  -- there is room to release what stands there
-  valued_closed : (body : Body) → IsSome (value_of body) → IsClosed body
-  valued_closed body some = go (value_of body) refl some
-    where
-      go : (value : Option Val) → value_of body ≡ value → IsSome value → IsClosed body
-      go (Some v) e h = value_closed body v e
-      go None e h = absurd (cc)
-
-  pub item_room : IfInUse slots n (λ (x : Node). IsSome (value_of x.body)) → (ledger : List ℕ) → Room (tokens_here slots stack) ledger
-      → IfInUse slots n (λ (x : Node). Room (body_occurs x.body) ledger)
-  unfolding top_node
-  item_room complete ledger room =
-      top_room plan slots stack open_now n (next, last)
-      (valued_closed (body_in (open_top plan slots stack open_now).plot)
-      (first_so plan slots stack open_now n (next, last) (λ (x : Node). IsSome (value_of x.body)) complete)) ledger room

@@ -24,12 +24,12 @@ use Rattle.fr_store.specs.Moves.{IsOpenAt, cursor_in, tokens_here, tree_in_slots
 use Rattle.fr_store.specs.Numbers.{IsLast}
 use Rattle.fr_store.specs.StandLaws.{all_kept_but, kid_is, stands_change, AllServe}
 use Rattle.fr_store.specs.Stands.{Stands, IsOpen, kid_here, kid_shown}
-use Rattle.fr_store.specs.StayLaws.{stay_but}
 use Rattle.fr_store.specs.Staying.{StayPutBut}
-use Rattle.fr_store.specs.StoreLaws.{Parent, all_stored, parent_of}
 use Rattle.fr_store.specs.TopLaws.{Top, body_here, body_other, closed_uses, marked_body, slot_here as there_now, slot_other, top_of, used_mapped}
 use Rattle.fr_store.specs.Ways.{count_kids, kid_at, kid_nth, put_at, put_below, put_nth, slots_above, counts_if, uses, uses_in, uses_among, Leads, Reaches, node_along, owner_along, owner_below}
 use Rattle.fr_store.specs.WayLaws.{counts_same, counts_other, put_nth_twice, same_or_other, leads_reach, tree_put_at, uses_at, uses_put_nth}
+use Rattle.fr_store.proofs.StayLaws.{stay_but}
+use Rattle.fr_store.proofs.StoreLaws.{Parent, all_stored, parent_of}
 
 -- An open builder's top isn't the root, and has a value.
 module _ (plan : Plan) (slots : List Slot) (stack : List ℕ) (open_now : IsOpen plan slots stack) (above : Place) (i : ℕ)

@@ -7,7 +7,7 @@ use Rattle.fr_shape.specs.declared.shape.Def.{Def}
 use Rattle.fr_model.specs.DynamicPlaces.{entry_found, is_begun_object, is_object_form, keys_here, number_or_last}
 use Rattle.fr_model.specs.Dynamics.{keys_apart}
 use Rattle.fr_model.specs.Step.{enter}
-use Rattle.fr_model.specs.Tree.{Form, as_struct, as_array, as_variant, as_some, as_ok, as_err, as_pointer, as_list, as_slice, as_closed_slice, as_set, as_map, as_dyn_array, as_dyn_object, keys_of_form, Tree, hole, entered, whole, begun, and_last, change_at}
+use Rattle.fr_model.specs.Tree.{Form, as_struct, as_array, as_variant, as_some, as_ok, as_err, as_pointer, as_list, as_slice, as_closed_slice, as_set, as_map, as_dyn_array, as_dyn_object, keys_of_form, Tree, begun, and_last, change_at}
 use Rattle.fr_plan.specs.declared.nodes.NodeId.{NodeId}
 use Rattle.fr_plan.specs.TypePlan.{Plan}
 use Rattle.fr_frame.specs.declared.places.Slot.{Slot}
@@ -15,25 +15,23 @@ use Rattle.fr_frame.specs.Bodies.{begun_body, keys_in, with_entry_for, with_entr
 use Rattle.fr_frame.specs.Changes.{IfInUse, SameMarks, SameTokens, Shows}
 use Rattle.fr_frame.specs.Heap.{Node, Heap, depth_below, depth_limit, entry_owner, heap_of, with_body, with_entered}
 use Rattle.fr_frame.specs.Kids.{Kid, gone, there, at, Plot, begun_plot, Kids, no_kids, kid, trees_in, cell_of, cells_in, child_owner, HoldsAll, AreLeftRightly, AreLeftAll, AreLeftIn}
-use Rattle.fr_store.specs.EnterLaws.{child_plot, child_tree_is, fresh_plot, fresh_tree}
+use Rattle.fr_store.specs.EnterLaws.{fresh_plot, fresh_tree}
 use Rattle.fr_store.specs.LeftLaws.{left_at}
 use Rattle.fr_store.specs.MoveLaws.{open_top}
 use Rattle.fr_store.specs.Moves.{HasForm, IsOpenAt, count_here, cursor_in, entry_here, node_here, tree_here, tree_in_slots, with_entry_of, with_entry_unless}
 use Rattle.fr_store.specs.Numbers.{IsLast}
 use Rattle.fr_store.specs.Stands.{IsOpen, kid_here}
-use Rattle.fr_store.specs.StayLaws.{stay_same}
 use Rattle.fr_store.specs.Staying.{AllStayPut}
 use Rattle.fr_store.specs.TopLaws.{cells_count, keeps_same}
 use Rattle.fr_store.specs.Ways.{count_kids, kid_nth, AllMarkedIn, AllMarkedAmong}
 use Rattle.fr_store.specs.WayLaws.{tree_put_nth, tree_of_nth}
+use Rattle.fr_store.proofs.EnteringLaws.{child_plot, child_tree_is}
 use Rattle.fr_store.proofs.ItemLaws.{Grows, counted, formed, formed_here, gone_unplaced, grown_stay, holds_and_last, kids_and_last, left_and_last, marked_and_last, marks_item, nth_last, occurs_and_last, open_item, put_last, tree_vacant, trees_and_last, uses_and_last, cells_and_last, count_and_last}
+use Rattle.fr_store.proofs.StayLaws.{stay_same}
 
 -- Objects.
 
 object_formed : (t : Tree) → is_begun_object t ≡ true → (keys : List (List ℕ)) × HasForm (as_dyn_object keys) t
-object_formed hole of_object = absurd (cc)
-object_formed entered of_object = absurd (cc)
-object_formed (whole v) of_object = absurd (cc)
 object_formed (begun form ts) of_object = go form of_object
   where
     go : (form : Form) → is_object_form form ≡ true → (keys : List (List ℕ)) × (form ≡ as_dyn_object keys)
@@ -51,12 +49,11 @@ object_formed (begun form ts) of_object = go form of_object
     go as_set of_object = absurd (cc)
     go (as_map base) of_object = absurd (cc)
     go as_dyn_array of_object = absurd (cc)
+object_formed _ of_object = absurd (cc)
 
 keys_formed : (keys : List (List ℕ)) (t : Tree) → HasForm (as_dyn_object keys) t → keys_here t ≡ keys
-keys_formed keys hole has = absurd has
-keys_formed keys entered has = absurd has
-keys_formed keys (whole v) has = absurd has
 keys_formed keys (begun form ts) has = ap keys_of_form has
+keys_formed keys _ has = absurd has
 
 -- an entry that is found is there
 found_within : (key : List ℕ) (keys : List (List ℕ)) (i : ℕ) → entry_found key keys ≡ Some i → i < length keys

@@ -3,7 +3,7 @@ use Rattle.std.proofs.Common.{◌≡◌, ◌≢◌, ℕ, zero, suc, ◌+◌, ◌
 use Rattle.fr_shape.specs.declared.shape.Def.{Def}
 use Rattle.fr_model.specs.Collections.{is_map, is_map_form}
 use Rattle.fr_model.specs.Places.{Place}
-use Rattle.fr_model.specs.Tree.{Form, as_struct, as_array, as_variant, as_some, as_ok, as_err, as_pointer, as_list, as_slice, as_closed_slice, as_set, as_map, as_dyn_array, as_dyn_object, Tree, hole, entered, whole, Trees, begun, branch, and_last, count_below, tree_at, change_at}
+use Rattle.fr_model.specs.Tree.{Form, as_struct, as_array, as_variant, as_some, as_ok, as_err, as_pointer, as_list, as_slice, as_closed_slice, as_set, as_map, as_dyn_array, as_dyn_object, Tree, hole, Trees, begun, branch, and_last, count_below, tree_at, change_at}
 use Rattle.fr_plan.specs.declared.nodes.NodeId.{NodeId}
 use Rattle.fr_plan.specs.TypePlan.{Plan}
 use Rattle.fr_frame.specs.declared.places.FrameOwner.{FrameOwner}
@@ -13,8 +13,7 @@ use Rattle.fr_frame.specs.Cells.{Cell, absent}
 use Rattle.fr_frame.specs.Changes.{IfInUse, SameMarks, SameTokens, Shows}
 use Rattle.fr_frame.specs.Heap.{Node, Heap, depth_above, depth_below, depth_limit, heap_of, item_owner, stored_in, with_body, with_entered}
 use Rattle.fr_frame.specs.Kids.{Kid, gone, at, Plot, begun_plot, Kids, no_kids, kid, MayHave, tree_of, tree_in, trees_in, cell_of, cells_in, body_in, kid_occurs, kids_occur, child_node, child_owner, HoldsAll, IsThere, AreLeftAll}
-use Rattle.fr_store.specs.ChildLaws.{count_kids_trees, plot_formed}
-use Rattle.fr_store.specs.EnterLaws.{all_entered, child_plot, entered_kid, fresh_plot, fresh_tree, stands_entered, stay_entered, tokens_entered}
+use Rattle.fr_store.specs.EnterLaws.{fresh_plot, fresh_tree}
 use Rattle.fr_store.specs.LeftLaws.{entry_next, left_past}
 use Rattle.fr_store.specs.MoveLaws.{open_at_from, open_reach, open_top, so_top, tokens_kept, top_found, top_node, top_slot, top_so, top_stands_in}
 use Rattle.fr_store.specs.Moves.{HasForm, IsOpenAt, count_here, cursor_in, node_here, tree_here, tree_in_slots, with_item_of, with_key_of}
@@ -22,11 +21,13 @@ use Rattle.fr_store.specs.Numbers.{IsLast}
 use Rattle.fr_store.specs.Places.{IsPlaced, slot_here}
 use Rattle.fr_store.specs.StandLaws.{all_kept, AllServe}
 use Rattle.fr_store.specs.Stands.{IsOpen, Stands, kid_here}
-use Rattle.fr_store.specs.StayLaws.{stay_all, stay_shown}
 use Rattle.fr_store.specs.Staying.{AllStayPut}
 use Rattle.fr_store.specs.TopLaws.{KeepsChildren, Top, body_here, body_other, cells_count, marked_body, marked_entered, top_of, used_mapped}
 use Rattle.fr_store.specs.Ways.{count_kids, kid_at, kid_nth, node_along, put_at, put_nth, uses, uses_among, AllMarkedAmong, Reaches}
-use Rattle.fr_store.specs.WayLaws.{kid_put_at, occurs_put_at, put_at_twice, tree_change_at, tree_of_at}
+use Rattle.fr_store.specs.WayLaws.{kid_put_at, occurs_put_at, put_at_twice, tree_change_at, tree_of_at, count_in}
+use Rattle.fr_store.proofs.ChildLaws.{plot_formed}
+use Rattle.fr_store.proofs.EnteringLaws.{all_entered, child_plot, entered_kid, stands_entered, stay_entered, tokens_entered}
+use Rattle.fr_store.proofs.StayLaws.{stay_all, stay_shown}
 
 -- One child more.
 
@@ -84,18 +85,9 @@ holds_and_last plan heap node slot form i depth (kid k ks) may holds =
 items_may_have : (form : Form) (count : ℕ) → TakesItems form → MayHave form count
 items_may_have as_list count takes = tt
 items_may_have as_slice count takes = tt
-items_may_have as_closed_slice count takes = absurd takes
-items_may_have as_struct count takes = absurd takes
-items_may_have as_array count takes = absurd takes
-items_may_have (as_variant k) count takes = absurd takes
-items_may_have as_some count takes = absurd takes
-items_may_have as_ok count takes = absurd takes
-items_may_have as_err count takes = absurd takes
-items_may_have as_pointer count takes = absurd takes
 items_may_have as_set count takes = tt
-items_may_have (as_map base) count takes = absurd takes
 items_may_have as_dyn_array count takes = tt
-items_may_have (as_dyn_object keys) count takes = absurd takes
+items_may_have _ count takes = absurd takes
 
 pub left_and_last : (form : Form) (i : ℕ) (ks : Kids) → AreLeftAll form i ks → AreLeftAll form i (kids_and_last ks gone)
 left_and_last form i no_kids all =
@@ -419,7 +411,7 @@ module _ (plan : Plan) (before : List Slot) (stack : List ℕ) (open_now : IsOpe
       let top = open_top plan before stack open_now in
       ap count_below
       (sym (tree_of_at (cursor_in before stack) (kid_here before stack)) ∙ ap tree_of top.is ∙ ap tree_in formed.1)
-      ∙ count_kids_trees formed.0
+      ∙ count_in formed.0
 
   pub formed_here : (So : Body → Type 0) → So (begun_body form (cells_in formed.0)) → IfInUse before p (λ (found : Node). So found.body)
   unfolding top_node
@@ -502,9 +494,6 @@ module _ (plan : Plan) (before : List Slot) (stack : List ℕ) (open_now : IsOpe
 -- A key.
 
 map_formed : (t : Tree) → is_map t ≡ true → (base : ℕ) × HasForm (as_map base) t
-map_formed hole of_map = absurd (cc)
-map_formed entered of_map = absurd (cc)
-map_formed (whole v) of_map = absurd (cc)
 map_formed (begun form ts) of_map = go form of_map
   where
     go : (form : Form) → is_map_form form ≡ true → (base : ℕ) × (form ≡ as_map base)
@@ -522,6 +511,7 @@ map_formed (begun form ts) of_map = go form of_map
     go as_set of_map = absurd (cc)
     go as_dyn_array of_map = absurd (cc)
     go (as_dyn_object keys) of_map = absurd (cc)
+map_formed _ of_map = absurd (cc)
 
 module _ (plan : Plan) (before : List Slot) (stack : List ℕ) (open_now : IsOpen plan before stack) (p : ℕ) (last : IsLast stack p)
     (of_map : is_map (tree_here before stack) ≡ true) where

@@ -4,7 +4,7 @@ use Rattle.std.specs.Prelude.{if◌then◌else◌}
 use Rattle.fr_model.specs.Places.{is_key, entry_of}
 use Rattle.fr_model.specs.Tree.{as_map}
 use Rattle.fr_store.specs.Places.{order_as}
-use Rattle.fr_store.specs.StepLaws.{halves, odd}
+use Rattle.fr_store.proofs.StepLaws.{halves, odd}
 
 pub key_order : (i : ℕ) → i % 2 ≡ 0 → i / 2 ≡ order_as (as_map 0) i
 key_order i even = go (is_key i) refl

@@ -1,5 +1,5 @@
 -- Lists of which each element stands in some way to all that follow, and what filters and changes leave of them.
-use Rattle.std.proofs.Common.{◌≡◌, ◌≢◌, ◌⊎◌, ℕ, zero, suc, ◌+◌, ◌<◌, ◌≤◌, Bool, true, false, cond, List, [], ◌∷◌, ◌++◌, map, reverse, length, length-append, get_or, nat_eq, slice_get, slice_index, Some, inl, inr, refl, sym, ap, ◌∙◌, subst, arith}
+use Rattle.std.proofs.Common.{◌≡◌, ◌≢◌, ◌⊎◌, ℕ, zero, suc, ◌+◌, ◌<◌, ◌≤◌, Bool, true, false, cond, List, [], ◌∷◌, ◌++◌, append_assoc, map, reverse, length, length-append, get_or, nat_eq, slice_get, slice_index, Some, inl, inr, refl, sym, ap, ◌∙◌, subst, arith}
 use Rattle.std.specs.List.{All, Contains, filter}
 use Rattle.std.proofs.lemmas.List.{reverse-append, map-append, get_or_default}
 use Rattle.std.proofs.lemmas.List.Elements.{All-nil, All-cons, All-head, All-tail, All-append, All-filter, All-map, All-weaker, Contains-append_cases, Contains-append_left, Contains-append_right}
@@ -182,17 +182,6 @@ in_counted n (x ∷ xs) at = go (in_cases x n xs at) (in_counted n xs)
         omega arith
     go (inr at) rest = omega (arith, rest at)
 
--- two lists that have nothing in common
-pub once_append : (xs ys : List ℕ) → AreOnce xs → AreOnce ys → ((n : ℕ) → Contains xs n → Contains ys n → ⊥) → AreOnce (xs ++ ys)
-once_append xs ys one other apart n =
-    go (counts_in n xs) (counts_in n ys) (one n) (other n) (counts_append n xs ys)
-    (λ more also. apart n (counted_in n xs more) (counted_in n ys also))
-  where
-    go : (a b : ℕ) → a ≤ 1 → b ≤ 1 → counts_in n (xs ++ ys) ≡ a + b → (0 < a → 0 < b → ⊥) → counts_in n (xs ++ ys) ≤ 1
-    go zero b ha hb e not_both = omega arith
-    go (suc a) zero ha hb e not_both = omega arith
-    go (suc a) (suc b) ha hb e not_both = absurd (not_both (omega arith) (omega arith))
-
 -- each number stands in a list where another list says
 pub indexed_once : (all positions : List ℕ) (from : ℕ)
     → ((i : ℕ) → i < length all → slice_get positions (slice_index all i) ≡ Some (from + i)) → AreOnce all
@@ -285,3 +274,9 @@ filter_none p [] all = refl
 filter_none p (x ∷ xs) all =
     ap (λ (b : Bool). cond b (x ∷ filter p xs) (filter p xs)) (All-head (λ y. p y ≡ false) x xs all)
     ∙ filter_none p xs (All-tail (λ y. p y ≡ false) x xs all)
+
+-- the first of the second list goes behind the first list, and more behind the second
+pub parts : {X : Type 0} (done rest : List X) (p : X) (added : List X)
+    → (done ++ p ∷ []) ++ (rest ++ added) ≡ (done ++ p ∷ rest) ++ added
+parts done rest p added =
+    append_assoc done (p ∷ []) (rest ++ added) ∙ sym (append_assoc done (p ∷ rest) added)

@@ -16,7 +16,7 @@ use Rattle.fr_path.specs.OrderLaws.{step_itself}
 pub number_less : (i j : ℕ) → i < j → nat_cmp i j ≡ Less
 number_less i j less = grind (arith, common_steps, nat_tests)
 
-number_equal : (i j : ℕ) → i ≡ j → nat_cmp i j ≡ Equal
+pub number_equal : (i j : ℕ) → i ≡ j → nat_cmp i j ≡ Equal
 number_equal i j e = grind (arith, common_steps, nat_tests)
 
 number_told : (i j : ℕ) → nat_cmp i j ≡ Less → i < j

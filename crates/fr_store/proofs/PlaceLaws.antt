@@ -1,6 +1,8 @@
 -- Places in slots, and the ways to them.
-use Rattle.std.proofs.Common.{◌≡◌, ◌≢◌, ◌⊎◌, ℕ, zero, suc, ◌+◌, ◌<◌, ◌≤◌, Bool, true, false, List, [], ◌∷◌, ◌++◌, length, length-append, get_or, inl, inr, refl, sym, ◌∙◌, ap, subst, arith}
+use Rattle.std.proofs.Common.{◌≡◌, ◌≢◌, ◌⊎◌, ℕ, zero, suc, ◌+◌, ◌<◌, ◌≤◌, Bool, true, false, List, [], ◌∷◌, ◌++◌, length, length-append, get_or, map, nat_eq, inl, inr, refl, sym, ◌∙◌, ap, subst, arith}
+use Rattle.std.specs.List.{All}
 use Rattle.std.proofs.lemmas.List.{append-nil}
+use Rattle.std.proofs.lemmas.List.Elements.{All-contains, All-head, All-tail, Contains-get_or}
 use Rattle.fr_model.specs.Places.{Place}
 use Rattle.fr_plan.specs.declared.nodes.NodeId.{NodeId}
 use Rattle.fr_plan.specs.TypePlan.{Plan}
@@ -8,42 +10,32 @@ use Rattle.fr_frame.specs.declared.places.FrameOwner.{FrameOwner}
 use Rattle.fr_frame.specs.Heap.{Heap, marked, stored_in}
 use Rattle.fr_frame.specs.Kids.{Kid, gone, there, at, Plot, entered_plot, whole_plot, begun_plot, Kids, no_kids, kid, Holds}
 use Rattle.fr_store.specs.HoldLaws.{holds_at}
-use Rattle.fr_store.specs.Places.{IsHere, slot_here, stored_here, IsPlaced, IsStoredHere, slot_at}
-use Rattle.fr_store.specs.Ways.{count_kids, kid_nth, kid_in_plot, kid_below, kid_at, slots_along, slots_above, uses, uses_in, uses_among, AllMarked, AllMarkedAmong, StoredBut, Leads, Reaches, node_along, owner_along}
-use Rattle.fr_store.specs.WayLaws.{counts_same, counts_other, same_or_other, leads_reach, leads_at, along_at, uses_nth, uses_at, marked_at}
+use Rattle.fr_store.specs.LeaveLaws.{kid_at_append}
+use Rattle.fr_store.specs.Places.{IsHere, slot_here, stored_here, IsPlaced, IsStoredHere, slot_at, Pairs, AreOnce, counts_in}
+use Rattle.fr_store.specs.Ways.{count_kids, kid_nth, kid_in_plot, kid_at, slots_along, slots_above, uses, uses_in, uses_among, AllMarked, StoredBut, Leads, Reaches, node_along, owner_along, counts_if}
+use Rattle.fr_store.specs.WayLaws.{counts_same, counts_other, same_or_other, leads_reach, leads_at, along_at, uses_nth, uses_at, marked_at, marked_nth}
+use Rattle.fr_store.proofs.HeadLaws.{two_nth}
+use Rattle.fr_store.proofs.PairLaws.{none_counted, of_map}
 
 -- Ways that go on.
-
-pub way_on : (place below : Place) (k : Kid) → kid_at (place ++ below) k ≡ kid_at below (kid_at place k)
-way_on [] below k = refl
-way_on (i ∷ place) below k = way_on place below (kid_below i k)
 
 reaches_front : (place below : Place) (k : Kid) → Reaches (place ++ below) k → Reaches place k
 reaches_front [] below k reach = tt
 reaches_front (i ∷ place) below (at slot stored (begun_plot form kids)) reach =
     (reach.0, reaches_front place below (kid_nth i kids) reach.1)
-reaches_front (i ∷ place) below (at slot stored entered_plot) reach = absurd reach
-reaches_front (i ∷ place) below (at slot stored (whole_plot v)) reach = absurd reach
-reaches_front (i ∷ place) below gone reach = absurd reach
-reaches_front (i ∷ place) below (there v) reach = absurd reach
+reaches_front (i ∷ place) below _ reach = absurd reach
 
 pub reaches_back : (place below : Place) (k : Kid) → Reaches (place ++ below) k → Reaches below (kid_at place k)
 reaches_back [] below k reach = reach
 reaches_back (i ∷ place) below (at slot stored (begun_plot form kids)) reach =
     reaches_back place below (kid_nth i kids) reach.1
-reaches_back (i ∷ place) below (at slot stored entered_plot) reach = absurd reach
-reaches_back (i ∷ place) below (at slot stored (whole_plot v)) reach = absurd reach
-reaches_back (i ∷ place) below gone reach = absurd reach
-reaches_back (i ∷ place) below (there v) reach = absurd reach
+reaches_back (i ∷ place) below _ reach = absurd reach
 
 reaches_on : (place below : Place) (k : Kid) → Reaches place k → Reaches below (kid_at place k) → Reaches (place ++ below) k
 reaches_on [] below k reach on = on
 reaches_on (i ∷ place) below (at slot stored (begun_plot form kids)) reach on =
     (reach.0, reaches_on place below (kid_nth i kids) reach.1 on)
-reaches_on (i ∷ place) below (at slot stored entered_plot) reach on = absurd reach
-reaches_on (i ∷ place) below (at slot stored (whole_plot v)) reach on = absurd reach
-reaches_on (i ∷ place) below gone reach on = absurd reach
-reaches_on (i ∷ place) below (there v) reach on = absurd reach
+reaches_on (i ∷ place) below _ reach on = absurd reach
 
 here_of_way : (i : ℕ) (below : Place) (k : Kid) → Reaches (i ∷ below) k → IsHere k
 here_of_way i below gone reach = absurd reach
@@ -63,13 +55,13 @@ pub placed_below : (place below : Place) (k : Kid) → IsPlaced k place → IsPl
     → IsPlaced k (place ++ below)
 placed_below place below k placed child = record {
   reaches = reaches_on place below k placed.reaches child.reaches;
-  here = subst IsHere (sym (way_on place below k)) child.here;
+  here = subst IsHere (sym (kid_at_append place below k)) child.here;
 }
 
 pub placed_child : (place : Place) (i : ℕ) (k : Kid) → IsPlaced k (place ++ i ∷ []) → IsPlaced (kid_at place k) (i ∷ [])
 placed_child place i k placed = record {
   reaches = reaches_back place (i ∷ []) k placed.reaches;
-  here = subst IsHere (way_on place (i ∷ []) k) placed.here;
+  here = subst IsHere (kid_at_append place (i ∷ []) k) placed.here;
 }
 
 -- Where no slot serves twice, a slot tells its place.
@@ -81,13 +73,6 @@ uses_here (at slot stored plot) here = omega (arith, counts_same slot)
 
 used_at : (place : Place) (k : Kid) → IsHere (kid_at place k) → 1 ≤ uses k (slot_at k place)
 used_at place k here = omega (arith, uses_here (kid_at place k) here, uses_at place k (slot_at k place))
-
-uses_two : (i j : ℕ) (ks : Kids) (n : ℕ) → i ≢ j → uses (kid_nth i ks) n + uses (kid_nth j ks) n ≤ uses_among ks n
-uses_two i j no_kids n ne = omega arith
-uses_two zero zero (kid k ks) n ne = absurd (ne refl)
-uses_two zero (suc j) (kid k ks) n ne = let rest = uses_nth j ks n in omega arith
-uses_two (suc i) zero (kid k ks) n ne = let rest = uses_nth i ks n in omega arith
-uses_two (suc i) (suc j) (kid k ks) n ne = let rest = uses_two i j ks n (λ e. ne (ap suc e)) in omega arith
 
 same_way : (first second : Place) (k : Kid) → ((n : ℕ) → uses k n ≤ 1) → Reaches first k → IsHere (kid_at first k)
     → Reaches second k → IsHere (kid_at second k) → slot_at k first ≡ slot_at k second → first ≡ second
@@ -126,20 +111,45 @@ same_way (i ∷ first) (j ∷ second) (at slot stored (begun_plot form kids)) on
         = ap (uses (kid_nth j kids)) e in
         absurd
         (omega
-        (arith, once n, uses_two i j kids n ne, used_at first (kid_nth i kids) here, used_at second (kid_nth j kids) also))
-same_way [] (j ∷ second) (at slot stored entered_plot) once one here two also e = absurd two
-same_way [] (j ∷ second) (at slot stored (whole_plot v)) once one here two also e = absurd two
-same_way [] (j ∷ second) gone once one here two also e = absurd two
-same_way [] (j ∷ second) (there v) once one here two also e = absurd two
+        (arith, once n, two_nth i j kids n ne, used_at first (kid_nth i kids) here, used_at second (kid_nth j kids) also))
 same_way (i ∷ first) second (at slot stored entered_plot) once one here two also e = absurd one
 same_way (i ∷ first) second (at slot stored (whole_plot v)) once one here two also e = absurd one
 same_way (i ∷ first) second gone once one here two also e = absurd one
 same_way (i ∷ first) second (there v) once one here two also e = absurd one
+same_way [] (j ∷ second) _ once one here two also e = absurd two
 
 pub same_place : (first second : Place) (k : Kid) → ((n : ℕ) → uses k n ≤ 1) → IsPlaced k first → IsPlaced k second
     → slot_at k first ≡ slot_at k second → first ≡ second
 same_place first second k once one two e =
     same_way first second k once one.reaches one.here two.reaches two.here e
+
+-- places that differ are in different slots
+pub slots_once : (k : Kid) → ((n : ℕ) → uses k n ≤ 1) → (So : Place → Place → Type 0) → ((p q : Place) → So p q → p ≢ q)
+    → (places : List Place) → All (IsPlaced k) places → Pairs So places → AreOnce (map (slot_at k) places)
+slots_once k once So differ [] placed order n = omega arith
+slots_once k once So differ (p ∷ places) placed order n =
+    go (same_or_other (slot_at k p) n) (slots_once k once So differ places others order.1 n)
+  where
+    others : All (IsPlaced k) places
+    others = All-tail (IsPlaced k) p places placed
+
+    apart : All (λ (m : ℕ). m ≢ slot_at k p) (map (slot_at k) places)
+    apart i d h e =
+        let from = of_map (slot_at k) places (get_or (map (slot_at k) places) i d)
+        (Contains-get_or (map (slot_at k) places) i d h) in
+        differ p from.0 (All-contains (So p) places from.0 order.0 from.1)
+        (same_place p from.0 k once (All-head (IsPlaced k) p places placed)
+        (All-contains (IsPlaced k) places from.0 others from.1) (sym e ∙ sym from.2))
+
+    go : (slot_at k p ≡ n) ⊎ (slot_at k p ≢ n) → counts_in n (map (slot_at k) places) ≤ 1
+        → counts_if (nat_eq (slot_at k p) n) + counts_in n (map (slot_at k) places) ≤ 1
+    go (inl e) less =
+        let none = none_counted (slot_at k p) (map (slot_at k) places) apart in
+        let same : counts_in (slot_at k p) (map (slot_at k) places) ≡ counts_in n (map (slot_at k) places)
+        = ap (λ (m : ℕ). counts_in m (map (slot_at k) places)) e in
+        let one : counts_if (nat_eq (slot_at k p) n) ≡ 1 = ap (λ (m : ℕ). counts_if (nat_eq m n)) e ∙ counts_same n in
+        omega arith
+    go (inr ne) less = omega (arith, counts_other (slot_at k p) n ne)
 
 -- The stack and what is stored.
 
@@ -162,16 +172,11 @@ mark_of mark gone all here = absurd here
 mark_of mark (there v) all here = absurd here
 mark_of mark (at slot stored plot) all here = all.0
 
-marked_among : (mark : Bool) (j : ℕ) (ks : Kids) → AllMarkedAmong mark ks → AllMarked mark (kid_nth j ks)
-marked_among mark j no_kids all = tt
-marked_among mark zero (kid k ks) all = all.0
-marked_among mark (suc j) (kid k ks) all = marked_among mark j ks all.1
-
 nth_cases : (i j : ℕ) (Below : Kid → Type 0) (ks : Kids) → StoredBut i Below ks
     → ((i ≡ j) × Below (kid_nth j ks)) ⊎ AllMarked true (kid_nth j ks)
 nth_cases i j Below no_kids leads = absurd leads
 nth_cases zero zero Below (kid k ks) leads = inl (refl, leads.0)
-nth_cases zero (suc j) Below (kid k ks) leads = inr (marked_among true j ks leads.1)
+nth_cases zero (suc j) Below (kid k ks) leads = inr (marked_nth true j ks leads.1)
 nth_cases (suc i) zero Below (kid k ks) leads = inr leads.0
 nth_cases (suc i) (suc j) Below (kid k ks) leads = go (nth_cases i j Below ks leads.1)
   where
@@ -186,7 +191,7 @@ pub stored_or_open : (cursor place : Place) (k : Kid) → Leads cursor k → Rea
 stored_or_open cursor [] k leads reach here = inr (cursor, refl)
 stored_or_open [] (j ∷ place) (at slot stored (begun_plot form kids)) leads reach here =
     inl (mark_of true (kid_at place (kid_nth j kids))
-    (marked_at true place (kid_nth j kids) (marked_among true j kids leads.1)) here)
+    (marked_at true place (kid_nth j kids) (marked_nth true j kids leads.1)) here)
 stored_or_open (i ∷ cursor) (j ∷ place) (at slot stored (begun_plot form kids)) leads reach here =
     go (nth_cases i j (λ below. Leads cursor below) kids leads.1)
     (λ on. stored_or_open cursor place (kid_nth j kids) on reach.1 here)
@@ -204,10 +209,7 @@ stored_or_open (i ∷ cursor) (j ∷ place) (at slot stored (begun_plot form kid
     go (inl way) rest = more way.0 (rest way.1)
     go (inr all) rest =
         inl (mark_of true (kid_at place (kid_nth j kids)) (marked_at true place (kid_nth j kids) all) here)
-stored_or_open cursor (j ∷ place) (at slot stored entered_plot) leads reach here = absurd reach
-stored_or_open cursor (j ∷ place) (at slot stored (whole_plot v)) leads reach here = absurd reach
-stored_or_open cursor (j ∷ place) gone leads reach here = absurd reach
-stored_or_open cursor (j ∷ place) (there v) leads reach here = absurd reach
+stored_or_open cursor (j ∷ place) _ leads reach here = absurd reach
 
 -- no open place is stored
 unstored_top : (below : Place) (k : Kid) → Leads below k → stored_here k ≡ false
@@ -230,10 +232,7 @@ open_placed above below k leads = record {
 above_long : (place : Place) (k : Kid) → Reaches place k → length (slots_above place k) ≡ length place
 above_long [] k reach = refl
 above_long (i ∷ place) (at slot stored (begun_plot form kids)) reach = ap suc (above_long place (kid_nth i kids) reach.1)
-above_long (i ∷ place) (at slot stored entered_plot) reach = absurd reach
-above_long (i ∷ place) (at slot stored (whole_plot v)) reach = absurd reach
-above_long (i ∷ place) gone reach = absurd reach
-above_long (i ∷ place) (there v) reach = absurd reach
+above_long (i ∷ place) _ reach = absurd reach
 
 pub along_long : (cursor : Place) (k : Kid) → Leads cursor k → length (slots_along cursor k) ≡ length cursor + 1
 along_long cursor k leads =

@@ -8,11 +8,11 @@ use Rattle.fr_frame.specs.Cells.{Cell, slot_at}
 use Rattle.fr_frame.specs.Heap.{Node, Heap, depth_limit, with_slot, without, marked, stored_in}
 use Rattle.fr_frame.specs.Kids.{Kid, at, Plot, entered_plot, whole_plot, begun_plot, Kids, no_kids, kid, MayHave, cells_in, body_in, child_node, child_owner, Holds, HoldsIn}
 use Rattle.fr_store.specs.HoldLaws.{AgreeOn, holds_frame, may_have_all}
-use Rattle.fr_store.specs.PruneLaws.{pruned_first, first_kids, depth_found, beneath_is, plot_uses, plot_marked, plot_cells, plot_tokens, first_uses, uses_first, tokens_first, pruned_slot, unlinked_first, kid_in_slot, cell_in_slot, held_nth}
 use Rattle.fr_store.specs.Prunes.{kids_in_plot, beneath, IsRooted, slotted_occurs, slotted_occur, pruned, IsPruned, cells_in_body, cells_found}
 use Rattle.fr_store.specs.TopLaws.{slot_here, slot_other, body_here, body_other}
 use Rattle.fr_store.specs.Ways.{count_kids, kid_nth, counts_if, uses, uses_in, uses_among, AllMarked, AllMarkedAmong}
-use Rattle.fr_store.specs.WayLaws.{counts_same, counts_other, same_or_other}
+use Rattle.fr_store.specs.WayLaws.{counts_same, counts_other, same_or_other, marked_nth}
+use Rattle.fr_store.proofs.PruneLaws.{pruned_first, first_kids, depth_found, beneath_is, plot_uses, plot_marked, plot_cells, plot_tokens, first_uses, uses_first, tokens_first, pruned_slot, unlinked_first, kid_in_slot, cell_in_slot, held_nth}
 
 -- What lies beneath the place.
 
@@ -36,11 +36,6 @@ module _ (heap : Heap) (n : ℕ) (rooted : IsRooted heap n) where
   beneath_apart m h e =
       let one : counts_if (nat_eq n m) ≡ 1 = ap (λ (x : ℕ). counts_if (nat_eq n x)) e ∙ counts_same n in
       absurd (omega (arith, beneath_once m))
-
-nth_stored : (i : ℕ) (ks : Kids) → AllMarkedAmong true ks → AllMarked true (kid_nth i ks)
-nth_stored i no_kids all = tt
-nth_stored zero (kid k ks) all = all.0
-nth_stored (suc i) (kid k ks) all = nth_stored i ks all.1
 
 used_or_not : (count : ℕ) → (0 < count) ⊎ (count ≡ 0)
 used_or_not zero = inr refl
@@ -117,7 +112,7 @@ module _ (before mid : Heap) (n : ℕ) (rooted : IsRooted before n) (i : ℕ)
       let now = holds_frame rooted.plan before mid (child_node rooted.plan rooted.found.node held.form i)
       (child_owner n i) (suc rooted.found.depth) (at m true one.0) held.holds agree in
       let marked : AllMarked true (at m true one.0)
-      = subst (λ (k : Kid). AllMarked true k) one.1 (nth_stored i (beneath before n) (beneath_stored before n rooted)) in
+      = subst (λ (k : Kid). AllMarked true k) one.1 (marked_nth true i (beneath before n) (beneath_stored before n rooted)) in
       record {
         below = record {
           plan = rooted.plan;

@@ -12,12 +12,12 @@ use Rattle.fr_frame.specs.Changes.{IfInUse, IsInUse, Shows}
 use Rattle.fr_frame.specs.Heap.{Node, depth_limit, without, heap_of, slots_occur, marked, stored_in}
 use Rattle.fr_frame.specs.Kids.{at, Kids, no_kids, cells_in, body_in, child_owner}
 use Rattle.fr_store.specs.HoldLaws.{none_stored}
-use Rattle.fr_store.specs.PruneLaws.{pruned_first, first_kids, depth_found, Pruning, beneath_is, plot_tokens, pruned_tokens, first_uses, first_tokens, first_all, first_none, pruned_kept, pruned_none, pruned_all, closed_pruned, slotless_uses, slotless_tokens}
 use Rattle.fr_store.specs.Prunes.{beneath, IsRooted, slotted_occur, pruned, IsPruned, cells_in_body, cells_found}
 use Rattle.fr_store.specs.Stored.{IsKept, StoresNoMore}
 use Rattle.fr_store.specs.TopLaws.{body_here, closed_by_marks, closed_uses, closed_occur}
 use Rattle.fr_store.specs.Ways.{uses_among}
 use Rattle.fr_store.specs.WayLaws.{same_or_other}
+use Rattle.fr_store.proofs.PruneLaws.{pruned_first, first_kids, depth_found, Pruning, beneath_is, plot_tokens, pruned_tokens, first_uses, first_tokens, first_all, first_none, pruned_kept, pruned_none, pruned_all, closed_pruned, slotless_uses, slotless_tokens}
 use Rattle.fr_store.proofs.PruneSteps.{beneath_uses, beneath_cells, Child, slot_is, child_of, child_falls, child_tokens, child_room, below_room, child_here, child_left, after_marked, after_unmarked}
 
 -- Where nothing is stored there is nothing to prune.

@@ -1,22 +1,21 @@
 -- The list of stored places as it is written down: what is in it, which places wait, and where the next open one comes.
-use Rattle.std.proofs.Common.{◌≡◌, ◌≢◌, ◌⊎◌, ℕ, ◌+◌, ◌-◌, ◌<◌, ◌≤◌, Bool, false, cond, List, [], ◌∷◌, ◌++◌, map, length, length-append, get_or, append_assoc, nat_eq, inl, inr, refl, sym, ◌∙◌, ap, subst, arith}
+use Rattle.std.proofs.Common.{◌≡◌, ◌≢◌, ◌⊎◌, ℕ, ◌+◌, ◌-◌, ◌<◌, ◌≤◌, Bool, false, cond, List, [], ◌∷◌, ◌++◌, map, length, length-append, get_or, append_assoc, inl, inr, refl, sym, ◌∙◌, ap, subst, arith}
 use Rattle.std.specs.List.{All, Contains, filter}
 use Rattle.std.specs.List.Sorted.{IsNonDecreasingBy}
 use Rattle.std.proofs.lemmas.List.{append-nil, length-map, map-append}
-use Rattle.std.proofs.lemmas.List.Elements.{All-nil, All-append, All-contains, All-filter, All-head, All-tail, filter-append, filter_passes, Contains-get_or}
+use Rattle.std.proofs.lemmas.List.Elements.{All-nil, All-append, All-contains, All-filter, All-head, All-tail, filter-append, filter_passes}
 use Rattle.fr_model.specs.Places.{Place}
 use Rattle.fr_frame.specs.Kids.{Kid}
 use Rattle.fr_store.specs.declared.turning.StoredPlace.{StoredPlace}
 use Rattle.fr_store.specs.Numbers.{slot_of, slots_of}
-use Rattle.fr_store.specs.Places.{Pairs, AreAllStored, AreOnce, ComesEarlier, IsPlaced, IsSpread, IsStoredHere, first_key, counts_in, key_of, order_below, slot_at, slots_between, stored_here}
-use Rattle.fr_store.specs.Ways.{counts_if, kid_at, uses, Leads}
-use Rattle.fr_store.specs.WayLaws.{counts_same, counts_other, same_or_other}
+use Rattle.fr_store.specs.Places.{Pairs, AreAllStored, ComesEarlier, IsPlaced, IsSpread, IsStoredHere, first_key, key_of, order_below, slot_at, slots_between, stored_here}
+use Rattle.fr_store.specs.Ways.{kid_at, uses, Leads}
 use Rattle.fr_store.proofs.EarlierLaws.{earlier_differs}
-use Rattle.fr_store.proofs.PairLaws.{filter_all, fits, in_filter, none_counted, of_map, pairs_filter}
-use Rattle.fr_store.proofs.PlaceLaws.{behind, leads_here, open_placed, open_unstored, same_place}
+use Rattle.fr_store.proofs.PairLaws.{filter_all, fits, in_filter, of_map, pairs_filter, parts}
+use Rattle.fr_store.proofs.PlaceLaws.{behind, leads_here, open_placed, open_unstored, slots_once}
 use Rattle.fr_store.proofs.RunLaws.{between_none}
 use Rattle.fr_store.proofs.SiblingLaws.{children, children_slots, closed_children, none_of_last, none_of_stored, one_of_open, open_children, stored_all}
-use Rattle.fr_store.proofs.SpreadLaws.{AreChildren, IsSpreading, all_reached, p_placed, parts, spreads_on, spreads_root}
+use Rattle.fr_store.proofs.SpreadLaws.{AreChildren, IsSpreading, all_reached, p_placed, spreads_on, spreads_root}
 
 -- those of these places that are stored
 abbrev pub stored_among : Kid → List Place → List Place
@@ -59,35 +58,6 @@ module _ (k : Kid) where
   none_among : (p : Place) → stored_here (kid_at p k) ≡ false → stored_among k (p ∷ []) ≡ []
   none_among p is = ap (λ (b : Bool). cond b (p ∷ []) []) is
 
-  -- places in order are in different slots
-  slots_once : ((n : ℕ) → uses k n ≤ 1) → (places : List Place) → All (IsPlaced k) places → Pairs (ComesEarlier k) places
-      → AreOnce (map (slot_at k) places)
-  slots_once once [] placed order n = omega arith
-  slots_once once (p ∷ places) placed order n =
-      go (same_or_other (slot_at k p) n) (slots_once once places rest order.1 n)
-    where
-      rest : All (IsPlaced k) places
-      rest = All-tail (IsPlaced k) p places placed
-
-      apart : All (λ (m : ℕ). m ≢ slot_at k p) (map (slot_at k) places)
-      apart i d h e =
-          let from = of_map (slot_at k) places (get_or (map (slot_at k) places) i d)
-          (Contains-get_or (map (slot_at k) places) i d h) in
-          let earlier = All-contains (ComesEarlier k p) places from.0 order.0 from.1 in
-          earlier_differs k p from.0 earlier
-          (same_place p from.0 k once (All-head (IsPlaced k) p places placed)
-          (All-contains (IsPlaced k) places from.0 rest from.1) (sym e ∙ sym from.2))
-
-      go : (slot_at k p ≡ n) ⊎ (slot_at k p ≢ n) → counts_in n (map (slot_at k) places) ≤ 1
-          → counts_if (nat_eq (slot_at k p) n) + counts_in n (map (slot_at k) places) ≤ 1
-      go (inl e) less =
-          let none = none_counted (slot_at k p) (map (slot_at k) places) apart in
-          let same : counts_in (slot_at k p) (map (slot_at k) places) ≡ counts_in n (map (slot_at k) places)
-          = ap (λ (m : ℕ). counts_in m (map (slot_at k) places)) e in
-          let one : counts_if (nat_eq (slot_at k p) n) ≡ 1 = ap (λ (m : ℕ). counts_if (nat_eq m n)) e ∙ counts_same n in
-          omega arith
-      go (inr ne) less = omega (arith, counts_other (slot_at k p) n ne)
-
 module _ (k : Kid) (cursor : Place) (once : (n : ℕ) → uses k n ≤ 1) (leads : Leads cursor k) (places : List StoredPlace)
     (stored : AreAllStored k places) where
   -- there is room for all
@@ -97,7 +67,7 @@ module _ (k : Kid) (cursor : Place) (once : (n : ℕ) → uses k n ≤ 1) (leads
       let all : List Place = q.done ++ q.waiting in
       let here : All (IsPlaced k) (stored_among k all)
       = All-filter (λ p. stored_here (kid_at p k)) (IsPlaced k) all q.spreading.placed in
-      let apart = slots_once k once (stored_among k all) here
+      let apart = slots_once k once (ComesEarlier k) (earlier_differs k) (stored_among k all) here
       (pairs_filter (ComesEarlier k) (λ p. stored_here (kid_at p k)) all q.spreading.order) in
       let few = fits (map (slot_at k) (stored_among k all)) (slots_of places) apart
       (λ n at.

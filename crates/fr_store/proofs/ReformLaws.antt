@@ -1,7 +1,7 @@
 -- Laws of pointers to slices, for proofs: the top, an open one, is closed, or a closed one opened.
 use Rattle.std.proofs.Common.{◌≡◌, ◌≤◌, ℕ, suc, false, List, [], ◌∷◌, refl, sym, ◌∙◌, ap, subst, arith}
 use Rattle.fr_model.specs.Places.{Place, entry_of}
-use Rattle.fr_model.specs.Tree.{Form, as_struct, as_array, as_variant, as_some, as_ok, as_err, as_pointer, as_list, as_slice, as_closed_slice, as_set, as_map, as_dyn_array, as_dyn_object, base_of_form, Tree, change_at}
+use Rattle.fr_model.specs.Tree.{Form, as_slice, as_closed_slice, base_of_form, Tree, change_at}
 use Rattle.fr_plan.specs.declared.nodes.NodeId.{NodeId}
 use Rattle.fr_plan.specs.TypePlan.{Plan}
 use Rattle.fr_frame.specs.declared.places.Slot.{Slot}
@@ -13,11 +13,11 @@ use Rattle.fr_store.specs.MoveLaws.{open_reach, open_top, top_changed, top_stand
 use Rattle.fr_store.specs.Moves.{IsBegunSlice, IsOpenAt, IsSlice, begun_as, cursor_in, tree_here, tree_in_slots}
 use Rattle.fr_store.specs.Numbers.{IsLast}
 use Rattle.fr_store.specs.Stands.{IsOpen, kid_here}
-use Rattle.fr_store.specs.StayLaws.{stay_all, stay_shown}
 use Rattle.fr_store.specs.Staying.{AllStayPut}
 use Rattle.fr_store.specs.TopLaws.{KeepsChildren, LosesNone, marked_body}
 use Rattle.fr_store.specs.Ways.{put_at}
 use Rattle.fr_store.specs.WayLaws.{tree_put_at, tree_change_at, tree_of_at}
+use Rattle.fr_store.proofs.StayLaws.{stay_all, stay_shown}
 
 abbrev pub reformed_plot : Form → Plot → Plot
 reformed_plot form entered_plot = entered_plot
@@ -26,23 +26,19 @@ reformed_plot form (begun_plot made kids) = begun_plot form kids
 
 reformed_body : (form : Form) (plot : Plot) → body_in (reformed_plot form plot) ≡ reformed form (body_in plot)
 reformed_body form entered_plot = refl
-reformed_body form (whole_plot v) = refl
-reformed_body form (begun_plot made kids) = refl
+reformed_body form _ = refl
 
 reformed_tree : (form : Form) (plot : Plot) → tree_in (reformed_plot form plot) ≡ begun_as form (tree_in plot)
 reformed_tree form entered_plot = refl
-reformed_tree form (whole_plot v) = refl
-reformed_tree form (begun_plot made kids) = refl
+reformed_tree form _ = refl
 
 reformed_tokens : (form : Form) (plot : Plot) (t : ℕ) → plot_occurs (reformed_plot form plot) t ≡ plot_occurs plot t
 reformed_tokens form entered_plot t = refl
-reformed_tokens form (whole_plot v) t = refl
-reformed_tokens form (begun_plot made kids) t = refl
+reformed_tokens form _ t = refl
 
 reformed_loses : (form : Form) (plot : Plot) → LosesNone plot (reformed_plot form plot)
 reformed_loses form entered_plot n = omega arith
-reformed_loses form (whole_plot v) n = omega arith
-reformed_loses form (begun_plot made kids) n = omega arith
+reformed_loses form _ n = omega arith
 
 reformed_stay : (slot : ℕ) (form : Form) (plot : Plot) → AllStayPut (at slot false plot) (at slot false (reformed_plot form plot))
 reformed_stay slot form plot [] placed = (record { reaches = tt; here = tt }, refl)
@@ -56,67 +52,23 @@ slice_node : (plan : Plan) (node : NodeId) (form : Form) (i : ℕ) → IsSlice f
     → child_node plan node form i ≡ child_node plan node as_slice i
 slice_node plan node as_slice i is = refl
 slice_node plan node as_closed_slice i is = refl
-slice_node plan node as_struct i is = absurd is
-slice_node plan node as_array i is = absurd is
-slice_node plan node (as_variant k) i is = absurd is
-slice_node plan node as_some i is = absurd is
-slice_node plan node as_ok i is = absurd is
-slice_node plan node as_err i is = absurd is
-slice_node plan node as_pointer i is = absurd is
-slice_node plan node as_list i is = absurd is
-slice_node plan node as_set i is = absurd is
-slice_node plan node (as_map base) i is = absurd is
-slice_node plan node as_dyn_array i is = absurd is
-slice_node plan node (as_dyn_object keys) i is = absurd is
+slice_node plan node _ i is = absurd is
 
 slice_may_have : (form : Form) (count : ℕ) → IsSlice form → MayHave form count
 slice_may_have as_slice count is = tt
 slice_may_have as_closed_slice count is = tt
-slice_may_have as_struct count is = absurd is
-slice_may_have as_array count is = absurd is
-slice_may_have (as_variant k) count is = absurd is
-slice_may_have as_some count is = absurd is
-slice_may_have as_ok count is = absurd is
-slice_may_have as_err count is = absurd is
-slice_may_have as_pointer count is = absurd is
-slice_may_have as_list count is = absurd is
-slice_may_have as_set count is = absurd is
-slice_may_have (as_map base) count is = absurd is
-slice_may_have as_dyn_array count is = absurd is
-slice_may_have (as_dyn_object keys) count is = absurd is
+slice_may_have _ count is = absurd is
 
 -- nothing is asked of them
 slice_left : (form : Form) (i : ℕ) (k : Kid) → IsSlice form → IsLeftRightly form i k
 slice_left as_slice i k is = tt
 slice_left as_closed_slice i k is = tt
-slice_left as_struct i k is = absurd is
-slice_left as_array i k is = absurd is
-slice_left (as_variant n) i k is = absurd is
-slice_left as_some i k is = absurd is
-slice_left as_ok i k is = absurd is
-slice_left as_err i k is = absurd is
-slice_left as_pointer i k is = absurd is
-slice_left as_list i k is = absurd is
-slice_left as_set i k is = absurd is
-slice_left (as_map base) i k is = absurd is
-slice_left as_dyn_array i k is = absurd is
-slice_left (as_dyn_object keys) i k is = absurd is
+slice_left _ i k is = absurd is
 
 slice_base : (form : Form) (i : ℕ) → IsSlice form → base_of_form form ≤ entry_of i
 slice_base as_slice i is = omega arith
 slice_base as_closed_slice i is = omega arith
-slice_base as_struct i is = absurd is
-slice_base as_array i is = absurd is
-slice_base (as_variant n) i is = absurd is
-slice_base as_some i is = absurd is
-slice_base as_ok i is = absurd is
-slice_base as_err i is = absurd is
-slice_base as_pointer i is = absurd is
-slice_base as_list i is = absurd is
-slice_base as_set i is = absurd is
-slice_base (as_map base) i is = absurd is
-slice_base as_dyn_array i is = absurd is
-slice_base (as_dyn_object keys) i is = absurd is
+slice_base _ i is = absurd is
 
 slices_left : (made form : Form) (i : ℕ) (ks : Kids) → IsSlice form → AreLeftAll made i ks → AreLeftAll form i ks
 slices_left made form i no_kids is all = slice_base form i is

@@ -1,6 +1,5 @@
 -- What was released isn't held any more: tokens in slots and a ledger, taken together.
-use Rattle.std.proofs.Common.{◌≡◌, ℕ, ◌+◌, ◌<◌, List, Option, Some, None, refl, sym, ◌∙◌, subst, arith}
-use Rattle.std.specs.Prelude.{IsSomeAnd}
+use Rattle.std.proofs.Common.{◌≡◌, ℕ, ◌+◌, ◌<◌, List, refl, sym, ◌∙◌, subst, arith}
 use Rattle.fr_shape.specs.Released.{Conserved, Room, RoseBy}
 
 -- what was released is what isn't held any more
@@ -21,15 +20,6 @@ conserved_same held left before after same kept =
       kept_or_released = λ t. omega (arith, same t);
       none_falls = λ t. omega arith;
     })
-
--- of more, as much was held before
-pub conserved_as : (first held left : ℕ → ℕ) (before after : List ℕ) → ((t : ℕ) → held t ≡ first t)
-    → Conserved held before left after → Conserved first before left after
-conserved_as first held left before after same conserved = record {
-  same_length = conserved.same_length;
-  kept_or_released = λ t. omega (arith, same t, conserved.kept_or_released t);
-  none_falls = conserved.none_falls;
-}
 
 -- first here and then there
 pub conserved_on : (held mid left : ℕ → ℕ) (before now after : List ℕ) → Conserved held before mid now → Conserved mid now left after
@@ -56,9 +46,3 @@ rose_by_all held left before mid after conserved rose = record {
   same_length = rose.same_length ∙ conserved.same_length;
   each = λ t. omega (arith, conserved.kept_or_released t, rose.each t);
 }
-
--- both are said of what is found
-pub both_of : {X : Type 0} {Then : Type 0} (found : Option X) (One Other : X → Type 0) → IsSomeAnd found One → IsSomeAnd found Other
-    → ((x : X) → One x → Other x → Then) → Then
-both_of (Some x) One Other one other step = step x one other
-both_of None One Other one other step = absurd one

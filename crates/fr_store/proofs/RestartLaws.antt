@@ -9,7 +9,6 @@ use Rattle.fr_frame.specs.Cells.{Cell}
 use Rattle.fr_frame.specs.Changes.{IfInUse, Shows}
 use Rattle.fr_frame.specs.Heap.{Node, heap_of, slots_occur, with_body}
 use Rattle.fr_frame.specs.Kids.{Plot, begun_plot, MayHave, cells_in, body_in, plot_occurs}
-use Rattle.fr_store.specs.BeginLaws.{gones, gones_cells, gones_left, gones_tokens, gones_trees, gones_unplaced}
 use Rattle.fr_store.specs.Moves.{IsOpenAt, cursor_in, tree_in_slots}
 use Rattle.fr_store.specs.Numbers.{IsLast}
 use Rattle.fr_store.specs.Prunes.{beneath, pruned, slotted_occur, IsPruned}
@@ -17,6 +16,7 @@ use Rattle.fr_store.specs.Stands.{IsOpen, kid_here}
 use Rattle.fr_store.specs.Staying.{StayPutButBeneath}
 use Rattle.fr_store.specs.Stored.{IsKept, StoresNoMore}
 use Rattle.fr_store.specs.TopLaws.{MayHaveIts}
+use Rattle.fr_store.proofs.BeginLaws.{gones, gones_cells, gones_left, gones_tokens, gones_trees, gones_unplaced}
 use Rattle.fr_store.proofs.SetLaws.{set_kept, set_marks, set_open, set_stay}
 
 gones_count : (count : ℕ) → length (cells_in (gones count)) ≡ count

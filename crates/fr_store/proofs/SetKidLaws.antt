@@ -5,13 +5,14 @@ use Rattle.fr_shape.specs.Same.{same}
 use Rattle.fr_shape.specs.Val.{Val}
 use Rattle.fr_model.specs.Collections.{and_item, has_same, is_set_form, without_nth}
 use Rattle.fr_model.specs.Places.{Place}
-use Rattle.fr_model.specs.Tree.{Form, as_struct, as_array, as_variant, as_some, as_ok, as_err, as_pointer, as_list, as_slice, as_closed_slice, as_set, as_map, as_dyn_array, as_dyn_object, whole, Trees, branch, and_last}
+use Rattle.fr_model.specs.Tree.{Form, as_set, whole, Trees, branch, and_last}
 use Rattle.fr_frame.specs.Bodies.{and_item_cell, has_same_cell, without_cell, AreUnplaced}
 use Rattle.fr_frame.specs.Cells.{Cell, given}
 use Rattle.fr_frame.specs.Kids.{Kid, gone, there, at, Kids, no_kids, kid, tree_of, trees_in, cell_of, cells_in, AreLeftAll}
 use Rattle.fr_store.specs.Places.{IsPlaced}
 use Rattle.fr_store.specs.Ways.{kid_nth, put_nth, AllMarkedAmong, StoredBut}
 use Rattle.fr_store.proofs.ItemLaws.{kids_and_last}
+use Rattle.fr_store.proofs.StayLaws.{none_below}
 
 -- Children: one goes, and a value comes unless it is there.
 
@@ -111,38 +112,16 @@ others_unplaced (suc i) first Below (kid (at slot stored plot) ks) but left =
     let apart : true ≡ false = sym but.0.0 ∙ left.0 in
     absurd (cc)
 
-none_placed : (j : ℕ) (ks : Kids) (way : Place) → AreUnplaced (cells_in ks) → IsPlaced (kid_nth j ks) way → ⊥
-none_placed j no_kids [] closed lies = lies.here
-none_placed j no_kids (m ∷ way) closed lies = lies.reaches
-none_placed zero (kid gone ks) [] closed lies = lies.here
-none_placed zero (kid gone ks) (m ∷ way) closed lies = lies.reaches
-none_placed zero (kid (there v) ks) [] closed lies = lies.here
-none_placed zero (kid (there v) ks) (m ∷ way) closed lies = lies.reaches
-none_placed zero (kid (at slot stored plot) ks) way closed lies = closed.0
-none_placed (suc j) (kid k ks) way closed lies = none_placed j ks way closed.1 lies
-
 pub set_form : (form : Form) → is_set_form form ≡ true → form ≡ as_set
 set_form as_set of_set = refl
-set_form as_struct of_set = absurd (cc)
-set_form as_array of_set = absurd (cc)
-set_form (as_variant k) of_set = absurd (cc)
-set_form as_some of_set = absurd (cc)
-set_form as_ok of_set = absurd (cc)
-set_form as_err of_set = absurd (cc)
-set_form as_pointer of_set = absurd (cc)
-set_form as_list of_set = absurd (cc)
-set_form as_slice of_set = absurd (cc)
-set_form as_closed_slice of_set = absurd (cc)
-set_form (as_map base) of_set = absurd (cc)
-set_form as_dyn_array of_set = absurd (cc)
-set_form (as_dyn_object keys) of_set = absurd (cc)
+set_form _ of_set = absurd (cc)
 
 pub beside_unplaced : (i j : ℕ) (ks : Kids) (way : Place) → i ≢ j → AreUnplaced (cells_in (put_nth i gone ks))
     → IsPlaced (kid_nth j ks) way → ⊥
 beside_unplaced i j no_kids [] unlike closed lies = lies.here
 beside_unplaced i j no_kids (m ∷ way) unlike closed lies = lies.reaches
 beside_unplaced zero zero (kid k ks) way unlike closed lies = unlike refl
-beside_unplaced zero (suc j) (kid k ks) way unlike closed lies = none_placed j ks way closed.1 lies
-beside_unplaced (suc i) zero (kid k ks) way unlike closed lies = none_placed zero (kid k no_kids) way (closed.0, tt) lies
+beside_unplaced zero (suc j) (kid k ks) way unlike closed lies = none_below j ks way closed.1 lies
+beside_unplaced (suc i) zero (kid k ks) way unlike closed lies = none_below zero (kid k no_kids) way (closed.0, tt) lies
 beside_unplaced (suc i) (suc j) (kid k ks) way unlike closed lies =
     beside_unplaced i j ks way (λ e. unlike (ap suc e)) closed.1 lies

@@ -15,18 +15,18 @@ use Rattle.fr_store.specs.HoldLaws.{AgreeBeside, Replaces}
 use Rattle.fr_store.specs.MoveLaws.{open_reach, open_top, top_slot, top_node, top_found, open_at_from}
 use Rattle.fr_store.specs.Moves.{IsOpenAt, cursor_in, tree_in_slots, tokens_here}
 use Rattle.fr_store.specs.Numbers.{IsLast}
-use Rattle.fr_store.specs.PruneLaws.{beneath_is, plot_tokens, pruned_tokens}
 use Rattle.fr_store.specs.Prunes.{beneath, IsRooted, slotted_occur, pruned, IsPruned}
 use Rattle.fr_store.specs.LeftLaws.{at_for_at}
 use Rattle.fr_store.specs.StandLaws.{all_changed, kid_is, stands_change, AllServe}
 use Rattle.fr_store.specs.Stands.{Stands, IsOpen, kid_here, kid_shown}
-use Rattle.fr_store.specs.StayLaws.{stay_but_beneath}
 use Rattle.fr_store.specs.Staying.{StayPutButBeneath}
 use Rattle.fr_store.specs.Stored.{IsKept, StoresNoMore}
 use Rattle.fr_store.specs.TopLaws.{MayHaveIts, body_here, closed_holds, closed_marked, closed_uses, body_other, free_unused, top_uses, not_beside, top_held}
 use Rattle.fr_store.specs.Ways.{kid_at, put_at, slots_above, counts_if, uses, uses_in, uses_among, Leads, Reaches, node_along}
 use Rattle.fr_store.specs.WayLaws.{counts_same, same_or_other, leads_reach, uses_at, occurs_put_at, tree_put_at, tree_of_at, tree_tokens}
+use Rattle.fr_store.proofs.PruneLaws.{beneath_is, plot_tokens, pruned_tokens}
 use Rattle.fr_store.proofs.PruneSteps.{beneath_uses}
+use Rattle.fr_store.proofs.StayLaws.{stay_but_beneath}
 
 module _ (plan : Plan) (slots : List Slot) (stack : List ℕ) (open_now : IsOpen plan slots stack) (n : ℕ)
     (last : IsLast stack n) where

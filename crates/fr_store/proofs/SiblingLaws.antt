@@ -4,11 +4,10 @@ use Rattle.std.specs.List.{All, Contains, filter}
 use Rattle.std.specs.List.Sorted.{IsNonDecreasingBy}
 use Rattle.std.proofs.lemmas.List.Elements.{All-cons, All-append, All-contains, All-contains_itself, All-filter, All-head, All-map, All-tail, filter_passes, Contains-append_left, Contains-append_right}
 use Rattle.fr_model.specs.Places.{Place}
-use Rattle.fr_frame.specs.Kids.{Kid, gone, there, at, entered_plot, whole_plot, begun_plot}
+use Rattle.fr_frame.specs.Kids.{Kid, at, begun_plot}
 use Rattle.fr_store.specs.declared.turning.StoredPlace.{StoredPlace}
 use Rattle.fr_store.specs.Numbers.{slot_of, slots_of}
 use Rattle.fr_store.specs.Places.{Pairs, AreAllStored, AreOnce, ComesEarlier, IsAfterBelow, IsNarrow, IsPlaced, IsStoredChildOf, IsStoredHere, child_of, first_key, is_between, key_of, order_below, slot_at, stored_here}
-use Rattle.fr_store.specs.StepLaws.{order_later, order_small, order_told}
 use Rattle.fr_store.specs.Ways.{counts_if, kid_at, uses, Leads}
 use Rattle.fr_store.specs.WayLaws.{counts_same, same_or_other}
 use Rattle.fr_store.proofs.EarlierLaws.{siblings}
@@ -16,29 +15,21 @@ use Rattle.fr_store.proofs.PairLaws.{first_in, later_in, in_counted, in_filter, 
 use Rattle.fr_store.proofs.PlaceLaws.{open_unstored, placed_above, same_place, stored_or_open}
 use Rattle.fr_store.proofs.RunLaws.{between_is, between_told}
 use Rattle.fr_store.proofs.SpreadLaws.{AreChildren, IsChild}
+use Rattle.fr_store.proofs.StepLaws.{order_later, order_small, order_told}
 
 -- Where a child comes.
 
 told_below : (k : Kid) (i j : ℕ) → i < 4294967296 → j < 4294967296 → order_below i k ≡ order_below j k → i ≡ j
-told_below gone i j a b e = e
-told_below (there v) i j a b e = e
-told_below (at slot stored entered_plot) i j a b e = e
-told_below (at slot stored (whole_plot v)) i j a b e = e
 told_below (at slot stored (begun_plot form kids)) i j a b e = order_told form i j a b e
+told_below _ i j a b e = e
 
 later_below : (k : Kid) (i j : ℕ) → i < 4294967296 → j < 4294967296 → order_below j k < order_below i k → IsAfterBelow k i j
-later_below gone i j a b less = less
-later_below (there v) i j a b less = less
-later_below (at slot stored entered_plot) i j a b less = less
-later_below (at slot stored (whole_plot v)) i j a b less = less
 later_below (at slot stored (begun_plot form kids)) i j a b less = order_later form i j a b less
+later_below _ i j a b less = less
 
 small_below : (k : Kid) (i : ℕ) → i < 4294967296 → order_below i k < 4294967296
-small_below gone i a = a
-small_below (there v) i a = a
-small_below (at slot stored entered_plot) i a = a
-small_below (at slot stored (whole_plot v)) i a = a
 small_below (at slot stored (begun_plot form kids)) i a = order_small form i a
+small_below _ i a = a
 
 same_last : (p q : Place) (i j : ℕ) → p ++ i ∷ [] ≡ q ++ j ∷ [] → (p ≡ q) × (i ≡ j)
 same_last [] [] i j e = (refl, cc)

@@ -1,5 +1,5 @@
 -- How the list of all places grows: each place is followed by its children.
-use Rattle.std.proofs.Common.{◌≡◌, ◌⊎◌, ℕ, List, [], ◌∷◌, ◌++◌, get_or, append_assoc, inl, inr, refl, sym, ◌∙◌, subst, arith}
+use Rattle.std.proofs.Common.{◌≡◌, ◌⊎◌, ℕ, List, [], ◌∷◌, ◌++◌, get_or, append_assoc, inl, inr, refl, sym, subst, arith}
 use Rattle.std.specs.List.{All, Contains}
 use Rattle.std.proofs.lemmas.List.{append-nil}
 use Rattle.std.proofs.lemmas.List.Elements.{All-nil, All-cons, All-head, All-append, All-contains, Contains-append_left, Contains-append_right, Contains-push, Contains-push_cases}
@@ -7,7 +7,7 @@ use Rattle.fr_model.specs.Places.{Place}
 use Rattle.fr_frame.specs.Kids.{Kid}
 use Rattle.fr_store.specs.Places.{Pairs, IsHere, IsPlaced, ComesEarlier}
 use Rattle.fr_store.proofs.EarlierLaws.{children_earlier, root_earlier}
-use Rattle.fr_store.proofs.PairLaws.{all_right, first_in, pairs_append, pairs_cross}
+use Rattle.fr_store.proofs.PairLaws.{all_right, first_in, pairs_append, pairs_cross, parts}
 use Rattle.fr_store.proofs.PlaceLaws.{placed_above}
 
 -- a child of a place
@@ -48,11 +48,6 @@ spreads_root k here = record {
 pub p_placed : (k : Kid) (done rest : List Place) (p : Place) → IsSpreading k done (p ∷ rest) → IsPlaced k p
 p_placed k done rest p s =
     All-head (IsPlaced k) p rest (all_right (IsPlaced k) done (p ∷ rest) s.placed)
-
-pub parts : (done rest : List Place) (p : Place) (added : List Place)
-    → (done ++ p ∷ []) ++ (rest ++ added) ≡ (done ++ p ∷ rest) ++ added
-parts done rest p added =
-    append_assoc done (p ∷ []) (rest ++ added) ∙ sym (append_assoc done (p ∷ rest) added)
 
 -- One place more.
 module _ (k : Kid) (done rest : List Place) (p : Place) (s : IsSpreading k done (p ∷ rest)) (added : List Place)

@@ -11,7 +11,7 @@ use Rattle.fr_plan.specs.declared.nodes.NodeId.{NodeId}
 use Rattle.fr_plan.specs.TypePlan.{Plan}
 use Rattle.fr_frame.specs.declared.places.FrameOwner.{FrameOwner}
 use Rattle.fr_frame.specs.Heap.{Node, Heap, marked, stored_in}
-use Rattle.fr_frame.specs.Kids.{Kid, gone, there, at, entered_plot, whole_plot, begun_plot, Holds, child_owner}
+use Rattle.fr_frame.specs.Kids.{Kid, gone, there, at, begun_plot, Holds, child_owner}
 use Rattle.fr_store.specs.declared.turning.StoredPlace.{StoredPlace}
 use Rattle.fr_store.specs.HoldLaws.{holds_at}
 use Rattle.fr_store.specs.LeaveLaws.{below_root, owner_append}
@@ -26,11 +26,8 @@ use Rattle.fr_store.proofs.PlaceLaws.{mark_at, open_unstored, place_of, placed_a
 -- The owner of a child.
 
 owner_over : (owner : FrameOwner) (i : ℕ) (k : Kid) → Reaches (i ∷ []) k → owner_below owner i k ≡ child_owner (slot_here k) i
-owner_over owner i gone reach = absurd reach
-owner_over owner i (there v) reach = absurd reach
-owner_over owner i (at slot stored entered_plot) reach = absurd reach
-owner_over owner i (at slot stored (whole_plot v)) reach = absurd reach
 owner_over owner i (at slot stored (begun_plot form kids)) reach = refl
+owner_over owner i _ reach = absurd reach
 
 -- and where it comes among the children there
 order_over : (plan : Plan) (heap : Heap) (node : NodeId) (owner : FrameOwner) (depth i : ℕ) (k : Kid)

@@ -23,9 +23,6 @@ use Rattle.fr_store.proofs.ReleasedLaws.{room_left}
 pub held_in : (slots : List Slot) (n : ℕ) (found : Node) (t : ℕ) → heap_of slots n ≡ Some found
     → body_occurs found.body t ≤ slots_occur slots t
 held_in [] n found t is = absurd (cc)
-held_in (Slot.Free next ∷ slots) zero found t is = absurd (cc)
-held_in (Slot.Reserved ∷ slots) zero found t is = absurd (cc)
-held_in (Slot.Item item ∷ slots) zero found t is = absurd (cc)
 held_in (Slot.Used place ∷ slots) zero found t is =
     let same : node_of place ≡ found = cc in
     let own : body_occurs (node_of place).body t ≡ body_occurs found.body t
@@ -37,6 +34,7 @@ held_in (Slot.List place items ∷ slots) zero found t is =
     = ap (λ (x : Node). body_occurs x.body t) same in
     omega (arith, own)
 held_in (slot ∷ slots) (suc n) found t is = let rest = held_in slots n found t is in omega (arith, rest)
+held_in _ zero found t is = absurd (cc)
 
 -- there is room to release it where there is room to release all
 found_room : (slots : List Slot) (n : ℕ) (ledger : List ℕ) (found : Node) → heap_of slots n ≡ Some found

@@ -14,11 +14,11 @@ use Rattle.fr_store.specs.MoveLaws.{closed_open, open_reach, open_top, so_top, t
 use Rattle.fr_store.specs.Moves.{AtTop, IsOpenAt, cursor_in, tree_in_slots}
 use Rattle.fr_store.specs.Numbers.{IsLast}
 use Rattle.fr_store.specs.Stands.{IsOpen, kid_here}
-use Rattle.fr_store.specs.StayLaws.{closed_below, stay_all, stay_shown}
 use Rattle.fr_store.specs.Staying.{AllStayPut}
 use Rattle.fr_store.specs.Stored.{NothingStored}
 use Rattle.fr_store.specs.TopLaws.{keeps_closed, loses_none, marked_body}
 use Rattle.fr_store.specs.Ways.{put_at}
+use Rattle.fr_store.proofs.StayLaws.{closed_below, stay_all, stay_shown}
 
 module _ (plan : Plan) (before after : List Slot) (stack : List ℕ) (open_now : IsOpen plan before stack) (n : ℕ)
     (last : IsLast stack n) (strict : NothingStored before)

@@ -1,14 +1,16 @@
 -- What completing all that lies beneath the place at which a builder works owes.
 use Rattle.std.specs.Prelude.{◌≡◌, ℕ, zero, suc, ◌-◌, ◌*◌, Bool, true, false, List, [], ◌∷◌, ◌++◌, length, ltb, map, Option, Some, None, if◌then◌else◌}
+use Rattle.std.specs.Option.{option_map}
 use Rattle.fr_shape.specs.declared.error.ReflectErrorKind.{ReflectErrorKind}
 use Rattle.fr_shape.specs.Hooks.{Meanings}
 use Rattle.fr_shape.specs.Look.{Table}
 use Rattle.fr_path.specs.declared.path_steps.PathStep.{PathStep}
 use Rattle.fr_model.specs.Collections.{is_map_form}
 use Rattle.fr_model.specs.Complete.{complete}
+use Rattle.fr_model.specs.Finish.{closed_all}
 use Rattle.fr_model.specs.Places.{deferred_column, entry_of}
 use Rattle.fr_model.specs.Step.{cause_by}
-use Rattle.fr_model.specs.Tree.{Tree, change_at, shape_in}
+use Rattle.fr_model.specs.Tree.{Tree, hole, entered, whole, begun, change_at, shape_in}
 use Rattle.fr_model.specs.Well.{Suits}
 use Rattle.fr_plan.specs.TypePlan.{Plan}
 use Rattle.fr_frame.specs.declared.places.Slot.{Slot}
@@ -21,10 +23,24 @@ use Rattle.fr_store.specs.Stands.{kid_here}
 use Rattle.fr_store.specs.Turns.{root_shape, CompletesAsBefore}
 use Rattle.fr_store.specs.Ways.{kid_at}
 
--- All that lay in slots strictly beneath that place is whole in it, so that this is what stands there. It makes the value that it
--- made before, or the same places fail in it, and all else is as it was.
+-- the shape of the place at which it works
+abbrev pub shape_here : Table → Plan → List Slot → List ℕ → ℕ
+shape_here table plan slots stack = shape_in table (root_shape plan) (cursor_in slots stack) (tree_in_slots slots stack)
+
+-- What becomes of a tree whose top has shape s, where everything that is there beneath the top is completed and nothing else
+-- changes: the top stays as it is. Where it is begun each child becomes whole with the value that it makes by the rules of the end of
+-- deferred mode, and one that isn't there stays away. None where a child makes no value.
+abbrev pub completed_beneath : Meanings → Table → (s : ℕ) → Tree → Option Tree
+completed_beneath means table s hole = Some hole
+completed_beneath means table s entered = Some entered
+completed_beneath means table s (whole v) = Some (whole v)
+completed_beneath means table s (begun form ts) = option_map (begun form) (closed_all means table s form 0 ts)
+
+-- All that was there beneath that place is completed, and what comes of it stands there. That makes the value that was made
+-- there before, or the same places fail in it, nothing beneath it is in a slot, and all else is as it was.
 pub record IsCompleteBeneath (means : Meanings) (table : Table) (plan : Plan) (before : List Slot) (stack : List ℕ) (after : List Slot) : Type 0 where
   pub tree : Tree
+  pub meant : completed_beneath means table (shape_here table plan before stack) (tree_here before stack) ≡ Some tree
   pub stands :
       IsOpenAt plan after stack (cursor_in before stack)
       (change_at (cursor_in before stack) (λ old. tree) (tree_in_slots before stack))
@@ -33,10 +49,6 @@ pub record IsCompleteBeneath (means : Meanings) (table : Table) (plan : Plan) (b
       (cursor_in before stack)
   pub closed : AtTop after stack (λ at. IsClosed at.body)
   pub suits : Suits table (root_shape plan) (tree_in_slots after stack)
-
--- the shape of that place
-abbrev pub shape_here : Table → Plan → List Slot → List ℕ → ℕ
-shape_here table plan slots stack = shape_in table (root_shape plan) (cursor_in slots stack) (tree_in_slots slots stack)
 
 -- It can't come about, and this is the cause, whatever the path of that place: the first place that fails beneath it.
 pub record IsHeldUpHere (means : Meanings) (table : Table) (plan : Plan) (slots : List Slot) (stack : List ℕ) (kind : ReflectErrorKind) : Type 0 where

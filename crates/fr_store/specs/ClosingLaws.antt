@@ -1,5 +1,5 @@
 -- Laws of trees in which a place becomes whole, for proofs: what the other places are then.
-use Rattle.std.proofs.Common.{◌≡◌, ◌≢◌, ◌⊎◌, ℕ, zero, suc, ◌+◌, ◌<◌, List, [], ◌∷◌, ◌++◌, inl, inr, refl, sym, ◌∙◌, ap, subst, arith}
+use Rattle.std.proofs.Common.{◌≡◌, ◌≢◌, ◌⊎◌, ℕ, zero, suc, ◌+◌, ◌<◌, List, [], ◌∷◌, ◌++◌, Some, None, inl, inr, refl, sym, ◌∙◌, ap, subst, arith}
 use Rattle.fr_shape.specs.Hooks.{Meanings}
 use Rattle.fr_shape.specs.Look.{Table, def_of}
 use Rattle.fr_shape.specs.Val.{Val}
@@ -10,14 +10,15 @@ use Rattle.fr_model.specs.FinishLaws.{Closes, closed_at, ClosingKeepsCompletion,
 use Rattle.fr_model.specs.Paths.{steps_in, step_as}
 use Rattle.fr_model.specs.Places.{Place, deferred_column}
 use Rattle.fr_model.specs.Relation.{HasPlace}
-use Rattle.fr_model.specs.Tree.{Form, as_struct, as_array, as_variant, as_some, as_ok, as_err, as_pointer, as_list, as_slice, as_closed_slice, as_set, as_map, as_dyn_array, as_dyn_object, Tree, hole, entered, whole, begun, Trees, no_trees, branch, tree_nth, change_nth, child_tree, tree_at, change_at, child_as, shapes_from, shape_in, shape_below, count_trees}
+use Rattle.fr_model.specs.Tree.{Form, as_struct, as_array, as_variant, as_pointer, as_list, as_slice, as_closed_slice, as_set, as_map, as_dyn_array, as_dyn_object, Tree, begun, Trees, no_trees, branch, tree_nth, change_nth, child_tree, tree_at, change_at, child_as, shapes_from, shape_in, shape_below, count_trees}
 use Rattle.fr_model.specs.Well.{Suits, SuitAll, AreEntries, AreTouched, IsBegunAs, IsBegunRightly, IsContent, IsTouched}
+use Rattle.fr_store.specs.ShapeLaws.{suits_nth}
 use Rattle.fr_store.specs.Turns.{CompletesAsBefore}
 use Rattle.fr_store.specs.WayLaws.{same_or_other}
 
 -- Children of one place.
 
-nth_changed : (i : ℕ) (change : Tree → Tree) (ts : Trees) → i < count_trees ts
+pub nth_changed : (i : ℕ) (change : Tree → Tree) (ts : Trees) → i < count_trees ts
     → tree_nth i (change_nth i change ts) ≡ change (tree_nth i ts)
 nth_changed i change no_trees h = absurd (omega arith)
 nth_changed zero change (branch t ts) h = refl
@@ -45,6 +46,18 @@ pub shape_append : (table : Table) (s : ℕ) (other way : Place) (t : Tree)
     → shape_in table s (other ++ way) t ≡ shape_in table (shape_in table s other t) way (tree_at other t)
 shape_append table s [] way t = refl
 shape_append table s (i ∷ other) way t = shape_append table (shape_below table s i t) other way (child_tree i t)
+
+-- a place that makes a value is no hole, and closes with it
+pub closes_with : (hooks : Meanings) (table : Table) (s : ℕ) (here : Place) (v : Val) (tree : Tree) → HasPlace here tree
+    → complete deferred_column hooks table (shape_in table s here tree) (tree_at here tree) ≡ Some v
+    → Closes hooks table s here v tree
+closes_with hooks table s here v tree place makes = record {
+  place = place;
+  there = λ e.
+      let none : None ≡ Some v = sym (ap (complete deferred_column hooks table (shape_in table s here tree)) e) ∙ makes in
+      cc;
+  makes = makes;
+}
 
 -- Another place, where one became whole.
 
@@ -90,9 +103,6 @@ pub lies : (here other : Place) (v : Val) (tree : Tree) → HasPlace here tree �
     → Lies here other v tree
 lies here [] v tree at has = inr (record { way = here; is = refl; has = at; closes = refl })
 lies [] (j ∷ other) v tree at has = absurd has
-lies (i ∷ here) (j ∷ other) v hole at has = absurd at
-lies (i ∷ here) (j ∷ other) v entered at has = absurd at
-lies (i ∷ here) (j ∷ other) v (whole w) at has = absurd at
 lies (i ∷ here) (j ∷ other) v (begun form ts) at has =
     go (same_or_other i j)
     (λ e. lies here other v (tree_nth i ts) at.1 (child_has i j here other v ts e at.0 has.1))
@@ -100,15 +110,13 @@ lies (i ∷ here) (j ∷ other) v (begun form ts) at has =
     go : (i ≡ j) ⊎ (i ≢ j) → (i ≡ j → Lies here other v (tree_nth i ts)) → Lies (i ∷ here) (j ∷ other) v (begun form ts)
     go (inl e) below = up_from i j here other v form ts e at.0 (below e)
     go (inr ne) below = inl (ap (tree_at other) (nth_beside i j (λ t. closed_at here v t) ts ne))
+lies (i ∷ here) (j ∷ other) v _ at has = absurd at
 
 -- it has the shape that it had
 pub shape_kept : (table : Table) (s : ℕ) (here other : Place) (v : Val) (tree : Tree) → HasPlace here tree
     → HasPlace other (closed_at here v tree) → shape_in table s other (closed_at here v tree) ≡ shape_in table s other tree
 shape_kept table s here [] v tree at has = refl
 shape_kept table s [] (j ∷ other) v tree at has = absurd has
-shape_kept table s (i ∷ here) (j ∷ other) v hole at has = absurd at
-shape_kept table s (i ∷ here) (j ∷ other) v entered at has = absurd at
-shape_kept table s (i ∷ here) (j ∷ other) v (whole w) at has = absurd at
 shape_kept table s (i ∷ here) (j ∷ other) v (begun form ts) at has =
     go (same_or_other i j)
     (λ e.
@@ -128,15 +136,13 @@ shape_kept table s (i ∷ here) (j ∷ other) v (begun form ts) at has =
         ∙ ap (λ (n : ℕ). shape_in table (child_as table s form j) other (tree_nth n ts)) e
     go (inr ne) below =
         ap (shape_in table (child_as table s form j) other) (nth_beside i j (λ t. closed_at here v t) ts ne)
+shape_kept table s (i ∷ here) (j ∷ other) v _ at has = absurd at
 
 -- and the same steps lead there
 pub steps_kept : (here other : Place) (v : Val) (tree : Tree) → HasPlace here tree → HasPlace other (closed_at here v tree)
     → steps_in other (closed_at here v tree) ≡ steps_in other tree
 steps_kept here [] v tree at has = refl
 steps_kept [] (j ∷ other) v tree at has = absurd has
-steps_kept (i ∷ here) (j ∷ other) v hole at has = absurd at
-steps_kept (i ∷ here) (j ∷ other) v entered at has = absurd at
-steps_kept (i ∷ here) (j ∷ other) v (whole w) at has = absurd at
 steps_kept (i ∷ here) (j ∷ other) v (begun form ts) at has =
     ap (λ (steps : List PathStep). step_as form j ∷ steps)
     (go (same_or_other i j)
@@ -150,6 +156,7 @@ steps_kept (i ∷ here) (j ∷ other) v (begun form ts) at has =
         ∙ ap (steps_in other) (nth_changed i (λ t. closed_at here v t) ts at.0) ∙ below e
         ∙ ap (λ (n : ℕ). steps_in other (tree_nth n ts)) e
     go (inr ne) below = ap (steps_in other) (nth_beside i j (λ t. closed_at here v t) ts ne)
+steps_kept (i ∷ here) (j ∷ other) v _ at has = absurd at
 
 -- what stands there completes as before
 pub completes_still : ClosingKeepsCompletion → ClosingKeepsFailures → (hooks : Meanings) (table : Table) (s : ℕ)
@@ -209,34 +216,21 @@ suit_all table s form first zero m change (branch t ts) e all step =
 suit_all table s form first (suc i) m change (branch t ts) e all step =
     (all.0, suit_all table s form (suc first) i m change ts (omega arith) all.1 step)
 
-suits_nth : (table : Table) (s : ℕ) (form : Form) (first : ℕ) (ts : Trees) (i m : ℕ) → m ≡ first + i → i < count_trees ts
-    → SuitAll table (shapes_from table s form (count_trees ts) first) ts → Suits table (child_as table s form m) (tree_nth i ts)
-suits_nth table s form first no_trees i m e h all = absurd (omega arith)
-suits_nth table s form first (branch t ts) zero m e h all =
-    let same : first ≡ m = omega arith in
-    subst (λ (n : ℕ). Suits table (child_as table s form n) t) same all.0
-suits_nth table s form first (branch t ts) (suc i) m e h all =
-    suits_nth table s form (suc first) ts i m (omega arith) (omega arith) all.1
-
 -- what stands at a place suits its shape
 pub suits_at : (table : Table) (s : ℕ) (place : Place) (tree : Tree) → HasPlace place tree → Suits table s tree
     → Suits table (shape_in table s place tree) (tree_at place tree)
 suits_at table s [] tree has suits = suits
-suits_at table s (i ∷ place) hole has suits = absurd has
-suits_at table s (i ∷ place) entered has suits = absurd has
-suits_at table s (i ∷ place) (whole v) has suits = absurd has
 suits_at table s (i ∷ place) (begun form ts) has suits =
     suits_at table (child_as table s form i) place (tree_nth i ts) has.1
     (suits_nth table s form 0 ts i i (omega arith) has.0 suits.1)
+suits_at table s (i ∷ place) _ has suits = absurd has
 
 -- where something stands at a place, something stands above it
 touched_change : (place : Place) (new tree : Tree) → HasPlace place tree → IsTouched new
     → IsTouched (change_at place (λ old. new) tree)
 touched_change [] new tree has touched = touched
-touched_change (i ∷ place) new hole has touched = absurd has
-touched_change (i ∷ place) new entered has touched = absurd has
-touched_change (i ∷ place) new (whole v) has touched = absurd has
 touched_change (i ∷ place) new (begun form ts) has touched = tt
+touched_change (i ∷ place) new _ has touched = absurd has
 
 content_change : (i : ℕ) (change : Tree → Tree) (ts : Trees) → IsTouched (change (tree_nth i ts)) → IsContent ts
     → IsContent (change_nth i change ts)
@@ -271,9 +265,6 @@ rightly_change : (table : Table) (s : ℕ) (form : Form) (i : ℕ) (change : Tre
 rightly_change table s as_struct i change ts touched rightly = tt
 rightly_change table s as_array i change ts touched rightly = tt
 rightly_change table s (as_variant k) i change ts touched rightly = rightly
-rightly_change table s as_some i change ts touched rightly = content_change i change ts touched rightly
-rightly_change table s as_ok i change ts touched rightly = content_change i change ts touched rightly
-rightly_change table s as_err i change ts touched rightly = content_change i change ts touched rightly
 rightly_change table s as_pointer i change ts touched rightly = (content_change i change ts touched rightly.0, rightly.1)
 rightly_change table s as_list i change ts touched rightly = all_touched_change i change ts touched rightly
 rightly_change table s as_slice i change ts touched rightly = (all_touched_change i change ts touched rightly.0, rightly.1)
@@ -284,14 +275,12 @@ rightly_change table s (as_map base) i change ts touched rightly = entries_chang
 rightly_change table s as_dyn_array i change ts touched rightly = all_touched_change i change ts touched rightly
 rightly_change table s (as_dyn_object keys) i change ts touched rightly =
     (all_touched_change i change ts touched rightly.0, rightly.1)
+rightly_change table s _ i change ts touched rightly = content_change i change ts touched rightly
 
 -- something else that suits the place's shape is put there
 pub suits_change : (table : Table) (s : ℕ) (place : Place) (new tree : Tree) → HasPlace place tree → Suits table s tree
     → IsTouched new → Suits table (shape_in table s place tree) new → Suits table s (change_at place (λ old. new) tree)
 suits_change table s [] new tree has suits touched is = is
-suits_change table s (i ∷ place) new hole has suits touched is = absurd has
-suits_change table s (i ∷ place) new entered has suits touched is = absurd has
-suits_change table s (i ∷ place) new (whole v) has suits touched is = absurd has
 suits_change table s (i ∷ place) new (begun form ts) has suits touched is = (
   subst (λ (n : ℕ). IsBegunAs (def_of table s) form n) (sym (count_changed i (λ t. change_at place (λ old. new) t) ts))
       suits.0,
@@ -300,3 +289,4 @@ suits_change table s (i ∷ place) new (begun form ts) has suits touched is = (
   rightly_change table s form i (λ t. change_at place (λ old. new) t) ts
       (touched_change place new (tree_nth i ts) has.1 touched) suits.2,
 )
+suits_change table s (i ∷ place) new _ has suits touched is = absurd has

@@ -1,6 +1,6 @@
 -- Laws of the place at which a builder works, for proofs: at the end of deferred mode, nothing being stored, it is finished.
 use Rattle.std.proofs.Common.{◌≡◌, ◌≢◌, ◌⊎◌, ℕ, suc, ◌+◌, ◌≤◌, length, true, false, List, [], ◌∷◌, append-nil, Option, option_map, Some, None, inl, inr, refl, sym, ◌∙◌, ap, subst, arith}
-use Rattle.std.specs.Prelude.{Bool, IsSome, IsSomeAnd, is_some, if◌then◌else◌}
+use Rattle.std.specs.Prelude.{Bool, IsSomeAnd, if◌then◌else◌}
 use Rattle.fr_shape.specs.declared.error.ReflectErrorKind.{ReflectErrorKind}
 use Rattle.fr_shape.specs.Checked.{IsChecked}
 use Rattle.fr_shape.specs.Hooks.{Meanings}
@@ -11,7 +11,7 @@ use Rattle.fr_model.specs.Complete.{complete, complete_all, failing_child, hole_
 use Rattle.fr_model.specs.Failing.{own_lack}
 use Rattle.fr_model.specs.Finish.{begun_with, finished_here}
 use Rattle.fr_model.specs.Places.{Place, entry_of, deferred_column, one_more, vals_nth}
-use Rattle.fr_model.specs.Tree.{Form, as_struct, as_array, as_variant, as_some, as_ok, as_err, as_pointer, as_list, as_slice, as_closed_slice, as_set, as_map, as_dyn_array, as_dyn_object, base_of_form, Tree, hole, whole, begun, Trees, no_trees, branch, change_at, child_as, count_trees, for_hole, shape_in, tree_at, wholes}
+use Rattle.fr_model.specs.Tree.{Form, as_struct, as_array, as_variant, as_some, as_ok, as_err, as_pointer, as_list, as_slice, as_closed_slice, base_of_form, Tree, hole, whole, begun, Trees, no_trees, branch, change_at, child_as, count_trees, for_hole, shape_in, tree_at, wholes}
 use Rattle.fr_model.specs.Well.{Suits}
 use Rattle.fr_plan.specs.LookupLaws.{LookupsAgree, LookupPathsAgree}
 use Rattle.fr_plan.specs.TypePlan.{Plan}
@@ -141,10 +141,7 @@ same_made as_slice one others v kept count may e f =
 same_made as_closed_slice one others v kept count may e f =
     let same : ptr (list_of one) ≡ ptr (list_of others) = e ∙ sym f in
     same_list one others (cc)
-same_made as_set one others v kept count may e f = kept refl
-same_made (as_map base) one others v kept count may e f = kept refl
-same_made as_dyn_array one others v kept count may e f = kept refl
-same_made (as_dyn_object keys) one others v kept count may e f = kept refl
+same_made _ one others v kept count may e f = kept refl
 
 -- where a hole takes nothing, what completes has the value of each child that was there
 none_valid : (failing : Option ReflectErrorKind) → unless_failing failing None ≡ None
@@ -185,20 +182,9 @@ kept_values means table s form none i (given v ∷ cells) (d ∷ ds) vs us e f l
         sym more.2 ∙ ap (λ (ws : Vals). first v ws) (same more.0 more.1) ∙ rest.2
 
 none_taken : (table : Table) (s : ℕ) (form : Form) → gathers form ≡ true → (i : ℕ) → hole_takes deferred_column table s form i ≡ None
-none_taken table s as_set gather i = refl
-none_taken table s (as_map base) gather i = refl
-none_taken table s as_dyn_array gather i = refl
-none_taken table s (as_dyn_object keys) gather i = refl
 none_taken table s as_struct gather i = absurd (cc)
 none_taken table s (as_variant k) gather i = absurd (cc)
-none_taken table s as_array gather i = refl
-none_taken table s as_some gather i = refl
-none_taken table s as_ok gather i = refl
-none_taken table s as_err gather i = refl
-none_taken table s as_pointer gather i = refl
-none_taken table s as_list gather i = refl
-none_taken table s as_slice gather i = refl
-none_taken table s as_closed_slice gather i = refl
+none_taken table s _ gather i = refl
 
 pub value_closed : (body : Body) (v : Val) → value_of body ≡ Some v → IsClosed body
 value_closed entered_body v e = tt
@@ -378,12 +364,6 @@ module _ (plan : Plan) (before : List Slot) (stack : List ℕ) (open_now : IsOpe
       first_found =
           fills.becomes n
           ∙ slot_here (heap_of before) n (Some (record (top_node plan before stack open_now n last) { body = fills.body }))
-
-      -- its value is there
-      pub first_valued : IfInUse first n (λ (x : Node). IsSome (value_of x.body))
-      first_valued =
-          subst (λ (o : Option Node). IsSomeAnd o (λ (x : Node). IsSome (value_of x.body))) (sym first_found)
-          (ap is_some fills.filled.held)
 
       makes : complete deferred_column means table
           (shape_in table (root_shape plan) (cursor_in before stack) (tree_in_slots before stack))

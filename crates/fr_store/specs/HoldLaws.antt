@@ -126,10 +126,7 @@ holds_at plan heap node owner depth (i ∷ place) (at slot stored (begun_plot fo
     same
     (holds_at plan heap (child_node plan node form i) (child_owner slot i) (suc depth) place (kid_nth i kids) child
     reach.1)
-holds_at plan heap node owner depth (i ∷ place) (at slot stored entered_plot) holds reach = absurd reach
-holds_at plan heap node owner depth (i ∷ place) (at slot stored (whole_plot v)) holds reach = absurd reach
-holds_at plan heap node owner depth (i ∷ place) gone holds reach = absurd reach
-holds_at plan heap node owner depth (i ∷ place) (there v) holds reach = absurd reach
+holds_at plan heap node owner depth (i ∷ place) _ holds reach = absurd reach
 
 -- a place that is held has no more children than it may
 pub may_have : (plan : Plan) (heap : Heap) (node : NodeId) (slot : ℕ) (form : Form) (first depth : ℕ) (ks : Kids) (count : ℕ)
@@ -211,8 +208,7 @@ pub cell_put_at : (place : Place) (new k : Kid) → cell_of new ≡ cell_of (kid
     → cell_of (put_at place new k) ≡ cell_of k
 cell_put_at [] new k same = same
 cell_put_at (i ∷ place) new gone same = refl
-cell_put_at (i ∷ place) new (there v) same = refl
-cell_put_at (i ∷ place) new (at slot stored plot) same = refl
+cell_put_at (i ∷ place) new _ same = refl
 
 -- what replaces a part replaces the whole, where the part stays in its slot and all beside it is as it was
 pub replaces_at : (plan : Plan) (heap other : Heap) (place : Place) (new k : Kid)

@@ -3,8 +3,8 @@ use Rattle.std.proofs.Common.{◌≡◌, ℕ, zero, suc, ◌+◌, ◌≤◌, Boo
 use Rattle.fr_model.specs.Collections.{is_map_form}
 use Rattle.fr_shape.specs.Val.{Val}
 use Rattle.fr_model.specs.Places.{Place, entry_of}
-use Rattle.fr_model.specs.Tree.{Form, as_struct, as_array, as_variant, as_some, as_ok, as_err, as_pointer, as_list, as_slice, as_closed_slice, as_set, as_map, as_dyn_array, as_dyn_object, base_of_form}
-use Rattle.fr_frame.specs.Kids.{Kid, gone, there, at, Plot, entered_plot, whole_plot, begun_plot, Kids, no_kids, kid, is_stored, IsThere, IsLeftRightly, AreLeftRightly, AreLeftAll}
+use Rattle.fr_model.specs.Tree.{Form, as_set, as_map, as_dyn_array, as_dyn_object, base_of_form}
+use Rattle.fr_frame.specs.Kids.{Kid, gone, there, at, Plot, begun_plot, Kids, no_kids, kid, is_stored, IsThere, IsLeftRightly, AreLeftRightly, AreLeftAll}
 use Rattle.fr_store.specs.Moves.{takes_at_end_as}
 use Rattle.fr_store.specs.Ways.{count_kids, kid_nth, kid_at, put_nth, put_at}
 
@@ -17,16 +17,7 @@ left_as as_set i old new unstored stays left = unstored refl
 left_as (as_map base) i old new unstored stays left = λ h. stays refl (left h)
 left_as as_dyn_array i old new unstored stays left = unstored refl
 left_as (as_dyn_object keys) i old new unstored stays left = unstored refl
-left_as as_struct i old new unstored stays left = tt
-left_as as_array i old new unstored stays left = tt
-left_as (as_variant k) i old new unstored stays left = tt
-left_as as_some i old new unstored stays left = tt
-left_as as_ok i old new unstored stays left = tt
-left_as as_err i old new unstored stays left = tt
-left_as as_pointer i old new unstored stays left = tt
-left_as as_list i old new unstored stays left = tt
-left_as as_slice i old new unstored stays left = tt
-left_as as_closed_slice i old new unstored stays left = tt
+left_as _ i old new unstored stays left = tt
 
 -- past the end there is none
 pub left_nth : (form : Form) (first i m : ℕ) (ks : Kids) → m ≡ first + i → AreLeftAll form first ks → AreLeftRightly (kid_nth i ks)
@@ -51,12 +42,9 @@ left_put_nth form first (suc i) m new (kid k ks) e step is all =
 
 pub left_at : (place : Place) (k : Kid) → AreLeftRightly k → AreLeftRightly (kid_at place k)
 left_at [] k left = left
-left_at (i ∷ place) gone left = left_at place gone tt
-left_at (i ∷ place) (there v) left = left_at place gone tt
-left_at (i ∷ place) (at slot stored entered_plot) left = left_at place gone tt
-left_at (i ∷ place) (at slot stored (whole_plot v)) left = left_at place gone tt
 left_at (i ∷ place) (at slot stored (begun_plot form kids)) left =
     left_at place (kid_nth i kids) (left_nth form 0 i i kids (omega arith) left)
+left_at (i ∷ place) _ left = left_at place gone tt
 
 -- what comes in the stead of something isn't stored where that wasn't, and is there where that was
 pub record IsLeftAs (old new : Kid) : Type 0 where
@@ -68,16 +56,7 @@ as_left as_set i old new same left = same.stored left
 as_left (as_map base) i old new same left = λ h. same.there (left h)
 as_left as_dyn_array i old new same left = same.stored left
 as_left (as_dyn_object keys) i old new same left = same.stored left
-as_left as_struct i old new same left = tt
-as_left as_array i old new same left = tt
-as_left (as_variant k) i old new same left = tt
-as_left as_some i old new same left = tt
-as_left as_ok i old new same left = tt
-as_left as_err i old new same left = tt
-as_left as_pointer i old new same left = tt
-as_left as_list i old new same left = tt
-as_left as_slice i old new same left = tt
-as_left as_closed_slice i old new same left = tt
+as_left _ i old new same left = tt
 
 -- above the place itself nothing changes
 as_put_at : (place : Place) (new k : Kid) → IsLeftAs (kid_at place k) new → IsLeftAs k (put_at place new k)
@@ -89,14 +68,11 @@ as_put_at (i ∷ place) new (at slot stored plot) same = record { stored = λ h.
 pub left_put_at : (place : Place) (new k : Kid) → IsLeftAs (kid_at place k) new → AreLeftRightly new → AreLeftRightly k
     → AreLeftRightly (put_at place new k)
 left_put_at [] new k same is left = is
-left_put_at (i ∷ place) new gone same is left = tt
-left_put_at (i ∷ place) new (there v) same is left = tt
-left_put_at (i ∷ place) new (at slot stored entered_plot) same is left = tt
-left_put_at (i ∷ place) new (at slot stored (whole_plot v)) same is left = tt
 left_put_at (i ∷ place) new (at slot stored (begun_plot form kids)) same is left =
     left_put_nth form 0 i i (put_at place new (kid_nth i kids)) kids (omega arith)
     (as_left form i (kid_nth i kids) (put_at place new (kid_nth i kids)) (as_put_at place new (kid_nth i kids) same))
     (left_put_at place new (kid_nth i kids) same is (left_nth form 0 i i kids (omega arith) left)) left
+left_put_at (i ∷ place) new _ same is left = tt
 
 -- what is in a slot and not stored may come in the stead of anything that is in a slot, and so may a value
 pub at_for_at : (old : Kid) (slot n : ℕ) (stored : Bool) (plot other : Plot) → old ≡ at slot stored plot
@@ -116,16 +92,7 @@ left_value as_set i v = refl
 left_value (as_map base) i v = λ h. tt
 left_value as_dyn_array i v = refl
 left_value (as_dyn_object keys) i v = refl
-left_value as_struct i v = tt
-left_value as_array i v = tt
-left_value (as_variant k) i v = tt
-left_value as_some i v = tt
-left_value as_ok i v = tt
-left_value as_err i v = tt
-left_value as_pointer i v = tt
-left_value as_list i v = tt
-left_value as_slice i v = tt
-left_value as_closed_slice i v = tt
+left_value _ i v = tt
 
 -- what isn't stored may be a child past the base
 pub left_past : (form : Form) (i : ℕ) (k : Kid) → base_of_form form ≤ entry_of i → is_stored k ≡ false → IsLeftRightly form i k
@@ -133,16 +100,7 @@ left_past as_set i k past is = is
 left_past (as_map base) i k past is = λ h. absurd (omega (arith, past, h))
 left_past as_dyn_array i k past is = is
 left_past (as_dyn_object keys) i k past is = is
-left_past as_struct i k past is = tt
-left_past as_array i k past is = tt
-left_past (as_variant n) i k past is = tt
-left_past as_some i k past is = tt
-left_past as_ok i k past is = tt
-left_past as_err i k past is = tt
-left_past as_pointer i k past is = tt
-left_past as_list i k past is = tt
-left_past as_slice i k past is = tt
-left_past as_closed_slice i k past is = tt
+left_past _ i k past is = tt
 
 pub entry_next : (i : ℕ) → entry_of i ≤ entry_of (suc i)
 entry_next zero = omega arith

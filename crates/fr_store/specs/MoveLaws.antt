@@ -1,19 +1,17 @@
 -- Laws of moves, for proofs: putting something else at the top, and leaving it.
 use Rattle.std.proofs.Common.{◌≡◌, ◌≢◌, ℕ, ◌+◌, false, List, [], ◌∷◌, ◌++◌, append-nil, length, Option, Some, refl, sym, ◌∙◌, ap, subst, arith}
 use Rattle.std.specs.Prelude.{is_some, IsSome, IsSomeAnd}
-use Rattle.fr_shape.specs.Released.{Room, RoseBy}
-use Rattle.fr_shape.specs.TokenLaws.{Room_same, RoseBy_same}
-use Rattle.fr_shape.specs.Tokens.{occurs}
-use Rattle.fr_shape.specs.Val.{Val}
+use Rattle.fr_shape.specs.Released.{Room}
+use Rattle.fr_shape.specs.TokenLaws.{Room_same}
 use Rattle.fr_model.specs.Places.{Place}
-use Rattle.fr_model.specs.Tree.{Tree, whole, change_at, tree_occurs}
+use Rattle.fr_model.specs.Tree.{Tree, change_at, tree_occurs}
 use Rattle.fr_plan.specs.TypePlan.{Plan}
 use Rattle.fr_frame.specs.declared.places.FrameOwner.{FrameOwner}
 use Rattle.fr_frame.specs.declared.places.Slot.{Slot}
-use Rattle.fr_frame.specs.Bodies.{Body, whole_body, body_occurs, IsClosed}
+use Rattle.fr_frame.specs.Bodies.{Body, body_occurs, IsClosed}
 use Rattle.fr_frame.specs.Changes.{IfInUse, IsInUse, SameTokens, Shows}
 use Rattle.fr_frame.specs.Heap.{Node, Heap, with_body, heap_of, slots_occur}
-use Rattle.fr_frame.specs.Kids.{Kid, at, Plot, whole_plot, tree_of, tree_in, body_in, kid_occurs, plot_occurs}
+use Rattle.fr_frame.specs.Kids.{Kid, at, Plot, tree_of, tree_in, body_in, kid_occurs, plot_occurs}
 use Rattle.fr_store.specs.Moves.{IsOpenAt, cursor_in, tree_in_slots, tree_here, tokens_here}
 use Rattle.fr_store.specs.Numbers.{IsLast}
 use Rattle.fr_store.specs.HoldLaws.{none_stored}
@@ -21,7 +19,7 @@ use Rattle.fr_store.specs.StandLaws.{all_kept, open_from, cursor_is, tree_is, Al
 use Rattle.fr_store.specs.Stands.{Stands, IsOpen, kid_here, kid_shown}
 use Rattle.fr_store.specs.Stored.{NothingStored}
 use Rattle.fr_store.specs.TokenLaws.{tokens_held}
-use Rattle.fr_store.specs.TopLaws.{body_here, body_other, closed_occur, closed_top, keeps_closed, loses_none, top_uses, used_mapped, KeepsChildren, LosesNone, Top, top_of, top_replaced}
+use Rattle.fr_store.specs.TopLaws.{body_here, body_other, closed_occur, closed_top, top_uses, used_mapped, KeepsChildren, LosesNone, Top, top_of, top_replaced}
 use Rattle.fr_store.specs.Ways.{kid_at, put_at, slots_above, NoneStored, Leads, Reaches, node_along, owner_along}
 use Rattle.fr_store.specs.WayLaws.{leads_reach, occurs_put_at, tree_put_at, tree_of_at, tree_tokens}
 
@@ -264,28 +262,3 @@ module _ (plan : Plan) (before : List Slot) (stack : List ℕ) (open_now : IsOpe
       so_top plan before stack open_now n last (λ (found : Node). Room (body_occurs found.body) ledger)
       (Room_same (tokens_here before stack) (body_occurs (top_node plan before stack open_now n last).body) ledger
       (λ t. sym (top_tokens plan before stack open_now n last closed t)) room)
-
-  -- what was released is what stood there
-  pub top_rose : (ledger after : List ℕ) → IfInUse before n (λ (found : Node). RoseBy (body_occurs found.body) ledger after)
-      → RoseBy (tokens_here before stack) ledger after
-  top_rose ledger after rose =
-      RoseBy_same (body_occurs (top_node plan before stack open_now n last).body) (tokens_here before stack) ledger after
-      (top_tokens plan before stack open_now n last closed)
-      (top_so plan before stack open_now n last (λ (found : Node). RoseBy (body_occurs found.body) ledger after) rose)
-
-  -- a whole value at the top
-  pub top_set : (after : List Slot) (v : Val) → Shows after (with_body (heap_of before) n (λ old. whole_body v))
-      → IfInUse before n (λ (found : Node). (t : ℕ) → slots_occur before t + occurs v t
-      ≡ slots_occur after t + body_occurs found.body t)
-      → IsOpenAt plan after stack (cursor_in before stack)
-      (change_at (cursor_in before stack) (λ old. whole v) (tree_in_slots before stack))
-  unfolding top_node
-  top_set after v shows tokens =
-      let top = open_top plan before stack open_now in
-      let so : (t : ℕ) → slots_occur before t + occurs v t ≡ slots_occur after t + body_occurs (body_in top.plot) t
-      = top_so plan before stack open_now n last
-      (λ (found : Node). (t : ℕ) → slots_occur before t + occurs v t
-      ≡ slots_occur after t + body_occurs found.body t) tokens in
-      top_changed plan before after stack open_now n last (λ old. whole_body v) (whole_plot v) refl
-      (keeps_closed top.plot (whole_plot v) tt tt (λ h. tt)) (loses_none top.plot (whole_plot v) closed) shows
-      (λ t. omega (arith, so t, closed_occur top.plot t closed))

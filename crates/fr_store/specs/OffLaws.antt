@@ -4,13 +4,13 @@ use Rattle.fr_shape.specs.Val.{Val}
 use Rattle.fr_model.specs.Finishing.{IsOffTheWay}
 use Rattle.fr_model.specs.Places.{Place}
 use Rattle.fr_model.specs.Relation.{HasPlace}
-use Rattle.fr_model.specs.Tree.{Tree, count_trees}
+use Rattle.fr_model.specs.Tree.{Tree}
 use Rattle.fr_frame.specs.Bodies.{IsClosed, AreUnplaced}
-use Rattle.fr_frame.specs.Kids.{Kid, gone, there, at, Plot, entered_plot, whole_plot, begun_plot, Kids, no_kids, kid, tree_of, trees_in, cells_in, body_in}
+use Rattle.fr_frame.specs.Kids.{Kid, gone, there, at, Plot, entered_plot, whole_plot, begun_plot, Kids, no_kids, kid, tree_of, cells_in, body_in}
 use Rattle.fr_store.specs.LeaveLaws.{kid_at_append}
 use Rattle.fr_store.specs.Walks.{IsStoredAt}
-use Rattle.fr_store.specs.Ways.{count_kids, kid_nth, kid_at, put_nth, put_at, slots_along, AllMarked, AllMarkedAmong, StoredBut, Leads, Reaches}
-use Rattle.fr_store.specs.WayLaws.{same_or_other, nth_put, count_put, kid_put_at, marked_at, marked_put_nth, marked_put_at, tree_of_nth, leads_at}
+use Rattle.fr_store.specs.Ways.{count_kids, kid_nth, kid_at, put_nth, put_at, slots_along, AllMarked, StoredBut, Leads, Reaches}
+use Rattle.fr_store.specs.WayLaws.{same_or_other, nth_put, count_put, kid_put_at, marked_at, marked_put_nth, marked_put_at, tree_of_nth, leads_at, count_in, marked_nth}
 
 -- Children of one place.
 
@@ -21,16 +21,11 @@ nth_other zero (suc j) new (kid k ks) ne = refl
 nth_other (suc i) zero new (kid k ks) ne = refl
 nth_other (suc i) (suc j) new (kid k ks) ne = nth_other i j new ks (λ e. ne (ap suc e))
 
-pub among_nth : (i : ℕ) (ks : Kids) → AllMarkedAmong true ks → AllMarked true (kid_nth i ks)
-among_nth i no_kids all = tt
-among_nth zero (kid k ks) all = all.0
-among_nth (suc i) (kid k ks) all = among_nth i ks all.1
-
 pub but_nth : (i j : ℕ) (Below : Kid → Type 0) (ks : Kids) → StoredBut j Below ks → i ≢ j → AllMarked true (kid_nth i ks)
 but_nth i j Below no_kids but ne = absurd but
 but_nth zero zero Below (kid k ks) but ne = absurd (ne refl)
 but_nth zero (suc j) Below (kid k ks) but ne = but.0
-but_nth (suc i) zero Below (kid k ks) but ne = among_nth i ks but.1
+but_nth (suc i) zero Below (kid k ks) but ne = marked_nth true i ks but.1
 but_nth (suc i) (suc j) Below (kid k ks) but ne = but_nth i j Below ks but.1 (λ e. ne (ap suc e))
 
 below_nth : (j : ℕ) (Below : Kid → Type 0) (ks : Kids) → StoredBut j Below ks → Below (kid_nth j ks)
@@ -84,12 +79,8 @@ off_stored place here k slot plot leads is way e =
 pub marked_off : (place here : Place) (k : Kid) → Leads place k → IsOffTheWay place here → Reaches here k
     → AllMarked true (kid_at here k)
 marked_off place [] k leads off reach = absurd (off place refl)
-marked_off place (i ∷ here) gone leads off reach = absurd reach
-marked_off place (i ∷ here) (there v) leads off reach = absurd reach
-marked_off place (i ∷ here) (at slot stored entered_plot) leads off reach = absurd reach
-marked_off place (i ∷ here) (at slot stored (whole_plot v)) leads off reach = absurd reach
 marked_off [] (i ∷ here) (at slot stored (begun_plot form kids)) leads off reach =
-    marked_at true here (kid_nth i kids) (among_nth i kids leads.1)
+    marked_at true here (kid_nth i kids) (marked_nth true i kids leads.1)
 marked_off (j ∷ place) (i ∷ here) (at slot stored (begun_plot form kids)) leads off reach =
     go (same_or_other i j)
     (λ e.
@@ -99,19 +90,16 @@ marked_off (j ∷ place) (i ∷ here) (at slot stored (begun_plot form kids)) le
         → AllMarked true (kid_at here (kid_nth i kids))
     go (inl e) below = below e
     go (inr ne) below = marked_at true here (kid_nth i kids) (but_nth i j (λ below. Leads place below) kids leads.1 ne)
+marked_off place (i ∷ here) _ leads off reach = absurd reach
 
 -- the way goes on where something else is put off it
 pub leads_off : (place here : Place) (new k : Kid) → Leads place k → IsOffTheWay place here → Reaches here k
     → AllMarked true new → Leads place (put_at here new k)
 leads_off place [] new k leads off reach is = absurd (off place refl)
-leads_off place (i ∷ here) new gone leads off reach is = absurd reach
-leads_off place (i ∷ here) new (there v) leads off reach is = absurd reach
-leads_off place (i ∷ here) new (at slot stored entered_plot) leads off reach is = absurd reach
-leads_off place (i ∷ here) new (at slot stored (whole_plot v)) leads off reach is = absurd reach
 leads_off [] (i ∷ here) new (at slot stored (begun_plot form kids)) leads off reach is = (
   leads.0,
   marked_put_nth true i (put_at here new (kid_nth i kids)) kids leads.1
-      (marked_put_at true here new (kid_nth i kids) (among_nth i kids leads.1) is),
+      (marked_put_at true here new (kid_nth i kids) (marked_nth true i kids leads.1) is),
 )
 leads_off (j ∷ place) (i ∷ here) new (at slot stored (begun_plot form kids)) leads off reach is = (
   leads.0,
@@ -131,15 +119,12 @@ leads_off (j ∷ place) (i ∷ here) new (at slot stored (begun_plot form kids))
     go (inr ne) on =
         but_other i j (λ below. Leads place below) (put_at here new (kid_nth i kids)) kids leads.1 ne
         (marked_put_at true here new (kid_nth i kids) (but_nth i j (λ below. Leads place below) kids leads.1 ne) is)
+leads_off place (i ∷ here) new _ leads off reach is = absurd reach
 
 -- and through the same slots
 pub along_off : (place here : Place) (new k : Kid) → Leads place k → IsOffTheWay place here → Reaches here k
     → slots_along place (put_at here new k) ≡ slots_along place k
 along_off place [] new k leads off reach = absurd (off place refl)
-along_off place (i ∷ here) new gone leads off reach = absurd reach
-along_off place (i ∷ here) new (there v) leads off reach = absurd reach
-along_off place (i ∷ here) new (at slot stored entered_plot) leads off reach = absurd reach
-along_off place (i ∷ here) new (at slot stored (whole_plot v)) leads off reach = absurd reach
 along_off [] (i ∷ here) new (at slot stored (begun_plot form kids)) leads off reach = refl
 along_off (j ∷ place) (i ∷ here) new (at slot stored (begun_plot form kids)) leads off reach =
     ap (λ (slots : List ℕ). slot ∷ slots)
@@ -157,12 +142,9 @@ along_off (j ∷ place) (i ∷ here) new (at slot stored (begun_plot form kids))
         ∙ ap (slots_along place) (nth_put i (put_at here new (kid_nth i kids)) kids reach.0)
         ∙ below e ∙ ap (λ (n : ℕ). slots_along place (kid_nth n kids)) e
     go (inr ne) below = ap (slots_along place) (nth_other i j (put_at here new (kid_nth i kids)) kids ne)
+along_off place (i ∷ here) new _ leads off reach = absurd reach
 
 -- Places of the tree.
-
-count_in : (ks : Kids) → count_trees (trees_in ks) ≡ count_kids ks
-count_in no_kids = refl
-count_in (kid k ks) = ap suc (count_in ks)
 
 -- a place that is reached is one of the tree
 pub reach_place : (place : Place) (k : Kid) → Reaches place k → HasPlace place (tree_of k)
@@ -171,10 +153,7 @@ reach_place (i ∷ place) (at slot stored (begun_plot form kids)) reach = (
   omega (arith, count_in kids, reach.0),
   subst (λ (t : Tree). HasPlace place t) (tree_of_nth i kids) (reach_place place (kid_nth i kids) reach.1),
 )
-reach_place (i ∷ place) (at slot stored entered_plot) reach = absurd reach
-reach_place (i ∷ place) (at slot stored (whole_plot v)) reach = absurd reach
-reach_place (i ∷ place) gone reach = absurd reach
-reach_place (i ∷ place) (there v) reach = absurd reach
+reach_place (i ∷ place) _ reach = absurd reach
 
 -- Stored places.
 
@@ -220,10 +199,6 @@ stored_beside here other k n m plot is closed stored ne (j ∷ way) e =
 pub stored_still : (here other : Place) (k : Kid) (v : Val) (m : ℕ) → Reaches here k → IsNotBeneath here other
     → IsStoredAt k m other → IsStoredAt (put_at here (there v) k) m other
 stored_still [] other k v m reach beside stored = absurd (beside other refl)
-stored_still (i ∷ here) other gone v m reach beside stored = absurd reach
-stored_still (i ∷ here) other (there w) v m reach beside stored = absurd reach
-stored_still (i ∷ here) other (at slot mark entered_plot) v m reach beside stored = absurd reach
-stored_still (i ∷ here) other (at slot mark (whole_plot w)) v m reach beside stored = absurd reach
 stored_still (i ∷ here) [] (at slot mark (begun_plot form kids)) v m reach beside stored =
     let same : slot ≡ m = let is = stored.is in cc in
     let marked : mark ≡ true = let is = stored.is in cc in
@@ -261,15 +236,12 @@ stored_still (i ∷ here) (j ∷ other) (at slot mark (begun_plot form kids)) v 
         from
         (subst (λ (x : Kid). IsStoredAt x m other) (sym (nth_other i j new kids ne))
         (record { plot = stored.plot; reaches = stored.reaches.1; is = stored.is }))
+stored_still (i ∷ here) other _ v m reach beside stored = absurd reach
 
 -- and what is stored then was stored before
 pub stored_before : (here other : Place) (k : Kid) (v : Val) (m : ℕ) → Reaches here k
     → IsStoredAt (put_at here (there v) k) m other → IsStoredAt k m other
 stored_before [] other k v m reach stored = absurd (is_none_in other v m true stored.plot stored.is)
-stored_before (i ∷ here) other gone v m reach stored = absurd reach
-stored_before (i ∷ here) other (there w) v m reach stored = absurd reach
-stored_before (i ∷ here) other (at slot mark entered_plot) v m reach stored = absurd reach
-stored_before (i ∷ here) other (at slot mark (whole_plot w)) v m reach stored = absurd reach
 stored_before (i ∷ here) [] (at slot mark (begun_plot form kids)) v m reach stored =
     let same : slot ≡ m = let is = stored.is in cc in
     let marked : mark ≡ true = let is = stored.is in cc in
@@ -303,6 +275,7 @@ stored_before (i ∷ here) (j ∷ other) (at slot mark (begun_plot form kids)) v
         (subst (λ (x : Kid). IsStoredAt x m other) (nth_put i new kids reach.0)
         (subst (λ (n : ℕ). IsStoredAt (kid_nth n (put_nth i new kids)) m other) (sym e) child))))
     go (inr ne) was = from (subst (λ (x : Kid). IsStoredAt x m other) (nth_other i j new kids ne) child)
+stored_before (i ∷ here) other _ v m reach stored = absurd reach
 
 -- what was put there is stored no more
 pub stored_no_more : (here : Place) (k : Kid) (v : Val) (m : ℕ) → Reaches here k

@@ -19,9 +19,9 @@ use Rattle.fr_plan.specs.declared.nodes.TypePlanNode.{TypePlanNode}
 use Rattle.fr_plan.specs.Lookups.{node_at}
 use Rattle.fr_plan.specs.LookupLaws.{Step, struct_field_step, enum_variant_field_step, list_item_step, set_item_step, map_key_step, map_value_step, option_inner_step, result_ok_step, result_err_step, pointer_pointee_step, looked_up, child_in, shape_at, LookupsAgree, LookupPathsAgree}
 use Rattle.fr_plan.specs.TypePlan.{Plan, IsPlanOf}
-use Rattle.fr_frame.specs.Kids.{Kid, gone, there, at, entered_plot, whole_plot, begun_plot, Kids, no_kids, kid, tree_of, trees_in, child_node, entry_found}
-use Rattle.fr_store.specs.Ways.{count_kids, kid_nth, Reaches, node_along}
-use Rattle.fr_store.specs.WayLaws.{tree_of_nth}
+use Rattle.fr_frame.specs.Kids.{Kid, at, begun_plot, tree_of, trees_in, child_node, entry_found}
+use Rattle.fr_store.specs.Ways.{kid_nth, Reaches, node_along}
+use Rattle.fr_store.specs.WayLaws.{tree_of_nth, count_in}
 
 -- a node of the plan, of shape s
 pub record IsOfShape (plan : Plan) (node : NodeId) (s : ℕ) : Type 0 where
@@ -247,26 +247,11 @@ PointsRightly table s (as_dyn_object keys) = Unit {0}
 
 pub points_rightly : (table : Table) (s : ℕ) (form : Form) (ts : Trees) → IsBegunRightly table s form ts
     → PointsRightly table s form
-points_rightly table s as_struct ts rightly = tt
-points_rightly table s as_array ts rightly = tt
-points_rightly table s (as_variant k) ts rightly = tt
-points_rightly table s as_some ts rightly = tt
-points_rightly table s as_ok ts rightly = tt
-points_rightly table s as_err ts rightly = tt
-points_rightly table s as_pointer ts rightly = tt
-points_rightly table s as_list ts rightly = tt
 points_rightly table s as_slice ts rightly = rightly.1
 points_rightly table s as_closed_slice ts rightly = rightly.1
-points_rightly table s as_set ts rightly = tt
-points_rightly table s (as_map base) ts rightly = tt
-points_rightly table s as_dyn_array ts rightly = tt
-points_rightly table s (as_dyn_object keys) ts rightly = tt
+points_rightly table s _ ts rightly = tt
 
-count_in : (ks : Kids) → count_trees (trees_in ks) ≡ count_kids ks
-count_in no_kids = refl
-count_in (kid k ks) = ap suc (count_in ks)
-
-suits_nth : (table : Table) (s : ℕ) (form : Form) (first : ℕ) (ts : Trees) (i m : ℕ) → m ≡ first + i → i < count_trees ts
+pub suits_nth : (table : Table) (s : ℕ) (form : Form) (first : ℕ) (ts : Trees) (i m : ℕ) → m ≡ first + i → i < count_trees ts
     → SuitAll table (shapes_from table s form (count_trees ts) first) ts → Suits table (child_as table s form m) (tree_nth i ts)
 suits_nth table s form first no_trees i m e h all = absurd (omega arith)
 suits_nth table s form first (branch t ts) zero m e h all =
@@ -432,10 +417,7 @@ module _ (agree : LookupsAgree) (table : Table) (root : ShapeId) (plan : Plan) (
       nth
       (along place (kid_nth i kids) (child_node plan node form i) (child_as table s form i) child
       (subst (λ (t : Tree). Suits table (child_as table s form i) t) (sym nth) fits) reach.1)
-  along (i ∷ place) (at slot stored entered_plot) node s is suits reach = absurd reach
-  along (i ∷ place) (at slot stored (whole_plot v)) node s is suits reach = absurd reach
-  along (i ∷ place) gone node s is suits reach = absurd reach
-  along (i ∷ place) (there v) node s is suits reach = absurd reach
+  along (i ∷ place) _ node s is suits reach = absurd reach
 
   -- the root's node
   pub root_shaped : LookupPathsAgree → IsOfShape plan plan.root root.0

@@ -129,10 +129,7 @@ module _ (plan : Plan) (heap : Heap) (count : ℕ) (within : (n : ℕ) → IsSom
 
 slot_found : (slot : Slot) (t : ℕ) → slot_occurs slot t ≡ found_occurs (node_in slot) t
 slot_found (Slot.Free next) t = refl
-slot_found Slot.Reserved t = refl
-slot_found (Slot.Used place) t = refl
-slot_found (Slot.List place items) t = refl
-slot_found (Slot.Item item) t = refl
+slot_found _ t = refl
 
 slots_weighed : (slots : List Slot) (w : ℕ → ℕ) (t : ℕ)
     → ((n : ℕ) → scaled (w n) (found_occurs (heap_of slots n) t) ≡ found_occurs (heap_of slots n) t)

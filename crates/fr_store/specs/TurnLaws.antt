@@ -30,9 +30,6 @@ module _ (heap first mid last : Heap) (n q i : ℕ) (below above : Node) (body :
     (child : cell_of (kid_nth i kids) ≡ placed n) (owner : below.owner ≡ child_owner q i)
     (puts : (m : ℕ) → first m ≡ with_slot heap n (Some (record below { body = body })) m)
     (leaves : (m : ℕ) → mid m ≡ without first n below.owner m) where
-  first_here : first n ≡ Some (record below { body = body })
-  first_here = puts n ∙ slot_here heap n (Some (record below { body = body }))
-
   first_over : first q ≡ Some above
   first_over = puts q ∙ slot_other heap n (Some (record below { body = body })) q (λ e. apart (sym e)) ∙ over
 
@@ -106,10 +103,7 @@ reaches_append [] below k reach = (tt, reach)
 reaches_append (i ∷ place) below (at slot stored (begun_plot form kids)) reach =
     let rest = reaches_append place below (kid_nth i kids) reach.1 in
     ((reach.0, rest.0), rest.1)
-reaches_append (i ∷ place) below (at slot stored entered_plot) reach = absurd reach
-reaches_append (i ∷ place) below (at slot stored (whole_plot v)) reach = absurd reach
-reaches_append (i ∷ place) below gone reach = absurd reach
-reaches_append (i ∷ place) below (there v) reach = absurd reach
+reaches_append (i ∷ place) below _ reach = absurd reach
 
 -- the place is child i of one that is begun, in slot q
 pub record Over (here : Place) (k : Kid) (n : ℕ) (plot : Plot) : Type 0 where

@@ -29,7 +29,7 @@ use Rattle.fr_frame.specs.Completing.{shape_of, FillsAt, IsFull, IsPlanFor, MayC
 use Rattle.fr_frame.specs.Defaults.{WhyNotDefault}
 use Rattle.fr_frame.specs.Heap.{Node, Heap, gives, held_by, heap_of, slots_occur, with_body, without}
 use Rattle.fr_frame.specs.Kids.{Kid, there, MayHave, tree_of, cell_of, cells_in, kid_occurs, child_owner}
-use Rattle.fr_store.specs.ClosingLaws.{completes_still}
+use Rattle.fr_store.specs.ClosingLaws.{closes_with, completes_still}
 use Rattle.fr_store.specs.LeaveLaws.{cell_of_child}
 use Rattle.fr_store.specs.Moves.{IsOpenAt, cursor_in, tree_in_slots}
 use Rattle.fr_store.specs.OffLaws.{reach_place}
@@ -348,16 +348,9 @@ module _ (plan : Plan) (before : List Slot) (stack : List ℕ) (n : ℕ) (open_n
         }
 
         closing : Closes means table (root_shape plan) due.place v (tree_in_slots before stack)
-        closing = record {
-          place = reach_place due.place (kid_here before stack) due.reaches;
-          there = λ e.
-              let none : None ≡ Some v
-              = sym (ap
-              (complete deferred_column means table
-              (shape_in table (root_shape plan) due.place (tree_in_slots before stack))) e) ∙ makes in
-              cc;
-          makes = makes;
-        }
+        closing =
+            closes_with means table (root_shape plan) due.place v (tree_in_slots before stack)
+            (reach_place due.place (kid_here before stack) due.reaches) makes
 
         pub keeps_the_rest : ClosingKeepsCompletion → ClosingKeepsFailures → ClosingKeepsFinish → ClosingKeepsFailuresOff
             → KeepsTheRest means table plan before stack last

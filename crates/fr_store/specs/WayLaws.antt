@@ -3,7 +3,7 @@ use Rattle.std.proofs.Common.{◌≡◌, ◌≢◌, ◌⊎◌, ℕ, zero, suc, �
 use Rattle.std.proofs.lemmas.Grind.{common_steps}
 use Rattle.std.proofs.lemmas.Bool.Decides.{nat_tests}
 use Rattle.fr_model.specs.Places.{Place}
-use Rattle.fr_model.specs.Tree.{Tree, begun, Trees, branch, tree_nth, change_nth, child_tree, tree_at, change_at, tree_occurs, trees_occur}
+use Rattle.fr_model.specs.Tree.{Tree, begun, Trees, branch, tree_nth, change_nth, child_tree, tree_at, change_at, tree_occurs, trees_occur, count_trees}
 use Rattle.fr_frame.specs.Kids.{Kid, gone, there, at, Plot, entered_plot, whole_plot, begun_plot, Kids, no_kids, kid, tree_of, tree_in, trees_in, kid_occurs, plot_occurs, kids_occur}
 use Rattle.fr_store.specs.Ways.{count_kids, kid_nth, kid_below, kid_at, put_nth, put_below, put_at, slots_along, slots_above, counts_if, uses, uses_among, AllMarked, AllMarkedAmong, StoredBut, Leads, Reaches}
 
@@ -87,10 +87,7 @@ kid_put_at [] new k reach = refl
 kid_put_at (i ∷ place) new (at slot stored (begun_plot form kids)) reach =
     ap (kid_at place) (nth_put i (put_at place new (kid_nth i kids)) kids reach.0)
     ∙ kid_put_at place new (kid_nth i kids) reach.1
-kid_put_at (i ∷ place) new (at slot stored entered_plot) reach = absurd reach
-kid_put_at (i ∷ place) new (at slot stored (whole_plot v)) reach = absurd reach
-kid_put_at (i ∷ place) new gone reach = absurd reach
-kid_put_at (i ∷ place) new (there v) reach = absurd reach
+kid_put_at (i ∷ place) new _ reach = absurd reach
 
 pub along_put_at : (place below : Place) (new k : Kid) → Reaches place k
     → slots_along (place ++ below) (put_at place new k) ≡ slots_above place k ++ slots_along below new
@@ -99,20 +96,14 @@ along_put_at (i ∷ place) below new (at slot stored (begun_plot form kids)) rea
     ap (λ (child : Kid). slot ∷ slots_along (place ++ below) child)
     (nth_put i (put_at place new (kid_nth i kids)) kids reach.0)
     ∙ ap (λ (slots : List ℕ). slot ∷ slots) (along_put_at place below new (kid_nth i kids) reach.1)
-along_put_at (i ∷ place) below new (at slot stored entered_plot) reach = absurd reach
-along_put_at (i ∷ place) below new (at slot stored (whole_plot v)) reach = absurd reach
-along_put_at (i ∷ place) below new gone reach = absurd reach
-along_put_at (i ∷ place) below new (there v) reach = absurd reach
+along_put_at (i ∷ place) below new _ reach = absurd reach
 
 pub along_at : (place below : Place) (k : Kid) → Reaches place k
     → slots_along (place ++ below) k ≡ slots_above place k ++ slots_along below (kid_at place k)
 along_at [] below k reach = refl
 along_at (i ∷ place) below (at slot stored (begun_plot form kids)) reach =
     ap (λ (slots : List ℕ). slot ∷ slots) (along_at place below (kid_nth i kids) reach.1)
-along_at (i ∷ place) below (at slot stored entered_plot) reach = absurd reach
-along_at (i ∷ place) below (at slot stored (whole_plot v)) reach = absurd reach
-along_at (i ∷ place) below gone reach = absurd reach
-along_at (i ∷ place) below (there v) reach = absurd reach
+along_at (i ∷ place) below _ reach = absurd reach
 
 -- How often slots serve.
 
@@ -132,10 +123,7 @@ uses_put_at (i ∷ place) new (at slot stored (begun_plot form kids)) n reach =
     let here = uses_put_nth i (put_at place new (kid_nth i kids)) kids n reach.0 in
     let rest = uses_put_at place new (kid_nth i kids) n reach.1 in
     omega arith
-uses_put_at (i ∷ place) new (at slot stored entered_plot) n reach = absurd reach
-uses_put_at (i ∷ place) new (at slot stored (whole_plot v)) n reach = absurd reach
-uses_put_at (i ∷ place) new gone n reach = absurd reach
-uses_put_at (i ∷ place) new (there v) n reach = absurd reach
+uses_put_at (i ∷ place) new _ n reach = absurd reach
 
 pub uses_nth : (i : ℕ) (ks : Kids) (n : ℕ) → uses (kid_nth i ks) n ≤ uses_among ks n
 uses_nth i no_kids n = omega arith
@@ -143,11 +131,8 @@ uses_nth zero (kid k ks) n = omega arith
 uses_nth (suc i) (kid k ks) n = let rest = uses_nth i ks n in omega arith
 
 pub uses_below : (i : ℕ) (k : Kid) (n : ℕ) → uses (kid_below i k) n ≤ uses k n
-uses_below i gone n = omega arith
-uses_below i (there v) n = omega arith
-uses_below i (at slot stored entered_plot) n = omega arith
-uses_below i (at slot stored (whole_plot v)) n = omega arith
 uses_below i (at slot stored (begun_plot form kids)) n = let rest = uses_nth i kids n in omega arith
+uses_below i _ n = omega arith
 
 -- a part uses no slot oftener than the whole
 pub uses_at : (place : Place) (k : Kid) (n : ℕ) → uses (kid_at place k) n ≤ uses k n
@@ -175,10 +160,7 @@ occurs_put_at (i ∷ place) new (at slot stored (begun_plot form kids)) t reach 
     let here = occurs_put_nth i (put_at place new (kid_nth i kids)) kids t reach.0 in
     let rest = occurs_put_at place new (kid_nth i kids) t reach.1 in
     omega arith
-occurs_put_at (i ∷ place) new (at slot stored entered_plot) t reach = absurd reach
-occurs_put_at (i ∷ place) new (at slot stored (whole_plot v)) t reach = absurd reach
-occurs_put_at (i ∷ place) new gone t reach = absurd reach
-occurs_put_at (i ∷ place) new (there v) t reach = absurd reach
+occurs_put_at (i ∷ place) new _ t reach = absurd reach
 
 occurs_nth : (i : ℕ) (ks : Kids) (t : ℕ) → kid_occurs (kid_nth i ks) t ≤ kids_occur ks t
 occurs_nth i no_kids t = omega arith
@@ -186,11 +168,8 @@ occurs_nth zero (kid k ks) t = omega arith
 occurs_nth (suc i) (kid k ks) t = let rest = occurs_nth i ks t in omega arith
 
 occurs_below : (i : ℕ) (k : Kid) (t : ℕ) → kid_occurs (kid_below i k) t ≤ kid_occurs k t
-occurs_below i gone t = omega arith
-occurs_below i (there v) t = omega arith
-occurs_below i (at slot stored entered_plot) t = omega arith
-occurs_below i (at slot stored (whole_plot v)) t = omega arith
 occurs_below i (at slot stored (begun_plot form kids)) t = occurs_nth i kids t
+occurs_below i _ t = omega arith
 
 -- a part holds no token oftener than the whole
 pub occurs_at : (place : Place) (k : Kid) (t : ℕ) → kid_occurs (kid_at place k) t ≤ kid_occurs k t
@@ -230,11 +209,8 @@ marked_nth mark zero (kid k ks) all = all.0
 marked_nth mark (suc i) (kid k ks) all = marked_nth mark i ks all.1
 
 pub marked_below : (mark : Bool) (i : ℕ) (k : Kid) → AllMarked mark k → AllMarked mark (kid_below i k)
-marked_below mark i gone all = tt
-marked_below mark i (there v) all = tt
-marked_below mark i (at slot stored entered_plot) all = tt
-marked_below mark i (at slot stored (whole_plot v)) all = tt
 marked_below mark i (at slot stored (begun_plot form kids)) all = marked_nth mark i kids all.1
+marked_below mark i _ all = tt
 
 pub marked_at : (mark : Bool) (place : Place) (k : Kid) → AllMarked mark k → AllMarked mark (kid_at place k)
 marked_at mark [] k all = all
@@ -268,11 +244,8 @@ tree_of_nth zero (kid k ks) = refl
 tree_of_nth (suc i) (kid k ks) = tree_of_nth i ks
 
 pub tree_of_below : (i : ℕ) (k : Kid) → tree_of (kid_below i k) ≡ child_tree i (tree_of k)
-tree_of_below i gone = refl
-tree_of_below i (there v) = refl
-tree_of_below i (at slot stored entered_plot) = refl
-tree_of_below i (at slot stored (whole_plot v)) = refl
 tree_of_below i (at slot stored (begun_plot form kids)) = tree_of_nth i kids
+tree_of_below i _ = refl
 
 -- what lies at a place is the tree there
 pub tree_of_at : (place : Place) (k : Kid) → tree_of (kid_at place k) ≡ tree_at place (tree_of k)
@@ -290,16 +263,13 @@ tree_put_nth (suc i) new change (kid k ks) is =
 pub tree_change_at : (place : Place) (change : Tree → Tree) (new k : Kid) → tree_of new ≡ change (tree_at place (tree_of k))
     → tree_of (put_at place new k) ≡ change_at place change (tree_of k)
 tree_change_at [] change new k is = is
-tree_change_at (i ∷ place) change new gone is = refl
-tree_change_at (i ∷ place) change new (there v) is = refl
-tree_change_at (i ∷ place) change new (at slot stored entered_plot) is = refl
-tree_change_at (i ∷ place) change new (at slot stored (whole_plot v)) is = refl
 tree_change_at (i ∷ place) change new (at slot stored (begun_plot form kids)) is =
     let nth = tree_of_nth i kids in
     ap (λ (trees : Trees). begun form trees)
     (tree_put_nth i (put_at place new (kid_nth i kids)) (λ child. change_at place change child) kids
     (tree_change_at place change new (kid_nth i kids) (is ∙ ap (λ (t : Tree). change (tree_at place t)) (sym nth))
     ∙ ap (λ (t : Tree). change_at place change t) nth))
+tree_change_at (i ∷ place) change new _ is = refl
 
 pub tree_put_at : (place : Place) (new k : Kid)
     → tree_of (put_at place new k) ≡ change_at place (λ old. tree_of new) (tree_of k)
@@ -313,12 +283,9 @@ put_nth_twice zero old new (kid k ks) = refl
 put_nth_twice (suc i) old new (kid k ks) = ap (λ (xs : Kids). kid k xs) (put_nth_twice i old new ks)
 
 pub put_below_twice : (i : ℕ) (old new k : Kid) → put_below i new (put_below i old k) ≡ put_below i new k
-put_below_twice i old new gone = refl
-put_below_twice i old new (there v) = refl
-put_below_twice i old new (at slot stored entered_plot) = refl
-put_below_twice i old new (at slot stored (whole_plot v)) = refl
 put_below_twice i old new (at slot stored (begun_plot form kids)) =
     ap (λ (xs : Kids). at slot stored (begun_plot form xs)) (put_nth_twice i old new kids)
+put_below_twice i old new _ = refl
 
 pub put_at_twice : (place : Place) (old new k : Kid) → Reaches place k → put_at place new (put_at place old k) ≡ put_at place new k
 put_at_twice [] old new k reach = refl
@@ -329,13 +296,11 @@ put_at_twice (i ∷ place) old new (at slot stored (begun_plot form kids)) reach
     (at slot stored (begun_plot form kids))
     ∙ ap (λ (x : Kid). put_below i x (at slot stored (begun_plot form kids)))
     (put_at_twice place old new (kid_nth i kids) reach.1)
-put_at_twice (i ∷ place) old new (at slot stored entered_plot) reach = absurd reach
-put_at_twice (i ∷ place) old new (at slot stored (whole_plot v)) reach = absurd reach
-put_at_twice (i ∷ place) old new gone reach = absurd reach
-put_at_twice (i ∷ place) old new (there v) reach = absurd reach
+put_at_twice (i ∷ place) old new _ reach = absurd reach
 
 -- Paths.
 
--- the only one is the first
-pub only_one : (count i : ℕ) → count ≤ 1 → i < count → 0 ≡ i
-only_one count i may h = omega arith
+-- its tree has as many children
+pub count_in : (ks : Kids) → count_trees (trees_in ks) ≡ count_kids ks
+count_in no_kids = refl
+count_in (kid k ks) = ap suc (count_in ks)

@@ -18,7 +18,7 @@ use crate::finishing::turn;
 use crate::listing::walk_beneath;
 use crate::{FrameStore, Stack};
 use fr_frame::{SlotId, Slots};
-use fr_model::{law_completes, law_failing};
+use fr_model::{law_closing, law_completes, law_failing};
 use fr_plan::TypePlanCore;
 use fr_shape::{Hooks, Ledger, OutOfMemory, ReflectErrorKind, ShapeTable};
 
@@ -52,6 +52,7 @@ impl FrameStore {
         ensures conserved { Conserved (slots_occur slots.old) ledger.old
             (slots_occur slots.new) ledger.new }
     {
+        law_closing();
         law_completes();
         law_failing();
         for place in walk {

@@ -3,7 +3,7 @@ use Rattle.std.proofs.lemmas.List.{drop_more}
 use Rattle.fr_shape.specs.declared.error.ReflectErrorKind.{ReflectErrorKind}
 use Rattle.fr_store.specs.Turning.{Walked, IsLackingAt, StoppedByTurns}
 use Rattle.fr_store.specs.Turns.{IsHeldUp}
-use Rattle.fr_store.specs.WalkedLaws.{head_due, walk_begins, walk_goes_on, walk_held_up, walk_stopped}
+use Rattle.fr_store.proofs.WalkedLaws.{head_due, walk_begins, walk_goes_on, walk_held_up, walk_stopped}
 use Rattle.fr_frame.specs.Heap.{slots_occur}
 use Rattle.fr_store.proofs.TakenLaws.{room_still}
 use Rattle.fr_store.proofs.ReleasedLaws.{conserved_on, conserved_same}
@@ -50,7 +50,7 @@ returns-in-Err-clause-why g c = go c.in-Err.ensures.why
         c.args.stack.now c.loop-place.slots c.args.walk.now rest)
         (drop_more c.args.walk.now c.loop-place.place-index 0 c.loop-place-test.true)
         c.loop-place.invariant.walked)
-        c.law_failing.ensures.lie c.law_failing.ensures.lacking c.law_failing.ensures.first c.law_failing.ensures.refuses
+        c.law_failing.ensures.places c.law_failing.ensures.lacking c.law_failing.ensures.first c.law_failing.ensures.refuses
         c.requires.is_open c.in-Err.kind lacks)
 
 pub returns-in-Err-clause-stopped : goal.returns-in-Err-clause-stopped

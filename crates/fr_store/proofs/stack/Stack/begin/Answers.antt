@@ -4,12 +4,12 @@ use Rattle.fr_model.specs.Tree.{change_at}
 use Rattle.fr_frame.specs.Bodies.{opened}
 use Rattle.fr_frame.specs.Changes.{Shows}
 use Rattle.fr_frame.specs.Heap.{as_form, heap_of, with_body}
-use Rattle.fr_store.specs.BeginLaws.{open_begun, stay_begun}
 use Rattle.fr_store.specs.MoveLaws.{top_in_use}
 use Rattle.fr_store.specs.Moves.{IsOpenAt, cursor_in, tree_in_slots}
 use Rattle.fr_store.specs.Stands.{kid_here}
-use Rattle.fr_store.specs.StayLaws.{stay_refused}
 use Rattle.fr_store.specs.Staying.{AllStayPut}
+use Rattle.fr_store.proofs.BeginLaws.{open_begun, stay_begun}
+use Rattle.fr_store.proofs.StayLaws.{stay_refused}
 use Rattle.fr_store.proofs.stack.Stack.begin.Goals as goal
 
 on_ok : {A E : Type 0} (result : Result A E) (So Then : Type 0) → (So → Then) → OnOk result So → OnOk result Then

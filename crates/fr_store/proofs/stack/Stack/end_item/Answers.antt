@@ -3,12 +3,13 @@ use Rattle.fr_shape.specs.Val.{Val}
 use Rattle.fr_frame.specs.Bodies.{value_of}
 use Rattle.fr_frame.specs.Changes.{IfInUse, SameMarks, Shows}
 use Rattle.fr_frame.specs.Heap.{Node, ends, heap_of, with_slot, without}
-use Rattle.fr_store.proofs.EndItemLaws.{item_ended, item_keeps_marks, item_lost, item_room, item_stays, of_set_item, owned_item}
+use Rattle.fr_store.proofs.EndItemLaws.{item_ended, item_keeps_marks, item_stays, of_set_item}
+use Rattle.fr_store.proofs.EndLaws.{ended_room, lost_marks, owned_top}
 use Rattle.fr_store.proofs.stack.Stack.end_item.Goals as goal
 
 pub end_item-requires-clause-owned : goal.end_item-requires-clause-owned
 end_item-requires-clause-owned c =
-    owned_item c.args.plan.now c.args.slots.now c.args.self.now c.requires.is_open c.requires.below c.requires.of_set
+    owned_top c.args.plan.now c.args.slots.now c.args.self.now c.requires.is_open c.requires.below
     c.pop.new.self c.in-Some.item.0 c.in-Some.ensures.last
 
 pub end_item-requires-clause-of_set : goal.end_item-requires-clause-of_set
@@ -18,7 +19,7 @@ end_item-requires-clause-of_set c =
 
 pub end_item-requires-clause-room : goal.end_item-requires-clause-room
 end_item-requires-clause-room c =
-    item_room c.args.plan.now c.args.slots.now c.args.self.now c.requires.is_open c.requires.below c.requires.of_set
+    ended_room c.args.plan.now c.args.slots.now c.args.self.now c.requires.is_open c.requires.below
     c.pop.new.self c.in-Some.item.0 c.in-Some.ensures.last
     (c.requires.complete c.in-Some.item.0 (c.pop.new.self, c.in-Some.ensures.last)) c.args.ledger.now c.requires.room
 
@@ -63,6 +64,6 @@ returns-clause-marks c =
     (λ ended. item_keeps_marks c.args.plan.now c.args.slots.now c.args.self.now c.requires.is_open c.requires.below
     c.requires.of_set c.pop.new.self c.in-Some.item.0 c.in-Some.ensures.last c.end_item.new.slots ended
     (c.requires.complete c.in-Some.item.0 (c.pop.new.self, c.in-Some.ensures.last)))
-    (λ left. item_lost c.args.plan.now c.args.slots.now c.args.self.now c.requires.is_open c.requires.below
-    c.requires.of_set c.pop.new.self c.in-Some.item.0 c.in-Some.ensures.last c.end_item.new.slots left)
+    (λ left. lost_marks c.args.plan.now c.args.slots.now c.args.self.now c.requires.is_open c.requires.below
+    c.pop.new.self c.in-Some.item.0 c.in-Some.ensures.last c.end_item.new.slots left)
     c.end_item.ensures.ended c.end_item.ensures.left

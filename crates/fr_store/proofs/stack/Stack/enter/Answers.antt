@@ -7,13 +7,13 @@ use Rattle.fr_frame.specs.declared.places.Slot.{Slot}
 use Rattle.fr_frame.specs.Changes.{IsInUse}
 use Rattle.fr_frame.specs.Completing.{shape_of}
 use Rattle.fr_frame.specs.Heap.{as_form, heap_of}
-use Rattle.fr_store.specs.AgainLaws.{open_again}
-use Rattle.fr_store.specs.EnterLaws.{kept_entered, open_entered_from}
+use Rattle.fr_store.proofs.EnteringLaws.{kept_entered, open_entered_from}
 use Rattle.fr_store.specs.MoveLaws.{top_in_use}
 use Rattle.fr_store.specs.Moves.{changed_here, cursor_in, IsOpenAt}
 use Rattle.fr_store.specs.Stands.{kid_here}
 use Rattle.fr_store.specs.Staying.{AllStayPut}
 use Rattle.fr_store.specs.Stored.{IsStoredChild}
+use Rattle.fr_store.proofs.AgainLaws.{open_again}
 use Rattle.fr_store.proofs.stack.Stack.enter.Goals as goal
 
 pub enter-requires-clause-owner : goal.enter-requires-clause-owner

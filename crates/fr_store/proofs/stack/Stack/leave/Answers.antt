@@ -1,5 +1,5 @@
 use Rattle.fr_store.specs.MoveLaws.{top_in_use}
-use Rattle.fr_store.specs.StoreLaws.{open_left, taken_off, top_unmarked}
+use Rattle.fr_store.proofs.StoreLaws.{open_left, taken_off, top_unmarked}
 use Rattle.fr_store.proofs.stack.Stack.leave.Goals as goal
 
 pub insert-requires-clause-in_use : goal.insert-requires-clause-in_use

@@ -6,9 +6,9 @@ use Rattle.fr_frame.specs.Changes.{Becomes, IfInUse, Shows}
 use Rattle.fr_frame.specs.Heap.{Node, heap_of, stored_in}
 use Rattle.fr_store.specs.MoveLaws.{closed_open, top_room}
 use Rattle.fr_store.specs.Stands.{kid_here}
-use Rattle.fr_store.specs.StayLaws.{stay_refused}
 use Rattle.fr_store.specs.Staying.{AllStayPut}
 use Rattle.fr_store.specs.Stored.{NothingStored}
+use Rattle.fr_store.proofs.StayLaws.{stay_refused}
 use Rattle.fr_store.proofs.WholeLaws.{whole_now, whole_stay, whole_strict}
 use Rattle.fr_store.proofs.stack.Stack.make_whole.Goals as goal
 

@@ -6,9 +6,9 @@ use Rattle.fr_frame.specs.Heap.{heap_of, with_body}
 use Rattle.fr_store.specs.MoveLaws.{top_in_use}
 use Rattle.fr_store.specs.Moves.{IsOpenAt, around_members, cursor_in, tree_in_slots}
 use Rattle.fr_store.specs.Stands.{kid_here}
-use Rattle.fr_store.specs.StayLaws.{stay_refused}
 use Rattle.fr_store.specs.Staying.{AllStayPut}
 use Rattle.fr_store.proofs.DynamicLaws.{object_open, object_stay}
+use Rattle.fr_store.proofs.StayLaws.{stay_refused}
 use Rattle.fr_store.proofs.stack.Stack.open_object.Goals as goal
 
 on_ok : {A E : Type 0} (result : Result A E) (So Then : Type 0) → (So → Then) → OnOk result So → OnOk result Then

@@ -1,6 +1,6 @@
 use Rattle.std.proofs.Common.{◌≡◌, ◌⊎◌, inl, inr}
 use Rattle.fr_shape.specs.declared.error.ReflectErrorKind.{ReflectErrorKind}
-use Rattle.fr_store.specs.FinishedLaws.{came_by_turns, held_here, is_finished, nothing_left, stopped_here}
+use Rattle.fr_store.proofs.FinishedLaws.{came_by_turns, held_here, is_finished, nothing_left, stopped_here}
 use Rattle.fr_store.specs.Turning.{LacksHere, StoppedByTurns}
 use Rattle.fr_store.specs.Turns.{IsHeldUp}
 use Rattle.fr_frame.specs.Heap.{slots_occur}

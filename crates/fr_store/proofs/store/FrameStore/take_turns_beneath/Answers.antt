@@ -68,7 +68,7 @@ returns-in-Err-clause-why g c = go c.in-Err.ensures.why
         c.args.slots.now c.args.stack.now c.loop-place.slots rest)
         (drop_more c.args.walk.now c.loop-place.place-index 0 c.loop-place-test.true)
         c.loop-place.invariant.walked)
-        c.law_failing.ensures.lacking c.law_failing.ensures.first c.law_completes.ensures.or_fails c.in-Err.kind lacks)
+        c.law_failing.ensures.places c.law_failing.ensures.lacking c.law_failing.ensures.first c.law_completes.ensures.or_fails c.in-Err.kind lacks)
 
 pub returns-in-Err-clause-conserved : goal.returns-in-Err-clause-conserved
 returns-in-Err-clause-conserved g c =
@@ -90,7 +90,7 @@ loop-place-preserved g c =
           beneath_goes_on (g.H.Hooks.means c.args.hooks.now) c.args.table.now c.args.plan.now c.args.slots.now
           c.args.stack.now c.requires.is_open c.loop-place.slots
           (drop (c.loop-place.place-index + 1) c.args.walk.now) place walked c.turn.new.slots c.in-Ok.ensures.turned
-          c.law_completes.ensures.fits c.requires.checked c.in-Ok.ensures.rest;
+          c.law_completes.ensures.fits c.requires.checked c.law_closing.ensures.finish c.in-Ok.ensures.rest;
       kept =
           beneath_kept (g.H.Hooks.means c.args.hooks.now) c.args.table.now c.args.plan.now c.args.slots.now
           c.args.stack.now c.requires.is_open c.loop-place.slots

@@ -32,9 +32,6 @@ contains_cases x xs y found = go found.0 found.1 found.2
     go zero h e = inl e
     go (suc k) h e = inr (k, omega arith, e)
 
-pub contains_later : {X : Type 0} (x : X) (xs : List X) (y : X) → Contains xs y → Contains (x ∷ xs) y
-contains_later x xs y found = (suc found.0, omega (arith, found.1), found.2)
-
 all_first : {X : Type 0} (P : X → Type 0) (x : X) (xs : List X) → All P (x ∷ xs) → P x
 all_first P x xs all = all 0 x (omega arith)
 
@@ -60,7 +57,7 @@ not_less first second rest h e =
     go Ordering.Equal is e = cc
     go Ordering.Greater is e = cc
 
-steps_count : (place : Place) (t : Tree) → length (steps_in place t) ≡ length place
+pub steps_count : (place : Place) (t : Tree) → length (steps_in place t) ≡ length place
 steps_count [] t = refl
 steps_count (i ∷ place) t = ap suc (steps_count place (child_tree i t))
 
@@ -77,7 +74,7 @@ before_itself tree place before =
 
 -- A slot serves once, so that a place in it lies at one way only.
 
-two_nth : (i j : ℕ) (ks : Kids) (n : ℕ) → i ≢ j → uses (kid_nth i ks) n + uses (kid_nth j ks) n ≤ uses_among ks n
+pub two_nth : (i j : ℕ) (ks : Kids) (n : ℕ) → i ≢ j → uses (kid_nth i ks) n + uses (kid_nth j ks) n ≤ uses_among ks n
 two_nth i j no_kids n ne = omega arith
 two_nth zero zero (kid k ks) n ne = absurd (ne refl)
 two_nth zero (suc j) (kid k ks) n ne = omega (arith, uses_nth j ks n)
@@ -96,10 +93,6 @@ pub one_place : (first second : Place) (k : Kid) (n : ℕ) (mark other : Bool) (
     → Reaches first k → Reaches second k → kid_at first k ≡ at n mark plot → kid_at second k ≡ at n other below
     → first ≡ second
 one_place [] [] k n mark other plot below once a b e f = refl
-one_place (i ∷ first) second gone n mark other plot below once a b e f = absurd a
-one_place (i ∷ first) second (there v) n mark other plot below once a b e f = absurd a
-one_place (i ∷ first) second (at slot s entered_plot) n mark other plot below once a b e f = absurd a
-one_place (i ∷ first) second (at slot s (whole_plot v)) n mark other plot below once a b e f = absurd a
 one_place [] (j ∷ second) gone n mark other plot below once a b e f = absurd b
 one_place [] (j ∷ second) (there v) n mark other plot below once a b e f = absurd b
 one_place [] (j ∷ second) (at slot s entered_plot) n mark other plot below once a b e f = absurd b
@@ -125,6 +118,7 @@ one_place (i ∷ first) (j ∷ second) (at slot s (begun_plot form kids)) n mark
         absurd
         (omega
         (arith, once, two_nth i j kids n ne, used first (kid_nth i kids) n mark plot e, used second (kid_nth j kids) n other below f))
+one_place (i ∷ first) second _ n mark other plot below once a b e f = absurd a
 
 -- The first place.
 
@@ -168,10 +162,7 @@ pub reaches_child : (place : Place) (k : Kid) (n : ℕ) (mark : Bool) (form : Fo
 reaches_child [] k n mark form kids j reach is h = subst (λ (x : Kid). Reaches (j ∷ []) x) (sym is) (h, tt)
 reaches_child (i ∷ place) (at slot s (begun_plot made ks)) n mark form kids j reach is h =
     (reach.0, reaches_child place (kid_nth i ks) n mark form kids j reach.1 is h)
-reaches_child (i ∷ place) (at slot s entered_plot) n mark form kids j reach is h = absurd reach
-reaches_child (i ∷ place) (at slot s (whole_plot v)) n mark form kids j reach is h = absurd reach
-reaches_child (i ∷ place) gone n mark form kids j reach is h = absurd reach
-reaches_child (i ∷ place) (there v) n mark form kids j reach is h = absurd reach
+reaches_child (i ∷ place) _ n mark form kids j reach is h = absurd reach
 
 module _ (k : Kid) (n : ℕ) (rest : List ℕ) (walk : IsWalk k (n ∷ rest)) (head : Head k n rest walk.places) where
   pub later : (slot : ℕ) (place : Place) → IsStoredAt k slot place → (head.place ≡ place) ⊎ Contains head.places place

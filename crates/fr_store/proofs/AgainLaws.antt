@@ -12,8 +12,7 @@ use Rattle.fr_frame.specs.Changes.{SameTokens, Shows}
 use Rattle.fr_frame.specs.Bodies.{begun_body}
 use Rattle.fr_frame.specs.Cells.{Cell}
 use Rattle.fr_frame.specs.Heap.{heap_of, Node, Heap, with_mark}
-use Rattle.fr_frame.specs.Kids.{Kid, at, Plot, entered_plot, whole_plot, begun_plot, Kids, tree_of, tree_in, trees_in, cell_of, cells_in, kid_occurs, plot_occurs, kids_occur, child_node, child_owner, Holds, IsThere, AreLeftRightly, AreLeftIn, AreLeftAll}
-use Rattle.fr_store.specs.ChildLaws.{child_held, kids_held, kids_stored, not_parent, parent_is, part_uses, placed_child, plot_has}
+use Rattle.fr_frame.specs.Kids.{Kid, at, Plot, entered_plot, begun_plot, Kids, tree_of, tree_in, trees_in, cell_of, cells_in, kid_occurs, plot_occurs, kids_occur, child_node, child_owner, Holds, IsThere, AreLeftRightly, AreLeftIn, AreLeftAll}
 use Rattle.fr_store.specs.HoldLaws.{AgreeBeside, Replaces, cells_put_nth, holds_frame_in, holds_put_nth}
 use Rattle.fr_store.specs.MoveLaws.{open_at_from, open_top, tokens_kept, top_slot}
 use Rattle.fr_store.specs.Moves.{HasChild, IsOpenAt, cursor_in, tree_here, tree_in_slots}
@@ -21,18 +20,18 @@ use Rattle.fr_store.specs.Numbers.{IsLast}
 use Rattle.fr_store.specs.LeftLaws.{at_for_at, left_as, left_nth, left_put_nth}
 use Rattle.fr_store.specs.StandLaws.{all_kept, stands_change, AllServe}
 use Rattle.fr_store.specs.Stands.{Stands, IsOpen, kid_here, kid_shown}
-use Rattle.fr_store.specs.StayLaws.{stay_all, stay_marked, stay_shown}
 use Rattle.fr_store.specs.Staying.{AllStayPut}
 use Rattle.fr_store.specs.Stored.{IsStoredChild}
 use Rattle.fr_store.specs.TopLaws.{slot_here, slot_other, top_held, used_mapped, Top}
 use Rattle.fr_store.specs.Ways.{count_kids, kid_nth, kid_at, put_nth, put_at, slots_along, slots_above, counts_if, uses, uses_in, uses_among, AllMarked, Leads, Reaches, node_along, owner_along}
 use Rattle.fr_store.specs.WayLaws.{counts_same, nth_put, uses_at, uses_nth, uses_put_nth, occurs_put_nth, occurs_put_at, leads_reach, marked_nth, stored_but, tree_change_at, tree_put_nth, tree_of_nth, tree_of_at}
+use Rattle.fr_store.proofs.ChildLaws.{child_held, kids_held, kids_stored, not_parent, parent_is, part_uses, placed_child, plot_has}
+use Rattle.fr_store.proofs.StayLaws.{stay_all, stay_marked, stay_shown}
 
 -- a place in a slot is entered already
 entered_as_is : (def : Def) (plot : Plot) → tree_in plot ≡ enter def (tree_in plot)
 entered_as_is def entered_plot = refl
-entered_as_is def (whole_plot v) = refl
-entered_as_is def (begun_plot form kids) = refl
+entered_as_is def _ = refl
 
 -- Child i of the top, which is in a slot, isn't stored any more.
 module _ (plan : Plan) (heap other : Heap) (stack : List ℕ) (place : Place) (k : Kid)

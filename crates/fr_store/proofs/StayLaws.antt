@@ -20,18 +20,10 @@ use Rattle.fr_store.specs.WayLaws.{count_put, nth_put, same_or_other}
 pub stay_same : (k : Kid) → AllStayPut k k
 stay_same k place placed = (placed, refl)
 
--- what is the same stays
-pub stay_is : (before after : Kid) → after ≡ before → AllStayPut before after
-stay_is before after e = subst (λ (x : Kid). AllStayPut before x) (sym e) (stay_same before)
-
 -- Where what lies at one place is replaced, a place stays where it does within the new.
 pub stay_at : (part : Place) (new k : Kid) → Reaches part k → (place : Place)
     → ((rest : Place) → place ≡ part ++ rest → StaysPut (kid_at part k) new rest) → StaysPut k (put_at part new k) place
 stay_at [] new k reach place within = within place refl
-stay_at (i ∷ part) new gone reach place within = absurd reach
-stay_at (i ∷ part) new (there v) reach place within = absurd reach
-stay_at (i ∷ part) new (at slot stored entered_plot) reach place within = absurd reach
-stay_at (i ∷ part) new (at slot stored (whole_plot v)) reach place within = absurd reach
 stay_at (i ∷ part) new (at slot stored (begun_plot form kids)) reach [] within =
     λ placed. (record { reaches = tt; here = tt }, refl)
 stay_at (i ∷ part) new (at slot stored (begun_plot form kids)) reach (j ∷ place) within =
@@ -77,6 +69,7 @@ stay_at (i ∷ part) new (at slot stored (begun_plot form kids)) reach (j ∷ pl
     go placed (inr ne) rest =
         from (kid_nth j kids) (nth_other i j child kids ne) placed
         (record { reaches = placed.reaches.1; here = placed.here }, refl)
+stay_at (i ∷ part) new _ reach place within = absurd reach
 
 -- Where each place within it stays, all stay.
 pub stay_all : (part : Place) (new k : Kid) → Reaches part k → AllStayPut (kid_at part k) new → AllStayPut k (put_at part new k)
@@ -103,7 +96,7 @@ stay_unplaced (there v) new unplaced (i ∷ place) placed = absurd placed.reache
 stay_unplaced (at slot stored plot) new unplaced place placed = absurd unplaced
 
 -- none of its children lay in a slot
-none_below : (i : ℕ) (ks : Kids) (place : Place) → AreUnplaced (cells_in ks) → IsPlaced (kid_nth i ks) place → ⊥
+pub none_below : (i : ℕ) (ks : Kids) (place : Place) → AreUnplaced (cells_in ks) → IsPlaced (kid_nth i ks) place → ⊥
 none_below i no_kids [] closed placed = placed.here
 none_below i no_kids (j ∷ place) closed placed = placed.reaches
 none_below zero (kid gone ks) [] closed placed = placed.here

@@ -2,13 +2,13 @@
 use Rattle.std.proofs.Common.{◌≡◌, ℕ, suc, ◌+◌, ◌<◌, Bool, true, false, List, length, nat_eq, Some, refl, sym, ◌∙◌, ap, subst, arith}
 use Rattle.std.specs.Option.{option_and_then}
 use Rattle.fr_model.specs.Places.{Place}
-use Rattle.fr_model.specs.Tree.{Form, count_trees}
+use Rattle.fr_model.specs.Tree.{Form}
 use Rattle.fr_plan.specs.TypePlan.{Plan}
 use Rattle.fr_frame.specs.declared.places.FrameOwner.{FrameOwner}
 use Rattle.fr_frame.specs.Bodies.{begun_body, cell_at, IsUnplaced}
 use Rattle.fr_frame.specs.Cells.{slot_of_cell}
 use Rattle.fr_frame.specs.Heap.{Node, Heap, stored_in}
-use Rattle.fr_frame.specs.Kids.{Kid, gone, there, at, Plot, entered_plot, whole_plot, begun_plot, Kids, no_kids, kid, MayHave, tree_in, trees_in, cell_of, cells_in, body_in, child_node, child_owner, Holds, HoldsIn, HoldsAll}
+use Rattle.fr_frame.specs.Kids.{Kid, gone, there, at, Plot, entered_plot, whole_plot, begun_plot, Kids, MayHave, tree_in, cell_of, cells_in, body_in, child_node, child_owner, Holds, HoldsIn, HoldsAll}
 use Rattle.fr_store.specs.HoldLaws.{holds_nth, may_have_all}
 use Rattle.fr_store.specs.LeaveLaws.{cell_of_child}
 use Rattle.fr_store.specs.Moves.{HasChild, HasForm}
@@ -16,11 +16,7 @@ use Rattle.fr_store.specs.Stands.{Stands}
 use Rattle.fr_store.specs.Stored.{child_slot, IsStoredChild}
 use Rattle.fr_store.specs.TopLaws.{Top, not_beneath, top_uses}
 use Rattle.fr_store.specs.Ways.{count_kids, kid_nth, kid_at, counts_if, uses, uses_in, uses_among, AllMarked, AllMarkedIn, AllMarkedAmong, node_along, owner_along}
-use Rattle.fr_store.specs.WayLaws.{marked_nth}
-
-pub count_kids_trees : (ks : Kids) → count_trees (trees_in ks) ≡ count_kids ks
-count_kids_trees no_kids = refl
-count_kids_trees (kid k ks) = ap suc (count_kids_trees ks)
+use Rattle.fr_store.specs.WayLaws.{marked_nth, count_in}
 
 -- a place that has the child is begun
 pub plot_has : (form : Form) (i : ℕ) (plot : Plot) → HasChild form i (tree_in plot)
@@ -28,7 +24,7 @@ pub plot_has : (form : Form) (i : ℕ) (plot : Plot) → HasChild form i (tree_i
 plot_has form i entered_plot has = absurd has
 plot_has form i (whole_plot v) has = absurd has
 plot_has form i (begun_plot made kids) has =
-    (kids, ap (λ (f : Form). begun_plot f kids) has.0, subst (λ (n : ℕ). i < n) (count_kids_trees kids) has.1)
+    (kids, ap (λ (f : Form). begun_plot f kids) has.0, subst (λ (n : ℕ). i < n) (count_in kids) has.1)
 
 -- one that is begun so has these children
 pub plot_formed : (form : Form) (plot : Plot) → HasForm form (tree_in plot) → (kids : Kids) × (plot ≡ begun_plot form kids)

@@ -21,18 +21,18 @@ use Rattle.fr_frame.specs.declared.places.FrameOwner.{FrameOwner}
 use Rattle.fr_frame.specs.declared.places.Slot.{Slot}
 use Rattle.fr_frame.specs.Heap.{Node, Heap, heap_of, marked, stored_in}
 use Rattle.fr_frame.specs.Kids.{Kid, gone, there, at, Plot, entered_plot, whole_plot, begun_plot, Kids, no_kids, kid, tree_of, child_node, child_owner, Holds, HoldsIn, HoldsAll}
-use Rattle.fr_store.specs.FailLaws.{fails_itself, none_here, same_lack}
-use Rattle.fr_store.specs.HeldLaws.{held_by_last, leads_deferred, leads_strict, no_marks}
 use Rattle.fr_store.specs.Moves.{IsOpenAt, cursor_in, tree_in_slots}
 use Rattle.fr_store.specs.OffLaws.{reach_place}
 use Rattle.fr_store.specs.Stands.{IsOpen}
 use Rattle.fr_store.specs.Stored.{NothingStored}
 use Rattle.fr_store.specs.Turning.{CameByTurns, FinishedHere, LacksHere, StoppedByTurns, Walked, kid_here, next_place}
 use Rattle.fr_store.specs.Turns.{IsFinished, IsHeldUp, KeepThoseLeft, root_shape}
-use Rattle.fr_store.specs.WalkedLaws.{stored_among}
 use Rattle.fr_store.specs.Walks.{AreInWalkOrder, AreStoredAt}
 use Rattle.fr_store.specs.Ways.{kid_at, counts_if, uses, uses_in, uses_among, AllMarkedIn, AllMarkedAmong, Leads, NoneStored}
 use Rattle.fr_store.specs.WayLaws.{counts_other, leads_at, leads_reach, same_or_other, tree_of_at}
+use Rattle.fr_store.proofs.FailLaws.{fails_itself, none_here, same_lack}
+use Rattle.fr_store.proofs.HeldLaws.{held_by_last, leads_deferred, leads_strict, no_marks}
+use Rattle.fr_store.proofs.WalkedLaws.{stored_among}
 
 -- Walks.
 

@@ -9,7 +9,7 @@ use Rattle.fr_shape.specs.Look.{Table}
 use Rattle.fr_shape.specs.Val.{Val}
 use Rattle.fr_model.specs.Complete.{complete}
 use Rattle.fr_model.specs.Failing.{Failure, first_by_walk, own_lack}
-use Rattle.fr_model.specs.FailingLaws.{FailuresLieThere, FinishesOrRefuses, FirstByWalkIs, LackingFails}
+use Rattle.fr_model.specs.FailingLaws.{EachFailureHasItsPlace, FinishesOrRefuses, FirstByWalkIs, LackingFails}
 use Rattle.fr_model.specs.Finish.{failures_off, finish_cause, finished, kind_of}
 use Rattle.fr_model.specs.FinishLaws.{closed_at}
 use Rattle.fr_model.specs.Laws.{CompletingFits}
@@ -20,21 +20,18 @@ use Rattle.fr_model.specs.Tree.{Tree, whole, change_at, shape_in, tree_at}
 use Rattle.fr_model.specs.Well.{Suits}
 use Rattle.fr_plan.specs.TypePlan.{Plan}
 use Rattle.fr_frame.specs.declared.places.Slot.{Slot}
-use Rattle.fr_frame.specs.declared.places.FrameOwner.{FrameOwner}
-use Rattle.fr_frame.specs.Heap.{heap_of}
 use Rattle.fr_frame.specs.Kids.{Kid, there}
 use Rattle.fr_store.specs.ClosingLaws.{steps_kept, suits_at, suits_change}
-use Rattle.fr_store.specs.HeadLaws.{Head, contains_cases, head_closed, head_of, one_place, walk_on}
-use Rattle.fr_store.specs.HeldLaws.{first_fails, held_by_first, leads_deferred}
 use Rattle.fr_store.specs.Moves.{cursor_in, tree_in_slots}
 use Rattle.fr_store.specs.OffLaws.{reach_place}
 use Rattle.fr_store.specs.Stands.{IsOpen}
-use Rattle.fr_store.specs.StepLaws.{same_steps}
 use Rattle.fr_store.specs.Turning.{HasTurned, IsLackingAt, KeepsTheRest, MayTurn, StoppedByTurns, Walked, kid_here, next_place}
 use Rattle.fr_store.specs.Turns.{CompletesAsBefore, IsHeldUp, KeepThoseLeft, Turned, root_shape}
 use Rattle.fr_store.specs.Walks.{AreInWalkOrder, AreStoredAt, IsStoredAt, IsWalk}
 use Rattle.fr_store.specs.Ways.{put_at, Leads}
 use Rattle.fr_store.specs.WayLaws.{leads_reach}
+use Rattle.fr_store.proofs.HeadLaws.{Head, contains_cases, head_closed, head_of, one_place, walk_on}
+use Rattle.fr_store.proofs.HeldLaws.{first_fails, held_by_first, leads_deferred}
 
 -- Turns, one after another.
 
@@ -285,10 +282,10 @@ module _ (means : Meanings) (table : Table) (plan : Plan) (before : List Slot) (
             (suits_at table (root_shape plan) turned.place (tree_in_slots now stack) has walked.suits) turned.meant)
 
     -- it makes no value: it is the first place that fails
-    pub walk_held_up : FailuresLieThere → LackingFails → FirstByWalkIs → FinishesOrRefuses → IsOpen plan before stack
+    pub walk_held_up : EachFailureHasItsPlace → LackingFails → FirstByWalkIs → FinishesOrRefuses → IsOpen plan before stack
         → (kind : ReflectErrorKind) → IsLackingAt means table plan now stack n kind
         → IsHeldUp means table plan before stack kind
-    walk_held_up lie lacking first refuses open_first kind lacks =
+    walk_held_up each lacking first refuses open_first kind lacks =
         record { unfinished = held.0; cause = held.1 }
       where
         same : lacks.place ≡ head.place
@@ -297,16 +294,14 @@ module _ (means : Meanings) (table : Table) (plan : Plan) (before : List Slot) (
         fails : kind_of (first_by_walk (failures_off means table (root_shape plan) [] (cursor_in now stack)
             (tree_in_slots now stack))) ≡ Some kind
         fails =
-            first_fails means table (root_shape plan) (kid_here now stack) (cursor_in now stack) walked.still.stands.leads n rest
-            walked.left head kind
+            ap kind_of
+            (first_fails means table (root_shape plan) [] (kid_here now stack) (cursor_in now stack) walked.still.stands.leads n
+            rest walked.left head kind
             (subst
             (λ (p : Place). own_lack means table (shape_in table (root_shape plan) p (tree_in_slots now stack))
             (tree_at p (tree_in_slots now stack)) ≡ Some kind)
             same lacks.lacks)
-            (λ p q reach here other beside same. same_steps plan (heap_of now) plan.root FrameOwner.Root 0 p q
-            (kid_here now stack) walked.still.stands.holds walked.still.stands.left
-            (inl (cursor_in now stack, walked.still.stands.leads)) reach here other beside same)
-            lie lacking first
+            each lacking first)
 
         as_at_first : failures_off means table (root_shape plan) [] (cursor_in now stack) (tree_in_slots now stack)
             ≡ failures_off means table (root_shape plan) [] (cursor_in before stack) (tree_in_slots before stack)

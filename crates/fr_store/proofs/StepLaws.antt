@@ -1,30 +1,29 @@
--- Laws of the steps to places in slots, for proofs: they tell the places, and their order.
+-- Laws of the steps to places in slots, for proofs: they tell in which order the places come.
 use Rattle.std.proofs.Common.{◌≡◌, ◌≢◌, ◌⊎◌, ℕ, zero, suc, ◌+◌, ◌-◌, ◌<◌, ◌≤◌, Bool, true, false, [], ◌∷◌, inl, inr, refl, sym, ◌∙◌, ap, subst, arith}
 use Rattle.std.specs.Prelude.{if◌then◌else◌}
 use Rattle.std.specs.declared.cmp.Ordering.{Ordering}
 use Rattle.std.specs.declared.cmp.Ordering.TheVariants.{Less, Equal}
 use Rattle.std.specs.Cmp.Lexicographic.{slice_cmp}
-use Rattle.std.specs.Ordering.{nat_cmp, ordering_then}
-use Rattle.std.proofs.lemmas.Bool.Decides.{nat_tests}
-use Rattle.std.proofs.lemmas.Grind.{common_steps}
+use Rattle.std.specs.Ordering.{ordering_then}
 use Rattle.fr_path.specs.declared.path_steps.PathStep.{PathStep}
 use Rattle.fr_path.specs.Order.{step_order}
 use Rattle.fr_path.specs.OrderLaws.{step_itself}
 use Rattle.fr_model.specs.Paths.{step_as, steps_in}
 use Rattle.fr_model.specs.Places.{Place, is_key, entry_of}
-use Rattle.fr_model.specs.Tree.{Form, as_struct, as_array, as_variant, as_some, as_ok, as_err, as_pointer, as_list, as_slice, as_closed_slice, as_set, as_map, as_dyn_array, as_dyn_object, base_of_form, Tree, tree_nth}
+use Rattle.fr_model.specs.Tree.{Form, as_struct, as_variant, as_some, as_ok, as_err, as_pointer, as_set, as_map, as_dyn_array, as_dyn_object, base_of_form, Tree, tree_nth}
 use Rattle.fr_plan.specs.declared.nodes.NodeId.{NodeId}
 use Rattle.fr_plan.specs.TypePlan.{Plan}
 use Rattle.fr_frame.specs.declared.places.FrameOwner.{FrameOwner}
 use Rattle.fr_frame.specs.Heap.{Heap}
-use Rattle.fr_frame.specs.Kids.{Kid, gone, there, at, entered_plot, whole_plot, begun_plot, Kids, no_kids, kid, MayHave, is_stored, tree_of, trees_in, child_node, child_owner, Holds, IsThere, IsLeftRightly, AreLeftRightly, AreLeftAll}
+use Rattle.fr_frame.specs.Kids.{Kid, gone, there, at, begun_plot, Kids, no_kids, kid, MayHave, is_stored, tree_of, trees_in, child_node, child_owner, Holds, IsThere, IsLeftRightly, AreLeftRightly, AreLeftAll}
 use Rattle.fr_store.specs.HoldLaws.{holds_nth, may_have_all}
 use Rattle.fr_store.specs.LeftLaws.{left_nth}
 use Rattle.fr_store.specs.Moves.{takes_at_end_as}
-use Rattle.fr_store.specs.OffLaws.{among_nth, but_nth, leads_same}
+use Rattle.fr_store.specs.OffLaws.{but_nth, leads_same}
 use Rattle.fr_store.specs.Places.{order_as, IsAbove, IsAfter, IsHere, IsLater}
 use Rattle.fr_store.specs.Ways.{count_kids, kid_nth, kid_at, AllMarked, Leads, Reaches}
-use Rattle.fr_store.specs.WayLaws.{same_or_other, tree_of_nth}
+use Rattle.fr_store.specs.WayLaws.{same_or_other, tree_of_nth, marked_nth}
+use Rattle.fr_store.proofs.PathOrder.{number_less}
 
 -- Numbers.
 
@@ -48,14 +47,10 @@ either_less (suc i) (suc j) = go (either_less i j)
     go (inl h) = inl (omega arith)
     go (inr h) = inr (omega arith)
 
-nat_less : (i j : ℕ) → i < j → nat_cmp i j ≡ Less
-nat_less i j less = grind (arith, common_steps, nat_tests)
-
 -- What may be beside each other.
 
 -- a child in a slot isn't one of a base
 past_base : (form : Form) (i : ℕ) (k : Kid) → IsHere k → IsLeftRightly form i k → base_of_form form ≤ entry_of i
-past_base as_set i k here left = omega arith
 past_base (as_map base) i k here left = go (either_less (entry_of i) base)
   where
     not_there : (k : Kid) → IsHere k → IsThere k → ⊥
@@ -66,35 +61,14 @@ past_base (as_map base) i k here left = go (either_less (entry_of i) base)
     go : (entry_of i < base) ⊎ (base ≤ entry_of i) → base ≤ entry_of i
     go (inl h) = absurd (not_there k here (left h))
     go (inr h) = h
-past_base as_dyn_array i k here left = omega arith
-past_base (as_dyn_object keys) i k here left = omega arith
-past_base as_struct i k here left = omega arith
-past_base as_array i k here left = omega arith
-past_base (as_variant n) i k here left = omega arith
-past_base as_some i k here left = omega arith
-past_base as_ok i k here left = omega arith
-past_base as_err i k here left = omega arith
-past_base as_pointer i k here left = omega arith
-past_base as_list i k here left = omega arith
-past_base as_slice i k here left = omega arith
-past_base as_closed_slice i k here left = omega arith
+past_base _ i k here left = omega arith
 
 -- nor is it stored, where it is an item of a set or a part of a dynamic value
 unstored_item : (form : Form) (i : ℕ) (k : Kid) → takes_at_end_as form ≡ true → IsLeftRightly form i k → is_stored k ≡ false
 unstored_item as_set i k takes left = left
-unstored_item (as_map base) i k takes left = absurd (cc)
 unstored_item as_dyn_array i k takes left = left
 unstored_item (as_dyn_object keys) i k takes left = left
-unstored_item as_struct i k takes left = absurd (cc)
-unstored_item as_array i k takes left = absurd (cc)
-unstored_item (as_variant n) i k takes left = absurd (cc)
-unstored_item as_some i k takes left = absurd (cc)
-unstored_item as_ok i k takes left = absurd (cc)
-unstored_item as_err i k takes left = absurd (cc)
-unstored_item as_pointer i k takes left = absurd (cc)
-unstored_item as_list i k takes left = absurd (cc)
-unstored_item as_slice i k takes left = absurd (cc)
-unstored_item as_closed_slice i k takes left = absurd (cc)
+unstored_item _ i k takes left = absurd (cc)
 
 left_of_nth : (form : Form) (first i m : ℕ) (ks : Kids) → m ≡ first + i → i < count_kids ks → AreLeftAll form first ks
     → IsLeftRightly form m (kid_nth i ks)
@@ -118,11 +92,11 @@ open_kid (at slot stored plot) here open_now all = let apart : true ≡ false = 
 
 module _ (slot : ℕ) (stored : Bool) (form : Form) (kids : Kids) where
   by_child : (i : ℕ) → IsByTheWay (at slot stored (begun_plot form kids)) → IsByTheWay (kid_nth i kids)
-  by_child i (inr all) = inr (among_nth i kids all.1)
+  by_child i (inr all) = inr (marked_nth true i kids all.1)
   by_child i (inl way) = go way.0 way.1
     where
       go : (cursor : Place) → Leads cursor (at slot stored (begun_plot form kids)) → IsByTheWay (kid_nth i kids)
-      go [] leads = inr (among_nth i kids leads.1)
+      go [] leads = inr (marked_nth true i kids leads.1)
       go (c ∷ rest) leads = on (same_or_other i c)
         where
           on : (i ≡ c) ⊎ (i ≢ c) → IsByTheWay (kid_nth i kids)
@@ -132,11 +106,11 @@ module _ (slot : ℕ) (stored : Bool) (form : Form) (kids : Kids) where
   -- of the children in slots at most one isn't stored
   one_open : (i j : ℕ) → IsByTheWay (at slot stored (begun_plot form kids)) → IsHere (kid_nth i kids)
       → is_stored (kid_nth i kids) ≡ false → IsHere (kid_nth j kids) → is_stored (kid_nth j kids) ≡ false → i ≡ j
-  one_open i j (inr all) here open_i beside open_j = absurd (open_kid (kid_nth i kids) here open_i (among_nth i kids all.1))
+  one_open i j (inr all) here open_i beside open_j = absurd (open_kid (kid_nth i kids) here open_i (marked_nth true i kids all.1))
   one_open i j (inl way) here open_i beside open_j = go way.0 way.1
     where
       go : (cursor : Place) → Leads cursor (at slot stored (begun_plot form kids)) → i ≡ j
-      go [] leads = absurd (open_kid (kid_nth i kids) here open_i (among_nth i kids leads.1))
+      go [] leads = absurd (open_kid (kid_nth i kids) here open_i (marked_nth true i kids leads.1))
       go (c ∷ rest) leads = on (same_or_other i c) (same_or_other j c)
         where
           on : (i ≡ c) ⊎ (i ≢ c) → (j ≡ c) ⊎ (j ≢ c) → i ≡ j
@@ -148,63 +122,28 @@ module _ (slot : ℕ) (stored : Bool) (form : Form) (kids : Kids) where
 
 -- Steps.
 
--- the step to a child in a slot tells its number
-step_told : (form : Form) (count i j : ℕ) → MayHave form count → i < count → j < count
-    → (takes_at_end_as form ≡ true → i ≡ j) → base_of_form form ≤ entry_of i → base_of_form form ≤ entry_of j
-    → step_as form i ≡ step_as form j → i ≡ j
-step_told as_struct count i j may h g alone a b e = cc
-step_told as_array count i j may h g alone a b e = cc
-step_told (as_variant k) count i j may h g alone a b e = cc
-step_told as_some count i j may h g alone a b e = omega arith
-step_told as_ok count i j may h g alone a b e = omega arith
-step_told as_err count i j may h g alone a b e = omega arith
-step_told as_pointer count i j may h g alone a b e = omega arith
-step_told as_list count i j may h g alone a b e = cc
-step_told as_slice count i j may h g alone a b e = cc
-step_told as_closed_slice count i j may h g alone a b e = cc
-step_told as_set count i j may h g alone a b e = alone refl
-step_told as_dyn_array count i j may h g alone a b e = alone refl
-step_told (as_dyn_object keys) count i j may h g alone a b e = alone refl
-step_told (as_map base) count i j may h g alone a b e = go (is_key i) (is_key j) refl refl e
-  where
-    go : (one other : Bool) → is_key i ≡ one → is_key j ≡ other
-        → ◌≡◌ {A = PathStep} (if one then PathStep.MapKey (entry_of i - base) else PathStep.MapValue (entry_of i - base))
-        (if other then PathStep.MapKey (entry_of j - base) else PathStep.MapValue (entry_of j - base)) → i ≡ j
-    go true true p q e =
-        let same : entry_of i - base ≡ entry_of j - base = cc in
-        omega (arith, same, a, b, halves i, halves j, ap odd p, ap odd q)
-    go false false p q e =
-        let same : entry_of i - base ≡ entry_of j - base = cc in
-        omega (arith, same, a, b, halves i, halves j, ap odd p, ap odd q)
-    go true false p q e = absurd (cc)
-    go false true p q e = absurd (cc)
+pub field_less : (i j : ℕ) → i < j → step_order (PathStep.Field i) (PathStep.Field j) ≡ Less
+field_less i j less = ap (λ (o : Ordering). ordering_then o Equal) (number_less i j less)
 
-field_less : (i j : ℕ) → i < j → step_order (PathStep.Field i) (PathStep.Field j) ≡ Less
-field_less i j less = ap (λ (o : Ordering). ordering_then o Equal) (nat_less i j less)
+pub index_less : (i j : ℕ) → i < j → step_order (PathStep.Index i) (PathStep.Index j) ≡ Less
+index_less i j less = ap (λ (o : Ordering). ordering_then o Equal) (number_less i j less)
 
-index_less : (i j : ℕ) → i < j → step_order (PathStep.Index i) (PathStep.Index j) ≡ Less
-index_less i j less = ap (λ (o : Ordering). ordering_then o Equal) (nat_less i j less)
+pub key_less : (i j : ℕ) → i < j → step_order (PathStep.MapKey i) (PathStep.MapKey j) ≡ Less
+key_less i j less = ap (λ (o : Ordering). ordering_then o Equal) (number_less i j less)
 
-key_less : (i j : ℕ) → i < j → step_order (PathStep.MapKey i) (PathStep.MapKey j) ≡ Less
-key_less i j less = ap (λ (o : Ordering). ordering_then o Equal) (nat_less i j less)
+pub value_less : (i j : ℕ) → i < j → step_order (PathStep.MapValue i) (PathStep.MapValue j) ≡ Less
+value_less i j less = ap (λ (o : Ordering). ordering_then o Equal) (number_less i j less)
 
-value_less : (i j : ℕ) → i < j → step_order (PathStep.MapValue i) (PathStep.MapValue j) ≡ Less
-value_less i j less = ap (λ (o : Ordering). ordering_then o Equal) (nat_less i j less)
-
--- and where two come in the walk
+-- where the steps to two children in slots come in the walk
 step_less : (form : Form) (count i j : ℕ) → MayHave form count → i < count → j < count
     → (takes_at_end_as form ≡ true → i ≡ j) → base_of_form form ≤ entry_of i → base_of_form form ≤ entry_of j
     → IsAfter form i j → step_order (step_as form j) (step_as form i) ≡ Less
 step_less as_struct count i j may h g alone a b after = field_less j i after
-step_less as_array count i j may h g alone a b after = index_less j i after
 step_less (as_variant k) count i j may h g alone a b after = field_less j i after
 step_less as_some count i j may h g alone a b after = absurd (omega arith)
 step_less as_ok count i j may h g alone a b after = absurd (omega arith)
 step_less as_err count i j may h g alone a b after = absurd (omega arith)
 step_less as_pointer count i j may h g alone a b after = absurd (omega arith)
-step_less as_list count i j may h g alone a b after = index_less j i after
-step_less as_slice count i j may h g alone a b after = index_less j i after
-step_less as_closed_slice count i j may h g alone a b after = index_less j i after
 step_less as_set count i j may h g alone a b after = absurd (omega (arith, alone refl))
 step_less as_dyn_array count i j may h g alone a b after = absurd (omega (arith, alone refl))
 step_less (as_dyn_object keys) count i j may h g alone a b after = absurd (omega (arith, alone refl))
@@ -219,6 +158,7 @@ step_less (as_map base) count i j may h g alone a b after = go (is_key i) (is_ke
         value_less (entry_of j - base) (entry_of i - base) (omega (arith, a, b, later, halves i, halves j, ap odd p, ap odd q))
     go false true p q later = refl
     go true false p q later = absurd later
+step_less _ count i j may h g alone a b after = index_less j i after
 
 -- Places.
 
@@ -248,43 +188,10 @@ module _ (plan : Plan) (heap : Heap) where
         one_open slot stored form kids i j by here (unstored_item form i (kid_nth i kids) takes left_i) beside
         (unstored_item form j (kid_nth j kids) takes left_j)
 
-    told_child : step_as form i ≡ step_as form j → i ≡ j
-    told_child =
-        step_told form (count_kids kids) i j may h g alone (past_base form i (kid_nth i kids) here left_i)
-        (past_base form j (kid_nth j kids) beside left_j)
-
     later_child : IsAfter form i j → step_order (step_as form j) (step_as form i) ≡ Less
     later_child =
         step_less form (count_kids kids) i j may h g alone (past_base form i (kid_nth i kids) here left_i)
         (past_base form j (kid_nth j kids) beside left_j)
-
-  -- the steps to places in slots tell these
-  pub same_steps : (node : NodeId) (owner : FrameOwner) (depth : ℕ) (p q : Place) (k : Kid) → Holds plan heap node owner depth k
-      → AreLeftRightly k → IsByTheWay k → Reaches p k → IsHere (kid_at p k) → Reaches q k → IsHere (kid_at q k)
-      → steps_in p (tree_of k) ≡ steps_in q (tree_of k) → p ≡ q
-  same_steps node owner depth [] [] k holds left by reach here other beside e = refl
-  same_steps node owner depth [] (j ∷ q) k holds left by reach here other beside e = absurd (cc)
-  same_steps node owner depth (i ∷ p) [] k holds left by reach here other beside e = absurd (cc)
-  same_steps node owner depth (i ∷ p) (j ∷ q) (at slot stored (begun_plot form kids)) holds left by reach here other beside e =
-      let heads : step_as form i ≡ step_as form j = cc in
-      let tails : steps_in p (tree_nth i (trees_in kids)) ≡ steps_in q (tree_nth j (trees_in kids)) = cc in
-      let same : i ≡ j
-      = told_child node owner depth slot stored form kids holds left by i j reach.0 other.0
-      (here_first p (kid_nth i kids) reach.1 here) (here_first q (kid_nth j kids) other.1 beside) heads in
-      let rest : p ≡ q
-      = same_steps (child_node plan node form i) (child_owner slot i) (suc depth) p q (kid_nth i kids)
-      (holds_nth plan heap node slot form 0 (suc depth) kids i i (omega arith) reach.0 holds.2)
-      (left_nth form 0 i i kids (omega arith) left) (by_child slot stored form kids i by) reach.1 here
-      (subst (λ (n : ℕ). Reaches q (kid_nth n kids)) (sym same) other.1)
-      (subst (λ (n : ℕ). IsHere (kid_at q (kid_nth n kids))) (sym same) beside)
-      (ap (steps_in p) (tree_of_nth i kids) ∙ tails
-      ∙ ap (λ (n : ℕ). steps_in q (tree_nth n (trees_in kids))) (sym same)
-      ∙ sym (ap (steps_in q) (tree_of_nth i kids))) in
-      ap (λ (n : ℕ). n ∷ p) same ∙ ap (λ (l : Place). j ∷ l) rest
-  same_steps node owner depth (i ∷ p) (j ∷ q) (at slot stored entered_plot) holds left by reach here other beside e = absurd reach
-  same_steps node owner depth (i ∷ p) (j ∷ q) (at slot stored (whole_plot v)) holds left by reach here other beside e = absurd reach
-  same_steps node owner depth (i ∷ p) (j ∷ q) gone holds left by reach here other beside e = absurd reach
-  same_steps node owner depth (i ∷ p) (j ∷ q) (there v) holds left by reach here other beside e = absurd reach
 
   -- of two ways of one length that which is above comes later in the walk
   pub steps_less : (node : NodeId) (owner : FrameOwner) (depth : ℕ) (p q : Place) (k : Kid) → Holds plan heap node owner depth k
@@ -310,28 +217,12 @@ module _ (plan : Plan) (heap : Heap) where
       (left_nth form 0 i i kids (omega arith) left) (by_child slot stored form kids i by) reach.1 here
       (subst (λ (n : ℕ). Reaches q (kid_nth n kids)) (sym rest.0) other.1)
       (subst (λ (n : ℕ). IsHere (kid_at q (kid_nth n kids))) (sym rest.0) beside) rest.1
-  steps_less node owner depth (i ∷ p) (j ∷ q) (at slot stored entered_plot) holds left by reach here other beside above = absurd reach
-  steps_less node owner depth (i ∷ p) (j ∷ q) (at slot stored (whole_plot v)) holds left by reach here other beside above = absurd reach
-  steps_less node owner depth (i ∷ p) (j ∷ q) gone holds left by reach here other beside above = absurd reach
-  steps_less node owner depth (i ∷ p) (j ∷ q) (there v) holds left by reach here other beside above = absurd reach
+  steps_less node owner depth (i ∷ p) (j ∷ q) _ holds left by reach here other beside above = absurd reach
 
 -- Order.
 
 -- children of one place are told by where they come, and come so, as long as their numbers fit
 pub order_told : (form : Form) (i j : ℕ) → i < 4294967296 → j < 4294967296 → order_as form i ≡ order_as form j → i ≡ j
-order_told as_struct i j h g e = e
-order_told as_array i j h g e = e
-order_told (as_variant k) i j h g e = e
-order_told as_some i j h g e = e
-order_told as_ok i j h g e = e
-order_told as_err i j h g e = e
-order_told as_pointer i j h g e = e
-order_told as_list i j h g e = e
-order_told as_slice i j h g e = e
-order_told as_closed_slice i j h g e = e
-order_told as_set i j h g e = e
-order_told as_dyn_array i j h g e = e
-order_told (as_dyn_object keys) i j h g e = e
 order_told (as_map base) i j h g e = go (is_key i) (is_key j) refl refl e
   where
     go : (one other : Bool) → is_key i ≡ one → is_key j ≡ other
@@ -340,21 +231,9 @@ order_told (as_map base) i j h g e = go (is_key i) (is_key j) refl refl e
     go false false p q e = omega (arith, e, halves i, halves j, ap odd p, ap odd q)
     go true false p q e = absurd (omega (arith, e, h, g, halves i, halves j, ap odd p, ap odd q))
     go false true p q e = absurd (omega (arith, e, h, g, halves i, halves j, ap odd p, ap odd q))
+order_told _ i j h g e = e
 
 pub order_later : (form : Form) (i j : ℕ) → i < 4294967296 → j < 4294967296 → order_as form j < order_as form i → IsAfter form i j
-order_later as_struct i j h g e = e
-order_later as_array i j h g e = e
-order_later (as_variant k) i j h g e = e
-order_later as_some i j h g e = e
-order_later as_ok i j h g e = e
-order_later as_err i j h g e = e
-order_later as_pointer i j h g e = e
-order_later as_list i j h g e = e
-order_later as_slice i j h g e = e
-order_later as_closed_slice i j h g e = e
-order_later as_set i j h g e = e
-order_later as_dyn_array i j h g e = e
-order_later (as_dyn_object keys) i j h g e = e
 order_later (as_map base) i j h g e = go (is_key i) (is_key j) refl refl e
   where
     go : (one other : Bool) → is_key i ≡ one → is_key j ≡ other
@@ -364,41 +243,17 @@ order_later (as_map base) i j h g e = go (is_key i) (is_key j) refl refl e
     go false false p q e = omega (arith, e, halves i, halves j, ap odd p, ap odd q)
     go false true p q e = tt
     go true false p q e = absurd (omega (arith, e, h, g, halves i, halves j, ap odd p, ap odd q))
+order_later _ i j h g e = e
 
 pub order_small : (form : Form) (i : ℕ) → i < 4294967296 → order_as form i < 4294967296
-order_small as_struct i h = h
-order_small as_array i h = h
-order_small (as_variant k) i h = h
-order_small as_some i h = h
-order_small as_ok i h = h
-order_small as_err i h = h
-order_small as_pointer i h = h
-order_small as_list i h = h
-order_small as_slice i h = h
-order_small as_closed_slice i h = h
-order_small as_set i h = h
-order_small as_dyn_array i h = h
-order_small (as_dyn_object keys) i h = h
 order_small (as_map base) i h = go (is_key i) refl
   where
     go : (one : Bool) → is_key i ≡ one → (if one then entry_of i else entry_of i + 2147483648) < 4294967296
     go true p = omega (arith, h, halves i, ap odd p)
     go false p = omega (arith, h, halves i, ap odd p)
+order_small _ i h = h
 
 pub after_differs : (form : Form) (i j : ℕ) → IsAfter form i j → i ≢ j
-after_differs as_struct i j after e = omega (arith, after, e)
-after_differs as_array i j after e = omega (arith, after, e)
-after_differs (as_variant k) i j after e = omega (arith, after, e)
-after_differs as_some i j after e = omega (arith, after, e)
-after_differs as_ok i j after e = omega (arith, after, e)
-after_differs as_err i j after e = omega (arith, after, e)
-after_differs as_pointer i j after e = omega (arith, after, e)
-after_differs as_list i j after e = omega (arith, after, e)
-after_differs as_slice i j after e = omega (arith, after, e)
-after_differs as_closed_slice i j after e = omega (arith, after, e)
-after_differs as_set i j after e = omega (arith, after, e)
-after_differs as_dyn_array i j after e = omega (arith, after, e)
-after_differs (as_dyn_object keys) i j after e = omega (arith, after, e)
 after_differs (as_map base) i j after e = go (is_key i) (is_key j) (ap is_key e) after
   where
     go : (one other : Bool) → one ≡ other → IsLater one other i j → ⊥
@@ -406,3 +261,4 @@ after_differs (as_map base) i j after e = go (is_key i) (is_key j) (ap is_key e)
     go false false same later = omega (arith, later, e)
     go true false same later = later
     go false true same later = cc
+after_differs _ i j after e = omega (arith, after, e)

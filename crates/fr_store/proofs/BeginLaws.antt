@@ -5,7 +5,7 @@ use Rattle.fr_shape.specs.Tokens.{occurs, vals_occur, entries_occur}
 use Rattle.fr_shape.specs.Val.{Val, Vals, no_vals, first, Entries, no_entries, entry, product, list_of, set_of, map_of}
 use Rattle.fr_model.specs.Places.{Place, items_of, parts_of, set_items_of, entries_of, in_turn, entry_of, base_in, count_entries}
 use Rattle.fr_model.specs.Step.{opened_as, opened_value, parts_as}
-use Rattle.fr_model.specs.Tree.{Form, as_struct, as_array, as_variant, as_some, as_ok, as_err, as_pointer, as_list, as_slice, as_closed_slice, as_set, as_map, as_dyn_array, as_dyn_object, base_of_form, over_base, Tree, Trees, begun, branch, hole, whole, holes, wholes, change_at}
+use Rattle.fr_model.specs.Tree.{Form, as_struct, as_array, as_some, as_ok, as_err, as_pointer, as_list, as_set, as_map, base_of_form, over_base, Tree, Trees, begun, branch, hole, whole, holes, wholes, change_at}
 use Rattle.fr_plan.specs.TypePlan.{Plan}
 use Rattle.fr_frame.specs.declared.places.Slot.{Slot}
 use Rattle.fr_frame.specs.Bodies.{begun_body, opened, opened_by, cells_of_vals, IsClosed, AreUnplaced}
@@ -18,11 +18,11 @@ use Rattle.fr_store.specs.MoveLaws.{open_reach, open_top, top_changed, top_stand
 use Rattle.fr_store.specs.Moves.{IsOpenAt, TakesMany, cursor_in, tree_in_slots}
 use Rattle.fr_store.specs.Numbers.{IsLast}
 use Rattle.fr_store.specs.Stands.{IsOpen, kid_here, kid_shown}
-use Rattle.fr_store.specs.StayLaws.{stay_all, stay_shown}
 use Rattle.fr_store.specs.Staying.{AllStayPut}
 use Rattle.fr_store.specs.TopLaws.{MayHaveIts, keeps_closed, keeps_same, KeepsChildren, LosesNone}
 use Rattle.fr_store.specs.Ways.{put_at}
 use Rattle.fr_store.specs.WayLaws.{tree_put_at, tree_change_at, tree_of_at}
+use Rattle.fr_store.proofs.StayLaws.{stay_all, stay_shown}
 
 abbrev pub gones : ℕ → Kids
 gones zero = no_kids
@@ -84,36 +84,15 @@ theres_unplaced no_vals = tt
 theres_unplaced (first v vs) = (tt, theres_unplaced vs)
 
 many_have : (form : Form) (count : ℕ) → TakesMany form → MayHave form count
-many_have as_struct count many = tt
-many_have as_array count many = tt
-many_have (as_variant k) count many = tt
 many_have as_some count many = absurd many
 many_have as_ok count many = absurd many
 many_have as_err count many = absurd many
 many_have as_pointer count many = absurd many
-many_have as_list count many = tt
-many_have as_slice count many = tt
-many_have as_closed_slice count many = tt
-many_have as_set count many = tt
-many_have (as_map base) count many = tt
-many_have as_dyn_array count many = tt
-many_have (as_dyn_object keys) count many = tt
+many_have _ count many = tt
 
 over_many : (form : Form) (v : Val) → TakesMany form → TakesMany (over_base form v)
-over_many as_struct v many = many
-over_many as_array v many = many
-over_many (as_variant k) v many = many
-over_many as_some v many = many
-over_many as_ok v many = many
-over_many as_err v many = many
-over_many as_pointer v many = many
-over_many as_list v many = many
-over_many as_slice v many = many
-over_many as_closed_slice v many = many
-over_many as_set v many = many
 over_many (as_map base) v many = tt
-over_many as_dyn_array v many = many
-over_many (as_dyn_object keys) v many = many
+over_many _ v many = many
 
 pub gones_left : (form : Form) (i count : ℕ) → base_of_form form ≡ 0 → AreLeftAll form i (gones count)
 gones_left form i zero none = no_base form i none
@@ -143,19 +122,7 @@ entries_base _ vs e = absurd (cc)
 over_base_past : (form : Form) (v : Val) (vs : Vals) → parts_as form v ≡ Some vs
     → base_of_form (over_base form v) ≤ entry_of (count_vals vs)
 over_base_past (as_map base) v vs e = entries_base v vs e
-over_base_past as_struct v vs e = omega arith
-over_base_past as_array v vs e = omega arith
-over_base_past (as_variant k) v vs e = omega arith
-over_base_past as_some v vs e = omega arith
-over_base_past as_ok v vs e = omega arith
-over_base_past as_err v vs e = omega arith
-over_base_past as_pointer v vs e = omega arith
-over_base_past as_list v vs e = omega arith
-over_base_past as_slice v vs e = omega arith
-over_base_past as_closed_slice v vs e = omega arith
-over_base_past as_set v vs e = omega arith
-over_base_past as_dyn_array v vs e = omega arith
-over_base_past (as_dyn_object keys) v vs e = omega arith
+over_base_past _ v vs e = omega arith
 
 opened_keeps : (form : Form) (count : ℕ) (plot : Plot) → TakesMany form → base_of_form form ≡ 0
     → KeepsChildren plot (opened_plot form count plot)
@@ -181,8 +148,7 @@ opened_keeps form count (begun_plot made kids) many none = keeps_same (begun_plo
 
 opened_loses : (form : Form) (count : ℕ) (plot : Plot) → LosesNone plot (opened_plot form count plot)
 opened_loses form count entered_plot n = omega arith
-opened_loses form count (whole_plot v) n = omega arith
-opened_loses form count (begun_plot made kids) n = omega arith
+opened_loses form count _ n = omega arith
 
 pub gones_tokens : (count t : ℕ) → kids_occur (gones count) t ≡ 0
 gones_tokens zero t = refl
@@ -216,17 +182,9 @@ whole_tokens : (form : Form) (v : Val) (t : ℕ) → plot_occurs (opened_whole f
 whole_tokens as_struct v t = parts_tokens as_struct v t
 whole_tokens as_array v t = parts_tokens as_array v t
 whole_tokens as_list v t = items_tokens as_list v t
-whole_tokens (as_variant k) v t = refl
-whole_tokens as_some v t = refl
-whole_tokens as_ok v t = refl
-whole_tokens as_err v t = refl
-whole_tokens as_pointer v t = refl
-whole_tokens as_slice v t = refl
-whole_tokens as_closed_slice v t = refl
 whole_tokens as_set v t = set_items_tokens as_set v t
 whole_tokens (as_map base) v t = entries_tokens (as_map base) v t
-whole_tokens as_dyn_array v t = refl
-whole_tokens (as_dyn_object keys) v t = refl
+whole_tokens _ v t = refl
 
 opened_tokens : (form : Form) (count : ℕ) (plot : Plot) (t : ℕ) → plot_occurs (opened_plot form count plot) t ≡ plot_occurs plot t
 opened_tokens form count entered_plot t = gones_tokens count t

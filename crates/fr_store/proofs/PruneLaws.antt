@@ -107,8 +107,7 @@ beneath_is heap n rooted = go (one_level depth_limit 0 (omega arith) (omega (ari
 
 pub plot_uses : (plot : Plot) (m : ℕ) → uses_in plot m ≡ uses_among (kids_in_plot plot) m
 plot_uses entered_plot m = refl
-plot_uses (whole_plot v) m = refl
-plot_uses (begun_plot form kids) m = refl
+plot_uses _ m = refl
 
 pub plot_marked : (plot : Plot) → AllMarkedIn true plot → AllMarkedAmong true (kids_in_plot plot)
 plot_marked entered_plot all = tt
@@ -117,8 +116,7 @@ plot_marked (begun_plot form kids) all = all
 
 pub plot_cells : (plot : Plot) → cells_in_body (body_in plot) ≡ cells_in (kids_in_plot plot)
 plot_cells entered_plot = refl
-plot_cells (whole_plot v) = refl
-plot_cells (begun_plot form kids) = refl
+plot_cells _ = refl
 
 pub kids_tokens : (ks : Kids) (t : ℕ) → kids_occur ks t ≡ slotted_occur ks t + cells_occur (cells_in ks) t
 kids_tokens no_kids t = omega arith
@@ -273,11 +271,6 @@ emptied_unplaced [] = tt
 emptied_unplaced (absent ∷ cs) = (tt, emptied_unplaced cs)
 emptied_unplaced (given v ∷ cs) = (tt, emptied_unplaced cs)
 emptied_unplaced (placed n ∷ cs) = (tt, emptied_unplaced cs)
-
-pub pruned_closed : (body : Body) → IsClosed (pruned body)
-pruned_closed entered_body = tt
-pruned_closed (whole_body v) = tt
-pruned_closed (begun_body form cells) = emptied_unplaced cells
 
 -- The child of a number.
 

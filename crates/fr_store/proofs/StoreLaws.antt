@@ -17,11 +17,11 @@ use Rattle.fr_store.specs.Moves.{IsOpenAt, cursor_in, tree_in_slots, takes_at_en
 use Rattle.fr_store.specs.Numbers.{IsLast}
 use Rattle.fr_store.specs.StandLaws.{all_kept, stands_change, AllServe}
 use Rattle.fr_store.specs.Stands.{Stands, IsOpen, kid_here, kid_shown}
-use Rattle.fr_store.specs.StayLaws.{stay_all, stay_marked, stay_shown}
 use Rattle.fr_store.specs.Staying.{AllStayPut}
 use Rattle.fr_store.specs.TopLaws.{slot_here, slot_other, top_uses, used_mapped, Top, top_of}
 use Rattle.fr_store.specs.Ways.{count_kids, kid_nth, kid_at, put_nth, put_at, slots_above, counts_if, uses, uses_in, uses_among, AllMarked, AllMarkedAmong, StoredBut, Leads, Reaches}
 use Rattle.fr_store.specs.WayLaws.{counts_same, leads_reach, leads_at, occurs_put_at, tree_of_at, uses_at, uses_nth, uses_put_nth}
+use Rattle.fr_store.proofs.StayLaws.{stay_all, stay_marked, stay_shown}
 
 -- A part with the same tree.
 
@@ -33,13 +33,10 @@ trees_kept (suc i) new (kid k ks) same = ap (λ (ts : Trees). branch (tree_of k)
 pub tree_kept : (place : Place) (new k : Kid) → tree_of new ≡ tree_of (kid_at place k)
     → tree_of (put_at place new k) ≡ tree_of k
 tree_kept [] new k same = same
-tree_kept (i ∷ place) new gone same = refl
-tree_kept (i ∷ place) new (there v) same = refl
-tree_kept (i ∷ place) new (at slot stored entered_plot) same = refl
-tree_kept (i ∷ place) new (at slot stored (whole_plot v)) same = refl
 tree_kept (i ∷ place) new (at slot stored (begun_plot form kids)) same =
     ap (λ (ts : Trees). begun form ts)
     (trees_kept i (put_at place new (kid_nth i kids)) kids (tree_kept place new (kid_nth i kids) same))
+tree_kept (i ∷ place) new _ same = refl
 
 -- all are stored where the one is that wasn't
 pub all_stored : (i : ℕ) (Below : Kid → Type 0) (new : Kid) (ks : Kids) → StoredBut i Below ks → AllMarked true new

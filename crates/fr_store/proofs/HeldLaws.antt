@@ -11,41 +11,33 @@ use Rattle.fr_shape.specs.Hooks.{Meanings}
 use Rattle.fr_shape.specs.Look.{Table}
 use Rattle.fr_model.specs.Complete.{missing_value}
 use Rattle.fr_model.specs.Failing.{Failure, first_by_walk, own_lack}
-use Rattle.fr_model.specs.FailingLaws.{FailuresLieThere, FinishesOrRefuses, FirstByWalkIs, IsHalfDone, IsOrAfter, LackingFails, LiesThere}
+use Rattle.fr_model.specs.FailingLaws.{EachFailureHasItsPlace, FailsOff, FinishesOrRefuses, FirstByWalkIs, IsHalfDone, IsOrAfter, LackingFails}
 use Rattle.fr_model.specs.Finish.{failures_off, finish_cause, finished, kind_of, refusal_or}
 use Rattle.fr_model.specs.Finishing.{IsOffTheWay}
 use Rattle.fr_model.specs.Paths.{steps_in}
 use Rattle.fr_model.specs.Places.{Place}
 use Rattle.fr_model.specs.Relation.{HasPlace}
-use Rattle.fr_model.specs.Tree.{strict, deferred, Tree, Trees, no_trees, branch, tree_at, count_trees, shape_in}
-use Rattle.fr_model.specs.Well.{AllOff, AtCursor, IsTouched, OffBut, Leads as LeadsIn}
+use Rattle.fr_model.specs.Tree.{strict, deferred, Tree, Trees, no_trees, branch, tree_at, shape_in}
+use Rattle.fr_model.specs.Well.{AllOff, AtCursor, OffBut, Leads as LeadsIn}
 use Rattle.fr_frame.specs.Bodies.{IsClosed, AreUnplaced}
 use Rattle.fr_frame.specs.Kids.{Kid, gone, there, at, Plot, entered_plot, whole_plot, begun_plot, Kids, no_kids, kid, tree_of, tree_in, trees_in, cells_in, body_in}
-use Rattle.fr_store.specs.FailLaws.{TellsLack, tells_off}
-use Rattle.fr_store.specs.HeadLaws.{Head, later, head_closed}
 use Rattle.fr_store.specs.OffLaws.{marked_off, off_stored, reach_place}
-use Rattle.fr_store.specs.Places.{IsHere}
 use Rattle.fr_store.specs.Walks.{IsStoredAt, ComesBefore, IsWalk}
 use Rattle.fr_store.specs.Ways.{count_kids, kid_nth, kid_at, AllMarked, AllMarkedIn, AllMarkedAmong, StoredBut, NoneStored, Leads, Reaches}
-use Rattle.fr_store.specs.WayLaws.{tree_of_at, tree_of_nth}
+use Rattle.fr_store.specs.WayLaws.{tree_of_at, tree_of_nth, count_in}
+use Rattle.fr_store.proofs.HeadLaws.{Head, later, head_closed}
+use Rattle.fr_store.proofs.PathOrder.{first_front}
 
 -- Half done places.
-
-count_in : (ks : Kids) → count_trees (trees_in ks) ≡ count_kids ks
-count_in no_kids = refl
-count_in (kid k ks) = ap suc (count_in ks)
 
 -- a place of the tree is reached
 pub place_reach : (place : Place) (k : Kid) → HasPlace place (tree_of k) → Reaches place k
 place_reach [] k has = tt
-place_reach (i ∷ place) gone has = absurd has
-place_reach (i ∷ place) (there v) has = absurd has
-place_reach (i ∷ place) (at slot stored entered_plot) has = absurd has
-place_reach (i ∷ place) (at slot stored (whole_plot v)) has = absurd has
 place_reach (i ∷ place) (at slot stored (begun_plot form kids)) has = (
   omega (arith, count_in kids, has.0),
   place_reach place (kid_nth i kids) (subst (λ (t : Tree). HasPlace place t) (sym (tree_of_nth i kids)) has.1),
 )
+place_reach (i ∷ place) _ has = absurd has
 
 -- off the way it is stored
 half_stored : (cursor place : Place) (k : Kid) → Leads cursor k → IsOffTheWay cursor place → HasPlace place (tree_of k)
@@ -179,30 +171,20 @@ mutual
     no_marks_among ks (λ i slot place h stored. none (suc i) slot place (omega arith) stored),
   )
 
--- what lacks something by itself and is no hole is in a slot
-lacking_here : (hooks : Meanings) (table : Table) (s : ℕ) (k : Kid) (kind : ReflectErrorKind) → IsTouched (tree_of k)
-    → own_lack hooks table s (tree_of k) ≡ Some kind → IsHere k
-lacking_here hooks table s gone kind touched lacks = absurd touched
-lacking_here hooks table s (there v) kind touched lacks = absurd (cc)
-lacking_here hooks table s (at slot stored plot) kind touched lacks = tt
-
 -- The first place of a walk, where it lacks something by itself.
-module _ (hooks : Meanings) (table : Table) (s : ℕ) (k : Kid) (cursor : Place) (leads : Leads cursor k) (n : ℕ) (rest : List ℕ)
-    (walk : IsWalk k (n ∷ rest)) (head : Head k n rest walk.places) (kind : ReflectErrorKind)
-    (lacks : own_lack hooks table (shape_in table s head.place (tree_of k)) (tree_at head.place (tree_of k)) ≡ Some kind)
-    (told_by_steps : (p q : Place) → Reaches p k → IsHere (kid_at p k) → Reaches q k → IsHere (kid_at q k)
-    → steps_in p (tree_of k) ≡ steps_in q (tree_of k) → p ≡ q) where
-  first_failure : Failure
-  first_failure = record { path = [] ++ steps_in head.place (tree_of k); kind = kind }
+module _ (hooks : Meanings) (table : Table) (s : ℕ) (path : List PathStep) (k : Kid) (cursor : Place) (leads : Leads cursor k)
+    (n : ℕ) (rest : List ℕ) (walk : IsWalk k (n ∷ rest)) (head : Head k n rest walk.places) (kind : ReflectErrorKind)
+    (lacks : own_lack hooks table (shape_in table s head.place (tree_of k)) (tree_at head.place (tree_of k)) ≡ Some kind) where
+  abbrev first_failure : Failure
+  first_failure = record { path = path ++ steps_in head.place (tree_of k); kind = kind }
 
   tree_there : tree_at head.place (tree_of k) ≡ tree_in head.stored.plot
   tree_there = sym (tree_of_at head.place k) ∙ ap tree_of head.stored.is
 
   -- it fails
-  fails : LackingFails → Contains (failures_off hooks table s [] cursor (tree_of k)) first_failure
-  unfolding first_failure
+  fails : LackingFails → Contains (failures_off hooks table s path cursor (tree_of k)) first_failure
   fails lacking =
-      lacking hooks table s [] (deferred 0) cursor head.place (tree_of k) kind (leads_deferred 0 cursor k leads)
+      lacking hooks table s path (deferred 0) cursor head.place (tree_of k) kind (leads_deferred 0 cursor k leads)
       (reach_place head.place k head.stored.reaches)
       (off_stored cursor head.place k n head.stored.plot leads head.stored.is)
       (subst IsHalfDone (sym tree_there)
@@ -213,55 +195,41 @@ module _ (hooks : Meanings) (table : Table) (s : ℕ) (k : Kid) (cursor : Place)
       lacks
 
   -- every other failure comes after it
-  others : FailuresLieThere → (other : Failure) → Contains (failures_off hooks table s [] cursor (tree_of k)) other
+  others : EachFailureHasItsPlace → (other : Failure) → Contains (failures_off hooks table s path cursor (tree_of k)) other
       → IsOrAfter first_failure other
-  unfolding first_failure
-  others lie other found =
-      go (later k n rest walk head stored.0 lies.here stored.1)
+  others each other found =
+      go (later k n rest walk head stored.0 told.fails.here stored.1)
     where
-      lies : LiesThere [] cursor (tree_of k) other
-      lies = lie hooks table s [] cursor (tree_of k) other found
+      told : FailsOff hooks table s path cursor (tree_of k) other
+      told = each hooks table s path cursor (tree_of k) other found
 
-      stored : (slot : ℕ) × IsStoredAt k slot lies.here
-      stored = half_stored cursor lies.here k leads lies.off lies.place lies.half
+      stored : (slot : ℕ) × IsStoredAt k slot told.fails.here
+      stored = half_stored cursor told.fails.here k leads told.off told.fails.place told.fails.half
 
-      told : TellsLack hooks table s [] (tree_of k) other
-      told = tells_off hooks table s [] cursor (tree_of k) other found
-
-      same_place : told.here ≡ lies.here
-      same_place =
-          told_by_steps told.here lies.here (place_reach told.here k told.place)
-          (lacking_here hooks table (shape_in table s told.here (tree_of k)) (kid_at told.here k) other.kind
-          (subst IsTouched (sym (tree_of_at told.here k)) told.touched)
-          (ap (own_lack hooks table (shape_in table s told.here (tree_of k))) (tree_of_at told.here k) ∙ told.lacks))
-          (place_reach lies.here k lies.place) (subst IsHere (sym stored.1.is) tt) (sym told.path_is ∙ lies.at)
-
-      go : (head.place ≡ lies.here) ⊎ Contains head.places lies.here → IsOrAfter first_failure other
+      go : (head.place ≡ told.fails.here) ⊎ Contains head.places told.fails.here → IsOrAfter first_failure other
       go (inl e) =
-          let there : told.here ≡ head.place = same_place ∙ sym e in
           let own : own_lack hooks table (shape_in table s head.place (tree_of k)) (tree_at head.place (tree_of k))
           ≡ Some other.kind
           = subst
           (λ (p : Place). own_lack hooks table (shape_in table s p (tree_of k)) (tree_at p (tree_of k)) ≡ Some other.kind)
-          there told.lacks in
+          (sym e) told.fails.lacks in
           let both : Some other.kind ≡ Some kind = sym own ∙ lacks in
           let same : other.kind ≡ kind = cc in
           inl
-          (ap (λ (path : List PathStep). record { path = path; kind = other.kind })
-          (told.path_is ∙ ap (λ (p : Place). [] ++ steps_in p (tree_of k)) there)
-          ∙ ap (λ (x : ReflectErrorKind). record { path = [] ++ steps_in head.place (tree_of k); kind = x }) same)
+          (ap (λ (to : List PathStep). record { path = to; kind = other.kind })
+          (told.fails.at ∙ ap (λ (p : Place). path ++ steps_in p (tree_of k)) (sym e))
+          ∙ ap (λ (x : ReflectErrorKind). record { path = path ++ steps_in head.place (tree_of k); kind = x }) same)
       go (inr found) =
           inr
-          (ap (walk_order (steps_in head.place (tree_of k))) lies.at
-          ∙ All-contains (λ (other : Place). ComesBefore (tree_of k) head.place other) head.places lies.here head.before
-          found)
+          (ap (walk_order (path ++ steps_in head.place (tree_of k))) told.fails.at
+          ∙ first_front path (steps_in head.place (tree_of k)) (steps_in told.fails.here (tree_of k))
+          ∙ All-contains (λ (p : Place). ComesBefore (tree_of k) head.place p) head.places told.fails.here head.before found)
 
-  pub first_fails : FailuresLieThere → LackingFails → FirstByWalkIs
-      → kind_of (first_by_walk (failures_off hooks table s [] cursor (tree_of k))) ≡ Some kind
-  unfolding first_failure
-  first_fails lie lacking first =
-      ap kind_of
-      (first (failures_off hooks table s [] cursor (tree_of k)) first_failure (fails lacking) (others lie))
+  pub first_fails : EachFailureHasItsPlace → LackingFails → FirstByWalkIs
+      → first_by_walk (failures_off hooks table s path cursor (tree_of k))
+      ≡ Some (record { path = path ++ steps_in head.place (tree_of k); kind = kind })
+  first_fails each lacking first =
+      first (failures_off hooks table s path cursor (tree_of k)) first_failure (fails lacking) (others each)
 
 none_of : {X : Type 0} (x : Option X) → is_none x ≡ true → x ≡ None
 none_of (Some x) e = absurd (cc)
