@@ -1,5 +1,5 @@
 -- The place above the one at which a builder works: whether it is a set, by the slot that the place on top knows as its owner's.
-use Rattle.std.proofs.Common.{◌≡◌, ◌+◌, ℕ, length, false, List, [], ◌∷◌, ◌++◌, Some, None, option_map, refl, sym, ◌∙◌, ap, subst}
+use Rattle.std.proofs.Common.{◌≡◌, ◌+◌, ℕ, length, Bool, false, List, [], ◌∷◌, ◌++◌, Some, None, option_map, refl, sym, ◌∙◌, ap, subst}
 use Rattle.fr_model.specs.Collections.{is_set}
 use Rattle.fr_model.specs.DynamicPlaces.{is_begun_dynamic}
 use Rattle.fr_model.specs.Places.{Place, is_root, up}
@@ -7,8 +7,9 @@ use Rattle.fr_model.specs.Tree.{Form, Tree, begun, Trees, tree_at}
 use Rattle.fr_plan.specs.TypePlan.{Plan}
 use Rattle.fr_frame.specs.declared.places.FrameOwner.{FrameOwner}
 use Rattle.fr_frame.specs.declared.places.Place.{Place as Entry}
+use Rattle.fr_frame.specs.declared.places.SlotId.{SlotId}
 use Rattle.fr_frame.specs.declared.places.Slot.{Slot}
-use Rattle.fr_frame.specs.Bodies.{Body, entered_body, whole_body, begun_body, own_tree}
+use Rattle.fr_frame.specs.Bodies.{Body, entered_body, begun_body, own_tree, trees_of}
 use Rattle.fr_frame.specs.Cells.{Cell}
 use Rattle.fr_frame.specs.Heap.{Node, body_of, node_of, heap_of}
 use Rattle.fr_frame.specs.Outlines.{outline, outlined}
@@ -25,23 +26,13 @@ use Rattle.fr_partial.proofs.PlaceLaws.{found_is, Tells}
 
 -- whether a place is a set, or a dynamic value, is told by its outline
 
-set_outlined : (body : Body) → is_set (own_tree (outline body)) ≡ is_set (own_tree body)
+pub set_outlined : (body : Body) → is_set (own_tree (outline body)) ≡ is_set (own_tree body)
 set_outlined entered_body = refl
-set_outlined (whole_body v) = refl
-set_outlined (begun_body form cells) = refl
+set_outlined _ = refl
 
-dynamic_outlined : (body : Body) → is_begun_dynamic (own_tree (outline body)) ≡ is_begun_dynamic (own_tree body)
+pub dynamic_outlined : (body : Body) → is_begun_dynamic (own_tree (outline body)) ≡ is_begun_dynamic (own_tree body)
 dynamic_outlined entered_body = refl
-dynamic_outlined (whole_body v) = refl
-dynamic_outlined (begun_body form cells) = refl
-
-set_by_outline : (one other : Body) → outline one ≡ outline other → is_set (own_tree one) ≡ is_set (own_tree other)
-set_by_outline one other is = sym (set_outlined one) ∙ ap (λ (b : Body). is_set (own_tree b)) is ∙ set_outlined other
-
-dynamic_by_outline : (one other : Body) → outline one ≡ outline other
-    → is_begun_dynamic (own_tree one) ≡ is_begun_dynamic (own_tree other)
-dynamic_by_outline one other is =
-    sym (dynamic_outlined one) ∙ ap (λ (b : Body). is_begun_dynamic (own_tree b)) is ∙ dynamic_outlined other
+dynamic_outlined _ = refl
 
 -- it is begun, and lies in this slot
 pub record IsAbove (slots : List Slot) (owner : FrameOwner) (tree : Tree) : Type 0 where
@@ -56,7 +47,7 @@ pub record IsAbove (slots : List Slot) (owner : FrameOwner) (tree : Tree) : Type
   pub body : node.body ≡ begun_body form cells
   pub stands : tree ≡ begun form trees
 
-module _ (plan : Plan) (slots : List Slot) (stack : List ℕ) (shown : IsOpen plan slots stack) where
+module _ {plan : Plan} {slots : List Slot} {stack : List ℕ} (shown : IsOpen plan slots stack) where
   way : (above : Place) (i : ℕ) → cursor_in slots stack ≡ above ++ i ∷ []
       → IsAbove slots (owner_along FrameOwner.Root (cursor_in slots stack) (kid_shown (heap_of slots) stack))
       (tree_at (up (cursor_in slots stack)) (tree_in_slots slots stack))
@@ -114,43 +105,36 @@ module _ (plan : Plan) (slots : List Slot) (stack : List ℕ) (shown : IsOpen pl
       way last.0 last.1 last.2
 
   -- by the place that is found on top
-  module _ (n : ℕ) (last : IsLast stack n) (place : Entry) (is : Tells slots n place)
-      (below : is_root (cursor_in slots stack) ≡ false) where
-    owner_told : place.owner ≡ child_owner (above_here below).slot (above_here below).number
-    owner_told =
-        ap (λ (found : Node). found.owner) (found_is plan slots stack shown n last place is) ∙ (above_here below).owner_is
+  module _ {n : ℕ} (last : IsLast stack n) (place : Entry) (is : Tells slots n place) (below : is_root (cursor_in slots stack) ≡ false) where
+    above : IsAbove slots (owner_along FrameOwner.Root (cursor_in slots stack) (kid_shown (heap_of slots) stack))
+        (tree_at (up (cursor_in slots stack)) (tree_in_slots slots stack))
+    above = above_here below
+
+    owner_told : place.owner ≡ child_owner above.slot above.number
+    owner_told = ap (λ (found : Node). found.owner) (found_is plan slots stack shown n last place is) ∙ above.owner_is
 
     pub never_root : place.owner ≡ FrameOwner.Root → ⊥
     never_root root = let no = sym root ∙ owner_told in cc
 
-    module _ (parent : _) (i : ℕ) (owned : place.owner ≡ FrameOwner.Child parent i) where
-      slot_is : parent.0 ≡ (above_here below).slot
-      slot_is = let same = sym owned ∙ owner_told in cc
-
-      parent_found : heap_of slots parent.0 ≡ Some (above_here below).node
-      parent_found = ap (heap_of slots) slot_is ∙ (above_here below).found
+    module _ {parent : SlotId} {i : _} (owned : place.owner ≡ FrameOwner.Child parent i) where
+      parent_found : heap_of slots parent.0 ≡ Some above.node
+      parent_found =
+          let same : parent.0 ≡ above.slot = let both = sym owned ∙ owner_told in cc in
+          ap (heap_of slots) same ∙ above.found
 
       pub never_free : None ≡ option_map outlined (heap_of slots parent.0) → ⊥
-      never_free none = let no : None ≡ Some (above_here below).node = sym (no_outline (heap_of slots parent.0) none) ∙ parent_found in cc
+      never_free none = let no : None ≡ Some above.node = sym (no_outline (heap_of slots parent.0) none) ∙ parent_found in cc
 
-      body_told : (above : Entry) → Tells slots parent.0 above
-          → outline (body_of above.piece) ≡ outline (begun_body (above_here below).form (above_here below).cells)
-      body_told above found =
-          ap (λ (x : Node). x.body)
-          (found_outline (node_of above) (heap_of slots parent.0) (above_here below).node found parent_found)
-          ∙ ap outline (above_here below).body
-
-      -- so it is a set, or a dynamic value, as that place tells
-      pub set_told : (above : Entry) → Tells slots parent.0 above
-          → is_set (own_tree (body_of above.piece)) ≡ is_set (tree_at (up (cursor_in slots stack)) (tree_in_slots slots stack))
-      set_told above found =
-          set_by_outline (body_of above.piece) (begun_body (above_here below).form (above_here below).cells) (body_told above found)
-          ∙ sym (ap is_set (above_here below).stands)
-
-      pub dynamic_told : (above : Entry) → Tells slots parent.0 above
-          → is_begun_dynamic (own_tree (body_of above.piece))
-          ≡ is_begun_dynamic (tree_at (up (cursor_in slots stack)) (tree_in_slots slots stack))
-      dynamic_told above found =
-          dynamic_by_outline (body_of above.piece) (begun_body (above_here below).form (above_here below).cells)
-          (body_told above found)
-          ∙ sym (ap is_begun_dynamic (above_here below).stands)
+      -- what that place tells, by its outline and by the form in which it is begun
+      pub told : (tells : Tree → Bool) → ((body : Body) → tells (own_tree (outline body)) ≡ tells (own_tree body))
+          → ((form : Form) (ts us : Trees) → tells (begun form ts) ≡ tells (begun form us)) → (found : Entry)
+          → Tells slots parent.0 found
+          → tells (own_tree (body_of found.piece)) ≡ tells (tree_at (up (cursor_in slots stack)) (tree_in_slots slots stack))
+      told tells outlined_so formed found is_told =
+          sym (outlined_so (body_of found.piece))
+          ∙ ap (λ (x : Node). tells (own_tree x.body))
+          (found_outline (node_of found) (heap_of slots parent.0) above.node is_told parent_found)
+          ∙ outlined_so above.node.body
+          ∙ ap (λ (b : Body). tells (own_tree b)) above.body
+          ∙ formed above.form (trees_of above.cells) above.trees
+          ∙ sym (ap tells above.stands)

@@ -1,5 +1,5 @@
 -- Going on to a child: what it is refused for, and what it means.
-use Rattle.std.proofs.Common.{◌≡◌, ℕ, suc, ◌+◌, ◌<◌, Bool, true, false, List, [], ◌∷◌, length, Option, Some, None, Ok, Err, nat_lt, if◌then◌else◌, slice_get, refl, sym, ◌∙◌, ap, subst, arith}
+use Rattle.std.proofs.Common.{◌≡◌, ℕ, suc, ◌+◌, ◌<◌, Bool, true, false, List, [], ◌∷◌, length, Option, Some, None, Err, nat_lt, if◌then◌else◌, slice_get, inl, refl, sym, ◌∙◌, ap, subst, arith}
 use Rattle.std.specs.Option.{option_or}
 use Rattle.std.specs.Str.{bytes_eq}
 use Rattle.std.proofs.lemmas.Bool.{ltb-true, lt-ltb}
@@ -12,7 +12,8 @@ use Rattle.fr_shape.specs.declared.error.Operation.{Operation}
 use Rattle.fr_shape.specs.Look.{Table, def_of, variants_of}
 use Rattle.fr_shape.specs.Named.{first_declared}
 use Rattle.fr_model.specs.Tree.{Form, selected, Tree, cursor_tree}
-use Rattle.fr_model.specs.Step.{begin_field, enters, field_refusal, named_refusal, Way}
+use Rattle.fr_model.specs.Commands.{Call}
+use Rattle.fr_model.specs.Step.{field_refusal, named_refusal}
 use Rattle.fr_model.specs.Variants.{field_found, variant_fields}
 use Rattle.fr_model.specs.Well.{IsFullAs}
 use Rattle.fr_plan.specs.Names.{declared_field}
@@ -21,7 +22,12 @@ use Rattle.fr_partial.specs.Sites.{Site, shape_at}
 use Rattle.fr_partial.specs.declared.admitting.Opening.{Opening}
 use Rattle.fr_partial.specs.Entering.{Describes}
 use Rattle.fr_partial.proofs.FormLaws.{struct_form, array_form, enum_form, variant_count}
-use Rattle.fr_partial.proofs.SeenLaws.{Sees, shape_seen, def_seen, named_seen, selected_seen}
+use Rattle.fr_partial.specs.declared.moves.Move.{Move}
+use Rattle.fr_partial.specs.declared.moves.Way.{Way}
+use Rattle.fr_partial.specs.Looks.{Sees}
+use Rattle.fr_partial.specs.Moving.{ComesTo, IsRefusedWith}
+use Rattle.fr_partial.proofs.DecidingLaws.{goes}
+use Rattle.fr_partial.proofs.SeenLaws.{shape_seen, def_seen, named_seen, refusal_seen, selected_seen}
 
 -- what may be entered is there
 
@@ -32,13 +38,9 @@ below_limit i n operation e = go (nat_lt i n) refl
     go true h = ltb-true i n h
     go false h = let some : Some operation ≡ None = rw h at e in cc
 
-array_within : (i n : ℕ) (rest : Option Operation)
-    → option_or (if nat_lt i n then None else Some Operation.ArrayIndexOutOfBounds) rest ≡ None → i < n
-array_within i n rest e = go (nat_lt i n) refl
-  where
-    go : (b : Bool) → nat_lt i n ≡ b → i < n
-    go true h = ltb-true i n h
-    go false h = let some : Some Operation.ArrayIndexOutOfBounds ≡ None = rw h at e in cc
+neither : (first rest : Option Operation) → option_or first rest ≡ None → first ≡ None
+neither (Some operation) rest e = cc
+neither None rest e = refl
 
 -- it is one of the children that the place is begun with
 pub opened_within : (table : Table) (s : ℕ) (t : Tree) (i : ℕ) (opening : Opening) → Describes table s t opening
@@ -50,7 +52,7 @@ opened_within table s t i opening says may = go (def_of table s) says.begun may
         let below : i < length struct.fields = below_limit i (length struct.fields) Operation.FieldIndexOutOfBounds none in
         omega (arith, below, (struct_form struct (as_form opening.form) opening.count full).1)
     go (Def.Array item n) full none =
-        let below : i < n = array_within i n _ none in
+        let below : i < n = below_limit i n Operation.ArrayIndexOutOfBounds (neither _ _ none) in
         omega (arith, below, (array_form item n (as_form opening.form) opening.count full).1)
     go (Def.Enum enumeration) full none =
         let is = enum_form enumeration (as_form opening.form) opening.count full in
@@ -67,44 +69,6 @@ opened_within table s t i opening says may = go (def_of table s) says.begun may
     go (Def.Slice item) full none = cc
     go Def.Opaque full none = cc
     go _ full none = cc
-
--- by what the site sees
-
-module _ {site : Site} {table : Table} {shape : ShapeId} {seen : Tree}
-    (at : Sees site table shape seen) where
-  -- what the table says of the place's shape
-  pub describes_here : (opening : Opening) → Describes table shape.0 seen opening
-      → Describes site.shapes (shape_at site) (cursor_tree site.state) opening
-  describes_here opening says = record {
-    begun = subst (λ (def : Def). IsFullAs def (as_form opening.form) opening.count) (def_seen at) says.begun;
-    variant = λ k is. sym (selected_seen at) ∙ says.variant k is;
-  }
-
-  found_seen : (name : List ℕ) → field_found name (def_of site.shapes (shape_at site)) (selected (cursor_tree site.state))
-      ≡ field_found name (def_of table shape.0) (selected seen)
-  found_seen name =
-      ap (λ (def : Def). field_found name def (selected (cursor_tree site.state))) (sym (def_seen at))
-      ∙ ap (field_found name (def_of table shape.0)) (sym (selected_seen at))
-
-  pub named_unknown : (name : List ℕ) → named_refusal (def_of table shape.0) seen ≡ None
-      → field_found name (def_of table shape.0) (selected seen) ≡ None
-      → begin_field site.shapes (shape_at site) site.state name ≡ Err (ReflectErrorKind.FieldError shape)
-  named_unknown name e found =
-      rw (sym (named_seen at) ∙ e, found_seen name ∙ found)
-      (ap (λ (s : ShapeId). Err (ReflectErrorKind.FieldError s)) (shape_seen at))
-
-  pub named_unopened : (name : List ℕ) (operation : Operation) → named_refusal (def_of table shape.0) seen ≡ Some operation
-      → begin_field site.shapes (shape_at site) site.state name
-      ≡ Err (ReflectErrorKind.OperationFailed shape operation)
-  named_unopened name operation e =
-      rw (sym (named_seen at) ∙ e)
-      (ap (λ (s : ShapeId). Err (ReflectErrorKind.OperationFailed s operation)) (shape_seen at))
-
-  pub named_admitted : (name : List ℕ) (i : ℕ) → named_refusal (def_of table shape.0) seen ≡ None
-      → field_found name (def_of table shape.0) (selected seen) ≡ Some i
-      → begin_field site.shapes (shape_at site) site.state name
-      ≡ Ok (enters site.shapes (shape_at site) site.state (Way.Child i))
-  named_admitted name i e found = rw (sym (named_seen at) ∙ e, found_seen name ∙ found) refl
 
 declared_below : (name : List ℕ) (k : ℕ) (fields : List Field) (i : ℕ) → first_declared name k fields ≡ Some i
     → i < k + length fields
@@ -153,3 +117,57 @@ declared_is name def (Some k) = go (slice_get (variants_of def) k) refl
         → declared_field def (Some k) name ≡ field_found name def (Some k)
     go None e = rw e refl
     go (Some variant) e = rw e refl
+
+-- By what the site sees.
+
+module _ {site : Site} {table : Table} {shape : ShapeId} {seen : Tree} (at : Sees site table shape seen) where
+  -- what the table says of the place's shape
+  pub describes_here : (opening : Opening) → Describes table shape.0 seen opening
+      → Describes site.shapes (shape_at site) (cursor_tree site.state) opening
+  describes_here opening says = record {
+    begun = subst (λ (def : Def). IsFullAs def (as_form opening.form) opening.count) (def_seen at) says.begun;
+    variant = λ k is. sym (selected_seen at) ∙ says.variant k is;
+  }
+
+  module _ (name : List ℕ) where
+    -- no field is entered by its name there
+    pub named_unopened : (operation : Operation) → Some operation ≡ named_refusal (def_of table shape.0) seen
+        → IsRefusedWith site (Call.BeginField name) (ReflectErrorKind.OperationFailed shape operation)
+    named_unopened operation is =
+        inl (
+          (λ out. cc),
+          λ hooks.
+              rw (← (is ∙ named_seen at))
+              (ap (λ (s : ShapeId). Err (ReflectErrorKind.OperationFailed s operation)) (shape_seen at)),
+        )
+
+    module _ (may : None ≡ named_refusal (def_of table shape.0) seen) (variant : Option ℕ) (chosen : variant ≡ selected seen)
+        (found : Option ℕ) (found_is : found ≡ field_found name (def_of site.shapes (shape_at site)) variant) where
+      found_here : found ≡ field_found name (def_of site.shapes (shape_at site)) (selected (cursor_tree site.state))
+      found_here = found_is ∙ ap (field_found name (def_of site.shapes (shape_at site))) (chosen ∙ selected_seen at)
+
+      -- none has the name
+      pub named_unknown : found ≡ None → IsRefusedWith site (Call.BeginField name) (ReflectErrorKind.FieldError shape)
+      named_unknown none =
+          inl (
+            (λ out. cc),
+            λ hooks.
+                rw (← (may ∙ named_seen at), ← (sym none ∙ found_here))
+                (ap (λ (s : ShapeId). Err (ReflectErrorKind.FieldError s)) (shape_seen at)),
+          )
+
+      -- or the first that has it may be entered
+      module _ (i : ℕ) (one : found ≡ Some i) where
+        admitted_here : field_refusal (def_of site.shapes (shape_at site)) (cursor_tree site.state) i ≡ None
+        admitted_here =
+            named_within (def_of site.shapes (shape_at site)) (cursor_tree site.state) name i (sym (may ∙ named_seen at))
+            (sym found_here ∙ one)
+
+        pub named_admitted : field_refusal (def_of table shape.0) seen i ≡ None
+        named_admitted = refusal_seen at i ∙ admitted_here
+
+        pub named_goes : (opening : Opening) → Describes table shape.0 seen opening
+            → ComesTo site (Call.BeginField name) (Move.Go (Way.Child i opening))
+        named_goes opening says =
+            goes site (Call.BeginField name) (Way.Child i opening) refl (describes_here opening says, admitted_here)
+            (λ hooks. rw (← (may ∙ named_seen at), ← (sym one ∙ found_here)) refl)

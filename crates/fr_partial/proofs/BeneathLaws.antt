@@ -1,7 +1,6 @@
 -- The place on top, once all that was left beneath it is completed: it is what it was, and no child of it is in a slot.
 use Rattle.std.proofs.Common.{◌≡◌, ◌⊎◌, ℕ, suc, List, [], ◌∷◌, Some, inl, inr, refl, sym, ◌∙◌, ap, subst}
 use Rattle.fr_shape.specs.declared.error.ReflectErrorKind.{ReflectErrorKind}
-use Rattle.fr_shape.specs.declared.shape.ShapeId.{ShapeId}
 use Rattle.fr_shape.specs.Hooks.{Meanings}
 use Rattle.fr_shape.specs.Look.{Table}
 use Rattle.fr_path.specs.declared.path_steps.PathStep.{PathStep}
@@ -21,20 +20,21 @@ use Rattle.fr_frame.specs.Changes.{IfInUse}
 use Rattle.fr_frame.specs.Completing.{shape_of}
 use Rattle.fr_frame.specs.Defaults.{WhyNotDefault}
 use Rattle.fr_frame.specs.Heap.{Node}
-use Rattle.fr_frame.specs.Kids.{body_in}
 use Rattle.fr_store.specs.Beneath.{IsCompleteBeneath, IsHeldUpHere}
-use Rattle.fr_store.specs.MoveLaws.{open_top}
-use Rattle.fr_store.specs.Moves.{cursor_in, tree_here, tree_in_slots, IsOpenAt}
 use Rattle.fr_store.specs.Numbers.{IsLast}
+use Rattle.fr_store.specs.Stored.{IsKept}
+use Rattle.fr_store.specs.Turns.{root_shape, CompletesAsBefore}
 use Rattle.fr_partial.specs.declared.moves.Rules.{Rules}
+use Rattle.fr_partial.specs.declared.work.Frames.{Frames}
 use Rattle.fr_partial.specs.Ending.{HoldsItsValue, IsHeldUpAt}
-use Rattle.fr_partial.specs.Underway.{shape_here, IsReady}
-use Rattle.fr_partial.proofs.BodyLaws.{put_twice}
-use Rattle.fr_partial.proofs.EndingLaws.{here_so, own_here, shape_is}
+use Rattle.fr_partial.specs.Modes.{mode_of}
+use Rattle.fr_partial.specs.Underway.{top_place, top_shape, top_tree, whole_tree, Became, IsAtWork, StoresNothing}
+use Rattle.fr_partial.proofs.EndingLaws.{here, here_so, own_is, shape_is, IsTop}
 use Rattle.fr_partial.proofs.FinishLaws.{root_is}
 use Rattle.fr_partial.proofs.HereLaws.{top_body}
-use Rattle.fr_partial.proofs.PlaceLaws.{node_here}
-use Rattle.fr_partial.proofs.TreeLaws.{shape_stays}
+use Rattle.fr_partial.proofs.KeepLaws.{became_after}
+use Rattle.fr_partial.proofs.PlaceLaws.{here_along}
+use Rattle.fr_partial.proofs.TreeLaws.{changed_twice, shape_stays}
 
 -- Where all children of a place are whole or not there, it fails by itself alone.
 
@@ -61,135 +61,138 @@ caused_by_itself hooks table s path body kind e =
     (ap (λ (fs : List Failure). or_missing s (kind_of (first_by_walk fs)))
     (fails_itself hooks table s path body kind e))
 
-module _ (agree : LookupsAgree) (paths : LookupPathsAgree) (table : Table) (root : ShapeId) (plan : Plan) (before : List Slot)
-    (stack : List ℕ) (ready : IsReady table root plan before stack) (means : Meanings) where
+-- Of the place on top, and of the open places once all that was left beneath it is completed: it may be completed then, in this slot; why
+-- it makes no value then is why it makes none; and the value that it holds in the end is the one that it makes.
+pub record IsBeneath (means : Meanings) (plan : Plan) (frames between : Frames) (n : ℕ) : Type 0 where
+  pub top : IsTop plan between n
+  pub why : (kind : ReflectErrorKind)
+      → IfInUse between.slots n (λ (at : Node). WhyNotDefault means frames.table.now (shape_of plan at.node) at.body kind)
+      → (kind ≡ ReflectErrorKind.OutOfMemory) ⊎ IsHeldUpAt means frames.table.now (top_shape frames) (top_tree frames) kind
+  pub holds : (last : Frames) → HoldsItsValue Rules.Deferred means plan between last
+      → HoldsItsValue Rules.Deferred means plan frames last
+
+module _ (paths : LookupPathsAgree) {plan : Plan} {frames : Frames} (at_work : IsAtWork plan frames) (means : Meanings) where
+  root : root_shape plan ≡ frames.root.0
+  root = root_is paths at_work.ready.checked at_work.ready.inside at_work.ready.planned
+
   -- it is held up there
-  pub held_up_here : (kind : ReflectErrorKind) → IsHeldUpHere means table plan before stack kind
-      → IsHeldUpAt means table (shape_here table root.0 before stack) (tree_here before stack) kind
+  pub held_up_here : (kind : ReflectErrorKind)
+      → IsHeldUpHere means frames.table.now plan frames.slots frames.stack kind
+      → IsHeldUpAt means frames.table.now (top_shape frames) (top_tree frames) kind
   held_up_here kind held =
       subst
-      (λ (s : ℕ). IsHeldUpAt means table (shape_in table s (cursor_in before stack) (tree_in_slots before stack))
-      (tree_here before stack) kind)
-      (root_is agree paths table root plan before stack ready)
-      (record { incomplete = held.incomplete; cause_is = held.cause })
+      (λ (s : ℕ). IsHeldUpAt means frames.table.now (shape_in frames.table.now s (top_place frames) (whole_tree frames))
+      (top_tree frames) kind)
+      root (record { incomplete = held.incomplete; cause_is = held.cause })
 
-  module _ (after : List Slot) (done : IsCompleteBeneath means table plan before stack after) where
-    abbrev pub ready_then : IsReady table root plan after stack
-    ready_then = record {
-      inside = ready.inside;
-      checked = ready.checked;
-      planned = ready.planned;
-      shown = done.stands.open_still;
-      suits =
-          subst (λ (s : ℕ). Suits table s (tree_in_slots after stack))
-          (root_is agree paths table root plan before stack ready) done.suits;
+  module _ (agree : LookupsAgree) {after : List Slot} (done : IsCompleteBeneath means frames.table.now plan frames.slots frames.stack after)
+      (store : List ℕ) (kept : IsKept store after) (stores : StoresNothing (mode_of frames.mode) store) {n : ℕ}
+      (last : IsLast frames.stack n) where
+    -- the open places then
+    abbrev then : Frames
+    then = record frames { slots = after; store = store }
+
+    became_then : Became plan (top_place frames) (change_at (top_place frames) (λ old. done.tree) (whole_tree frames)) frames then
+    became_then = record { stands = done.stands; kept = kept; stores = stores; same = refl }
+
+    at_work_then : IsAtWork plan then
+    at_work_then = record {
+      ready = record {
+        inside = at_work.ready.inside;
+        checked = at_work.ready.checked;
+        planned = at_work.ready.planned;
+        shown = done.stands.open_still;
+        suits = subst (λ (s : ℕ). Suits frames.table.now s (whole_tree then)) root done.suits;
+      };
+      kept = kept;
+      stores = stores;
     }
 
-    pub shut_then : IsClosed (body_in (open_top plan after stack done.stands.open_still).plot)
-    shut_then = top_body plan after stack done.stands.open_still IsClosed done.closed
+    top_then : IsTop plan then n
+    unfolding at_work_then
+    top_then = record {
+      at_work = at_work_then;
+      last = last;
+      shut = top_body plan after frames.stack done.stands.open_still IsClosed done.closed;
+      along = here_along agree paths frames.table.now frames.root plan after frames.stack at_work_then.ready;
+    }
 
-    shape_same : shape_here table root.0 after stack ≡ shape_here table root.0 before stack
+    shape_same : top_shape then ≡ top_shape frames
     shape_same =
-        ap (λ (p : Place). shape_in table root.0 p (tree_in_slots after stack)) done.stands.cursor
-        ∙ ap (shape_in table root.0 (cursor_in before stack)) done.stands.built
-        ∙ shape_stays table root.0 (cursor_in before stack) (λ old. done.tree) (tree_in_slots before stack)
+        ap (λ (p : Place). shape_in frames.table.now frames.root.0 p (whole_tree then)) done.stands.cursor
+        ∙ ap (shape_in frames.table.now frames.root.0 (top_place frames)) done.stands.built
+        ∙ shape_stays frames.table.now frames.root.0 (top_place frames) (λ old. done.tree) (whole_tree frames)
 
-    completes_same : complete deferred_column means table (shape_here table root.0 after stack) (tree_here after stack)
-        ≡ complete deferred_column means table (shape_here table root.0 before stack) (tree_here before stack)
+    as_before : CompletesAsBefore means frames.table.now frames.root.0 (whole_tree frames) (whole_tree then) (top_place frames)
+    as_before =
+        subst
+        (λ (s : ℕ). CompletesAsBefore means frames.table.now s (whole_tree frames) (whole_tree then) (top_place frames)) root
+        done.as_before
+
+    completes_same : complete deferred_column means frames.table.now (top_shape then) (top_tree then)
+        ≡ complete deferred_column means frames.table.now (top_shape frames) (top_tree frames)
     completes_same =
         ap
-        (λ (p : Place). complete deferred_column means table (shape_in table root.0 p (tree_in_slots after stack))
-        (tree_at p (tree_in_slots after stack)))
+        (λ (p : Place). complete deferred_column means frames.table.now
+        (shape_in frames.table.now frames.root.0 p (whole_tree then)) (tree_at p (whole_tree then)))
         done.stands.cursor
-        ∙ subst
-        (λ (s : ℕ). complete deferred_column means table (shape_in table s (cursor_in before stack) (tree_in_slots after stack))
-        (tree_at (cursor_in before stack) (tree_in_slots after stack))
-        ≡ complete deferred_column means table (shape_in table s (cursor_in before stack) (tree_in_slots before stack))
-        (tree_at (cursor_in before stack) (tree_in_slots before stack)))
-        (root_is agree paths table root plan before stack ready) done.as_before.value
-
-    fails_same : (path : List PathStep)
-        → failures means table (shape_here table root.0 after stack) path (tree_here after stack)
-        ≡ failures means table (shape_here table root.0 before stack) path (tree_here before stack)
-    fails_same path =
-        ap
-        (λ (p : Place). failures means table (shape_in table root.0 p (tree_in_slots after stack)) path
-        (tree_at p (tree_in_slots after stack)))
-        done.stands.cursor
-        ∙ subst
-        (λ (s : ℕ). failures means table (shape_in table s (cursor_in before stack) (tree_in_slots after stack)) path
-        (tree_at (cursor_in before stack) (tree_in_slots after stack))
-        ≡ failures means table (shape_in table s (cursor_in before stack) (tree_in_slots before stack)) path
-        (tree_at (cursor_in before stack) (tree_in_slots before stack)))
-        (root_is agree paths table root plan before stack ready) (done.as_before.failing path)
+        ∙ as_before.value
 
     cause_same : (path : List PathStep)
-        → cause_by deferred_column means table (shape_here table root.0 after stack) path (tree_here after stack)
-        ≡ cause_by deferred_column means table (shape_here table root.0 before stack) path (tree_here before stack)
+        → cause_by deferred_column means frames.table.now (top_shape then) path (top_tree then)
+        ≡ cause_by deferred_column means frames.table.now (top_shape frames) path (top_tree frames)
     cause_same path =
-        ap (λ (fs : List Failure). or_missing (shape_here table root.0 after stack) (kind_of (first_by_walk fs)))
-        (fails_same path)
+        ap (λ (fs : List Failure). or_missing (top_shape then) (kind_of (first_by_walk fs)))
+        (ap
+        (λ (p : Place). failures means frames.table.now (shape_in frames.table.now frames.root.0 p (whole_tree then)) path
+        (tree_at p (whole_tree then)))
+        done.stands.cursor
+        ∙ as_before.failing path)
         ∙ ap
         (λ (s : ℕ). or_missing s
-        (kind_of (first_by_walk
-        (failures means table (shape_here table root.0 before stack) path (tree_here before stack)))))
+        (kind_of (first_by_walk (failures means frames.table.now (top_shape frames) path (top_tree frames)))))
         shape_same
 
-    -- why it makes no value itself
-    pub why_then : (n : ℕ) → IsLast stack n → (kind : ReflectErrorKind)
-        → IfInUse after n (λ (at : Node). WhyNotDefault means table (shape_of plan at.node) at.body kind)
-        → (kind ≡ ReflectErrorKind.OutOfMemory)
-        ⊎ IsHeldUpAt means table (shape_here table root.0 before stack) (tree_here before stack) kind
-    why_then n last kind why =
-        go
-        (here_so plan after stack done.stands.open_still n last
-        (λ (at : Node). WhyNotDefault means table (shape_of plan at.node) at.body kind) why)
-      where
-        at_top : Node
-        at_top = node_here plan after stack done.stands.open_still
+    why_then : (kind : ReflectErrorKind)
+        → IfInUse after n (λ (at : Node). WhyNotDefault means frames.table.now (shape_of plan at.node) at.body kind)
+        → (kind ≡ ReflectErrorKind.OutOfMemory) ⊎ IsHeldUpAt means frames.table.now (top_shape frames) (top_tree frames) kind
+    why_then kind why =
+        elim (here_so top_then (λ (at : Node). WhyNotDefault means frames.table.now (shape_of plan at.node) at.body kind) why) [
+          | inl lacking ↦
+              inr
+              (record {
+                incomplete =
+                    sym completes_same
+                    ∙ ap (complete deferred_column means frames.table.now (top_shape then)) (sym (own_is top_then))
+                    ∙ ap
+                    (λ (s : ℕ). complete deferred_column means frames.table.now s (own_tree (here top_then).body))
+                    (sym (shape_is top_then))
+                    ∙ lacking.incomplete;
+                cause_is = λ path.
+                    caused_by_itself means frames.table.now (shape_of plan (here top_then).node) path (here top_then).body kind
+                    lacking.lacks
+                    ∙ ap
+                    (λ (s : ℕ). cause_by deferred_column means frames.table.now s path (own_tree (here top_then).body))
+                    (shape_is top_then)
+                    ∙ ap (cause_by deferred_column means frames.table.now (top_shape then) path) (own_is top_then)
+                    ∙ cause_same path;
+              })
+          | inr wants ↦ inl wants.memory
+        ]
 
-        own_is : own_tree at_top.body ≡ tree_here after stack
-        own_is = own_here plan after stack done.stands.open_still shut_then
-
-        number_is : shape_of plan at_top.node ≡ shape_here table root.0 after stack
-        number_is = shape_is agree paths table root plan after stack ready_then
-
-        go : WhyNotDefault means table (shape_of plan at_top.node) at_top.body kind
-            → (kind ≡ ReflectErrorKind.OutOfMemory)
-            ⊎ IsHeldUpAt means table (shape_here table root.0 before stack) (tree_here before stack) kind
-        go (inl lacking) =
-            inr
-            (record {
-              incomplete =
-                  sym completes_same
-                  ∙ ap (λ (t : Tree). complete deferred_column means table (shape_here table root.0 after stack) t) (sym own_is)
-                  ∙ ap (λ (s : ℕ). complete deferred_column means table s (own_tree at_top.body)) (sym number_is)
-                  ∙ lacking.incomplete;
-              cause_is = λ path.
-                  caused_by_itself means table (shape_of plan at_top.node) path at_top.body kind lacking.lacks
-                  ∙ ap (λ (s : ℕ). cause_by deferred_column means table s path (own_tree at_top.body)) number_is
-                  ∙ ap (λ (t : Tree). cause_by deferred_column means table (shape_here table root.0 after stack) path t) own_is
-                  ∙ cause_same path;
-            })
-        go (inr wants) = inl wants.memory
-
-    -- the value that it holds then is the one that it makes
-    pub holds_then : (slots : List Slot)
-        → HoldsItsValue Rules.Deferred means table (shape_here table root.0 after stack) plan slots stack
-        (tree_in_slots after stack) (cursor_in after stack)
-        → HoldsItsValue Rules.Deferred means table (shape_here table root.0 before stack) plan slots stack
-        (tree_in_slots before stack) (cursor_in before stack)
-    holds_then slots holds = record {
+    holds_then : (last : Frames) → HoldsItsValue Rules.Deferred means plan then last
+        → HoldsItsValue Rules.Deferred means plan frames last
+    holds_then last holds = record {
       value = holds.value;
       meant = sym completes_same ∙ holds.meant;
       now = holds.now;
-      stands =
-          subst (λ (t : Tree). IsOpenAt plan slots stack (cursor_in before stack) t)
-          (ap (λ (t : Tree). change_at (cursor_in before stack) (λ old. holds.now) t) done.stands.built
-          ∙ put_twice (cursor_in before stack) done.tree holds.now (tree_in_slots before stack))
-          (subst
-          (λ (p : Place). IsOpenAt plan slots stack p (change_at p (λ old. holds.now) (tree_in_slots after stack)))
-          done.stands.cursor holds.stands);
+      changed =
+          subst (λ (t : Tree). Became plan (top_place frames) t frames last)
+          (changed_twice (top_place frames) (λ old. holds.now) (λ old. done.tree) (whole_tree frames))
+          (became_after (λ p. p) (λ p t. change_at p (λ old. holds.now) t) became_then holds.changed);
       held = holds.held;
       unboxed = λ none. cc;
     }
+
+    pub beneath : IsBeneath means plan frames then n
+    beneath = record { top = top_then; why = why_then; holds = holds_then }

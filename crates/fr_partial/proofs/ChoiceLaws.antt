@@ -1,5 +1,5 @@
 -- Which variant is selected, and what that means.
-use Rattle.std.proofs.Common.{◌≡◌, ◌≢◌, ℕ, Bool, true, false, List, Option, Some, None, Result, Ok, Err, if◌then◌else◌, inl, refl, sym, ◌∙◌, ap, subst}
+use Rattle.std.proofs.Common.{◌≡◌, ℕ, true, false, List, Option, Some, None, Ok, refl, sym, ◌∙◌, ap, subst}
 use Rattle.fr_shape.specs.declared.error.Expected.{Expected}
 use Rattle.fr_shape.specs.declared.error.Operation.{Operation}
 use Rattle.fr_shape.specs.declared.error.ReflectErrorKind.{ReflectErrorKind}
@@ -8,109 +8,113 @@ use Rattle.fr_shape.specs.declared.shape.EnumDef.{EnumDef}
 use Rattle.fr_shape.specs.declared.shape.ShapeId.{ShapeId}
 use Rattle.fr_shape.specs.declared.shape.VariantDef.{VariantDef}
 use Rattle.fr_shape.specs.Hooks.{Meanings}
-use Rattle.fr_shape.specs.Look.{Table, def_of, variants_of}
+use Rattle.fr_shape.specs.Checked.{IsChecked}
+use Rattle.fr_shape.specs.Look.{Table, def_of, variants_of, IsIn}
+use Rattle.fr_shape.specs.Plannable.{Reached}
 use Rattle.fr_model.specs.Commands.{Call}
-use Rattle.fr_model.specs.Scripts.{brings, IsFitting}
-use Rattle.fr_model.specs.Step.{at_shape, select, selects, step, was_not_a}
-use Rattle.fr_model.specs.Tree.{State, as_variant}
-use Rattle.fr_model.specs.Variants.{is_enum, selection_refusal}
+use Rattle.fr_model.specs.Step.{at_shape, select_found, selects, step, unless_refused}
+use Rattle.fr_model.specs.Tree.{State, Tree, as_variant}
+use Rattle.fr_model.specs.Variants.{is_enum}
 use Rattle.fr_model.specs.Well.{IsFullAs}
+use Rattle.fr_plan.specs.LookupLaws.{LookupsAgree, LookupPathsAgree}
+use Rattle.fr_plan.specs.PlanLaws.{PlansAreComplete}
+use Rattle.fr_plan.specs.TypePlan.{Plan, IsPlanOf}
 use Rattle.fr_partial.specs.declared.choosing.Chosen.{Chosen}
 use Rattle.fr_partial.specs.declared.moves.Change.{Change}
 use Rattle.fr_partial.specs.declared.moves.Move.{Move}
-use Rattle.fr_partial.specs.Choosing.{choice, choice_of, unless_kind}
+use Rattle.fr_partial.specs.declared.work.Parts.{Parts}
+use Rattle.fr_partial.specs.Choosing.{found_refusal, Selects}
+use Rattle.fr_partial.specs.HeldPlan.{plan_in}
+use Rattle.fr_partial.specs.Looks.{Sees}
 use Rattle.fr_partial.specs.Moving.{ComesTo, IsRefusedWith}
 use Rattle.fr_partial.specs.Sites.{Site, shape_at}
+use Rattle.fr_partial.specs.Works.{site, IsSound}
+use Rattle.fr_partial.proofs.DecidingLaws.{admitted, cannot, is_not, remains}
+use Rattle.fr_partial.proofs.PlaceLaws.{here_along}
+use Rattle.fr_partial.proofs.ReachLaws.{node_reached}
+use Rattle.fr_partial.proofs.SeenLaws.{def_seen}
 
--- at an enum the variant is looked for among its own
-pub choice_enum : (table : Table) (s : ℕ) (enumeration : EnumDef) (find : List VariantDef → Option ℕ) (unknown : Operation)
-    → def_of table s ≡ Def.Enum enumeration → (found : Option ℕ) → found ≡ find enumeration.variants
-    → choice_of table s found unknown ≡ choice table s find unknown
-choice_enum table s enumeration find unknown e found is =
-    ap (λ (f : Option ℕ). choice_of table s f unknown) is
-    ∙ go
-  where
-    go : choice_of table s (find enumeration.variants) unknown ≡ choice table s find unknown
-    go = rw e refl
+abbrev any_of : Option ℕ → ℕ
+any_of (Some k) = k
+any_of None = 0
 
--- selecting what was chosen, or refusing
-abbrev pub selects_chosen : Table → ℕ → State → Result ℕ ReflectErrorKind → Result State ReflectErrorKind
-selects_chosen table s state (Ok k) = Ok (selects table s state k)
-selects_chosen table s state (Err kind) = Err kind
+-- what was found is selected, unless it is refused
+select_unless : (table : Table) (s : ℕ) (state : State) (found : Option ℕ) (unknown : Operation)
+    → select_found table s state found unknown
+    ≡ unless_refused (at_shape s (found_refusal (def_of table s) unknown found)) (selects table s state (any_of found))
+select_unless table s state (Some k) unknown = refl
+select_unless table s state None unknown = refl
 
-module _ (table : Table) (s : ℕ) (find : List VariantDef → Option ℕ) (unknown : Operation) where
-  pub select_chosen : (state : State) → select table s state find unknown
-      ≡ selects_chosen table s state (choice table s find unknown)
-  select_chosen state = by_enum (is_enum (def_of table s)) refl
-    where
-      by_refusal : (k : ℕ) → is_enum (def_of table s) ≡ true → find (variants_of (def_of table s)) ≡ Some k
-          → (refused : Option Operation) → selection_refusal (def_of table s) k ≡ refused
-          → select table s state find unknown ≡ selects_chosen table s state (choice table s find unknown)
-      by_refusal k enum at (Some operation) is = rw (enum, at, is) refl
-      by_refusal k enum at None is = rw (enum, at, is) refl
+module _ {site : Site} {table : Table} {shape : ShapeId} {seen : Tree} (at : Sees site table shape seen) {call : Call}
+    {find : List VariantDef → Option ℕ} {unknown : Operation} (says : Selects site call find unknown) where
+  -- the place is no enum
+  pub no_enum : is_enum (def_of table shape.0) ≡ false
+      → IsRefusedWith site call (ReflectErrorKind.WasNotA Expected.Enum shape)
+  no_enum other =
+      let no = ap is_enum (sym (def_seen at)) ∙ other in
+      is_not at call Expected.Enum (λ hooks. says.means hooks ∙ rw no refl)
 
-      by_found : is_enum (def_of table s) ≡ true → (found : Option ℕ) → find (variants_of (def_of table s)) ≡ found
-          → select table s state find unknown ≡ selects_chosen table s state (choice table s find unknown)
-      by_found enum (Some k) at = by_refusal k enum at (selection_refusal (def_of table s) k) refl
-      by_found enum None at = rw (enum, at) refl
+  -- of an enum, where this was found
+  module _ (enumeration : EnumDef) (is : def_of table shape.0 ≡ Def.Enum enumeration) (found : Option ℕ)
+      (found_is : found ≡ find (variants_of (def_of site.shapes (shape_at site)))) where
+    def_here : def_of site.shapes (shape_at site) ≡ Def.Enum enumeration
+    def_here = sym (def_seen at) ∙ is
 
-      by_enum : (b : Bool) → is_enum (def_of table s) ≡ b
-          → select table s state find unknown ≡ selects_chosen table s state (choice table s find unknown)
-      by_enum true enum = by_found enum (find (variants_of (def_of table s))) refl
-      by_enum false enum = rw enum refl
+    means_so : (hooks : Meanings) → step hooks site.shapes site.root site.state call
+        ≡ unless_refused (at_shape (shape_at site) (found_refusal (def_of site.shapes (shape_at site)) unknown found))
+        (selects site.shapes (shape_at site) site.state (any_of found))
+    means_so hooks =
+        let enum : is_enum (def_of site.shapes (shape_at site)) ≡ true = ap is_enum def_here in
+        says.means hooks
+        ∙ rw enum (ap (λ (f : Option ℕ). select_found site.shapes (shape_at site) site.state f unknown) (sym found_is))
+        ∙ select_unless site.shapes (shape_at site) site.state found unknown
 
--- a refusal is named, and never that memory was wanting
+    refusal_here : found_refusal (Def.Enum enumeration) unknown found
+        ≡ found_refusal (def_of site.shapes (shape_at site)) unknown found
+    refusal_here = ap (λ (def : Def). found_refusal def unknown found) (sym def_here)
 
-unless_named : (s : ℕ) (refused : Option Operation) (k : ℕ) (kind : ReflectErrorKind)
-    → unless_kind (at_shape s refused) k ≡ Err kind → kind ≢ ReflectErrorKind.OutOfMemory
-unless_named s (Some operation) k kind e out = cc
-unless_named s None k kind e out = cc
+    pub unselected : (operation : Operation) → Some operation ≡ found_refusal (Def.Enum enumeration) unknown found
+        → IsRefusedWith site call (ReflectErrorKind.OperationFailed shape operation)
+    unselected operation refused = cannot at call _ operation means_so (refused ∙ refusal_here)
 
-choice_of_named : (table : Table) (s : ℕ) (found : Option ℕ) (unknown : Operation) (kind : ReflectErrorKind)
-    → choice_of table s found unknown ≡ Err kind → kind ≢ ReflectErrorKind.OutOfMemory
-choice_of_named table s (Some k) unknown kind e out = unless_named s (selection_refusal (def_of table s) k) k kind e out
-choice_of_named table s None unknown kind e out = cc
+    pub selected : (chosen : Chosen) → found ≡ Some chosen.variant
+        → IsFullAs (Def.Enum enumeration) (as_variant chosen.variant) chosen.count
+        → None ≡ found_refusal (Def.Enum enumeration) unknown found → ComesTo site call (Move.Stay (Change.Select chosen))
+    selected chosen one full may =
+        remains site call (Change.Select chosen) says.nothing (λ t. refl)
+        (subst (λ (def : Def). IsFullAs def (as_variant chosen.variant) chosen.count) (sym def_here) full)
+        (λ hooks.
+        means_so hooks
+        ∙ admitted (ap (at_shape (shape_at site)) (may ∙ refusal_here))
+        ∙ ap (λ (f : Option ℕ). Ok (selects site.shapes (shape_at site) site.state (any_of f))) one)
 
-choice_named : (of_enum : Bool) (s : ℕ) (made : Result ℕ ReflectErrorKind) (kind : ReflectErrorKind)
-    → (made ≡ Err kind → kind ≢ ReflectErrorKind.OutOfMemory)
-    → (if of_enum then made else Err (was_not_a Expected.Enum s)) ≡ Err kind → kind ≢ ReflectErrorKind.OutOfMemory
-choice_named true s made kind named e out = named e out
-choice_named false s made kind named e out = cc
+-- Looking up in the plan: the shape of the place at which a builder works is one that the plan has.
 
--- What a call comes to that selects a variant so, at this place of the table.
-module _ (site : Site) (call : Call) (find : List VariantDef → Option ℕ) (unknown : Operation)
-    (meant : (hooks : Meanings) → step hooks site.shapes site.root site.state call
-    ≡ select site.shapes (shape_at site) site.state find unknown)
-    (table : Table) (shape : ShapeId) (table_is : table ≡ site.shapes) (shape_is : shape.0 ≡ shape_at site) where
-  meant_so : (chosen : Result ℕ ReflectErrorKind) → choice table shape.0 find unknown ≡ chosen → (hooks : Meanings)
-      → step hooks site.shapes site.root site.state call ≡ selects_chosen site.shapes (shape_at site) site.state chosen
-  meant_so chosen is hooks =
-      meant hooks
-      ∙ select_chosen site.shapes (shape_at site) find unknown site.state
-      ∙ ap (selects_chosen site.shapes (shape_at site) site.state)
-      (ap (λ (t : Table). choice t (shape_at site) find unknown) (sym table_is)
-      ∙ ap (λ (s : ℕ). choice table s find unknown) (sym shape_is)
-      ∙ is)
+module _ (complete : PlansAreComplete) (agree : LookupsAgree) (paths : LookupPathsAgree) {parts : Parts} (sound : IsSound parts)
+    {seen : Site} (view_is : site parts ≡ seen) (s : ℕ) (shape_is : s ≡ shape_at seen) where
+  reached : Reached parts.frames.table.now parts.frames.root.0 s
+  reached =
+      let ready = sound.at_work.ready in
+      subst (λ (n : ℕ). Reached parts.frames.table.now parts.frames.root.0 n) (ap shape_at view_is ∙ sym shape_is)
+      (node_reached complete parts.frames.table.now parts.frames.root (plan_in parts.plan) ready.checked ready.inside ready.planned _ _
+      (here_along agree paths parts.frames.table.now parts.frames.root (plan_in parts.plan) parts.frames.slots parts.frames.stack
+      ready).node_is)
 
-  pub selected : IsFitting site.shapes call → ((t : ℕ) → brings call t ≡ 0) → (chosen : Chosen)
-      → choice table shape.0 find unknown ≡ Ok chosen.variant
-      → IsFullAs (def_of table shape.0) (as_variant chosen.variant) chosen.count
-      → ComesTo site call (Move.Stay (Change.Select chosen))
-  selected fitting nothing chosen is full = record {
-    fitting = fitting;
-    same_tokens = nothing;
-    may =
-        subst (λ (s : ℕ). IsFullAs (def_of site.shapes s) (as_variant chosen.variant) chosen.count) shape_is
-        (subst (λ (t : Table). IsFullAs (def_of t shape.0) (as_variant chosen.variant) chosen.count) table_is full);
-    late = λ late. cc;
-    means = meant_so (Ok chosen.variant) is;
-  }
+  -- what its lookup tells of the definition that the table has there
+  abbrev Tells : {A : Type 0} → (Def → A) → A → Plan → Parts → Type 0
+  Tells f found plan there =
+      (root : ShapeId) → IsChecked there.frames.table.now → IsIn there.frames.table.now root.0
+      → IsPlanOf there.frames.table.now root plan → Reached there.frames.table.now root.0 s
+      → found ≡ f (def_of there.frames.table.now s)
 
-  pub unselected : (kind : ReflectErrorKind) → choice table shape.0 find unknown ≡ Err kind → IsRefusedWith site call kind
-  unselected kind is =
-      inl (
-        choice_named (is_enum (def_of table shape.0)) shape.0
-            (choice_of table shape.0 (find (variants_of (def_of table shape.0))) unknown) kind
-            (choice_of_named table shape.0 (find (variants_of (def_of table shape.0))) unknown kind) is,
-        meant_so (Err kind) is,
-      )
+  -- is true of the definition at the place
+  pub looked_up : {A : Type 0} (f : Def → A) (found : A) (one other : Parts) (plan : Plan) → one ≡ parts → other ≡ parts
+      → plan ≡ plan_in one.plan → Tells f found plan other → found ≡ f (def_of seen.shapes (shape_at seen))
+  looked_up f found one other plan one_is other_is plan_is told =
+      let ready = sound.at_work.ready in
+      subst (Tells f found plan) other_is told parts.frames.root ready.checked ready.inside
+      (subst (λ (p : Plan). IsPlanOf parts.frames.table.now parts.frames.root p)
+      (sym (plan_is ∙ ap (λ (p : Parts). plan_in p.plan) one_is)) ready.planned)
+      reached
+      ∙ ap (λ (n : ℕ). f (def_of parts.frames.table.now n)) shape_is
+      ∙ ap (λ (now : Site). f (def_of now.shapes (shape_at seen))) view_is

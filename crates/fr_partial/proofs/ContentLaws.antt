@@ -1,34 +1,33 @@
 -- Entering a content, a side or a pointee: what it means.
-use Rattle.std.proofs.Common.{◌≡◌, ℕ, zero, suc, ◌+◌, ◌<◌, Bool, true, false, [], ◌∷◌, Option, Some, None, Ok, Err, inl, inr, refl, sym, ◌∙◌, ap, subst, arith}
-use Rattle.fr_shape.specs.declared.error.Expected.{Expected}
+use Rattle.std.proofs.Common.{◌≡◌, ℕ, zero, suc, ◌+◌, ◌<◌, Bool, true, false, [], ◌∷◌, Option, Some, None, Ok, inl, inr, refl, sym, ◌∙◌, ap, subst, arith}
 use Rattle.fr_shape.specs.declared.error.Operation.{Operation}
 use Rattle.fr_shape.specs.declared.shape.Def.{Def}
 use Rattle.fr_shape.specs.declared.shape.ShapeId.{ShapeId}
 use Rattle.fr_shape.specs.Fills.{is_option}
 use Rattle.fr_shape.specs.Hooks.{Meanings}
 use Rattle.fr_shape.specs.Look.{Table, def_of}
-use Rattle.fr_shape.specs.Val.{Val}
 use Rattle.fr_model.specs.Contents.{is_result, pointer_refusal, points_to_slice}
 use Rattle.fr_model.specs.Places.{Place, content_shape}
 use Rattle.fr_model.specs.Commands.{Call}
 use Rattle.fr_model.specs.Entering.{Way as Onward, enters}
-use Rattle.fr_model.specs.Scripts.{occurs_if_any, value_brought, FitsIfAny}
-use Rattle.fr_model.specs.Step.{begin_side, begin_smart_ptr, begin_some, content_kept, option_kept, step, was_not_a}
-use Rattle.fr_model.specs.Tree.{Form, as_some, as_pointer, Tree, hole, entered, whole, begun, Trees, no_trees, branch, tree_nth, child_as, shapes_from, shape_in, count_trees, cursor_tree, tree_at, Mode}
+use Rattle.fr_model.specs.Scripts.{value_brought}
+use Rattle.fr_model.specs.Step.{begin_side, step}
+use Rattle.fr_model.specs.Tree.{Form, as_some, as_ok, as_err, as_pointer, Tree, begun, Trees, no_trees, branch, tree_nth, child_as, shapes_from, shape_in, count_trees, cursor_tree, tree_at, Mode}
 use Rattle.fr_model.specs.Well.{HasSide, IsFullAs, OffBut, Leads, PointsTo, Suits, SuitAll}
 use Rattle.fr_frame.specs.declared.places.Form.{Form as Started}
 use Rattle.fr_frame.specs.Bodies.{is_around}
 use Rattle.fr_frame.specs.Heap.{as_form}
 use Rattle.fr_partial.specs.Beginnings.{beginning_in, beginning_of_some, kept_by, side_call, IsSide, MayBegin}
 use Rattle.fr_partial.specs.declared.beginning.Beginning.{Beginning}
-use Rattle.fr_partial.specs.declared.moves.Change.{Change}
 use Rattle.fr_partial.specs.declared.moves.Move.{Move}
 use Rattle.fr_partial.specs.declared.moves.Way.{Way}
-use Rattle.fr_partial.specs.Moving.{stays, ComesTo}
+use Rattle.fr_partial.specs.Moving.{ComesTo}
 use Rattle.fr_partial.specs.Sites.{Site, shape_at}
 use Rattle.fr_partial.proofs.FormLaws.{IsFullTree, full_tree}
 use Rattle.fr_partial.proofs.DecidingLaws.{goes}
-use Rattle.fr_partial.proofs.SeenLaws.{def_seen, in_seen, some_seen, Sees}
+use Rattle.fr_partial.specs.Looks.{Sees}
+use Rattle.fr_partial.proofs.LookLaws.{begun_some}
+use Rattle.fr_partial.proofs.SeenLaws.{in_seen, seen_by}
 use Rattle.fr_partial.proofs.StateLaws.{IsSiteInOrder}
 
 -- What stands at the cursor suits its shape.
@@ -59,9 +58,7 @@ suits_along mode table s (i ∷ place) (begun form ts) suits leads =
     suits_along mode table (child_as table s form i) place (tree_nth i ts)
     (suits_nth table s form 0 ts i i (omega arith) (within mode i (λ child. Leads mode place child) ts leads) suits.1)
     (open_child mode i (λ child. Leads mode place child) ts leads)
-suits_along mode table s (i ∷ place) hole suits leads = absurd leads
-suits_along mode table s (i ∷ place) entered suits leads = absurd leads
-suits_along mode table s (i ∷ place) (whole v) suits leads = absurd leads
+suits_along mode table s (i ∷ place) _ suits leads = absurd leads
 
 pub suits_here : (site : Site) → IsSiteInOrder site
     → Suits site.shapes (shape_at site) (cursor_tree site.state)
@@ -74,91 +71,54 @@ pub full_here : (site : Site) → IsSiteInOrder site
 full_here site ordered =
     full_tree site.shapes (shape_at site) (cursor_tree site.state) (suits_here site ordered)
 
--- What each means.
+-- Either side of a result.
 
-module _ (site : Site) where
-  pub some_means : is_option (def_of site.shapes (shape_at site)) ≡ true
-      → begin_some site.shapes (shape_at site) site.state
-      ≡ Ok (enters site.shapes (shape_at site) site.state
-      (Onward.Content as_some (option_kept site.shapes (shape_at site) site.state)))
-  some_means option = rw option refl
+by_side : (P : Form → Type 0) → P as_ok → P as_err → (form : Form) → IsSide form → P form
+by_side P of_ok of_err form (inl ok) = subst P (sym ok) of_ok
+by_side P of_ok of_err form (inr err) = subst P (sym err) of_err
 
-  pub side_means : (form : Form) → is_result (def_of site.shapes (shape_at site)) ≡ true
-      → begin_side site.shapes (shape_at site) site.state form
-      ≡ Ok (enters site.shapes (shape_at site) site.state (Onward.Content form (content_kept site.state form)))
-  side_means form result = rw result refl
-
-  pub no_side : (form : Form) → is_result (def_of site.shapes (shape_at site)) ≡ false
-      → begin_side site.shapes (shape_at site) site.state form ≡ Err (was_not_a Expected.Result (shape_at site))
-  no_side form other = rw other refl
-
-  pub no_some : is_option (def_of site.shapes (shape_at site)) ≡ false
-      → begin_some site.shapes (shape_at site) site.state ≡ Err (was_not_a Expected.Option (shape_at site))
-  no_some other = rw other refl
-
-  pub pointer_means : pointer_refusal site.shapes (def_of site.shapes (shape_at site)) ≡ None
-      → points_to_slice site.shapes (def_of site.shapes (shape_at site)) ≡ false
-      → begin_smart_ptr site.shapes (shape_at site) site.state
-      ≡ Ok (enters site.shapes (shape_at site) site.state
-      (Onward.Content as_pointer (content_kept site.state as_pointer)))
-  pointer_means admitted behind = rw (admitted, behind) refl
-
-  pub slice_opens : pointer_refusal site.shapes (def_of site.shapes (shape_at site)) ≡ None
-      → points_to_slice site.shapes (def_of site.shapes (shape_at site)) ≡ true
-      → begin_smart_ptr site.shapes (shape_at site) site.state
-      ≡ Ok (stays site.shapes (shape_at site) site.state Change.OpenSlice)
-  slice_opens admitted behind = rw (admitted, behind) refl
-
-  -- which side it is, the call tells
-  pub side_called : (hooks : Meanings) (form : Form) → IsSide form
-      → step hooks site.shapes site.root site.state (side_call form)
-      ≡ begin_side site.shapes (shape_at site) site.state form
-  side_called hooks form (inl ok) =
-      subst (λ (f : Form). step hooks site.shapes site.root site.state (side_call f)
-      ≡ begin_side site.shapes (shape_at site) site.state f) (sym ok) refl
-  side_called hooks form (inr err) =
-      subst (λ (f : Form). step hooks site.shapes site.root site.state (side_call f)
-      ≡ begin_side site.shapes (shape_at site) site.state f) (sym err) refl
-
-  -- the content is entered where just that is kept which the call keeps
-  pub content_goes : (call : Call) (form : Started) (beginning wanted : Beginning) (kept : Option Tree)
-      → value_brought call ≡ None → is_around (as_form form) ≡ true
-      → IsFullAs (def_of site.shapes (shape_at site)) (as_form form) 1 → beginning ≡ wanted
-      → MayBegin wanted (as_form form) (cursor_tree site.state) → kept_by wanted (cursor_tree site.state) ≡ kept
-      → ((hooks : Meanings) → step hooks site.shapes site.root site.state call
-      ≡ Ok (enters site.shapes (shape_at site) site.state (Onward.Content (as_form form) kept)))
-      → ComesTo site call (Move.Go (Way.Content form beginning))
-  content_goes call form beginning wanted kept none around full is may kept_is means =
-      goes site call (Way.Content form beginning)
-      (subst (λ (v : Option (ℕ × Val)). FitsIfAny site.shapes v) (sym none) tt)
-      (λ t. ap (λ (v : Option (ℕ × Val)). occurs_if_any v t) none)
-      (around, full, subst (λ (b : Beginning). MayBegin b (as_form form) (cursor_tree site.state)) (sym is) may)
-      (λ hooks.
-      means hooks
-      ∙ ap (λ (k : Option Tree). Ok (enters site.shapes (shape_at site) site.state (Onward.Content (as_form form) k)))
-      (sym (ap (λ (b : Beginning). kept_by b (cursor_tree site.state)) is ∙ kept_is)))
+-- which side it is, the call tells
+pub side_called : (site : Site) (hooks : Meanings) (form : Form) → IsSide form
+    → step hooks site.shapes site.root site.state (side_call form) ≡ begin_side site.shapes (shape_at site) site.state form
+side_called site hooks form side =
+    by_side
+    (λ (f : Form). step hooks site.shapes site.root site.state (side_call f) ≡ begin_side site.shapes (shape_at site) site.state f)
+    refl refl form side
 
 pub side_brings : (form : Form) → IsSide form → value_brought (side_call form) ≡ None
-side_brings form (inl ok) = subst (λ (f : Form). value_brought (side_call f) ≡ None) (sym ok) refl
-side_brings form (inr err) = subst (λ (f : Form). value_brought (side_call f) ≡ None) (sym err) refl
+side_brings form side = by_side (λ (f : Form). value_brought (side_call f) ≡ None) refl refl form side
+
+pub side_around : (form : Form) → IsSide form → is_around form ≡ true
+side_around form side = by_side (λ (f : Form). is_around f ≡ true) refl refl form side
+
+has_side : (def : Def) → is_result def ≡ true → HasSide def 1
+has_side (Def.Result t e) h = refl
+has_side _ h = cc
+
+pub side_full : (def : Def) (form : Form) → IsSide form → is_result def ≡ true → IsFullAs def form 1
+side_full def form side h = by_side (λ (f : Form). IsFullAs def f 1) (has_side def h) (has_side def h) form side
+
+-- The content is entered where just that is kept which the call keeps.
+pub content_goes : (site : Site) (call : Call) (form : Started) (beginning wanted : Beginning) (kept : Option Tree)
+    → value_brought call ≡ None → is_around (as_form form) ≡ true
+    → IsFullAs (def_of site.shapes (shape_at site)) (as_form form) 1 → beginning ≡ wanted
+    → MayBegin wanted (as_form form) (cursor_tree site.state) → kept_by wanted (cursor_tree site.state) ≡ kept
+    → ((hooks : Meanings) → step hooks site.shapes site.root site.state call
+    ≡ Ok (enters site.shapes (shape_at site) site.state (Onward.Content (as_form form) kept)))
+    → ComesTo site call (Move.Go (Way.Content form beginning))
+content_goes site call form beginning wanted kept none around full is may kept_is means =
+    goes site call (Way.Content form beginning) none
+    (around, full, subst (λ (b : Beginning). MayBegin b (as_form form) (cursor_tree site.state)) (sym is) may)
+    (λ hooks.
+    means hooks
+    ∙ ap (λ (k : Option Tree). Ok (enters site.shapes (shape_at site) site.state (Onward.Content (as_form form) k)))
+    (sym (ap (λ (b : Beginning). kept_by b (cursor_tree site.state)) is ∙ kept_is)))
 
 -- A place of such a definition has one content.
 
 pub option_full : (def : Def) → is_option def ≡ true → IsFullAs def as_some 1
 option_full (Def.Option t) h = refl
 option_full _ h = cc
-
-has_side : (def : Def) → is_result def ≡ true → HasSide def 1
-has_side (Def.Result t e) h = refl
-has_side _ h = cc
-
-pub side_around : (form : Form) → IsSide form → is_around form ≡ true
-side_around form (inl ok) = ap is_around ok
-side_around form (inr err) = ap is_around err
-
-pub side_full : (def : Def) (form : Form) → IsSide form → is_result def ≡ true → IsFullAs def form 1
-side_full def form (inl ok) h = subst (λ (f : Form). IsFullAs def f 1) (sym ok) (has_side def h)
-side_full def form (inr err) h = subst (λ (f : Form). IsFullAs def f 1) (sym err) (has_side def h)
 
 pub pointer_full : (table : Table) (def : Def) → pointer_refusal table def ≡ None → IsFullAs def as_pointer 1
 pointer_full table (Def.Pointer pointer) e = go pointer.constructible pointer.pointee refl refl
@@ -175,34 +135,27 @@ pointer_full table _ e = cc
 module _ {site : Site} {table : Table} {shape : ShapeId} {seen : Tree} (at : Sees site table shape seen) where
   pub pointer_seen : pointer_refusal table (def_of table shape.0)
       ≡ pointer_refusal site.shapes (def_of site.shapes (shape_at site))
-  pointer_seen =
-      ap (λ (t : Table). pointer_refusal t (def_of table shape.0)) at.table_is
-      ∙ ap (pointer_refusal site.shapes) (def_seen at)
+  pointer_seen = seen_by at (λ table s tree. pointer_refusal table (def_of table s)) (λ table s form ts. refl)
 
   pub slice_seen : points_to_slice table (def_of table shape.0)
       ≡ points_to_slice site.shapes (def_of site.shapes (shape_at site))
-  slice_seen =
-      ap (λ (t : Table). points_to_slice t (def_of table shape.0)) at.table_is
-      ∙ ap (points_to_slice site.shapes) (def_seen at)
+  slice_seen = seen_by at (λ table s tree. points_to_slice table (def_of table s)) (λ table s form ts. refl)
 
--- what is kept
-module _ {site : Site} {table : Table} {shape : ShapeId} {seen : Tree} (at : Sees site table shape seen) (mode : Mode)
-    (beginning : Beginning) (same_mode : mode ≡ site.state.mode) where
-  pub some_wanted : (content : ℕ) → content ≡ content_shape (def_of table shape.0)
-      → beginning ≡ beginning_of_some mode (def_of table content) seen
-      → beginning
-      ≡ beginning_of_some site.state.mode (def_of site.shapes (content_shape (def_of site.shapes (shape_at site))))
-      (cursor_tree site.state)
-  some_wanted content content_is is =
-      is
-      ∙ ap (λ (m : Mode). beginning_of_some m (def_of table content) seen) same_mode
-      ∙ ap (λ (n : ℕ). beginning_of_some site.state.mode (def_of table n) seen) content_is
-      ∙ ap (λ (def : Def). beginning_of_some site.state.mode (def_of table (content_shape def)) seen) (def_seen at)
-      ∙ ap (λ (t : Table). beginning_of_some site.state.mode
-      (def_of t (content_shape (def_of site.shapes (shape_at site)))) seen) at.table_is
-      ∙ some_seen at site.state.mode (def_of site.shapes (content_shape (def_of site.shapes (shape_at site))))
+  -- what is kept
+  module _ (mode : Mode) (beginning : Beginning) (same_mode : mode ≡ site.state.mode) where
+    pub some_wanted : (content : ℕ) → content ≡ content_shape (def_of table shape.0)
+        → beginning ≡ beginning_of_some mode (def_of table content) seen
+        → beginning
+        ≡ beginning_of_some site.state.mode (def_of site.shapes (content_shape (def_of site.shapes (shape_at site))))
+        (cursor_tree site.state)
+    some_wanted content content_is is =
+        is
+        ∙ ap (λ (m : Mode). beginning_of_some m (def_of table content) seen) same_mode
+        ∙ ap (λ (n : ℕ). beginning_of_some site.state.mode (def_of table n) seen) content_is
+        ∙ seen_by at (λ table s. beginning_of_some site.state.mode (def_of table (content_shape (def_of table s))))
+        (λ table s. begun_some site.state.mode (def_of table (content_shape (def_of table s))))
 
-  pub in_wanted : (form : Form) → beginning ≡ beginning_in mode form seen
-      → beginning ≡ beginning_in site.state.mode form (cursor_tree site.state)
-  in_wanted form is =
-      is ∙ ap (λ (m : Mode). beginning_in m form seen) same_mode ∙ in_seen at site.state.mode form
+    pub in_wanted : (form : Form) → beginning ≡ beginning_in mode form seen
+        → beginning ≡ beginning_in site.state.mode form (cursor_tree site.state)
+    in_wanted form is =
+        is ∙ ap (λ (m : Mode). beginning_in m form seen) same_mode ∙ in_seen at site.state.mode form

@@ -1,5 +1,5 @@
 -- Values that fit their shape, as they are converted: numbers are in their kind's range, and lists of bytes have octets.
-use Rattle.std.proofs.Common.{◌≡◌, ℕ, ◌≤◌, Bool, true, false, ◌&&◌, List, [], ◌∷◌, ◌++◌, length, drop, Some, refl, sym, ◌∙◌, ap, subst}
+use Rattle.std.proofs.Common.{◌≡◌, ℕ, ◌≤◌, true, List, [], ◌∷◌, ◌++◌, length, drop, Option, Some, refl, sym, ◌∙◌, ap, subst}
 use Rattle.std.proofs.lemmas.List.{at_drop_all, append-nil}
 use Rattle.fr_shape.specs.declared.error.ReflectErrorKind.{ReflectErrorKind}
 use Rattle.fr_shape.specs.declared.shape.Def.{Def}
@@ -10,19 +10,15 @@ use Rattle.fr_shape.specs.declared.value.Value.{Value, fold-roll-Value}
 use Rattle.fr_shape.specs.declared.value.Value.TheVariants.{rolls-List}
 use Rattle.fr_shape.specs.declared.value.Value.TheOpen.{Value-F}
 use Rattle.fr_shape.specs.Fits.{fits, all_fit}
-use Rattle.fr_shape.specs.Look.{Table, def_of, settled}
+use Rattle.fr_shape.specs.Look.{Table, behind, def_of, settled}
 use Rattle.fr_shape.specs.Released.{RoseBy}
 use Rattle.fr_shape.specs.TokenLaws.{nothing, RoseBy_nothing, RoseBy_same, occurs_times}
 use Rattle.fr_shape.specs.Tokens.{occurs, times, tokens}
 use Rattle.fr_shape.specs.Val.{Val, Vals, unit, int, nat, list_of, no_vals, first}
 use Rattle.fr_shape.specs.View.{view, vals_view, view_step}
 use Rattle.fr_model.specs.Converting.{bytes_of, from_bytes, is_byte, or_not_dynamic}
+use Rattle.fr_partial.proofs.FitLaws.{both_true}
 use Rattle.fr_partial.specs.Conversions.{are_octets, has_octets, in_range, is_octet, IsUnconverted}
-
-both_true : (a b : Bool) → a && b ≡ true → (a ≡ true) × (b ≡ true)
-both_true true true e = (refl, refl)
-both_true true false e = cc
-both_true false b e = cc
 
 -- past the end nothing follows the bytes so far
 pub bytes_at_end : (items whole : List Value) (i : ℕ) (bytes : List ℕ) → length items ≤ i
@@ -56,20 +52,20 @@ octets_want_memory value items given is octets =
 
 -- Definitions that stand for themselves
 
-settled_scalar : (table : Table) (s : ℕ) (kind : ScalarKind) → def_of table s ≡ Def.Scalar kind
-    → settled table s ≡ Def.Scalar kind
-settled_scalar [] s kind e = cc
-settled_scalar (shape ∷ shapes) s kind e = rw e refl
+behind_plain : (def : Def) (inner : Option ShapeId) (rest : ℕ → Def) → (def ≡ Def.Other → ⊥) → behind def inner rest ≡ def
+behind_plain Def.Other inner rest plain = absurd (plain refl)
+behind_plain _ inner rest plain = refl
 
-settled_list : (table : Table) (s : ℕ) (t : ShapeId) → def_of table s ≡ Def.List t → settled table s ≡ Def.List t
-settled_list [] s t e = cc
-settled_list (shape ∷ shapes) s t e = rw e refl
+pub settled_plain : (table : Table) (s : ℕ) (def : Def) → def_of table s ≡ def → (def ≡ Def.Other → ⊥) → settled table s ≡ def
+settled_plain [] s def e plain = absurd (plain (sym e))
+settled_plain (shape ∷ shapes) s def e plain =
+    behind_plain (def_of (shape ∷ shapes) s) _ _ (λ other. plain (sym e ∙ other)) ∙ e
 
 -- a number that fits a kind is in its range
 pub fits_in_range : (table : Table) (s : ℕ) (kind : ScalarKind) (v : Val) → def_of table s ≡ Def.Scalar kind
     → fits table s v ≡ true → in_range kind v ≡ true
-fits_in_range table s kind (int z) e fit = rw (settled_scalar table s kind e) at fit
-fits_in_range table s kind (nat n) e fit = rw (settled_scalar table s kind e) at fit
+fits_in_range table s kind (int z) e fit = rw (settled_plain table s (Def.Scalar kind) e (λ other. cc)) at fit
+fits_in_range table s kind (nat n) e fit = rw (settled_plain table s (Def.Scalar kind) e (λ other. cc)) at fit
 fits_in_range table s kind _ e fit = refl
 
 byte_is : (def : Def) → is_byte def ≡ true → def ≡ Def.Scalar ScalarKind.U8
@@ -94,8 +90,8 @@ fit_octets table s (first v vs) e fit =
 pub fits_octets : (table : Table) (s : ℕ) (item : ShapeId) (v : Val) → def_of table s ≡ Def.List item
     → fits table s v ≡ true → is_byte (def_of table item.0) ≡ true → has_octets v ≡ true
 fits_octets table s item (list_of vs) e fit byte =
-    let items : all_fit table item.0 vs ≡ true = rw (settled_list table s item e) at fit in
-    fit_octets table item.0 vs (settled_scalar table item.0 ScalarKind.U8 (byte_is (def_of table item.0) byte)) items
+    let items : all_fit table item.0 vs ≡ true = rw (settled_plain table s (Def.List item) e (λ other. cc)) at fit in
+    fit_octets table item.0 vs (settled_plain table item.0 (Def.Scalar ScalarKind.U8) (byte_is (def_of table item.0) byte) (λ other. cc)) items
 fits_octets table s item _ e fit byte = refl
 
 -- where no token is held, a ledger that stays has risen by all

@@ -42,11 +42,6 @@ of_list _ d e = cc
 of_scalar : (kind : ScalarKind) (v : Val) (d : Dynamic) → from_scalar kind v ≡ Ok d → keys_once d ≡ true
 of_scalar ScalarKind.Bool v d e = of_bool v d e
 of_scalar ScalarKind.Char v d e = of_char v d e
-of_scalar ScalarKind.I8 v d e = of_int v d e
-of_scalar ScalarKind.I16 v d e = of_int v d e
-of_scalar ScalarKind.I32 v d e = of_int v d e
-of_scalar ScalarKind.I64 v d e = of_int v d e
-of_scalar ScalarKind.ISize v d e = of_int v d e
 of_scalar ScalarKind.U8 v d e = of_nat v d e
 of_scalar ScalarKind.U16 v d e = of_nat v d e
 of_scalar ScalarKind.U32 v d e = of_nat v d e
@@ -56,6 +51,7 @@ of_scalar ScalarKind.String v d e = of_text v d e
 of_scalar ScalarKind.I128 v d e = cc
 of_scalar ScalarKind.U128 v d e = cc
 of_scalar ScalarKind.CowStr v d e = cc
+of_scalar _ v d e = of_int v d e
 
 pub converted_once : (table : Table) (s : ℕ) (def : Def) (v : Val) (d : Dynamic) → converted table s def v ≡ Ok d
     → keys_once d ≡ true

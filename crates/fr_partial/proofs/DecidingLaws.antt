@@ -1,63 +1,91 @@
 -- What a call comes to, or why it is refused, by what is seen of the place at which the builder works.
-use Rattle.std.proofs.Common.{◌≡◌, ℕ, Option, Some, None, Ok, Err, inl, refl, ◌∙◌, ap}
+use Rattle.std.proofs.Common.{◌≡◌, ◌≢◌, ℕ, Option, Some, None, Ok, Err, inl, sym, ◌∙◌, ap, subst}
 use Rattle.fr_shape.specs.declared.error.Expected.{Expected}
 use Rattle.fr_shape.specs.declared.error.Operation.{Operation}
 use Rattle.fr_shape.specs.declared.error.ReflectErrorKind.{ReflectErrorKind}
 use Rattle.fr_shape.specs.declared.shape.ShapeId.{ShapeId}
 use Rattle.fr_shape.specs.Hooks.{Meanings}
 use Rattle.fr_shape.specs.Look.{Table}
+use Rattle.fr_shape.specs.Val.{Val}
 use Rattle.fr_model.specs.Commands.{Call}
-use Rattle.fr_model.specs.Scripts.{brings, IsFitting}
+use Rattle.fr_model.specs.Scripts.{occurs_if_any, value_brought, FitsIfAny}
 use Rattle.fr_model.specs.Step.{at_shape, step, unless_refused}
 use Rattle.fr_model.specs.Tree.{State, Tree, cursor_tree}
+use Rattle.fr_partial.specs.declared.moves.Change.{Change}
 use Rattle.fr_partial.specs.declared.moves.Move.{Move}
 use Rattle.fr_partial.specs.declared.moves.Way.{Way}
-use Rattle.fr_partial.specs.Moving.{gone, ComesTo, IsRefusedWith, MayGo}
+use Rattle.fr_partial.specs.Looks.{Sees}
+use Rattle.fr_partial.specs.Moving.{carried_by, gone, stays, ComesTo, IsRefusedWith, MayGo, MayStay}
 use Rattle.fr_partial.specs.Sites.{Site, shape_at}
-use Rattle.fr_partial.proofs.SeenLaws.{Sees, shape_seen}
-
--- a call that brings nothing goes on
-pub goes : (site : Site) (call : Call) (way : Way) → IsFitting site.shapes call → ((t : ℕ) → brings call t ≡ 0)
-    → MayGo site.shapes (shape_at site) (cursor_tree site.state) way
-    → ((hooks : Meanings) → step hooks site.shapes site.root site.state call
-    ≡ Ok (gone site.shapes (shape_at site) site.state way))
-    → ComesTo site call (Move.Go way)
-goes site call way fitting none may means = record {
-  fitting = fitting;
-  same_tokens = none;
-  may = may;
-  late = λ late. cc;
-  means = means;
-}
+use Rattle.fr_partial.proofs.SeenLaws.{shape_seen}
 
 -- nothing is refused
-pub admitted : (s : ℕ) (refusal : Option Operation) (next : State) → refusal ≡ None
-    → unless_refused (at_shape s refusal) next ≡ Ok next
-admitted s refusal next e = rw e refl
+pub admitted : {refusal : Option ReflectErrorKind} {next : State} → None ≡ refusal → unless_refused refusal next ≡ Ok next
+admitted {refusal} {next} is = ap (λ (o : Option ReflectErrorKind). unless_refused o next) (sym is)
 
--- a refusal that isn't for want of memory
-pub refused_with : (site : Site) (call : Call) (kind : ReflectErrorKind) → (kind ≡ ReflectErrorKind.OutOfMemory → ⊥)
-    → ((hooks : Meanings) → step hooks site.shapes site.root site.state call ≡ Err kind) → IsRefusedWith site call kind
-refused_with site call kind other means = inl (other, means)
+-- A call that brings nothing.
+module _ (site : Site) (call : Call) where
+  -- it goes on
+  pub goes : (way : Way) → value_brought call ≡ None → MayGo site.shapes (shape_at site) (cursor_tree site.state) way
+      → ((hooks : Meanings) → step hooks site.shapes site.root site.state call
+      ≡ Ok (gone site.shapes (shape_at site) site.state way))
+      → ComesTo site call (Move.Go way)
+  goes way none may means = record {
+    fitting = subst (λ (v : Option (ℕ × Val)). FitsIfAny site.shapes v) (sym none) tt;
+    same_tokens = λ t. ap (λ (v : Option (ℕ × Val)). occurs_if_any v t) none;
+    may = may;
+    late = λ late. cc;
+    means = means;
+  }
 
-module _ {site : Site} {table : Table} {shape : ShapeId} {seen : Tree} (at : Sees site table shape seen) where
+  -- it stays, and puts nothing that holds a token
+  pub remains : (change : Change) → value_brought call ≡ None → ((t : ℕ) → carried_by change t ≡ 0)
+      → MayStay site.shapes (shape_at site) (cursor_tree site.state) change
+      → ((hooks : Meanings) → step hooks site.shapes site.root site.state call
+      ≡ Ok (stays site.shapes (shape_at site) site.state change))
+      → ComesTo site call (Move.Stay change)
+  remains change none light may means = record {
+    fitting = subst (λ (v : Option (ℕ × Val)). FitsIfAny site.shapes v) (sym none) tt;
+    same_tokens = λ t. ap (λ (v : Option (ℕ × Val)). occurs_if_any v t) none ∙ sym (light t);
+    may = may;
+    late = λ late. cc;
+    means = means;
+  }
+
+  -- it goes on where no operation is refused
+  pub goes_unless : {refusal : Option Operation} (way : Way) → value_brought call ≡ None
+      → ((hooks : Meanings) → step hooks site.shapes site.root site.state call
+      ≡ unless_refused (at_shape (shape_at site) refusal) (gone site.shapes (shape_at site) site.state way))
+      → None ≡ refusal → MayGo site.shapes (shape_at site) (cursor_tree site.state) way → ComesTo site call (Move.Go way)
+  goes_unless way none means is may =
+      goes way none may (λ hooks. means hooks ∙ admitted (ap (at_shape (shape_at site)) is))
+
+  -- it is refused, and not for want of memory
+  pub refused_by : {refusal : Option ReflectErrorKind} (next : State) (kind : ReflectErrorKind)
+      → ((hooks : Meanings) → step hooks site.shapes site.root site.state call ≡ unless_refused refusal next)
+      → Some kind ≡ refusal → kind ≢ ReflectErrorKind.OutOfMemory → IsRefusedWith site call kind
+  refused_by next kind means is named =
+      inl (named, λ hooks. means hooks ∙ ap (λ (o : Option ReflectErrorKind). unless_refused o next) (sym is))
+
+module _ {site : Site} {table : Table} {shape : ShapeId} {seen : Tree} (at : Sees site table shape seen) (call : Call) where
   -- the operation can't be done at the place
-  pub cannot : (call : Call) (refusal : Option Operation) (next : State) (operation : Operation)
+  pub cannot : {refusal : Option Operation} (next : State) (operation : Operation)
       → ((hooks : Meanings) → step hooks site.shapes site.root site.state call
       ≡ unless_refused (at_shape (shape_at site) refusal) next)
-      → refusal ≡ Some operation → IsRefusedWith site call (ReflectErrorKind.OperationFailed shape operation)
-  cannot call refusal next operation means e =
-      refused_with site call (ReflectErrorKind.OperationFailed shape operation) (λ same. cc)
-      (λ hooks.
-      means hooks
-      ∙ ap (λ (o : Option Operation). unless_refused (at_shape (shape_at site) o) next) e
-      ∙ ap (λ (s : ShapeId). Err (ReflectErrorKind.OperationFailed s operation)) (shape_seen at))
+      → Some operation ≡ refusal → IsRefusedWith site call (ReflectErrorKind.OperationFailed shape operation)
+  cannot next operation means is =
+      refused_by site call next (ReflectErrorKind.OperationFailed shape operation) means
+      (ap (λ (s : ShapeId). Some (ReflectErrorKind.OperationFailed s operation)) (sym (shape_seen at))
+      ∙ ap (at_shape (shape_at site)) is)
+      (λ out. cc)
 
   -- its shape isn't such a one
-  pub is_not : (call : Call) (expected : Expected)
+  pub is_not : (expected : Expected)
       → ((hooks : Meanings) → step hooks site.shapes site.root site.state call
       ≡ Err (ReflectErrorKind.WasNotA expected (record { 0 = shape_at site })))
       → IsRefusedWith site call (ReflectErrorKind.WasNotA expected shape)
-  is_not call expected means =
-      refused_with site call (ReflectErrorKind.WasNotA expected shape) (λ same. cc)
-      (λ hooks. means hooks ∙ ap (λ (s : ShapeId). Err (ReflectErrorKind.WasNotA expected s)) (shape_seen at))
+  is_not expected means =
+      inl (
+        (λ out. cc),
+        λ hooks. means hooks ∙ ap (λ (s : ShapeId). Err (ReflectErrorKind.WasNotA expected s)) (shape_seen at),
+      )

@@ -18,7 +18,7 @@ use Rattle.fr_shape.specs.Val.{Val}
 use Rattle.fr_shape.specs.View.{view}
 use Rattle.fr_model.specs.Commands.{Call}
 use Rattle.fr_model.specs.Step.{at_shape, default_by_mark, default_or, field_default, field_refusal, named_refusal, operation_failed, puts_child, puts_child_default, set_nth_field_to_default, step}
-use Rattle.fr_model.specs.Tree.{cursor_tree, selected, State, Tree}
+use Rattle.fr_model.specs.Tree.{begun, cursor_tree, selected, State, Tree}
 use Rattle.fr_partial.specs.Sites.{Site, shape_at}
 use Rattle.fr_partial.specs.declared.admitting.Opening.{Opening}
 use Rattle.fr_partial.specs.declared.moves.Change.{Change}
@@ -27,9 +27,12 @@ use Rattle.fr_partial.specs.Entering.{Describes}
 use Rattle.fr_partial.specs.FieldDefaults.{default_in, default_of}
 use Rattle.fr_partial.specs.Moving.{ComesTo, IsRefusedWith}
 use Rattle.fr_partial.proofs.BeginLaws.{describes_here}
+use Rattle.fr_partial.specs.Looks.{Sees}
+use Rattle.fr_partial.proofs.DecidingLaws.{remains}
 use Rattle.fr_partial.proofs.FitLaws.{is_there}
+use Rattle.fr_partial.proofs.LookLaws.{begun_named, AsBegun}
 use Rattle.fr_partial.proofs.PutLaws.{admits}
-use Rattle.fr_partial.proofs.SeenLaws.{Sees, def_seen, named_seen, selected_seen}
+use Rattle.fr_partial.proofs.SeenLaws.{seen_by}
 use Rattle.fr_partial.proofs.TemplateLaws.{default_light}
 
 -- the field has a default, and may be entered
@@ -103,24 +106,15 @@ default_means table s state i = by_name (named_refusal (def_of table s) (cursor_
     by_name None named = by_field named (field_in (def_of table s) (selected (cursor_tree state)) i) refl
 
 -- as the site sees it
-pub default_seen : {site : Site} {table : Table} {shape : ShapeId} {seen : Tree}
-    → Sees site table shape seen → (i : ℕ)
+
+begun_default : (i : ℕ) (table : Table) (s : ℕ) → AsBegun (λ tree. default_in table s tree i)
+begun_default i table s form ts =
+    ap (λ (refused : Option Operation). default_of table s (at_shape s refused)
+    (field_in (def_of table s) (selected (begun form ts)) i)) (begun_named (def_of table s) form ts)
+
+default_seen : {site : Site} {table : Table} {shape : ShapeId} {seen : Tree} → Sees site table shape seen → (i : ℕ)
     → default_in table shape.0 seen i ≡ default_in site.shapes (shape_at site) (cursor_tree site.state) i
-default_seen {site} {table} {shape} {seen} at i =
-    ap (λ (refused : Option Operation). default_of table shape.0 (at_shape shape.0 refused)
-    (field_in (def_of table shape.0) (selected seen) i)) (named_seen at)
-    ∙ ap (λ (chosen : Option ℕ). default_of table shape.0
-    (at_shape shape.0 (named_refusal (def_of site.shapes (shape_at site)) (cursor_tree site.state)))
-    (field_in (def_of table shape.0) chosen i)) (selected_seen at)
-    ∙ ap (λ (def : Def). default_of table shape.0
-    (at_shape shape.0 (named_refusal (def_of site.shapes (shape_at site)) (cursor_tree site.state)))
-    (field_in def (selected (cursor_tree site.state)) i)) (def_seen at)
-    ∙ ap (λ (s : ℕ). default_of table s
-    (at_shape s (named_refusal (def_of site.shapes (shape_at site)) (cursor_tree site.state)))
-    (field_in (def_of site.shapes (shape_at site)) (selected (cursor_tree site.state)) i)) at.shape_is
-    ∙ ap (λ (t : Table). default_of t (shape_at site)
-    (at_shape (shape_at site) (named_refusal (def_of site.shapes (shape_at site)) (cursor_tree site.state)))
-    (field_in (def_of site.shapes (shape_at site)) (selected (cursor_tree site.state)) i)) at.table_is
+default_seen at i = seen_by at (λ table s tree. default_in table s tree i) (begun_default i)
 
 -- a refusal is named, and never that memory was wanting
 
@@ -171,18 +165,14 @@ module _ {site : Site} {table : Table} {shape : ShapeId} {seen : Tree}
 
     pub default_put : (opening : Opening) → Describes table shape.0 seen opening → (value : Value) → view value ≡ template
         → ComesTo site (Call.SetNthFieldToDefault i) (Move.Stay (Change.PutChild i opening value))
-    default_put opening says value same = record {
-      fitting = tt;
-      same_tokens = λ t. refl;
-      may = (
-        describes_here at opening says,
-        default_admitted site.shapes (shape_at site) (cursor_tree site.state) i template here,
-        ap tokens same ∙ default_empty_here,
-      );
-      late = λ late. cc;
-      means = λ hooks.
-          meant_so (Ok template) is hooks ∙ ap (λ (v : Val). Ok (puts_child site.shapes (shape_at site) site.state i v)) (sym same);
-    }
+    default_put opening says value same =
+        remains site (Call.SetNthFieldToDefault i) (Change.PutChild i opening value) refl (λ t. refl) (
+          describes_here at opening says,
+          default_admitted site.shapes (shape_at site) (cursor_tree site.state) i template here,
+          ap tokens same ∙ default_empty_here,
+        )
+        (λ hooks.
+        meant_so (Ok template) is hooks ∙ ap (λ (v : Val). Ok (puts_child site.shapes (shape_at site) site.state i v)) (sym same))
 
     -- where there is no memory for it
     pub default_wanted : IsRefusedWith site (Call.SetNthFieldToDefault i) ReflectErrorKind.OutOfMemory

@@ -7,71 +7,28 @@ use Rattle.fr_shape.specs.declared.shape.Def.{Def}
 use Rattle.fr_shape.specs.declared.shape.Field.{Field}
 use Rattle.fr_shape.specs.declared.shape.StructDef.{StructDef}
 use Rattle.fr_shape.specs.Fits.{fits, fields_fit, count_vals}
-use Rattle.fr_shape.specs.Look.{Table, def_of, settled}
+use Rattle.fr_shape.specs.Look.{Table, def_of}
 use Rattle.fr_shape.specs.Val.{Val, Vals, unit, product, no_vals, first}
 use Rattle.fr_model.specs.Places.{Place, array_limit}
 use Rattle.fr_model.specs.Step.{field_refusal, opened_as, opened_value, parts_as}
-use Rattle.fr_model.specs.Tree.{Form, as_struct, as_variant, selected, Tree, hole, entered, whole, begun, Trees, no_trees, branch, tree_nth, change_nth, child_tree, tree_at, change_at, wholes, holes, count_trees, Mode}
-use Rattle.fr_model.specs.Well.{IsFullAs, Suits, OffBut, Leads}
+use Rattle.fr_model.specs.Tree.{Form, as_struct, as_variant, selected, Tree, hole, entered, whole, begun, tree_nth, child_tree, change_at, wholes, holes, count_trees, Mode}
+use Rattle.fr_model.specs.Well.{IsFullAs, Suits, Leads}
 use Rattle.fr_plan.specs.declared.nodes.NodeId.{NodeId}
 use Rattle.fr_plan.specs.TypePlan.{Plan}
 use Rattle.fr_frame.specs.Bodies.{MayOpen}
-use Rattle.fr_frame.specs.Kids.{Kid, gone, there, at, Plot, entered_plot, whole_plot, begun_plot, tree_of, tree_in, trees_in, body_in, child_node}
+use Rattle.fr_frame.specs.Kids.{Kid, at, Plot, entered_plot, whole_plot, begun_plot, tree_of, tree_in, trees_in, body_in, child_node}
 use Rattle.fr_store.specs.Moves.{HasChild}
 use Rattle.fr_store.specs.Ways.{kid_below, node_below, node_along}
 use Rattle.fr_store.specs.WayLaws.{tree_of_below}
 use Rattle.fr_plan.specs.declared.nodes.TypePlanNode.{TypePlanNode}
 use Rattle.fr_frame.specs.Completing.{shape_of}
+use Rattle.fr_partial.proofs.Converted.{settled_plain}
 use Rattle.fr_partial.proofs.FitLaws.{both_true}
 use Rattle.fr_partial.proofs.FormLaws.{struct_form, begun_as, over_so}
+use Rattle.fr_partial.proofs.TreeLaws.{nth_changed, nth_leads}
 use Rattle.fr_store.specs.ShapeLaws.{IsOfShape}
 
--- Changes at a place of a tree.
-
-nth_changed : (mode : Mode) (i : ℕ) (Below : Tree → Type 0) (change : Tree → Tree) (ts : Trees) → OffBut mode i Below ts
-    → tree_nth i (change_nth i change ts) ≡ change (tree_nth i ts)
-nth_changed mode i Below change no_trees leads = absurd leads
-nth_changed mode zero Below change (branch t ts) leads = refl
-nth_changed mode (suc i) Below change (branch t ts) leads = nth_changed mode i Below change ts leads.1
-
-nth_leads : (mode : Mode) (i : ℕ) (Below : Tree → Type 0) (ts : Trees) → OffBut mode i Below ts → Below (tree_nth i ts)
-nth_leads mode i Below no_trees leads = absurd leads
-nth_leads mode zero Below (branch t ts) leads = leads.0
-nth_leads mode (suc i) Below (branch t ts) leads = nth_leads mode i Below ts leads.1
-
-pub changed_at : (mode : Mode) (place : Place) (change : Tree → Tree) (t : Tree) → Leads mode place t
-    → tree_at place (change_at place change t) ≡ change (tree_at place t)
-changed_at mode [] change t leads = refl
-changed_at mode (i ∷ place) change (begun form ts) leads =
-    ap (tree_at place) (nth_changed mode i (λ child. Leads mode place child) (λ child. change_at place change child) ts leads)
-    ∙ changed_at mode place change (tree_nth i ts) (nth_leads mode i (λ child. Leads mode place child) ts leads)
-changed_at mode (i ∷ place) change hole leads = absurd leads
-changed_at mode (i ∷ place) change entered leads = absurd leads
-changed_at mode (i ∷ place) change (whole v) leads = absurd leads
-
-nth_twice : (i : ℕ) (f g h : Tree → Tree) → ((t : Tree) → f (g t) ≡ h t) → (ts : Trees)
-    → change_nth i f (change_nth i g ts) ≡ change_nth i h ts
-nth_twice i f g h same no_trees = refl
-nth_twice zero f g h same (branch t ts) = ap (λ (x : Tree). branch x ts) (same t)
-nth_twice (suc i) f g h same (branch t ts) = ap (branch t) (nth_twice i f g h same ts)
-
-pub changed_twice : (place : Place) (f g : Tree → Tree) (t : Tree)
-    → change_at place f (change_at place g t) ≡ change_at place (λ x. f (g x)) t
-changed_twice [] f g t = refl
-changed_twice (i ∷ place) f g hole = refl
-changed_twice (i ∷ place) f g entered = refl
-changed_twice (i ∷ place) f g (whole v) = refl
-changed_twice (i ∷ place) f g (begun form ts) =
-    ap (begun form)
-    (nth_twice i (λ child. change_at place f child) (λ child. change_at place g child)
-    (λ child. change_at place (λ x. f (g x)) child) (changed_twice place f g) ts)
-
 -- What may be begun.
-
-settled_struct : (table : Table) (s : ℕ) (struct : StructDef) → def_of table s ≡ Def.Struct struct
-    → settled table s ≡ Def.Struct struct
-settled_struct [] s struct e = cc
-settled_struct (shape ∷ shapes) s struct e = rw e refl
 
 both_none : (a b : Option Operation) (x : Operation) → option_or a (option_or b (Some x)) ≡ None → ⊥
 both_none (Some o) b x e = cc
@@ -97,10 +54,12 @@ struct_parts : (table : Table) (s : ℕ) (struct : StructDef) → def_of table s
 struct_parts table s struct is (product vs) h = record {
   parts = vs;
   are = refl;
-  counts = count_fields table struct.fields vs (rw (settled_struct table s struct is) at h);
+  counts = count_fields table struct.fields vs (rw (settled_plain table s (Def.Struct struct) is (λ other. cc)) at h);
 }
 struct_parts table s struct is unit h = cc
-struct_parts table s struct is _ h = let no = rw (settled_struct table s struct is) at h in cc
+struct_parts table s struct is _ h =
+    let no = rw (settled_plain table s (Def.Struct struct) is (λ other. cc)) at h in
+    cc
 
 whole_parts : (table : Table) (s i : ℕ) (v : Val) (form : Form) (count : ℕ) → IsFullAs (def_of table s) form count
     → fits table s v ≡ true → field_refusal (def_of table s) (whole v) i ≡ None → Parts form v count
@@ -127,11 +86,10 @@ count_wholes (first v vs) = ap suc (count_wholes vs)
 
 pub may_open : (table : Table) (s i : ℕ) (form : Form) (count : ℕ) (plot : Plot) → IsFullAs (def_of table s) form count
     → Suits table s (tree_in plot) → field_refusal (def_of table s) (tree_in plot) i ≡ None → MayOpen form (body_in plot)
-may_open table s i form count entered_plot full suits may = tt
-may_open table s i form count (begun_plot made kids) full suits may = tt
 may_open table s i form count (whole_plot v) full suits may =
     let parts = whole_parts table s i v form count full suits may in
     ap is_some parts.are
+may_open table s i form count _ full suits may = tt
 
 pub has_child : (table : Table) (s i : ℕ) (form : Form) (count : ℕ) (plot : Plot) → IsFullAs (def_of table s) form count
     → ((k : ℕ) → form ≡ as_variant k → selected (tree_in plot) ≡ Some k) → i < count → Suits table s (tree_in plot)
@@ -158,11 +116,9 @@ node_in_tree plan node [] t = node
 node_in_tree plan node (i ∷ place) t = node_in_tree plan (node_by plan node i t) place (child_tree i t)
 
 by_tree : (plan : Plan) (node : NodeId) (i : ℕ) (k : Kid) → node_below plan node i k ≡ node_by plan node i (tree_of k)
-by_tree plan node i gone = refl
-by_tree plan node i (there v) = refl
 by_tree plan node i (at slot stored entered_plot) = refl
-by_tree plan node i (at slot stored (whole_plot v)) = refl
-by_tree plan node i (at slot stored (begun_plot form kids)) = refl
+by_tree plan node i (at slot stored _) = refl
+by_tree plan node i _ = refl
 
 along_tree : (plan : Plan) (node : NodeId) (place : Place) (k : Kid)
     → node_along plan node place k ≡ node_in_tree plan node place (tree_of k)
@@ -183,9 +139,7 @@ same_node mode plan node (i ∷ place) change (begun form ts) leads =
     (nth_changed mode i (λ child. Leads mode place child) (λ child. change_at place change child) ts leads)
     ∙ same_node mode plan (child_node plan node form i) place change (tree_nth i ts)
     (nth_leads mode i (λ child. Leads mode place child) ts leads)
-same_node mode plan node (i ∷ place) change hole leads = absurd leads
-same_node mode plan node (i ∷ place) change entered leads = absurd leads
-same_node mode plan node (i ∷ place) change (whole v) leads = absurd leads
+same_node mode plan node (i ∷ place) change _ leads = absurd leads
 
 -- the node stays where something else is put at the place
 pub node_stays : (mode : Mode) (plan : Plan) (node : NodeId) (place now : Place) (change : Tree → Tree) (before after : Kid)

@@ -1,76 +1,94 @@
 -- The end of deferred mode: what it means, and what it is refused for.
-use Rattle.std.proofs.Common.{◌≡◌, ℕ, List, Option, Some, Ok, Err, sym, ◌∙◌, ap, subst, arith}
+use Rattle.std.proofs.Common.{◌≡◌, ℕ, List, [], Option, Some, unwrap_or, Ok, Err, sym, ◌∙◌, ap, subst}
 use Rattle.fr_shape.specs.declared.error.ReflectErrorKind.{ReflectErrorKind}
 use Rattle.fr_shape.specs.declared.shape.ShapeId.{ShapeId}
+use Rattle.fr_shape.specs.Checked.{IsChecked}
 use Rattle.fr_shape.specs.Hooks.{Meanings}
-use Rattle.fr_shape.specs.Look.{Table}
-use Rattle.fr_shape.specs.Released.{Conserved, RoseBy}
+use Rattle.fr_shape.specs.Look.{Table, IsIn}
 use Rattle.fr_model.specs.Finish.{finished, finish_cause}
+use Rattle.fr_model.specs.Laws.{StepKeepsOrder, StepKeepsRest}
+use Rattle.fr_model.specs.PathLaws.{FinishingKeepsThePath}
 use Rattle.fr_model.specs.Step.{finishes}
-use Rattle.fr_model.specs.Tree.{Mode, strict, Tree, State, one_more_call, tree_occurs}
+use Rattle.fr_model.specs.Tree.{strict, State, one_more_call}
 use Rattle.fr_model.specs.Well.{Suits}
-use Rattle.fr_plan.specs.LookupLaws.{LookupsAgree, LookupPathsAgree}
-use Rattle.fr_plan.specs.TypePlan.{Plan}
+use Rattle.fr_plan.specs.LookupLaws.{LookupPathsAgree}
+use Rattle.fr_plan.specs.TypePlan.{Plan, IsPlanOf}
 use Rattle.fr_frame.specs.declared.places.Slot.{Slot}
-use Rattle.fr_store.specs.Moves.{cursor_in, tree_in_slots}
-use Rattle.fr_frame.specs.Heap.{slots_occur}
 use Rattle.fr_store.specs.Stands.{IsOpen}
+use Rattle.fr_store.specs.Stored.{IsKept, NothingStored}
 use Rattle.fr_store.specs.Turns.{root_shape, IsFinished, IsHeldUp}
-use Rattle.fr_partial.specs.Underway.{state_of, IsReady}
-use Rattle.fr_partial.proofs.EndingLaws.{shape_found}
-use Rattle.fr_partial.proofs.PlaceLaws.{held_is}
-use Rattle.fr_store.specs.ShapeLaws.{root_shaped}
-
--- the state then, with this tree
-abbrev pub state_with : State → Tree → State
-state_with state tree = record state { tree = tree; mode = strict; calls = one_more_call state.calls }
+use Rattle.fr_partial.specs.declared.mode.Mode.{Mode}
+use Rattle.fr_partial.specs.declared.moves.Move.{Move}
+use Rattle.fr_partial.specs.declared.work.Frames.{Frames}
+use Rattle.fr_partial.specs.declared.work.Parts.{Parts}
+use Rattle.fr_partial.specs.HeldPlan.{plan_in}
+use Rattle.fr_partial.specs.Moving.{meant_by, IsMeant}
+use Rattle.fr_partial.specs.Underway.{state_of, top_place, whole_tree, IsAtWork}
+use Rattle.fr_partial.specs.Works.{site, IsSound}
+use Rattle.fr_partial.proofs.StateLaws.{kept_none, order_after, rest_after, sound_so, state_is, state_then}
 
 -- the root's shape is the plan's
-pub root_is : LookupsAgree → LookupPathsAgree → (table : Table) (root : ShapeId) (plan : Plan) (slots : List Slot) (stack : List ℕ)
-    → IsReady table root plan slots stack → root_shape plan ≡ root.0
-root_is agree paths table root plan slots stack ready =
-    shape_found plan plan.root root.0 (root_shaped agree table root plan ready.checked ready.inside ready.planned paths)
+pub root_is : LookupPathsAgree → {table : Table} {root : ShapeId} {plan : Plan} → IsChecked table → IsIn table root.0
+    → IsPlanOf table root plan → root_shape plan ≡ root.0
+root_is paths {table} {root} {plan} checked inside planned =
+    ap (λ (found : Option ShapeId). (unwrap_or found (record { 0 = 0 })).0) (paths table root plan [] checked inside planned)
 
-pub suits_root : LookupsAgree → LookupPathsAgree → (table : Table) (root : ShapeId) (plan : Plan) (slots : List Slot)
-    (stack : List ℕ) → IsReady table root plan slots stack → Suits table (root_shape plan) (tree_in_slots slots stack)
-suits_root agree paths table root plan slots stack ready =
-    subst (λ (s : ℕ). Suits table s (tree_in_slots slots stack)) (sym (root_is agree paths table root plan slots stack ready))
-    ready.suits
+module _ (paths : LookupPathsAgree) {plan : Plan} {frames : Frames} (at_work : IsAtWork plan frames) where
+  root_of : root_shape plan ≡ frames.root.0
+  root_of = root_is paths at_work.ready.checked at_work.ready.inside at_work.ready.planned
 
-module _ (agree : LookupsAgree) (paths : LookupPathsAgree) (means : Meanings) (table : Table) (root : ShapeId) (plan : Plan)
-    (slots : List Slot) (stack : List ℕ) (mode : Mode) (calls : ℕ) (ready : IsReady table root plan slots stack) where
-  -- the tree that it makes, of a root of this shape
-  pub finished_so : (after : List Slot) (next : List ℕ) (done : IsFinished means table plan slots stack after next)
-      → finished means table root.0 (cursor_in slots stack) (tree_in_slots slots stack) ≡ Some done.tree
-  finished_so after next done =
-      ap (λ (s : ℕ). finished means table s (cursor_in slots stack) (tree_in_slots slots stack))
-      (sym (root_is agree paths table root plan slots stack ready))
-      ∙ done.meant
+  pub suits_root : Suits frames.table.now (root_shape plan) (whole_tree frames)
+  suits_root = subst (λ (s : ℕ). Suits frames.table.now s (whole_tree frames)) (sym root_of) at_work.ready.suits
 
-  pub ends_with : (after : List Slot) (next : List ℕ) (done : IsFinished means table plan slots stack after next)
-      → finishes means table root.0 (state_of slots stack mode calls)
-      (finished means table root.0 (cursor_in slots stack) (tree_in_slots slots stack))
-      ≡ Ok (state_with (state_of slots stack mode calls) done.tree)
-  ends_with after next done =
-      ap (λ (made : Option Tree). finishes means table root.0 (state_of slots stack mode calls) made) (finished_so after next done)
-
-  pub held_up : (kind : ReflectErrorKind) → IsHeldUp means table plan slots stack kind
-      → finishes means table root.0 (state_of slots stack mode calls)
-      (finished means table root.0 (cursor_in slots stack) (tree_in_slots slots stack))
-      ≡ Err kind
+module _ (paths : LookupPathsAgree) (means : Meanings) (parts : Parts) {plan : Plan} (at_work : IsAtWork plan parts.frames) where
+  -- what it is refused for
+  pub held_up : (kind : ReflectErrorKind)
+      → IsHeldUp means parts.frames.table.now plan parts.frames.slots parts.frames.stack kind
+      → meant_by means (site parts) Move.Finish ≡ Err kind
   held_up kind held =
-      let is = root_is agree paths table root plan slots stack ready in
-      ap (λ (made : Option Tree). finishes means table root.0 (state_of slots stack mode calls) made)
-      (ap (λ (s : ℕ). finished means table s (cursor_in slots stack) (tree_in_slots slots stack)) (sym is) ∙ held.unfinished)
+      let cursor = top_place parts.frames in
+      let is = root_of paths at_work in
+      ap (finishes means parts.frames.table.now parts.frames.root.0 (site parts).state)
+      (ap (λ (s : ℕ). finished means parts.frames.table.now s cursor (whole_tree parts.frames)) (sym is) ∙ held.unfinished)
       ∙ ap (λ (k : ReflectErrorKind). Err k)
-      (ap (λ (s : ℕ). finish_cause means table s (cursor_in slots stack) (tree_in_slots slots stack)) (sym is) ∙ sym held.cause)
+      (ap (λ (s : ℕ). finish_cause means parts.frames.table.now s cursor (whole_tree parts.frames)) (sym is) ∙ sym held.cause)
 
--- all that was held was released, and nothing is left
-pub all_gone : (plan : Plan) (before after : List Slot) (stack old new : List ℕ) → IsOpen plan before stack
-    → ((t : ℕ) → slots_occur after t ≡ 0) → RoseBy (tree_occurs (tree_in_slots before stack)) old new
-    → Conserved (slots_occur before) old (slots_occur after) new
-all_gone plan before after stack old new shown none rose = record {
-  same_length = rose.same_length;
-  kept_or_released = λ t. omega (arith, none t, held_is plan before stack shown t, rose.each t);
-  none_falls = λ t. omega (arith, rose.each t);
-}
+  module _ {after : List Slot} {next : List ℕ}
+      (done : IsFinished means parts.frames.table.now plan parts.frames.slots parts.frames.stack after next) where
+    -- the tree that it makes
+    finished_so : finished means parts.frames.table.now parts.frames.root.0 (top_place parts.frames) (whole_tree parts.frames)
+        ≡ Some done.tree
+    finished_so =
+        ap (λ (s : ℕ). finished means parts.frames.table.now s (top_place parts.frames) (whole_tree parts.frames))
+        (sym (root_of paths at_work))
+        ∙ done.meant
+
+    -- the state with it
+    pub ends : meant_by means (site parts) Move.Finish
+        ≡ Ok (record (state_then parts (top_place parts.frames) done.tree) { mode = strict })
+    ends = ap (finishes means parts.frames.table.now parts.frames.root.0 (site parts).state) finished_so
+
+    pub ended_is : {calls : ℕ} → calls ≡ one_more_call parts.calls
+        → state_of after next strict calls ≡ record (state_then parts (top_place parts.frames) done.tree) { mode = strict }
+    ended_is {calls} more = state_is strict calls (one_more_call parts.calls) done.stands more
+
+    -- it is sound then
+    pub sound_ended : StepKeepsOrder → StepKeepsRest → FinishingKeepsThePath → IsSound parts → IsMeant (site parts) Move.Finish
+        → plan ≡ plan_in parts.plan → {store : List ℕ} → store ≡ [] → NothingStored after → {calls : ℕ}
+        → calls ≡ one_more_call parts.calls
+        → IsSound (record parts {
+          frames = record parts.frames { slots = after; stack = next; store = store; mode = Mode.Strict };
+          calls = calls;
+        })
+    sound_ended keeps_order keeps_rest keeps_path sound meant same {store} empty none {calls} more =
+        let state : State = record (state_then parts (top_place parts.frames) done.tree) { mode = strict } in
+        let steps = meant.1.means means ∙ ends in
+        sound_so sound after next store Mode.Strict parts.path calls state
+        (subst (λ (p : Plan). IsOpen p after next) same done.stands.open_still)
+        (subst (λ (listed : List ℕ). IsKept listed after) (sym empty) (kept_none after none)) empty (ended_is more)
+        (order_after sound keeps_order means state meant.0 meant.1.fitting steps)
+        (rest_after sound keeps_rest means state meant.0 meant.1.fitting steps)
+        (sound.path
+        ∙ sym
+        (keeps_path means parts.frames.table.now parts.frames.root.0 (top_place parts.frames) (whole_tree parts.frames) done.tree
+        finished_so))

@@ -10,45 +10,20 @@ use Rattle.fr_shape.specs.Look.{Table, def_of}
 use Rattle.fr_shape.specs.Val.{Val}
 use Rattle.fr_model.specs.Places.{count_children}
 use Rattle.fr_model.specs.Step.{field_refusal, opened, opened_as}
-use Rattle.fr_model.specs.Tree.{Form, as_struct, as_array, as_variant, as_some, as_ok, as_err, as_pointer, as_list, as_slice, as_closed_slice, as_set, as_map, as_dyn_array, as_dyn_object, form_at, form_of, over_base, selected, variant_of, Tree, hole, entered, whole, begun, Trees, count_trees}
+use Rattle.fr_model.specs.Tree.{Form, as_struct, as_array, as_variant, form_at, form_of, over_base, selected, variant_of, Tree, hole, entered, whole, begun, Trees, count_trees}
 use Rattle.fr_model.specs.Variants.{fields_or_none, variant_fields}
 use Rattle.fr_model.specs.Well.{HasFieldsOf, IsFullAs, Suits}
-use Rattle.fr_store.specs.Moves.{TakesMany}
 use Rattle.fr_store.specs.ShapeLaws.{PointsRightly}
 
 pub struct_form : (struct : StructDef) (form : Form) (n : ℕ) → IsFullAs (Def.Struct struct) form n
     → (form ≡ as_struct) × (n ≡ length struct.fields)
 struct_form struct as_struct n full = (refl, full)
-struct_form struct as_array n full = absurd full
-struct_form struct (as_variant k) n full = absurd full
-struct_form struct as_some n full = absurd full
-struct_form struct as_ok n full = absurd full
-struct_form struct as_err n full = absurd full
-struct_form struct as_pointer n full = absurd full
-struct_form struct as_list n full = absurd full
-struct_form struct as_slice n full = absurd full
-struct_form struct as_closed_slice n full = absurd full
-struct_form struct as_set n full = absurd full
-struct_form struct (as_map base) n full = absurd full
-struct_form struct as_dyn_array n full = absurd full
-struct_form struct (as_dyn_object keys) n full = absurd full
+struct_form struct _ n full = absurd full
 
 pub array_form : (item : ShapeId) (m : ℕ) (form : Form) (n : ℕ) → IsFullAs (Def.Array item m) form n
     → (form ≡ as_array) × (n ≡ m)
 array_form item m as_array n full = (refl, full)
-array_form item m as_struct n full = absurd full
-array_form item m (as_variant k) n full = absurd full
-array_form item m as_some n full = absurd full
-array_form item m as_ok n full = absurd full
-array_form item m as_err n full = absurd full
-array_form item m as_pointer n full = absurd full
-array_form item m as_list n full = absurd full
-array_form item m as_slice n full = absurd full
-array_form item m as_closed_slice n full = absurd full
-array_form item m as_set n full = absurd full
-array_form item m (as_map base) n full = absurd full
-array_form item m as_dyn_array n full = absurd full
-array_form item m (as_dyn_object keys) n full = absurd full
+array_form item m _ n full = absurd full
 
 fields_of : (found : Option VariantDef) (n : ℕ) → HasFieldsOf found n → n ≡ length (fields_or_none found)
 fields_of (Some variant) n full = full
@@ -63,19 +38,7 @@ pub record IsVariant (enumeration : EnumDef) (form : Form) (n : ℕ) : Type 0 wh
 pub enum_form : (enumeration : EnumDef) (form : Form) (n : ℕ) → IsFullAs (Def.Enum enumeration) form n
     → IsVariant enumeration form n
 enum_form enumeration (as_variant k) n full = record { variant = k; form_is = refl; full = full }
-enum_form enumeration as_struct n full = absurd full
-enum_form enumeration as_array n full = absurd full
-enum_form enumeration as_some n full = absurd full
-enum_form enumeration as_ok n full = absurd full
-enum_form enumeration as_err n full = absurd full
-enum_form enumeration as_pointer n full = absurd full
-enum_form enumeration as_list n full = absurd full
-enum_form enumeration as_slice n full = absurd full
-enum_form enumeration as_closed_slice n full = absurd full
-enum_form enumeration as_set n full = absurd full
-enum_form enumeration (as_map base) n full = absurd full
-enum_form enumeration as_dyn_array n full = absurd full
-enum_form enumeration (as_dyn_object keys) n full = absurd full
+enum_form enumeration _ n full = absurd full
 
 -- so many children as a variant has fields
 pub variant_count : (enumeration : EnumDef) (k n : ℕ) → IsFullAs (Def.Enum enumeration) (as_variant k) n
@@ -97,56 +60,27 @@ unselected enumeration tree i none may =
 
 same_variant : (made : Form) (k : ℕ) → variant_of made ≡ Some k → made ≡ as_variant k
 same_variant (as_variant j) k e = let same : j ≡ k = cc in ap (λ (n : ℕ). as_variant n) same
-same_variant as_struct k e = cc
-same_variant as_array k e = cc
-same_variant as_some k e = cc
-same_variant as_ok k e = cc
-same_variant as_err k e = cc
-same_variant as_pointer k e = cc
-same_variant as_list k e = cc
-same_variant as_slice k e = cc
-same_variant as_closed_slice k e = cc
-same_variant as_set k e = cc
-same_variant (as_map base) k e = cc
-same_variant as_dyn_array k e = cc
-same_variant (as_dyn_object keys) k e = cc
+same_variant _ k e = cc
 
--- the place may be begun as any of its kind, with as many children
-pub takes_many : (def : Def) (tree : Tree) (form : Form) (n i : ℕ) → IsFullAs def form n → field_refusal def tree i ≡ None
-    → TakesMany form
-takes_many (Def.Struct struct) tree form n i full may = subst TakesMany (sym (struct_form struct form n full).0) tt
-takes_many (Def.Array item m) tree form n i full may = subst TakesMany (sym (array_form item m form n full).0) tt
-takes_many (Def.Enum enumeration) tree form n i full may =
-    subst TakesMany (sym (enum_form enumeration form n full).form_is) tt
-takes_many (Def.Slice item) tree form n i full may = cc
-takes_many Def.Opaque tree form n i full may = cc
-takes_many _ tree form n i full may = cc
+-- as what a place is begun for a field or an element
+module _ (So : Form → Type 0) (of_struct : So as_struct) (of_array : So as_array) (of_variant : (k : ℕ) → So (as_variant k)) where
+  pub of_fields : (def : Def) (tree : Tree) (form : Form) (n i : ℕ) → IsFullAs def form n → field_refusal def tree i ≡ None → So form
+  of_fields (Def.Struct struct) tree form n i full may = subst So (sym (struct_form struct form n full).0) of_struct
+  of_fields (Def.Array item m) tree form n i full may = subst So (sym (array_form item m form n full).0) of_array
+  of_fields (Def.Enum enumeration) tree form n i full may =
+      let is = enum_form enumeration form n full in
+      subst So (sym is.form_is) (of_variant is.variant)
+  of_fields _ tree form n i full may = cc
 
 -- begun around a value it is no map over that
 pub over_so : (def : Def) (tree : Tree) (form : Form) (n i : ℕ) → IsFullAs def form n → field_refusal def tree i ≡ None
     → (v : Val) → over_base form v ≡ form
-over_so (Def.Struct struct) tree form n i full may v =
-    subst (λ (f : Form). over_base f v ≡ f) (sym (struct_form struct form n full).0) refl
-over_so (Def.Array item m) tree form n i full may v =
-    subst (λ (f : Form). over_base f v ≡ f) (sym (array_form item m form n full).0) refl
-over_so (Def.Enum enumeration) tree form n i full may v =
-    subst (λ (f : Form). over_base f v ≡ f) (sym (enum_form enumeration form n full).form_is) refl
-over_so (Def.Slice item) tree form n i full may v = cc
-over_so Def.Opaque tree form n i full may v = cc
-over_so _ tree form n i full may v = cc
+over_so = of_fields (λ form. (v : Val) → over_base form v ≡ form) (λ v. refl) (λ v. refl) (λ k v. refl)
 
 -- its children are one lookup away
 pub points_so : (table : Table) (s : ℕ) (def : Def) (tree : Tree) (form : Form) (n i : ℕ) → IsFullAs def form n
     → field_refusal def tree i ≡ None → PointsRightly table s form
-points_so table s (Def.Struct struct) tree form n i full may =
-    subst (PointsRightly table s) (sym (struct_form struct form n full).0) tt
-points_so table s (Def.Array item m) tree form n i full may =
-    subst (PointsRightly table s) (sym (array_form item m form n full).0) tt
-points_so table s (Def.Enum enumeration) tree form n i full may =
-    subst (PointsRightly table s) (sym (enum_form enumeration form n full).form_is) tt
-points_so table s (Def.Slice item) tree form n i full may = cc
-points_so table s Def.Opaque tree form n i full may = cc
-points_so table s _ tree form n i full may = cc
+points_so table s = of_fields (PointsRightly table s) tt tt (λ k. tt)
 
 -- one that isn't begun yet is begun as its definition says
 not_begun : (def : Def) (tree : Tree) (form : Form) (n i : ℕ) → IsFullAs def form n → selected tree ≡ None
@@ -154,23 +88,21 @@ not_begun : (def : Def) (tree : Tree) (form : Form) (n i : ℕ) → IsFullAs def
 not_begun (Def.Struct struct) tree form n i full none may = struct_form struct form n full
 not_begun (Def.Array item m) tree form n i full none may = array_form item m form n full
 not_begun (Def.Enum enumeration) tree form n i full none may = absurd (unselected enumeration tree i none may)
-not_begun (Def.Slice item) tree form n i full none may = cc
-not_begun Def.Opaque tree form n i full none may = cc
 not_begun _ tree form n i full none may = cc
 
 -- one that is begun stays so, with as many children
-begun_so : (def : Def) (made : Form) (ts : Trees) (form : Form) (n i : ℕ) → IsFullAs def form n
+pub begun_as : (def : Def) (made : Form) (ts : Trees) (form : Form) (n i : ℕ) → IsFullAs def form n
     → ((k : ℕ) → form ≡ as_variant k → selected (begun made ts) ≡ Some k) → IsFullAs def made (count_trees ts)
     → field_refusal def (begun made ts) i ≡ None → (form ≡ made) × (count_trees ts ≡ n)
-begun_so (Def.Struct struct) made ts form n i full variant was may =
+begun_as (Def.Struct struct) made ts form n i full variant was may =
     let new = struct_form struct form n full in
     let old = struct_form struct made (count_trees ts) was in
     (new.0 ∙ sym old.0, old.1 ∙ sym new.1)
-begun_so (Def.Array item m) made ts form n i full variant was may =
+begun_as (Def.Array item m) made ts form n i full variant was may =
     let new = array_form item m form n full in
     let old = array_form item m made (count_trees ts) was in
     (new.0 ∙ sym old.0, old.1 ∙ sym new.1)
-begun_so (Def.Enum enumeration) made ts form n i full variant was may =
+begun_as (Def.Enum enumeration) made ts form n i full variant was may =
     let new = enum_form enumeration form n full in
     let same : made ≡ as_variant new.variant
     = same_variant made new.variant (variant new.variant new.form_is) in
@@ -180,15 +112,7 @@ begun_so (Def.Enum enumeration) made ts form n i full variant was may =
       fields_of (slice_get enumeration.variants new.variant) (count_trees ts) old
           ∙ sym (fields_of (slice_get enumeration.variants new.variant) n new.full),
     )
-begun_so (Def.Slice item) made ts form n i full variant was may = cc
-begun_so Def.Opaque made ts form n i full variant was may = cc
-begun_so _ made ts form n i full variant was may = cc
-
--- what is begun there has this form, and as many children
-pub begun_as : (def : Def) (made : Form) (ts : Trees) (form : Form) (n i : ℕ) → IsFullAs def form n
-    → ((k : ℕ) → form ≡ as_variant k → selected (begun made ts) ≡ Some k) → IsFullAs def made (count_trees ts)
-    → field_refusal def (begun made ts) i ≡ None → (form ≡ made) × (count_trees ts ≡ n)
-begun_as def made ts form n i full variant was may = begun_so def made ts form n i full variant was may
+begun_as _ made ts form n i full variant was may = cc
 
 -- the place opened so is opened as its definition says
 pub opened_same : (def : Def) (tree : Tree) (form : Form) (n i : ℕ) → IsFullAs def form n → field_refusal def tree i ≡ None
@@ -211,10 +135,8 @@ IsFullTree def (begun made ts) = IsFullAs def made (count_trees ts)
 
 -- one that suits its shape is begun with all its children
 pub full_tree : (table : Table) (s : ℕ) (tree : Tree) → Suits table s tree → IsFullTree (def_of table s) tree
-full_tree table s hole suits = tt
-full_tree table s entered suits = tt
-full_tree table s (whole v) suits = tt
 full_tree table s (begun made ts) suits = suits.0.0
+full_tree table s _ suits = tt
 
 -- and its form is the one by which its children are told
 pub form_is_at : (def : Def) (tree : Tree) (form : Form) (n i : ℕ) → IsFullAs def form n
@@ -225,4 +147,4 @@ form_is_at def entered form n i full variant was may = (not_begun def entered fo
 form_is_at def (whole v) form n i full variant was may =
     sym (over_so def (whole v) form n i full may v)
     ∙ ap (λ (f : Form). over_base f v) (not_begun def (whole v) form n i full refl may).0
-form_is_at def (begun made ts) form n i full variant was may = (begun_so def made ts form n i full variant was may).0
+form_is_at def (begun made ts) form n i full variant was may = (begun_as def made ts form n i full variant was may).0

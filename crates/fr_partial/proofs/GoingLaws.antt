@@ -1,76 +1,70 @@
 -- Going on to a child, whichever way: the plan's node of the child, what the place becomes, and the step to the child.
-use Rattle.std.proofs.Common.{◌≡◌, ℕ, zero, suc, ◌<◌, true, false, List, [], ◌∷◌, ◌++◌, length, Option, Some, None, Result, OnOk, option_map, if◌then◌else◌, Bool, unwrap_or, refl, sym, ◌∙◌, ap, subst, arith}
+use Rattle.std.proofs.Common.{◌≡◌, ℕ, suc, ◌<◌, true, false, List, [], ◌∷◌, ◌++◌, length, None, refl, sym, ◌∙◌, ap, subst, arith}
 use Rattle.std.specs.Borrow.{Bor}
-use Rattle.std.specs.Prelude.{IsSomeAnd}
-use Rattle.std.specs.Str.{bytes_eq}
-use Rattle.std.proofs.lemmas.Slice.Eq.{bytes_eq-Decides}
 use Rattle.fr_shape.specs.declared.shape.Def.{Def}
-use Rattle.fr_shape.specs.declared.shape.ShapeId.{ShapeId}
 use Rattle.fr_shape.specs.Look.{Table, def_of}
-use Rattle.fr_path.specs.declared.path_steps.PathStep.{PathStep}
-use Rattle.fr_model.specs.Collections.{is_map, is_map_form, with_key}
-use Rattle.fr_model.specs.Contents.{content_anew}
-use Rattle.fr_model.specs.DynamicPlaces.{and_entry, entry_found, entry_number, is_begun_object, number_or_last, with_entry}
-use Rattle.fr_model.specs.Dynamics.{key_nth}
+use Rattle.fr_shape.specs.Val.{Val}
+use Rattle.fr_model.specs.Collections.{is_map, is_map_form}
+use Rattle.fr_model.specs.DynamicPlaces.{entry_refusal, is_begun_object, keys_here}
+use Rattle.fr_model.specs.Dynamics.{keys_apart}
 use Rattle.fr_model.specs.Entering.{entered_on, number_on}
-use Rattle.fr_model.specs.Items.{with_item}
-use Rattle.fr_model.specs.Paths.{step_as, step_below}
+use Rattle.fr_model.specs.PathLaws.{step_on, HasBegun, IsAdmittedOn}
+use Rattle.fr_model.specs.Paths.{step_as}
 use Rattle.fr_model.specs.Places.{Place}
-use Rattle.fr_model.specs.Step.{enter, enter_child, field_refusal, opened_as}
-use Rattle.fr_model.specs.Tree.{Form, as_dyn_object, base_of_form, child_as, child_tree, form_at, selected, Tree, hole, entered, whole, begun, Trees, change_at, change_child, count_below, count_trees, deferred, tree_at}
+use Rattle.fr_model.specs.Step.{enter, field_refusal, opened_as, put_child}
+use Rattle.fr_model.specs.Tree.{Form, as_struct, as_array, as_variant, as_dyn_array, child_as, child_tree, form_at, Tree, hole, whole, begun, no_trees, change_at, change_child, count_below, deferred, tree_at}
 use Rattle.fr_model.specs.Well.{IsFullAs, Leads, Suits}
 use Rattle.fr_plan.specs.declared.nodes.NodeId.{NodeId}
 use Rattle.fr_plan.specs.LookupLaws.{LookupsAgree, LookupPathsAgree}
 use Rattle.fr_plan.specs.TypePlan.{Plan}
-use Rattle.fr_frame.specs.declared.places.Slot.{Slot}
 use Rattle.fr_frame.specs.Bodies.{MayOpen}
 use Rattle.fr_frame.specs.Completing.{shape_of}
 use Rattle.fr_frame.specs.Heap.{Node, as_form, heap_of}
-use Rattle.fr_frame.specs.Kids.{child_node}
-use Rattle.fr_store.specs.MoveLaws.{open_top}
-use Rattle.fr_store.specs.Moves.{around_some, changed_here, cursor_in, entry_here, node_here, tree_here, tree_in_slots, with_entry_of, with_item_of, with_key_of, HasChild, IsOpenAt, TakesMany}
-use Rattle.fr_store.specs.Numbers.{IsLast}
-use Rattle.fr_store.specs.ShapeLaws.{child_shaped, IsOfShape, PointsRightly}
-use Rattle.fr_store.specs.Stands.{kid_shown}
+use Rattle.fr_frame.specs.Kids.{child_node, tree_in}
+use Rattle.fr_store.specs.Moves.{entry_here, node_here, takes_at_end, with_entry_of, with_item_of, with_key_of, AtTop, HasChild}
+use Rattle.fr_store.specs.ShapeLaws.{child_shaped, Along, IsOfShape, PointsRightly}
+use Rattle.fr_store.specs.Stands.{kid_shown, IsOpen}
 use Rattle.fr_partial.specs.declared.admitting.Opening.{Opening}
-use Rattle.fr_partial.specs.declared.beginning.Beginning.{Beginning}
 use Rattle.fr_partial.specs.declared.moves.Way.{Way}
-use Rattle.fr_partial.specs.Beginnings.{begun_by, kept_by, MayBegin}
-use Rattle.fr_partial.specs.Moving.{onward, step_told, MayGo}
+use Rattle.fr_partial.specs.declared.work.Frames.{Frames}
+use Rattle.fr_partial.specs.Beginnings.{begun_by}
+use Rattle.fr_partial.specs.Entering.{Describes}
+use Rattle.fr_partial.specs.Moving.{number_told, onward, step_told, MayGo}
 use Rattle.fr_partial.specs.Openings.{HasItems}
-use Rattle.fr_partial.specs.Underway.{shape_here, IsReady}
+use Rattle.fr_partial.specs.Underway.{top_place, top_shape, top_tree, whole_tree, Became, Changed, IsAtWork}
 use Rattle.fr_partial.proofs.BeginLaws.{opened_within}
-use Rattle.fr_partial.proofs.BelowLaws.{never_map, no_base, no_map}
-use Rattle.fr_partial.proofs.EnterLaws.{changed_at, changed_twice, def_entered, has_child, may_open, node_stays}
+use Rattle.fr_partial.proofs.BelowLaws.{changed_takes, never_map}
+use Rattle.fr_partial.proofs.EnterLaws.{def_entered, has_child, may_open, node_stays}
 use Rattle.fr_partial.proofs.FitLaws.{is_there}
-use Rattle.fr_partial.proofs.FormLaws.{form_is_at, full_tree, opened_same, points_so, takes_many}
-use Rattle.fr_partial.proofs.KeptLaws.{content_so, has_content, on_ok, points_around}
-use Rattle.fr_partial.proofs.ListLaws.{item_so, room_for_one}
-use Rattle.fr_partial.proofs.MapLaws.{has_entries, key_so, room_for_entry, value_so}
-use Rattle.fr_partial.proofs.ObjectLaws.{entered_so, entry_object, number_so, object_is}
-use Rattle.fr_partial.proofs.PlaceLaws.{here_along, here_found, plot_here}
+use Rattle.fr_partial.proofs.FormLaws.{form_is_at, full_tree, of_fields, opened_same, points_so}
+use Rattle.fr_partial.proofs.HereLaws.{body_here, by_plot}
+use Rattle.fr_partial.proofs.KeepLaws.{became_after, changed_as}
+use Rattle.fr_partial.proofs.KeptLaws.{content_so, kept_as_form, points_around}
+use Rattle.fr_partial.proofs.ListLaws.{any_count, by_items, has_count, item_so, item_step, room_for_all}
+use Rattle.fr_partial.proofs.MapLaws.{key_so, more_entries, value_so}
+use Rattle.fr_partial.proofs.ObjectLaws.{apart_here, counted_here, entered_so, entry_object, number_so}
+use Rattle.fr_partial.proofs.PlaceLaws.{here_along}
 use Rattle.fr_partial.proofs.ReachLaws.{tree_leads}
-use Rattle.fr_partial.proofs.TreeLaws.{alike_here}
+use Rattle.fr_partial.proofs.TreeLaws.{changed_at, changed_twice}
 
--- What the place becomes.
+-- what is known where a way is taken from the place on top, as it is met
+pub record Goes (plan : Plan) (frames : Frames) (met way : Way) : Type 0 where
+  pub agree : LookupsAgree
+  pub paths : LookupPathsAgree
+  pub work : IsAtWork plan frames
+  pub may : MayGo frames.table.now (top_shape frames) (top_tree frames) met
+  pub is : met ≡ way
+  pub above : NodeId
+  pub above_is : above ≡ node_here plan frames.slots frames.stack
 
--- the plan's node of the child, from that of the place
-abbrev pub node_on : Plan → NodeId → Way → NodeId
-node_on plan above (Way.Child i opening) = child_node plan above (as_form opening.form) i
-node_on plan above (Way.Item opening) = child_node plan above (as_form opening.form) opening.count
-node_on plan above (Way.Key opening) = child_node plan above (as_form opening.form) opening.count
-node_on plan above (Way.Value opening) = child_node plan above (as_form opening.form) opening.count
-node_on plan above (Way.Entry key) = above
-node_on plan above (Way.Content form beginning) = child_node plan above (as_form form) 0
-
--- its shape, from that of the place: an entry of a dynamic object is dynamic too
-abbrev shape_on : Table → (s : ℕ) → Way → ℕ
-shape_on table s (Way.Child i opening) = child_as table s (as_form opening.form) i
-shape_on table s (Way.Item opening) = child_as table s (as_form opening.form) opening.count
-shape_on table s (Way.Key opening) = child_as table s (as_form opening.form) opening.count
-shape_on table s (Way.Value opening) = child_as table s (as_form opening.form) opening.count
-shape_on table s (Way.Entry key) = s
-shape_on table s (Way.Content form beginning) = child_as table s (as_form form) 0
+-- as what the place is begun then; each entry of a dynamic object lies as an element lies in an array
+abbrev pub form_on : Way → Form
+form_on (Way.Child i opening) = as_form opening.form
+form_on (Way.Item opening) = as_form opening.form
+form_on (Way.Key opening) = as_form opening.form
+form_on (Way.Value opening) = as_form opening.form
+form_on (Way.Entry key) = as_dyn_array
+form_on (Way.Content form beginning) = as_form form
 
 -- what is made of the place, where the child has this definition
 abbrev pub done_on : Way → Def → Tree → Tree
@@ -88,35 +82,37 @@ record Holds (table : Table) (s : ℕ) (form : Form) (i : ℕ) : Type 0 where
   points : PointsRightly table s form
   below : i < count
 
+dynamic_holds : (table : Table) (s : ℕ) (def : Def) (tree : Tree) → def_of table s ≡ def → entry_refusal def tree ≡ None
+    → Holds table s as_dyn_array 0
+dynamic_holds table s Def.Dynamic tree is may =
+    record { count = 1; full = subst (λ (d : Def). IsFullAs d as_dyn_array 1) (sym is) tt; points = tt; below = omega arith }
+dynamic_holds table s _ tree is may = cc
+
 module _ (table : Table) (s : ℕ) (tree : Tree) (suits : Suits table s tree) where
-  holds_child : (i : ℕ) (opening : Opening) → MayGo table s tree (Way.Child i opening) → Holds table s (as_form opening.form) i
-  holds_child i opening may = record {
+  holds : (way : Way) → MayGo table s tree way → Holds table s (form_on way) (number_told way)
+  holds (Way.Child i opening) may = record {
     count = opening.count;
     full = may.0.begun;
-    points =
-        points_so table s (def_of table s) tree (as_form opening.form) opening.count i may.0.begun may.1;
+    points = points_so table s (def_of table s) tree (as_form opening.form) opening.count i may.0.begun may.1;
     below = opened_within table s tree i opening may.0 may.1;
   }
-
-  holds_item : (opening : Opening) → MayGo table s tree (Way.Item opening)
-      → Holds table s (as_form opening.form) opening.count
-  holds_item opening may =
-      let room = room_for_one table s (as_form opening.form) opening.count tree may.0 may.1 suits in
+  holds (Way.Item opening) may =
+      let room = room_for_all table s (as_form opening.form) opening.count tree may.0 suits in
+      let full = any_count (def_of table s) (as_form opening.form) opening.count (suc opening.count) may.1 room.0 in
+      record { count = suc opening.count; full = full; points = room.1; below = omega arith }
+  holds (Way.Key opening) may =
+      let room = room_for_all table s (as_form opening.form) opening.count tree may.0 suits in
+      let full = more_entries (def_of table s) opening.count (as_form opening.form) may.1 room.0 in
+      record { count = suc (suc opening.count); full = full; points = room.1; below = omega arith }
+  holds (Way.Value opening) may =
+      let room = room_for_all table s (as_form opening.form) (suc opening.count) tree may.0 suits in
       record { count = suc opening.count; full = room.0; points = room.1; below = omega arith }
+  holds (Way.Entry key) may = dynamic_holds table s (def_of table s) tree refl may
+  holds (Way.Content form beginning) may =
+      record { count = 1; full = may.1; points = points_around table s (as_form form) may.0; below = omega arith }
 
-  holds_key : (opening : Opening) → MayGo table s tree (Way.Key opening) → Holds table s (as_form opening.form) opening.count
-  holds_key opening may =
-      let room = room_for_entry table s (as_form opening.form) opening.count tree may.0 may.1 suits in
-      record { count = suc (suc opening.count); full = room.0; points = room.1; below = omega arith }
-
-  holds_value : (opening : Opening) → MayGo table s tree (Way.Value opening)
-      → Holds table s (as_form opening.form) opening.count
-  holds_value opening may =
-      let room = has_entries table s (as_form opening.form) (suc opening.count) tree may.0 may.1 suits in
-      record { count = suc opening.count; full = room.0; points = room.1; below = omega arith }
-
-  -- that is just what the way means
-  pub done_is : (way : Way) → MayGo table s tree way → (def : Def) → def ≡ def_of table (shape_on table s way)
+  -- what is made of the place is just what the way means
+  done_is : (way : Way) → MayGo table s tree way → (def : Def) → def ≡ def_of table (child_as table s (form_on way) (number_told way))
       → done_on way def tree ≡ entered_on table s (onward way tree) tree
   done_is (Way.Child i opening) may def is =
       let form : Form = as_form opening.form in
@@ -126,302 +122,205 @@ module _ (table : Table) (s : ℕ) (tree : Tree) (suits : Suits table s tree) wh
       (form_is_at (def_of table s) tree form opening.count i may.0.begun may.0.variant (full_tree table s tree suits) may.1))
       ∙ ap (change_child i (enter (def_of table (child_as table s (form_at (def_of table s) tree) i))))
       (opened_same (def_of table s) tree form opening.count i may.0.begun may.1)
-  done_is (Way.Item opening) may def is = item_so table s (as_form opening.form) opening.count tree def may.0 is
-  done_is (Way.Key opening) may def is = key_so table s (as_form opening.form) opening.count tree def may.0 is
-  done_is (Way.Value opening) may def is = value_so table s (as_form opening.form) opening.count tree def may.0 is
+  done_is (Way.Item opening) may def is = item_so table s def (as_form opening.form) opening.count tree may.0 is
+  done_is (Way.Key opening) may def is = key_so table s def (as_form opening.form) opening.count tree may.0 is
+  done_is (Way.Value opening) may def is =
+      value_so table s opening.count def (as_form opening.form) (suc opening.count) tree may.0 is
   done_is (Way.Entry key) may def is =
       entered_so table s tree (entry_object (def_of table s) tree may) suits key.now def is
   done_is (Way.Content form beginning) may def is =
       content_so table s beginning (as_form form) may.0 tree may.2 suits def is
 
--- The step to the child.
+  -- The model admits the way, by the step that it tells.
 
--- to a child of a place that is begun so
-child_step : (form : Form) (i : ℕ) (change : Tree → Tree) (t : Tree) → HasChild form i t
-    → step_below i (change_child i change t) ≡ step_as form i
-child_step form i change hole has = absurd has
-child_step form i change entered has = absurd has
-child_step form i change (whole v) has = absurd has
-child_step form i change (begun made ts) has = ap (λ (f : Form). step_as f i) has.0
+  item_steps : (opening : Opening) → HasItems (as_form opening.form) opening.count tree
+      → step_as (form_at (def_of table s) tree) (count_below tree) ≡ step_as (as_form opening.form) opening.count
+  item_steps opening has =
+      ap (step_as (form_at (def_of table s) tree)) (has_count (as_form opening.form) opening.count tree has)
+      ∙ item_step (def_of table s) opening.count (as_form opening.form) opening.count tree has
 
-item_step : (table : Table) (s : ℕ) (form : Form) (count : ℕ) (tree : Tree) → HasItems form count tree
-    → step_below (count_below tree) (with_item table s tree) ≡ step_as form count
-item_step table s form count hole has = absurd has
-item_step table s form count entered has = absurd has
-item_step table s form count (whole v) has = absurd has
-item_step table s form count (begun made ts) has =
-    ap (λ (f : Form). step_as f (count_trees ts)) has.0 ∙ ap (step_as form) has.1
+  -- it is admitted
+  pub admitted : (way : Way) → MayGo table s tree way → IsAdmittedOn tree (onward way tree)
+  admitted (Way.Child i opening) may = tt
+  admitted (Way.Item opening) may =
+      by_items (λ form count t. HasBegun t) (λ made ts. tt) (as_form opening.form) opening.count tree may.0
+  admitted (Way.Key opening) may =
+      by_items (λ form count t. HasBegun t) (λ made ts. tt) (as_form opening.form) opening.count tree may.0
+  admitted (Way.Value opening) may = tt
+  admitted (Way.Entry key) may = entry_object (def_of table s) tree may
+  admitted (Way.Content form beginning) may = kept_as_form beginning (as_form form) tree may.2
 
-key_step : (table : Table) (s : ℕ) (form : Form) (count : ℕ) (tree : Tree) → HasItems form count tree
-    → step_below (count_below tree) (with_key table s tree) ≡ step_as form count
-key_step table s form count hole has = absurd has
-key_step table s form count entered has = absurd has
-key_step table s form count (whole v) has = absurd has
-key_step table s form count (begun made ts) has =
-    ap (λ (f : Form). step_as f (count_trees ts)) has.0 ∙ ap (step_as form) has.1
-
-value_step : (table : Table) (s : ℕ) (form : Form) (i : ℕ) (tree : Tree) → HasItems form (suc i) tree
-    → step_below i (enter_child table s i tree) ≡ step_as form i
-value_step table s form i hole has = absurd has
-value_step table s form i entered has = absurd has
-value_step table s form i (whole v) has = absurd has
-value_step table s form i (begun made ts) has = ap (λ (f : Form). step_as f i) has.0
-
--- an entry's number tells its key
-
-found_is : (key : List ℕ) (keys : List (List ℕ)) (i : ℕ) → entry_found key keys ≡ Some i → key_nth keys i ≡ key
-found_is key [] i e = cc
-found_is key (other ∷ keys) i e =
-    go (bytes_eq key other) (entry_found key keys) i refl e (λ k is. found_is key keys k is)
-  where
-    go : (b : Bool) (found : Option ℕ) (i : ℕ) → bytes_eq key other ≡ b
-        → (if b then Some 0 else option_map suc found) ≡ Some i
-        → ((k : ℕ) → found ≡ Some k → key_nth keys k ≡ key) → key_nth (other ∷ keys) i ≡ key
-    go true found zero is e others = sym ((bytes_eq-Decides key other).0 is)
-    go true found (suc i) is e others = cc
-    go false (Some k) zero is e others = cc
-    go false (Some k) (suc i) is e others = others i (ap Some cc)
-    go false None i is e others = cc
-
-last_key : (keys : List (List ℕ)) (key : List ℕ) → key_nth (keys ++ key ∷ []) (length keys) ≡ key
-last_key [] key = refl
-last_key (other ∷ keys) key = last_key keys key
-
-entry_below : (table : Table) (s : ℕ) (keys : List (List ℕ)) (ts : Trees) (key : List ℕ) (found : Option ℕ)
-    → entry_found key keys ≡ found
-    → step_below (number_or_last found (length keys)) (and_entry table s key (as_dyn_object keys) ts found)
-    ≡ PathStep.Entry key
-entry_below table s keys ts key (Some i) is = ap PathStep.Entry (found_is key keys i is)
-entry_below table s keys ts key None is = ap PathStep.Entry (last_key keys key)
-
-entry_step : (table : Table) (s : ℕ) (key : List ℕ) (tree : Tree) → is_begun_object tree ≡ true
-    → step_below (entry_number key tree) (with_entry table s key tree) ≡ PathStep.Entry key
-entry_step table s key tree object =
-    let is = object_is tree object in
-    ap (λ (t : Tree). step_below (entry_number key t) (with_entry table s key t)) is.2
-    ∙ entry_below table s is.0 is.1 key (entry_found key is.0) refl
-
--- to a content, of a place that is kept or starts anew
-
-begun_step : (form : Form) (i : ℕ) (t : Tree) → HasChild form i t → step_below i t ≡ step_as form i
-begun_step form i hole has = absurd has
-begun_step form i entered has = absurd has
-begun_step form i (whole v) has = absurd has
-begun_step form i (begun made ts) has = ap (λ (f : Form). step_as f i) has.0
-
-content_step : (table : Table) (s : ℕ) (beginning : Beginning) (form : Form) (tree : Tree) → MayBegin beginning form tree
-    → step_below 0 (unwrap_or (kept_by beginning tree) (content_anew table s form)) ≡ step_as form 0
-content_step table s Beginning.AsItIs form tree may = begun_step form 0 tree may
-content_step table s Beginning.InPlace form tree may =
-    begun_step form 0 (around_some tree) (has_content Beginning.InPlace form tree may)
-content_step table s Beginning.Anew form tree may = refl
+  -- and tells the step
+  pub step_is : (way : Way) → MayGo table s tree way → step_on (def_of table s) tree (onward way tree) ≡ step_told way
+  step_is (Way.Child i opening) may =
+      ap (λ (f : Form). step_as f i)
+      (sym
+      (form_is_at (def_of table s) tree (as_form opening.form) opening.count i may.0.begun may.0.variant
+      (full_tree table s tree suits) may.1))
+  step_is (Way.Item opening) may = item_steps opening may.0
+  step_is (Way.Key opening) may = item_steps opening may.0
+  step_is (Way.Value opening) may =
+      item_step (def_of table s) opening.count (as_form opening.form) (suc opening.count) tree may.0
+  step_is (Way.Entry key) may = refl
+  step_is (Way.Content form beginning) may = refl
 
 -- At the place on top of the stack.
 
--- the node that is looked up
-pub found_on : (plan : Plan) (form : Form) (i : ℕ) {node above here : NodeId} → node ≡ child_node plan above form i → above ≡ here
-    → node ≡ child_node plan here form i
-found_on plan form i is same = is ∙ ap (λ (n : NodeId). child_node plan n form i) same
+module _ {plan : Plan} {frames : Frames} {met way : Way} (goes : Goes plan frames met way) where
+  -- the way may be taken
+  pub may_go : MayGo frames.table.now (top_shape frames) (top_tree frames) way
+  may_go = subst (λ (w : Way). MayGo frames.table.now (top_shape frames) (top_tree frames) w) goes.is goes.may
 
--- the way, as it is met
-pub may_as : {table : Table} {root : ShapeId} {plan : Plan} {slots : List Slot} {stack : List ℕ}
-    (ready : IsReady table root plan slots stack) (way told : Way) → way ≡ told
-    → MayGo table (shape_here table root.0 slots stack) (tree_here slots stack) way
-    → MayGo table (shape_here table root.0 slots stack) (tree_here slots stack) told
-may_as {table} {root} {plan} {slots} {stack} ready way told is may =
-    subst (λ (w : Way). MayGo table (shape_here table root.0 slots stack) (tree_here slots stack) w) is may
+  here : Along frames.table.now plan (node_here plan frames.slots frames.stack) (top_shape frames) (top_tree frames)
+  here = here_along goes.agree goes.paths _ _ _ _ _ goes.work.ready
 
-module _ (agree : LookupsAgree) (paths : LookupPathsAgree) {table : Table} {root : ShapeId} {plan : Plan} {slots : List Slot}
-    {stack : List ℕ} (ready : IsReady table root plan slots stack) where
-  -- what stands there suits its shape
-  suits_here : Suits table (shape_here table root.0 slots stack) (tree_here slots stack)
-  suits_here = (here_along agree paths table root plan slots stack ready).suits
+  module _ {node : NodeId} (is : node ≡ child_node plan goes.above (form_on way) (number_told way)) where
+    -- the child's node is that of the place on top
+    pub node_is : node ≡ child_node plan (node_here plan frames.slots frames.stack) (form_on way) (number_told way)
+    node_is = is ∙ ap (λ (n : NodeId). child_node plan n (form_on way) (number_told way)) goes.above_is
 
-  -- the child's node has its shape
-
-  held_shaped : (form : Form) (i : ℕ) → Holds table (shape_here table root.0 slots stack) form i
-      → IsOfShape plan (child_node plan (node_here plan slots stack) form i)
-      (child_as table (shape_here table root.0 slots stack) form i)
-  held_shaped form i holds =
-      child_shaped agree table root plan ready.checked ready.inside ready.planned (node_here plan slots stack)
-      (shape_here table root.0 slots stack) form holds.count i
-      (here_along agree paths table root plan slots stack ready).node_is holds.full holds.points holds.below
-
-  shaped : (way : Way) → MayGo table (shape_here table root.0 slots stack) (tree_here slots stack) way
-      → IsOfShape plan (node_on plan (node_here plan slots stack) way)
-      (shape_on table (shape_here table root.0 slots stack) way)
-  shaped (Way.Child i opening) may =
-      held_shaped (as_form opening.form) i (holds_child table _ (tree_here slots stack) suits_here i opening may)
-  shaped (Way.Item opening) may =
-      held_shaped (as_form opening.form) opening.count (holds_item table _ (tree_here slots stack) suits_here opening may)
-  shaped (Way.Key opening) may =
-      held_shaped (as_form opening.form) opening.count (holds_key table _ (tree_here slots stack) suits_here opening may)
-  shaped (Way.Value opening) may =
-      held_shaped (as_form opening.form) opening.count (holds_value table _ (tree_here slots stack) suits_here opening may)
-  shaped (Way.Entry key) may = (here_along agree paths table root plan slots stack ready).node_is
-  shaped (Way.Content form beginning) may =
-      held_shaped (as_form form) 0 (record {
-        count = 1;
-        full = may.1;
-        points = points_around table (shape_here table root.0 slots stack) (as_form form) may.0;
-        below = omega arith;
-      })
-
-  module _ (way : Way) (may : MayGo table (shape_here table root.0 slots stack) (tree_here slots stack) way) (node : NodeId)
-      (is : node ≡ node_on plan (node_here plan slots stack) way) where
-    found_shaped : IsOfShape plan node (shape_on table (shape_here table root.0 slots stack) way)
-    found_shaped =
-        subst (λ (n : NodeId). IsOfShape plan n (shape_on table (shape_here table root.0 slots stack) way)) (sym is)
-        (shaped way may)
+    shaped : IsOfShape plan node (child_as frames.table.now (top_shape frames) (form_on way) (number_told way))
+    shaped =
+        let held = holds frames.table.now (top_shape frames) (top_tree frames) here.suits way may_go in
+        let ready = goes.work.ready in
+        subst (λ (n : NodeId). IsOfShape plan n (child_as frames.table.now (top_shape frames) (form_on way) (number_told way)))
+        (sym node_is)
+        (child_shaped goes.agree frames.table.now frames.root plan ready.checked ready.inside ready.planned _
+        (top_shape frames) (form_on way) held.count (number_told way) here.node_is held.full held.points held.below)
 
     -- it is one of the plan's
     pub is_planned : node.0 < length plan.nodes
-    is_planned = is_there plan.nodes node.0 found_shaped.found found_shaped.there
+    is_planned = is_there plan.nodes node.0 shaped.found shaped.there
 
     -- the place has become what the way means
-    pub went : {A E : Type 0} (result : Result A E) (after : List Slot) (next : List ℕ) (told : Way) → told ≡ way
-        → OnOk result (IsOpenAt plan after next
-        (cursor_in slots stack ++ number_on (onward way (tree_here slots stack)) (tree_here slots stack) ∷ [])
-        (changed_here (done_on way (def_of table (shape_of plan node))) slots stack))
-        → OnOk result (IsOpenAt plan after next
-        (cursor_in slots stack ++ number_on (onward told (tree_here slots stack)) (tree_here slots stack) ∷ [])
-        (changed_here (entered_on table (shape_here table root.0 slots stack) (onward told (tree_here slots stack))) slots stack))
-    went result after next told same given =
-        subst (λ (w : Way). OnOk result (IsOpenAt plan after next
-        (cursor_in slots stack ++ number_on (onward w (tree_here slots stack)) (tree_here slots stack) ∷ [])
-        (changed_here (entered_on table (shape_here table root.0 slots stack) (onward w (tree_here slots stack))) slots stack)))
-        (sym same)
-        (on_ok result
-        (subst (λ (t : Tree). IsOpenAt plan after next
-        (cursor_in slots stack ++ number_on (onward way (tree_here slots stack)) (tree_here slots stack) ∷ []) t)
-        (alike_here (cursor_in slots stack) (done_on way (def_of table (shape_of plan node)))
-        (entered_on table (shape_here table root.0 slots stack) (onward way (tree_here slots stack))) (tree_in_slots slots stack)
-        (done_is table (shape_here table root.0 slots stack) (tree_here slots stack) suits_here way may
-        (def_of table (shape_of plan node)) (def_entered table plan node _ found_shaped))))
-        given)
+    pub went : {after : Frames} → Became plan (top_place frames ++ number_on (onward way (top_tree frames)) (top_tree frames) ∷ [])
+        (change_at (top_place frames) (done_on way (def_of frames.table.now (shape_of plan node))) (whole_tree frames)) frames after
+        → Became plan (top_place frames ++ number_on (onward met (top_tree frames)) (top_tree frames) ∷ [])
+        (change_at (top_place frames) (entered_on frames.table.now (top_shape frames) (onward met (top_tree frames)))
+        (whole_tree frames)) frames after
+    went {after} done =
+        subst (λ (w : Way). Became plan (top_place frames ++ number_on (onward w (top_tree frames)) (top_tree frames) ∷ [])
+        (change_at (top_place frames) (entered_on frames.table.now (top_shape frames) (onward w (top_tree frames)))
+        (whole_tree frames)) frames after)
+        (sym goes.is)
+        (changed_as (done_on way (def_of frames.table.now (shape_of plan node)))
+        (entered_on frames.table.now (top_shape frames) (onward way (top_tree frames)))
+        (done_is frames.table.now (top_shape frames) (top_tree frames) here.suits way may_go _
+        (def_entered frames.table.now plan node _ shaped)) done)
 
-  -- an entry is the one that is found, or the last
-  pub went_entry : {A E : Type 0} (key : Bor (List ℕ)) (may : MayGo table (shape_here table root.0 slots stack) (tree_here slots stack)
-      (Way.Entry key)) (node : NodeId) (is : node ≡ node_here plan slots stack) (result : Result A E) (after : List Slot)
-      (next : List ℕ) (told : Way) → told ≡ Way.Entry key
-      → OnOk result (IsOpenAt plan after next (cursor_in slots stack ++ entry_here key.now slots stack ∷ [])
-      (changed_here (with_entry_of (def_of table (shape_of plan node)) key.now) slots stack))
-      → OnOk result (IsOpenAt plan after next
-      (cursor_in slots stack ++ number_on (onward told (tree_here slots stack)) (tree_here slots stack) ∷ [])
-      (changed_here (entered_on table (shape_here table root.0 slots stack) (onward told (tree_here slots stack))) slots stack))
-  went_entry key may node is result after next told same given =
-      went (Way.Entry key) may node is result after next told same
-      (subst (λ (n : ℕ). OnOk result (IsOpenAt plan after next (cursor_in slots stack ++ n ∷ [])
-      (changed_here (with_entry_of (def_of table (shape_of plan node)) key.now) slots stack)))
-      (number_so table (shape_here table root.0 slots stack) (tree_here slots stack)
-      (entry_object (def_of table (shape_here table root.0 slots stack)) (tree_here slots stack) may) suits_here key.now)
-      given)
+-- an entry's object
+module _ {plan : Plan} {frames : Frames} {met : Way} {key : Bor (List ℕ)} (goes : Goes plan frames met (Way.Entry key)) where
+  -- the place is begun as an object
+  pub is_object : is_begun_object (top_tree frames) ≡ true
+  is_object = entry_object (def_of frames.table.now (top_shape frames)) (top_tree frames) (may_go goes)
 
-  -- a field or an element: the place may be begun for it, and has it then
+  -- no key of it is there twice
+  pub keys_are_apart : keys_apart (keys_here (top_tree frames)) ≡ true
+  keys_are_apart = apart_here _ _ (top_tree frames) is_object (here goes).suits
 
-  module _ (i : ℕ) (opening : Opening)
-      (may : MayGo table (shape_here table root.0 slots stack) (tree_here slots stack) (Way.Child i opening)) where
-    pub opens : (n : ℕ) (last : IsLast stack n) → IsSomeAnd (heap_of slots n) (λ (found : Node). MayOpen (as_form opening.form) found.body)
-    opens n last =
-        subst (λ (found : Option Node). IsSomeAnd found (λ (x : Node). MayOpen (as_form opening.form) x.body))
-        (sym (here_found plan slots stack ready.shown n last))
-        (may_open table (shape_here table root.0 slots stack) i (as_form opening.form) opening.count
-        (open_top plan slots stack ready.shown).plot may.0.begun
-        (subst (λ (t : Tree). Suits table (shape_here table root.0 slots stack) t)
-        (sym (plot_here plan slots stack ready.shown)) suits_here)
-        (ap (λ (t : Tree). field_refusal (def_of table (shape_here table root.0 slots stack)) t i)
-        (plot_here plan slots stack ready.shown)
-        ∙ may.1))
+  -- and it has one child for each
+  pub keys_are_counted : length (keys_here (top_tree frames)) ≡ count_below (top_tree frames)
+  keys_are_counted = counted_here _ _ (top_tree frames) is_object (here goes).suits
 
-    pub opens_many : TakesMany (as_form opening.form)
-    opens_many =
-        takes_many (def_of table (shape_here table root.0 slots stack)) (tree_here slots stack) (as_form opening.form)
-        opening.count i may.0.begun may.1
+  -- the entry is the one that is found, or the last
+  pub went_entry : {after : Frames} → Became plan (top_place frames ++ entry_here key.now frames.slots frames.stack ∷ [])
+      (change_at (top_place frames) (with_entry_of (def_of frames.table.now (shape_of plan goes.above)) key.now) (whole_tree frames))
+      frames after
+      → Became plan (top_place frames ++ number_on (onward met (top_tree frames)) (top_tree frames) ∷ [])
+      (change_at (top_place frames) (entered_on frames.table.now (top_shape frames) (onward met (top_tree frames)))
+      (whole_tree frames)) frames after
+  went_entry {after} done =
+      went goes refl
+      (subst (λ (n : ℕ). Became plan (top_place frames ++ n ∷ [])
+      (change_at (top_place frames) (with_entry_of (def_of frames.table.now (shape_of plan goes.above)) key.now) (whole_tree frames))
+      frames after)
+      (number_so _ _ (top_tree frames) is_object (here goes).suits key.now) done)
 
-    pub opens_base : base_of_form (as_form opening.form) ≡ 0
-    opens_base =
-        no_base (def_of table (shape_here table root.0 slots stack)) (tree_here slots stack) (as_form opening.form)
-        opening.count i may.0.begun may.1
+-- a field or an element: the place may be begun for it, and has it then
+module _ {plan : Plan} {frames : Frames} {met : Way} {i : ℕ} {opening : Opening} (goes : Goes plan frames met (Way.Child i opening)) where
+  -- so it is of the form
+  pub of_opening : (So : Form → Type 0) → So as_struct → So as_array → ((k : ℕ) → So (as_variant k)) → So (as_form opening.form)
+  of_opening So of_struct of_array of_variant =
+      of_fields So of_struct of_array of_variant (def_of frames.table.now (top_shape frames)) (top_tree frames)
+      (as_form opening.form) opening.count i (may_go goes).0.begun (may_go goes).1
 
-    pub opens_no_map : is_map_form (as_form opening.form) ≡ false
-    opens_no_map =
-        no_map (def_of table (shape_here table root.0 slots stack)) (tree_here slots stack) (as_form opening.form)
-        opening.count i may.0.begun may.1
+  -- it may be begun so
+  pub opens : AtTop frames.slots frames.stack (λ (at : Node). MayOpen (as_form opening.form) at.body)
+  opens =
+      body_here goes.work.ready.shown
+      (λ t. Suits frames.table.now (top_shape frames) t
+      × (field_refusal (def_of frames.table.now (top_shape frames)) t i ≡ None))
+      (MayOpen (as_form opening.form))
+      (λ plot so. may_open _ _ i (as_form opening.form) opening.count plot (may_go goes).0.begun so.0 so.1)
+      ((here goes).suits, (may_go goes).1)
 
-    pub opened_has : HasChild (as_form opening.form) i (opened_as (as_form opening.form) opening.count (tree_here slots stack))
-    opened_has =
-        subst (λ (t : Tree). HasChild (as_form opening.form) i (opened_as (as_form opening.form) opening.count t))
-        (plot_here plan slots stack ready.shown)
-        (has_child table (shape_here table root.0 slots stack) i (as_form opening.form) opening.count
-        (open_top plan slots stack ready.shown).plot may.0.begun
-        (λ k is. ap selected (plot_here plan slots stack ready.shown) ∙ may.0.variant k is)
-        (opened_within table (shape_here table root.0 slots stack) (tree_here slots stack) i opening may.0 may.1)
-        (subst (λ (t : Tree). Suits table (shape_here table root.0 slots stack) t)
-        (sym (plot_here plan slots stack ready.shown)) suits_here)
-        (ap (λ (t : Tree). field_refusal (def_of table (shape_here table root.0 slots stack)) t i)
-        (plot_here plan slots stack ready.shown)
-        ∙ may.1))
+  -- and has the child then
+  pub opened_has : HasChild (as_form opening.form) i (opened_as (as_form opening.form) opening.count (top_tree frames))
+  opened_has =
+      by_plot goes.work.ready.shown
+      (λ t. Describes frames.table.now (top_shape frames) t opening
+      → field_refusal (def_of frames.table.now (top_shape frames)) t i ≡ None → Suits frames.table.now (top_shape frames) t
+      → HasChild (as_form opening.form) i (opened_as (as_form opening.form) opening.count t))
+      (λ plot says may suits.
+      has_child _ _ i (as_form opening.form) opening.count plot says.begun says.variant
+      (opened_within _ _ (tree_in plot) i opening says may) suits may)
+      (may_go goes).0 (may_go goes).1 (here goes).suits
 
-  -- the step to the child, whichever the way
-  pub step_is : (way : Way) → MayGo table (shape_here table root.0 slots stack) (tree_here slots stack) way
-      → step_below (number_on (onward way (tree_here slots stack)) (tree_here slots stack))
-      (entered_on table (shape_here table root.0 slots stack) (onward way (tree_here slots stack)) (tree_here slots stack))
-      ≡ step_told way
-  step_is (Way.Child i opening) may =
-      child_step (as_form opening.form) i _ _
+  -- a value that is put there isn't completed as it is left
+  pub put_no_item : (v : Val)
+      → takes_at_end (put_child (def_of frames.table.now (top_shape frames)) i v (top_tree frames)) ≡ false
+  put_no_item v =
+      changed_takes (as_form opening.form) i (λ old. whole v) _
       (subst (λ (t : Tree). HasChild (as_form opening.form) i t)
-      (opened_same (def_of table (shape_here table root.0 slots stack)) (tree_here slots stack) (as_form opening.form)
-      opening.count i may.0.begun may.1) (opened_has i opening may))
-  step_is (Way.Item opening) may = item_step table _ (as_form opening.form) opening.count (tree_here slots stack) may.0
-  step_is (Way.Key opening) may = key_step table _ (as_form opening.form) opening.count (tree_here slots stack) may.0
-  step_is (Way.Value opening) may = value_step table _ (as_form opening.form) opening.count (tree_here slots stack) may.0
-  step_is (Way.Entry key) may =
-      entry_step table _ key.now (tree_here slots stack)
-      (entry_object (def_of table (shape_here table root.0 slots stack)) (tree_here slots stack) may)
-  step_is (Way.Content form beginning) may =
-      content_step table _ beginning (as_form form) (tree_here slots stack) may.2
+      (opened_same (def_of frames.table.now (top_shape frames)) (top_tree frames) (as_form opening.form) opening.count i
+      (may_go goes).0.begun (may_go goes).1) opened_has)
+      ∙ of_opening (λ form. takes_at_end (begun form no_trees) ≡ false) refl refl (λ k. refl)
 
-  -- What was begun so, without going on yet.
-  module _ (change : Tree → Tree) (after : List Slot)
-      (begun : IsOpenAt plan after stack (cursor_in slots stack) (changed_here change slots stack)) where
-    leads : Leads (deferred 0) (cursor_in slots stack) (tree_in_slots slots stack)
-    leads = tree_leads 0 (cursor_in slots stack) (kid_shown (heap_of slots) stack) ready.shown.stands.leads
+-- What stands there after a change.
+module _ {plan : Plan} (frames : Frames) (shown : IsOpen plan frames.slots frames.stack) (change : Tree → Tree) where
+  leads : Leads (deferred 0) (top_place frames) (whole_tree frames)
+  leads = tree_leads 0 (top_place frames) (kid_shown (heap_of frames.slots) frames.stack) shown.stands.leads
 
-    tree_then : tree_here after stack ≡ change (tree_here slots stack)
-    tree_then =
-        ap (λ (p : Place). tree_at p (tree_in_slots after stack)) begun.cursor
-        ∙ ap (tree_at (cursor_in slots stack)) begun.built
-        ∙ changed_at (deferred 0) (cursor_in slots stack) change (tree_in_slots slots stack) leads
+  -- in the changed tree
+  pub made_here : tree_at (top_place frames) (change_at (top_place frames) change (whole_tree frames)) ≡ change (top_tree frames)
+  made_here = changed_at (deferred 0) (top_place frames) change (whole_tree frames) leads
 
-    pub node_then : node_here plan after stack ≡ node_here plan slots stack
-    node_then =
-        node_stays (deferred 0) plan plan.root (cursor_in slots stack) (cursor_in after stack) change
-        (kid_shown (heap_of slots) stack) (kid_shown (heap_of after) stack) begun.cursor leads begun.built
+  -- and where the open places became so
+  pub tree_then : {between : Frames} → Changed plan change frames between → top_tree between ≡ change (top_tree frames)
+  tree_then {between} made =
+      ap (λ (p : Place). tree_at p (whole_tree between)) made.stands.cursor
+      ∙ ap (tree_at (top_place frames)) made.stands.built
+      ∙ made_here
 
-    pub has_then : (form : Form) (i : ℕ) → HasChild form i (change (tree_here slots stack))
-        → HasChild form i (tree_here after stack)
-    has_then form i has = subst (λ (t : Tree). HasChild form i t) (sym tree_then) has
+-- What was begun so, without going on yet.
+module _ {plan : Plan} {frames between : Frames} (shown : IsOpen plan frames.slots frames.stack) (change : Tree → Tree)
+    (made : Changed plan change frames between) where
+  node_then : node_here plan between.slots between.stack ≡ node_here plan frames.slots frames.stack
+  node_then =
+      node_stays (deferred 0) plan plan.root (top_place frames) (top_place between) change
+      (kid_shown (heap_of frames.slots) frames.stack) (kid_shown (heap_of between.slots) between.stack) made.stands.cursor
+      (leads frames shown change) made.stands.built
 
-    -- no map was begun so
-    pub none_then : (form : Form) (i : ℕ) → HasChild form i (change (tree_here slots stack)) → is_map_form form ≡ false
-        → is_map (tree_here after stack) ≡ true → child_tree i (tree_here after stack) ≡ hole
-    none_then form i has other of_map = absurd (never_map form i (tree_here after stack) (has_then form i has) other of_map)
+  -- the node that was looked up is that of the child still
+  pub node_after : {node : NodeId} (form : Form) (i : ℕ) → node ≡ child_node plan (node_here plan frames.slots frames.stack) form i
+      → node ≡ child_node plan (node_here plan between.slots between.stack) form i
+  node_after form i is = is ∙ ap (λ (n : NodeId). child_node plan n form i) (sym node_then)
 
-    -- and then one of its children was changed
-    pub went_then : {A E : Type 0} (result : Result A E) (last : List Slot) (next : List ℕ) (i : ℕ) (further : Tree → Tree)
-        → OnOk result (IsOpenAt plan last next (cursor_in after stack ++ i ∷ []) (changed_here further after stack))
-        → OnOk result (IsOpenAt plan last next (cursor_in slots stack ++ i ∷ [])
-        (changed_here (λ old. further (change old)) slots stack))
-    went_then result last next i further given =
-        on_ok result
-        (λ (is : IsOpenAt plan last next (cursor_in after stack ++ i ∷ []) (changed_here further after stack)).
-        record {
-          open_still = is.open_still;
-          cursor = is.cursor ∙ ap (λ (p : Place). p ++ i ∷ []) begun.cursor;
-          built =
-              is.built
-              ∙ ap (λ (p : Place). change_at p further (tree_in_slots after stack)) begun.cursor
-              ∙ ap (change_at (cursor_in slots stack) further) begun.built
-              ∙ changed_twice (cursor_in slots stack) further change (tree_in_slots slots stack);
-        })
-        given
+  -- the child is there
+  pub has_then : (form : Form) (i : ℕ) → HasChild form i (change (top_tree frames)) → HasChild form i (top_tree between)
+  has_then form i has = subst (λ (t : Tree). HasChild form i t) (sym (tree_then frames shown change made)) has
+
+  -- no map was begun so
+  pub none_then : (form : Form) (i : ℕ) → HasChild form i (change (top_tree frames)) → is_map_form form ≡ false
+      → is_map (top_tree between) ≡ true → child_tree i (top_tree between) ≡ hole
+  none_then form i has other of_map = absurd (never_map form i (top_tree between) (has_then form i has) other of_map)
+
+  -- and then one of its children was changed
+  pub went_after : {after : Frames} (i : ℕ) (further : Tree → Tree)
+      → Became plan (top_place between ++ i ∷ []) (change_at (top_place between) further (whole_tree between)) between after
+      → Became plan (top_place frames ++ i ∷ []) (change_at (top_place frames) (λ old. further (change old)) (whole_tree frames))
+      frames after
+  went_after {after} i further done =
+      subst (λ (t : Tree). Became plan (top_place frames ++ i ∷ []) t frames after)
+      (changed_twice (top_place frames) further change (whole_tree frames))
+      (became_after (λ place. place ++ i ∷ []) (λ place. change_at place further) made done)

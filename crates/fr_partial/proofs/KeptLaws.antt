@@ -1,40 +1,36 @@
 -- What is kept of a place where it is begun, and what it is then.
-use Rattle.std.proofs.Common.{◌≡◌, ℕ, Bool, true, false, ◌&&◌, length, nat_eq, Option, Some, None, Result, Ok, Err, OnOk, is_some, IsSome, unwrap_or, refl, sym, ap, subst, arith}
+use Rattle.std.proofs.Common.{◌≡◌, ℕ, Bool, true, false, ◌&&◌, length, nat_eq, Option, Some, None, Result, Ok, Err, OnOk, is_some, IsSome, unwrap_or, if◌then◌else◌, refl, sym, ◌∙◌, ap, subst, arith}
 use Rattle.std.proofs.lemmas.Bool.{eqb-true}
 use Rattle.fr_shape.specs.declared.shape.Def.{Def}
 use Rattle.fr_shape.specs.Look.{Table, def_of}
 use Rattle.fr_shape.specs.Val.{Val}
 use Rattle.fr_model.specs.Contents.{around, content_anew, content_of, is_entered_in_place, kept_in, kept_option, kept_so, variant_anew}
+use Rattle.fr_model.specs.PathLaws.{HasBegunAs, IsKeptAs}
 use Rattle.fr_model.specs.Step.{enter}
-use Rattle.fr_model.specs.Tree.{Form, as_struct, as_array, as_variant, as_some, as_ok, as_err, as_pointer, as_list, as_slice, as_closed_slice, as_set, as_map, as_dyn_array, as_dyn_object, form_number, same_form, keys_of_form, same_keys, base_of_form, child_as, fresh, Tree, hole, entered, whole, begun, Trees, no_trees, branch, change_child, count_trees, holes, Mode, strict, deferred}
+use Rattle.fr_model.specs.Tree.{Form, as_variant, as_some, as_ok, as_err, as_pointer, form_number, same_form, keys_of_form, same_keys, base_of_form, child_as, fresh, Tree, hole, entered, whole, begun, Trees, no_trees, branch, change_child, count_trees, holes, Mode, strict, deferred}
 use Rattle.fr_model.specs.Variants.{variant_fields}
 use Rattle.fr_model.specs.Well.{HasContent, HasSide, HasPointee, IsFullAs, IsBegunRightly, IsContent, PointsTo, Suits}
 use Rattle.fr_frame.specs.Bodies.{is_around}
 use Rattle.fr_frame.specs.Kids.{MayHave}
-use Rattle.fr_store.specs.Moves.{around_content, HasChild}
+use Rattle.fr_store.specs.Moves.{around_content, around_some, HasChild}
 use Rattle.fr_store.specs.ShapeLaws.{PointsRightly}
 use Rattle.fr_partial.specs.Beginnings.{kept_by, begun_by, beginning_so, beginning_in, beginning_of_some, IsWholeSome, MayBegin}
 use Rattle.fr_partial.specs.declared.beginning.Beginning.{Beginning}
+use Rattle.fr_partial.proofs.BelowLaws.{of_content}
 use Rattle.fr_partial.proofs.FormLaws.{IsFullTree}
 
 -- Around one child a number is one form.
 
 around_form : (one other : Form) → is_around other ≡ true → form_number one ≡ form_number other → one ≡ other
 around_form as_some as_some h e = refl
+around_form _ as_some h e = absurd (omega arith)
 around_form as_ok as_ok h e = refl
+around_form _ as_ok h e = absurd (omega arith)
 around_form as_err as_err h e = refl
+around_form _ as_err h e = absurd (omega arith)
 around_form as_pointer as_pointer h e = refl
-around_form one as_struct h e = cc
-around_form one as_array h e = cc
-around_form one (as_variant k) h e = cc
-around_form one as_list h e = cc
-around_form one as_slice h e = cc
-around_form one as_closed_slice h e = cc
-around_form one as_set h e = cc
-around_form one (as_map base) h e = cc
-around_form one as_dyn_array h e = cc
-around_form one (as_dyn_object keys) h e = cc
-around_form _ _ h e = absurd (omega arith)
+around_form _ as_pointer h e = absurd (omega arith)
+around_form one _ h e = cc
 
 last_true : (a b : Bool) → (a && b) ≡ true → b ≡ true
 last_true true b h = h
@@ -50,16 +46,13 @@ same_is one other h same =
 
 -- What is kept.
 
+kept_if : (b : Bool) (tree : Tree) → kept_by (if b then Beginning.AsItIs else Beginning.Anew) tree ≡ (if b then Some tree else None)
+kept_if true tree = refl
+kept_if false tree = refl
+
 pub kept_so_is : (form : Form) (tree : Tree) → kept_by (beginning_so form tree) tree ≡ kept_so form tree
-kept_so_is form hole = refl
-kept_so_is form entered = refl
-kept_so_is form (whole v) = refl
-kept_so_is form (begun made ts) = go (same_form made form) refl
-  where
-    go : (b : Bool) → same_form made form ≡ b → kept_by (beginning_so form (begun made ts)) (begun made ts)
-        ≡ kept_so form (begun made ts)
-    go true h = rw h refl
-    go false h = rw h refl
+kept_so_is form (begun made ts) = kept_if (same_form made form) (begun made ts)
+kept_so_is form _ = refl
 
 pub kept_in_is : (mode : Mode) (form : Form) (tree : Tree) → kept_by (beginning_in mode form tree) tree ≡ kept_in mode form tree
 kept_in_is strict form tree = refl
@@ -97,68 +90,30 @@ one_pointee (Def.Pointer pointer) n full = go pointer.pointee full
 one_pointee _ n full = absurd full
 
 -- a place with a content has that alone
-pub one_child : (form : Form) → is_around form ≡ true → (def : Def) (n : ℕ) → IsFullAs def form n → n ≡ 1
-one_child as_some h def n full = one_content def n full
-one_child as_ok h def n full = one_side def n full
-one_child as_err h def n full = one_side def n full
-one_child as_pointer h def n full = one_pointee def n full
-one_child as_struct h def n full = cc
-one_child as_array h def n full = cc
-one_child as_list h def n full = cc
-one_child as_slice h def n full = cc
-one_child as_closed_slice h def n full = cc
-one_child as_set h def n full = cc
-one_child (as_map base) h def n full = cc
-one_child as_dyn_array h def n full = cc
-one_child (as_dyn_object keys) h def n full = cc
-one_child (as_variant k) h def n full = cc
+one_child : (form : Form) → is_around form ≡ true → (def : Def) (n : ℕ) → IsFullAs def form n → n ≡ 1
+one_child = of_content (λ form. (def : Def) (n : ℕ) → IsFullAs def form n → n ≡ 1) one_content one_side one_side one_pointee
 
 pub points_around : (table : Table) (s : ℕ) (form : Form) → is_around form ≡ true → PointsRightly table s form
-points_around table s as_some h = tt
-points_around table s as_ok h = tt
-points_around table s as_err h = tt
-points_around table s as_pointer h = tt
-points_around table s as_struct h = tt
-points_around table s as_array h = tt
-points_around table s (as_variant k) h = tt
-points_around table s as_list h = tt
-points_around table s as_slice h = cc
-points_around table s as_closed_slice h = cc
-points_around table s as_set h = cc
-points_around table s (as_map base) h = cc
-points_around table s as_dyn_array h = cc
-points_around table s (as_dyn_object keys) h = cc
+points_around table s = of_content (PointsRightly table s) tt tt tt tt
 
-pub may_have_one : (form : Form) → MayHave form 1
-may_have_one as_some = omega arith
-may_have_one as_ok = omega arith
-may_have_one as_err = omega arith
-may_have_one as_pointer = omega arith
-may_have_one as_struct = tt
-may_have_one as_array = tt
-may_have_one (as_variant k) = tt
-may_have_one as_list = tt
-may_have_one as_slice = tt
-may_have_one as_closed_slice = tt
-may_have_one as_set = tt
-may_have_one (as_map base) = tt
-may_have_one as_dyn_array = tt
-may_have_one (as_dyn_object keys) = tt
+pub may_have_one : (form : Form) → is_around form ≡ true → MayHave form 1
+may_have_one = of_content (λ form. MayHave form 1) (omega arith) (omega arith) (omega arith) (omega arith)
+
+begin_if : (b : Bool) (form : Form) (tree : Tree) → (b ≡ true → HasChild form 0 tree)
+    → MayBegin (if b then Beginning.AsItIs else Beginning.Anew) form tree
+begin_if true form tree has = has refl
+begin_if false form tree has = tt
 
 pub may_begin_so : (form : Form) → is_around form ≡ true → (def : Def) (tree : Tree) → IsFullTree def tree
     → MayBegin (beginning_so form tree) form tree
-may_begin_so form h def hole full = tt
-may_begin_so form h def entered full = tt
-may_begin_so form h def (whole v) full = tt
-may_begin_so form h def (begun made ts) full = go (same_form made form) refl
-  where
-    go : (b : Bool) → same_form made form ≡ b → MayBegin (beginning_so form (begun made ts)) form (begun made ts)
-    go false e = rw e tt
-    go true e =
-        let same : made ≡ form = same_is made form h e in
-        let one : count_trees ts ≡ 1
-        = one_child form h def (count_trees ts) (subst (λ (f : Form). IsFullAs def f (count_trees ts)) same full) in
-        rw e (same, omega (arith, one))
+may_begin_so form h def (begun made ts) full =
+    begin_if (same_form made form) form (begun made ts)
+    (λ e.
+    let same : made ≡ form = same_is made form h e in
+    let one : count_trees ts ≡ 1
+    = one_child form h def (count_trees ts) (subst (λ (f : Form). IsFullAs def f (count_trees ts)) same full) in
+    (same, omega (arith, one)))
+may_begin_so form h def _ full = tt
 
 pub may_begin_in : (mode : Mode) (form : Form) → is_around form ≡ true → (def : Def) (tree : Tree) → IsFullTree def tree
     → MayBegin (beginning_in mode form tree) form tree
@@ -179,16 +134,6 @@ may_begin_some mode content def (whole v) full = go (is_entered_in_place mode co
 may_begin_some mode content def (begun made ts) full = may_begin_in mode as_some refl def (begun made ts) full
 
 -- nothing is begun in place but a whole `Some`
-pub never_in_place : (form : Form) (tree : Tree) → beginning_so form tree ≡ Beginning.InPlace → ⊥
-never_in_place form hole e = cc
-never_in_place form entered e = cc
-never_in_place form (whole v) e = cc
-never_in_place form (begun made ts) e = go (same_form made form) refl
-  where
-    go : (b : Bool) → same_form made form ≡ b → ⊥
-    go true h = let no : Beginning.AsItIs ≡ Beginning.InPlace = rw h at e in cc
-    go false h = let no : Beginning.Anew ≡ Beginning.InPlace = rw h at e in cc
-
 pub whole_some : (beginning : Beginning) (form : Form) (tree : Tree) → MayBegin beginning form tree
     → beginning ≡ Beginning.InPlace → IsWholeSome tree
 whole_some Beginning.AsItIs form tree may e = cc
@@ -198,50 +143,42 @@ whole_some Beginning.Anew form tree may e = cc
 -- What it is then.
 
 -- one that is whole holds its content
-held_there : (v : Val) → IsSome (content_of v) → (w : Val) × (content_of v ≡ Some w)
-held_there v some = go (content_of v) refl some
-  where
-    go : (held : Option Val) → content_of v ≡ held → IsSome held → (w : Val) × (content_of v ≡ Some w)
-    go (Some w) e h = (w, e)
-    go None e h = cc
+held_there : (held : Option Val) → IsSome held → (w : Val) × (held ≡ Some w)
+held_there (Some w) h = (w, refl)
+held_there None h = cc
 
 pub has_content : (beginning : Beginning) (form : Form) (tree : Tree) → MayBegin beginning form tree
     → HasChild form 0 (begun_by beginning form 1 tree)
 has_content Beginning.AsItIs form tree may = may
 has_content Beginning.InPlace form (whole v) may =
-    let held = held_there v may.0 in
+    let held = held_there (content_of v) may.0 in
     rw held.1 (sym may.1, omega arith)
-has_content Beginning.InPlace form hole may = absurd may.0
-has_content Beginning.InPlace form entered may = absurd may.0
-has_content Beginning.InPlace form (begun made ts) may = absurd may.0
 has_content Beginning.Anew form tree may = (refl, omega arith)
+has_content Beginning.InPlace form _ may = absurd may.0
+
+child_form : (form : Form) (i : ℕ) (tree : Tree) → HasChild form i tree → HasBegunAs form tree
+child_form form i (begun made ts) has = has.0
+child_form form i _ has = absurd has
+
+-- what is kept is begun so
+pub kept_as_form : (beginning : Beginning) (form : Form) (tree : Tree) → MayBegin beginning form tree
+    → IsKeptAs form (kept_by beginning tree)
+kept_as_form Beginning.AsItIs form tree may = child_form form 0 tree may
+kept_as_form Beginning.InPlace form tree may =
+    child_form form 0 (around_some tree) (has_content Beginning.InPlace form tree may)
+kept_as_form Beginning.Anew form tree may = tt
 
 -- the content of a place that is rightly begun is no hole
 content_stays : (table : Table) (s : ℕ) (form : Form) → is_around form ≡ true → (t : Tree) (ts : Trees)
     → IsBegunRightly table s form (branch t ts) → (def : Def) → enter def t ≡ t
-content_stays table s form h t ts right def = go t (touched form h right)
+content_stays table s form h t ts right def =
+    go t
+    (of_content (λ form. IsBegunRightly table s form (branch t ts) → IsContent (branch t ts)) (λ rightly. rightly)
+    (λ rightly. rightly) (λ rightly. rightly) (λ rightly. rightly.0) form h right)
   where
-    touched : (form : Form) → is_around form ≡ true → IsBegunRightly table s form (branch t ts) → IsContent (branch t ts)
-    touched as_some h right = right
-    touched as_ok h right = right
-    touched as_err h right = right
-    touched as_pointer h right = right.0
-    touched as_struct h right = cc
-    touched as_array h right = cc
-    touched (as_variant k) h right = cc
-    touched as_list h right = cc
-    touched as_slice h right = cc
-    touched as_closed_slice h right = cc
-    touched as_set h right = cc
-    touched (as_map base) h right = cc
-    touched as_dyn_array h right = cc
-    touched (as_dyn_object keys) h right = cc
-
     go : (t : Tree) → IsContent (branch t ts) → enter def t ≡ t
     go hole touch = absurd touch
-    go entered touch = refl
-    go (whole v) touch = refl
-    go (begun made us) touch = refl
+    go _ touch = refl
 
 -- begun so, and the content entered
 pub content_so : (table : Table) (s : ℕ) (beginning : Beginning) (form : Form) → is_around form ≡ true → (tree : Tree)
@@ -251,11 +188,8 @@ pub content_so : (table : Table) (s : ℕ) (beginning : Beginning) (form : Form)
 content_so table s Beginning.Anew form h tree may suits def is =
     ap (λ (d : Def). around form (fresh d)) is
 content_so table s Beginning.InPlace form h (whole v) may suits def is =
-    let held = held_there v may.0 in
+    let held = held_there (content_of v) may.0 in
     rw held.1 refl
-content_so table s Beginning.InPlace form h hole may suits def is = absurd may.0
-content_so table s Beginning.InPlace form h entered may suits def is = absurd may.0
-content_so table s Beginning.InPlace form h (begun made ts) may suits def is = absurd may.0
 content_so table s Beginning.AsItIs form h (begun made (branch t ts)) may suits def is =
     ap (λ (x : Tree). begun made (branch x ts))
     (content_stays table s form h t ts
@@ -264,30 +198,23 @@ content_so table s Beginning.AsItIs form h (begun made no_trees) may suits def i
 content_so table s Beginning.AsItIs form h hole may suits def is = absurd may
 content_so table s Beginning.AsItIs form h entered may suits def is = absurd may
 content_so table s Beginning.AsItIs form h (whole v) may suits def is = absurd may
+content_so table s Beginning.InPlace form h _ may suits def is = absurd may.0
+
+begun_is : (beginning : Beginning) (form : Form) (count : ℕ) (tree : Tree)
+    → begun_by beginning form count tree ≡ unwrap_or (kept_by beginning tree) (begun form (holes count))
+begun_is Beginning.AsItIs form count tree = refl
+begun_is _ form count tree = refl
 
 -- begun as a variant
 pub variant_so : (def : Def) (k count : ℕ) (tree : Tree) → count ≡ length (variant_fields def k)
     → begun_by (beginning_so (as_variant k) tree) (as_variant k) count tree
     ≡ unwrap_or (kept_so (as_variant k) tree) (variant_anew def k)
-variant_so def k count tree counts = by tree
-  where
-    anew : begun (as_variant k) (holes count) ≡ variant_anew def k
-    anew = ap (λ (n : ℕ). begun (as_variant k) (holes n)) counts
-
-    by : (tree : Tree) → begun_by (beginning_so (as_variant k) tree) (as_variant k) count tree
-        ≡ unwrap_or (kept_so (as_variant k) tree) (variant_anew def k)
-    by hole = anew
-    by entered = anew
-    by (whole v) = anew
-    by (begun made ts) = go (same_form made (as_variant k)) refl
-      where
-        go : (b : Bool) → same_form made (as_variant k) ≡ b
-            → begun_by (beginning_so (as_variant k) (begun made ts)) (as_variant k) count (begun made ts)
-            ≡ unwrap_or (kept_so (as_variant k) (begun made ts)) (variant_anew def k)
-        go true h = rw h refl
-        go false h = rw h anew
+variant_so def k count tree counts =
+    begun_is (beginning_so (as_variant k) tree) (as_variant k) count tree
+    ∙ ap (λ (kept : Option Tree). unwrap_or kept (begun (as_variant k) (holes count))) (kept_so_is (as_variant k) tree)
+    ∙ ap (λ (n : ℕ). unwrap_or (kept_so (as_variant k) tree) (begun (as_variant k) (holes n))) counts
 
 -- what holds where there is an answer
 pub on_ok : {A E : Type 0} {P Q : Type 0} → (result : Result A E) → (P → Q) → OnOk result P → OnOk result Q
-on_ok (Ok done) then holds = then holds
-on_ok (Err refused) then holds = tt
+on_ok (Ok done) follows holds = follows holds
+on_ok (Err refused) follows holds = tt

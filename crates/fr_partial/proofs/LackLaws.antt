@@ -1,5 +1,5 @@
 -- What a place of a served table lacks is a field or a value: never memory, and never a value that passes a validator.
-use Rattle.std.proofs.Common.{◌≡◌, ◌⊎◌, ℕ, zero, suc, Bool, true, false, Option, Some, None, IsSome, inl, inr, refl, sym, ◌∙◌, ap, subst}
+use Rattle.std.proofs.Common.{◌≡◌, ℕ, zero, suc, Bool, true, false, Option, Some, None, IsSome, inl, inr, refl, sym, ◌∙◌, ap, subst}
 use Rattle.std.specs.Option.{option_or}
 use Rattle.fr_shape.specs.declared.shape.Def.{Def}
 use Rattle.fr_shape.specs.declared.error.ReflectErrorKind.{ReflectErrorKind}
@@ -11,8 +11,7 @@ use Rattle.fr_shape.specs.Val.{Val}
 use Rattle.fr_model.specs.Complete.{complete, lack, lack_among, lack_of_hole, lack_of_holes, lack_of_entered, lack_by, unless_there, missing_child, missing_value, hole_takes, failing_child}
 use Rattle.fr_model.specs.Places.{strict_column, child_count}
 use Rattle.fr_model.specs.Step.{cause}
-use Rattle.fr_model.specs.Tree.{Form, as_struct, as_array, as_variant, as_some, as_ok, as_err, as_pointer, as_list, as_slice, as_closed_slice, as_set, as_map, as_dyn_array, as_dyn_object, Tree, hole, entered, whole, begun, Trees, no_trees, branch, child_as}
-use Rattle.fr_frame.specs.Completing.{IsOfValidator}
+use Rattle.fr_model.specs.Tree.{Form, as_struct, Tree, hole, entered, whole, begun, Trees, no_trees, branch, child_as}
 use Rattle.fr_partial.specs.Filling.{takes_no_memory}
 use Rattle.fr_partial.specs.Ending.{WhyNot}
 use Rattle.fr_partial.proofs.TemplateLaws.{none_failing}
@@ -40,19 +39,7 @@ either_missing None b first second = second
 
 child_missing : (s : ℕ) (form : Form) (i : ℕ) → is_missing (missing_child s form i) ≡ true
 child_missing s as_struct i = refl
-child_missing s as_array i = refl
-child_missing s (as_variant k) i = refl
-child_missing s as_some i = refl
-child_missing s as_ok i = refl
-child_missing s as_err i = refl
-child_missing s as_pointer i = refl
-child_missing s as_list i = refl
-child_missing s as_slice i = refl
-child_missing s as_closed_slice i = refl
-child_missing s as_set i = refl
-child_missing s (as_map base) i = refl
-child_missing s as_dyn_array i = refl
-child_missing s (as_dyn_object keys) i = refl
+child_missing s _ i = refl
 
 value_missing : (s : ℕ) → is_missing (missing_value s) ≡ true
 value_missing s = refl
@@ -117,46 +104,18 @@ module _ (hooks : Meanings) (table : Table) (served : IsServed table) where
   cause_missing s t = go (lack hooks table s t) refl
     where
       go : (lacking : Option ReflectErrorKind) → lack hooks table s t ≡ lacking → is_missing (cause hooks table s t) ≡ true
-      go (Some kind) e = rw e (by_kind kind e)
-        where
-          by_kind : (kind : ReflectErrorKind) → lack hooks table s t ≡ Some kind → is_missing kind ≡ true
-          by_kind kind e = lack_missing s t kind e
+      go (Some kind) e = rw e (lack_missing s t kind e)
       go None e = rw e (value_missing s)
-
-  of_validator : (kind : ReflectErrorKind) → IsOfValidator kind → is_missing kind ≡ true → ⊥
-  of_validator kind said h =
-      let same : is_missing kind ≡ false = ap is_missing said.2 in
-      let no : true ≡ false = sym h ∙ same in
-      cc
-
-  memory_not_missing : is_missing ReflectErrorKind.OutOfMemory ≡ false
-  memory_not_missing = refl
 
   -- where a place isn't completed since there is no memory, it makes a value and takes a template
   pub only_wants : (s : ℕ) (t : Tree) (kind : ReflectErrorKind) → WhyNot hooks table s t kind
-      → kind ≡ ReflectErrorKind.OutOfMemory → IsSome (complete strict_column hooks table s t)
+      → kind ≡ ReflectErrorKind.OutOfMemory
+      → IsSome (complete strict_column hooks table s t) × (takes_no_memory t ≡ false)
   only_wants s t kind (inl lacking) memory =
-      let no : true ≡ false
-      = sym (cause_missing s t) ∙ ap is_missing (sym lacking.lacks ∙ memory) ∙ memory_not_missing in
+      let no : true ≡ false = sym (cause_missing s t) ∙ ap is_missing (sym lacking.lacks ∙ memory) in
       cc
-  only_wants s t kind (inr wants) memory = go wants.needed
-    where
-      go : (IsSome (complete strict_column hooks table s t) × (takes_no_memory t ≡ false))
-          ⊎ ((complete strict_column hooks table s t ≡ None) × IsOfValidator (cause hooks table s t))
-          → IsSome (complete strict_column hooks table s t)
-      go (inl made) = made.0
-      go (inr said) = absurd (of_validator (cause hooks table s t) said.1 (cause_missing s t))
-
-  pub only_takes : (s : ℕ) (t : Tree) (kind : ReflectErrorKind) → WhyNot hooks table s t kind
-      → kind ≡ ReflectErrorKind.OutOfMemory → takes_no_memory t ≡ false
-  only_takes s t kind (inl lacking) memory =
-      let no : true ≡ false
-      = sym (cause_missing s t) ∙ ap is_missing (sym lacking.lacks ∙ memory) ∙ memory_not_missing in
-      cc
-  only_takes s t kind (inr wants) memory = go wants.needed
-    where
-      go : (IsSome (complete strict_column hooks table s t) × (takes_no_memory t ≡ false))
-          ⊎ ((complete strict_column hooks table s t ≡ None) × IsOfValidator (cause hooks table s t))
-          → takes_no_memory t ≡ false
-      go (inl made) = made.1
-      go (inr said) = absurd (of_validator (cause hooks table s t) said.1 (cause_missing s t))
+  only_wants s t kind (inr wants) memory =
+      elim wants.needed [
+        | inl made ↦ made
+        | inr said ↦ let no : true ≡ false = sym (cause_missing s t) ∙ ap is_missing said.1.2 in cc
+      ]

@@ -1,93 +1,48 @@
--- What a place keeps as it is filled: children that were there are there still, so that what is never stored isn't.
-use Rattle.std.proofs.Common.{◌≡◌, ◌||◌, ℕ, suc, false, List, [], ◌∷◌, length, refl, sym, subst, arith}
-use Rattle.fr_model.specs.Tree.{Form, as_struct, as_array, as_variant, as_some, as_ok, as_err, as_pointer, as_list, as_slice, as_closed_slice, as_set, as_map, as_dyn_array, as_dyn_object, base_of_form}
-use Rattle.fr_frame.specs.Bodies.{Body, entered_body, whole_body, begun_body, boxes, gathers}
-use Rattle.fr_frame.specs.Cells.{Cell, absent, given, placed}
-use Rattle.fr_frame.specs.Defaults.{KeepGiven, KeepsForm}
-use Rattle.fr_frame.specs.Kids.{Kid, gone, there, at, Plot, entered_plot, whole_plot, begun_plot, Kids, no_kids, kid, is_stored, body_in, cell_of, cells_in, kid_in, kids_in, IsThere, IsLeftRightly, AreLeftRightly, AreLeftIn, AreLeftAll}
+-- What a place keeps as it comes to hold its value: a map has its base still, and nothing that is never stored is.
+use Rattle.std.proofs.Common.{◌≡◌, ◌≤◌, ◌||◌, ℕ, suc, ◌+◌, false, List, [], ◌∷◌, length, Some, refl, sym, subst, arith}
+use Rattle.fr_shape.specs.Val.{Val, Vals}
+use Rattle.fr_model.specs.Places.{entry_of}
+use Rattle.fr_model.specs.Tree.{Form, as_map, base_of_form}
+use Rattle.fr_frame.specs.Bodies.{Body, entered_body, whole_body, begun_body, boxes, gathers, value_of}
+use Rattle.fr_frame.specs.Cells.{Cell, given, values_of}
+use Rattle.fr_frame.specs.Defaults.{KeepsForm}
+use Rattle.fr_frame.specs.Kids.{gone, Plot, entered_plot, whole_plot, begun_plot, body_in, kids_in, AreLeftIn, AreLeftAll}
 use Rattle.fr_store.specs.HereLaws.{closed_plot}
-use Rattle.fr_store.specs.LeftLaws.{IsLeftAs, as_left}
+use Rattle.fr_store.specs.LeftLaws.{left_end, left_value}
+use Rattle.fr_store.specs.TopLaws.{cells_count}
+use Rattle.fr_store.specs.ValueLaws.{made_of, made_value, more_is}
 
-unstored : (d : Cell) → is_stored (kid_in (λ slot. gone) d) ≡ false
-unstored absent = refl
-unstored (given v) = refl
-unstored (placed n) = refl
-
-bare_left : (d : Cell) → AreLeftRightly (kid_in (λ slot. gone) d)
-bare_left absent = tt
-bare_left (given v) = tt
-bare_left (placed n) = tt
-
-left_free : (form : Form) (i : ℕ) (k : Kid) → base_of_form form ≡ 0 → is_stored k ≡ false → IsLeftRightly form i k
-left_free as_set i k none out = out
-left_free as_dyn_array i k none out = out
-left_free (as_dyn_object keys) i k none out = out
-left_free (as_map base) i k none out = λ h. absurd (omega (arith, none, h))
-left_free as_struct i k none out = tt
-left_free as_array i k none out = tt
-left_free (as_variant number) i k none out = tt
-left_free as_some i k none out = tt
-left_free as_ok i k none out = tt
-left_free as_err i k none out = tt
-left_free as_pointer i k none out = tt
-left_free as_list i k none out = tt
-left_free as_slice i k none out = tt
-left_free as_closed_slice i k none out = tt
-
-free_left : (form : Form) (i : ℕ) (cells : List Cell) → base_of_form form ≡ 0
-    → AreLeftAll form i (kids_in (λ slot. gone) cells)
-free_left form i [] none = omega (arith, none)
-free_left form i (d ∷ cells) none =
-    (left_free form i (kid_in (λ slot. gone) d) none (unstored d), bare_left d, free_left form (suc i) cells none)
-
-kept_as : (k : Kid) (ks ds : List Cell) (d : Cell) → KeepGiven (cell_of k ∷ ks) (d ∷ ds)
-    → IsLeftAs k (kid_in (λ slot. gone) d)
-kept_as gone ks ds d keeps = record { stored = λ h. unstored d; there = λ h. absurd h }
-kept_as (there v) ks ds d keeps = record {
-  stored = λ h. unstored d;
-  there = λ h. subst (λ (c : Cell). IsThere (kid_in (λ slot. gone) c)) (sym keeps.0) tt;
-}
-kept_as (at slot stored plot) ks ds d keeps = record { stored = λ h. unstored d; there = λ h. absurd h }
-
-kept_rest : (k : Kid) (ks ds : List Cell) (d : Cell) → KeepGiven (cell_of k ∷ ks) (d ∷ ds) → KeepGiven ks ds
-kept_rest gone ks ds d keeps = keeps
-kept_rest (there v) ks ds d keeps = keeps.1
-kept_rest (at slot stored plot) ks ds d keeps = keeps
-
-all_left : (form : Form) (i : ℕ) (kids : Kids) (cells : List Cell) → length cells ≡ length (cells_in kids)
-    → KeepGiven (cells_in kids) cells → AreLeftAll form i kids → AreLeftAll form i (kids_in (λ slot. gone) cells)
-all_left form i no_kids [] same keeps left = left
-all_left form i (kid k kids) [] same keeps left = absurd (omega (arith, same))
-all_left form i no_kids (d ∷ cells) same keeps left = absurd (omega (arith, same))
-all_left form i (kid k kids) (d ∷ cells) same keeps left = (
-  as_left form i k (kid_in (λ slot. gone) d) (kept_as k (cells_in kids) cells d keeps) left.0,
-  bare_left d,
-  all_left form (suc i) kids cells (omega (arith, same)) (kept_rest k (cells_in kids) cells d keeps) left.2,
-)
+-- where each child has its value, none of the base is missing, if there are as many as that
+all_given : (form : Form) (i : ℕ) (cells : List Cell) (vs : Vals) (m : ℕ) → m ≡ i + length cells → base_of_form form ≤ entry_of m
+    → values_of cells ≡ Some vs → AreLeftAll form i (kids_in (λ slot. gone) cells)
+all_given form i [] vs m many past e =
+    let same : m ≡ i = omega (arith, many) in
+    subst (λ (n : ℕ). base_of_form form ≤ entry_of n) same past
+all_given form i (given v ∷ cells) vs m many past e =
+    let rest = more_is v (values_of cells) vs e in
+    (left_value form i v, tt, all_given form (suc i) cells rest.0 m (omega (arith, many)) past rest.1)
+all_given form i _ vs m many past e = absurd (cc)
 
 no_base_of : (form : Form) → (boxes form || gathers form) ≡ false → base_of_form form ≡ 0
 no_base_of (as_map base) h = cc
-no_base_of as_struct h = refl
-no_base_of as_array h = refl
-no_base_of (as_variant k) h = refl
-no_base_of as_some h = refl
-no_base_of as_ok h = refl
-no_base_of as_err h = refl
-no_base_of as_pointer h = refl
-no_base_of as_list h = refl
-no_base_of as_slice h = refl
-no_base_of as_closed_slice h = refl
-no_base_of as_set h = refl
-no_base_of as_dyn_array h = refl
-no_base_of (as_dyn_object keys) h = refl
+no_base_of _ h = refl
 
-pub keep_left : (plot : Plot) (now : Body) → KeepsForm (body_in plot) now → AreLeftIn plot → AreLeftIn (closed_plot now)
-keep_left entered_plot entered_body keeps left = tt
-keep_left entered_plot (whole_body v) keeps left = tt
-keep_left entered_plot (begun_body form cells) keeps left = free_left form 0 cells (no_base_of form keeps)
-keep_left (whole_plot v) now keeps left = subst (λ (b : Body). AreLeftIn (closed_plot b)) (sym keeps) tt
-keep_left (begun_plot form kids) entered_body keeps left = absurd keeps
-keep_left (begun_plot form kids) (whole_body v) keeps left = absurd keeps
-keep_left (begun_plot form kids) (begun_body other others) keeps left =
-    subst (λ (f : Form). AreLeftAll f 0 (kids_in (λ slot. gone) others)) (sym keeps.0)
-    (all_left form 0 kids others keeps.1 keeps.2 left)
+begun_left : (form : Form) (cells : List Cell) (v : Val) → base_of_form form ≤ entry_of (length cells)
+    → value_of (begun_body form cells) ≡ Some v → AreLeftIn (closed_plot (begun_body form cells))
+begun_left form cells v past held =
+    let values = made_of form (values_of cells) v (made_value form cells v held) in
+    all_given form 0 cells values.0 (length cells) (omega arith) past values.1
+
+-- what holds its value, and kept its form, keeps what it had
+pub held_left : (plot : Plot) (now : Body) (v : Val) → KeepsForm (body_in plot) now → value_of now ≡ Some v → AreLeftIn plot
+    → AreLeftIn (closed_plot now)
+held_left entered_plot (begun_body form cells) v keeps held left =
+    begun_left form cells v (let none : base_of_form form ≡ 0 = no_base_of form keeps in omega (arith, none)) held
+held_left (begun_plot form kids) (begun_body other cells) v keeps held left =
+    let same : base_of_form other ≤ entry_of (length cells)
+    = subst (λ (f : Form). base_of_form f ≤ entry_of (length cells)) (sym keeps.0)
+    (left_end form 0 kids (length cells) (omega (arith, keeps.1, cells_count kids)) left) in
+    begun_left other cells v same held
+held_left (whole_plot v) (begun_body form cells) w keeps held left = cc
+held_left plot entered_body v keeps held left = tt
+held_left plot (whole_body w) v keeps held left = tt

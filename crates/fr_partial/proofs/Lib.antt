@@ -33,7 +33,6 @@ pub mod OpeningLaws
 pub mod PlaceLaws
 pub mod PutLaws
 pub mod ReachLaws
-pub mod ReleaseLaws
 pub mod RemovedLaws
 pub mod SeenLaws
 pub mod SliceLaws

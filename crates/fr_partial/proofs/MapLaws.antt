@@ -1,108 +1,55 @@
 -- Maps and sets: how they come to be begun, what a key, a value and an item add, and what each is refused for.
-use Rattle.std.proofs.Common.{◌≡◌, ℕ, zero, suc, ◌+◌, ◌-◌, ◌%◌, Bool, true, false, List, [], ◌∷◌, length, slice_get, Some, None, if◌then◌else◌, refl, sym, ◌∙◌, ap, subst, arith}
+use Rattle.std.proofs.Common.{◌≡◌, ℕ, zero, suc, ◌-◌, ◌%◌, Bool, true, false, List, [], ◌∷◌, length, slice_get, Some, None, refl, ◌∙◌, ap, arith}
 use Rattle.fr_shape.specs.declared.error.Operation.{Operation}
 use Rattle.fr_shape.specs.declared.shape.Def.{Def}
 use Rattle.fr_shape.specs.Look.{Table, def_of}
 use Rattle.fr_shape.specs.Val.{Val}
-use Rattle.fr_model.specs.Collections.{ends_in_hole, is_hole, is_map, is_map_form, is_set_form, lacks_value, last_of, value_refusal, with_key}
-use Rattle.fr_model.specs.Places.{entry_of, is_key}
+use Rattle.fr_model.specs.Collections.{ends_in_hole, is_hole, is_map, is_map_form, lacks_value, last_of, value_refusal, with_key}
+use Rattle.fr_model.specs.Places.{is_key}
 use Rattle.fr_model.specs.Step.{enter, enter_child}
-use Rattle.fr_model.specs.Tree.{Form, as_struct, as_array, as_variant, as_some, as_ok, as_err, as_pointer, as_list, as_slice, as_closed_slice, as_set, as_map, as_dyn_array, as_dyn_object, child_as, fresh, Tree, hole, entered, whole, begun, Trees, no_trees, branch, and_last, change_child, child_tree, count_below, count_trees, tree_nth}
-use Rattle.fr_model.specs.Well.{HasEntries, IsFullAs, Suits}
+use Rattle.fr_model.specs.Tree.{Form, as_map, child_as, fresh, Tree, hole, begun, Trees, no_trees, branch, and_last, change_child, child_tree, count_below, count_trees, tree_nth}
+use Rattle.fr_model.specs.Well.{IsFullAs}
 use Rattle.fr_frame.specs.Cells.{Cell, absent, given, placed, slot_of_cell, value_of_cell}
 use Rattle.fr_store.specs.Moves.{with_key_of, HasChild}
-use Rattle.fr_store.specs.ShapeLaws.{PointsRightly}
 use Rattle.fr_partial.specs.Looks.{ends_absent, is_absent}
 use Rattle.fr_partial.specs.Openings.{HasItems}
-use Rattle.fr_partial.proofs.ListLaws.{items_are}
+use Rattle.fr_partial.proofs.ListLaws.{by_items}
 
 -- A form.
 
 pub map_form : (form : Form) → is_map_form form ≡ true → (base : ℕ) × (form ≡ as_map base)
 map_form (as_map base) h = (base, refl)
-map_form as_struct h = cc
-map_form as_array h = cc
-map_form (as_variant k) h = cc
-map_form as_some h = cc
-map_form as_ok h = cc
-map_form as_err h = cc
-map_form as_pointer h = cc
-map_form as_list h = cc
-map_form as_slice h = cc
-map_form as_closed_slice h = cc
-map_form as_set h = cc
-map_form as_dyn_array h = cc
-map_form (as_dyn_object keys) h = cc
+map_form _ h = cc
 
 -- Keys and values.
 
 pub has_map : (form : Form) (count : ℕ) (tree : Tree) → HasItems form count tree → is_map_form form ≡ true
     → is_map tree ≡ true
-has_map form count tree has h =
-    let are = items_are form count tree has in
-    ap is_map are.1 ∙ h
-
-more_entries : (def : Def) (n : ℕ) → HasEntries def n → HasEntries def (suc (suc n))
-more_entries (Def.Map key item) n full = full
-more_entries _ n full = absurd full
+has_map = by_items (λ form count tree. is_map_form form ≡ true → is_map tree ≡ true) (λ made ts h. h)
 
 -- there is room for a key and a value behind its children
-pub room_for_entry : (table : Table) (s : ℕ) (form : Form) (count : ℕ) (tree : Tree) → HasItems form count tree
-    → is_map_form form ≡ true → Suits table s tree
-    → IsFullAs (def_of table s) form (suc (suc count)) × PointsRightly table s form
-room_for_entry table s form count hole has h suits = absurd has
-room_for_entry table s form count entered has h suits = absurd has
-room_for_entry table s form count (whole v) has h suits = absurd has
-room_for_entry table s form count (begun made ts) has h suits =
-    let base = map_form form h in
-    let full : IsFullAs (def_of table s) form (count_trees ts)
-    = subst (λ (f : Form). IsFullAs (def_of table s) f (count_trees ts)) has.0 suits.0.0 in (
-      subst (λ (f : Form). IsFullAs (def_of table s) f (suc (suc count))) (sym base.1)
-          (more_entries (def_of table s) count
-          (subst (λ (f : Form). IsFullAs (def_of table s) f count) base.1
-          (subst (λ (n : ℕ). IsFullAs (def_of table s) form n) has.1 full))),
-      subst (PointsRightly table s) (sym base.1) tt,
-    )
-
--- and each of its children has its shape
-pub has_entries : (table : Table) (s : ℕ) (form : Form) (count : ℕ) (tree : Tree) → HasItems form count tree
-    → is_map_form form ≡ true → Suits table s tree
-    → IsFullAs (def_of table s) form count × PointsRightly table s form
-has_entries table s form count hole has h suits = absurd has
-has_entries table s form count entered has h suits = absurd has
-has_entries table s form count (whole v) has h suits = absurd has
-has_entries table s form count (begun made ts) has h suits =
-    let base = map_form form h in (
-      subst (λ (n : ℕ). IsFullAs (def_of table s) form n) has.1
-          (subst (λ (f : Form). IsFullAs (def_of table s) f (count_trees ts)) has.0 suits.0.0),
-      subst (PointsRightly table s) (sym base.1) tt,
-    )
+pub more_entries : (def : Def) (n : ℕ) (form : Form) → is_map_form form ≡ true → IsFullAs def form n
+    → IsFullAs def form (suc (suc n))
+more_entries (Def.Map key item) n (as_map base) h full = full
+more_entries _ n (as_map base) h full = absurd full
+more_entries def n _ h full = cc
 
 -- a new entry, whose key has this definition
-pub key_so : (table : Table) (s : ℕ) (form : Form) (count : ℕ) (tree : Tree) (def : Def) → HasItems form count tree
+pub key_so : (table : Table) (s : ℕ) (def : Def) (form : Form) (count : ℕ) (tree : Tree) → HasItems form count tree
     → def ≡ def_of table (child_as table s form count) → with_key_of def tree ≡ with_key table s tree
-key_so table s form count hole def has is = refl
-key_so table s form count entered def has is = refl
-key_so table s form count (whole v) def has is = refl
-key_so table s form count (begun made ts) def has is =
-    ap (λ (d : Def). begun made (and_last (and_last ts (fresh d)) hole))
-    (is
-    ∙ ap (λ (f : Form). def_of table (child_as table s f count)) (sym has.0)
-    ∙ ap (λ (n : ℕ). def_of table (child_as table s made n)) (sym has.1))
+key_so table s def =
+    by_items (λ form count tree. def ≡ def_of table (child_as table s form count) → with_key_of def tree ≡ with_key table s tree)
+    (λ made ts is. ap (λ (d : Def). begun made (and_last (and_last ts (fresh d)) hole)) is)
 
 -- the last child is there
 pub has_last : (form : Form) (i : ℕ) (tree : Tree) → HasItems form (suc i) tree → HasChild form i tree
-has_last form i hole has = has
-has_last form i entered has = has
-has_last form i (whole v) has = has
 has_last form i (begun made ts) has = (has.0, omega (arith, has.1))
+has_last form i _ has = has
 
 -- where a value is lacking, it is the last child
 a_hole : (t : Tree) → is_hole t ≡ true → t ≡ hole
 a_hole hole h = refl
-a_hole entered h = cc
-a_hole (whole v) h = cc
-a_hole (begun form ts) h = cc
+a_hole _ h = cc
 
 last_hole : (ts : Trees) (i : ℕ) → ends_in_hole ts ≡ true → count_trees ts ≡ suc i → tree_nth i ts ≡ hole
 last_hole no_trees i h is = cc
@@ -121,53 +68,33 @@ lacking tree may = go (is_map tree) (lacks_value tree) refl refl
 
 pub value_lacks : (form : Form) (i : ℕ) (tree : Tree) → HasItems form (suc i) tree → value_refusal tree ≡ None
     → child_tree i tree ≡ hole
-value_lacks form i hole has may = refl
-value_lacks form i entered has may = refl
-value_lacks form i (whole v) has may = refl
 value_lacks form i (begun made ts) has may = last_hole ts i (lacking (begun made ts) may) has.1
+value_lacks form i _ has may = refl
 
 -- the value is entered, of this definition
-pub value_so : (table : Table) (s : ℕ) (form : Form) (i : ℕ) (tree : Tree) (def : Def) → HasItems form (suc i) tree
+pub value_so : (table : Table) (s i : ℕ) (def : Def) (form : Form) (count : ℕ) (tree : Tree) → HasItems form count tree
     → def ≡ def_of table (child_as table s form i) → change_child i (enter def) tree ≡ enter_child table s i tree
-value_so table s form i hole def has is = absurd has
-value_so table s form i entered def has is = absurd has
-value_so table s form i (whole v) def has is = absurd has
-value_so table s form i (begun made ts) def has is =
-    ap (λ (d : Def). change_child i (enter d) (begun made ts))
-    (is ∙ ap (λ (f : Form). def_of table (child_as table s f i)) (sym has.0))
+value_so table s i def =
+    by_items
+    (λ form count tree.
+    def ≡ def_of table (child_as table s form i) → change_child i (enter def) tree ≡ enter_child table s i tree)
+    (λ made ts is. ap (λ (d : Def). change_child i (enter d) (begun made ts)) is)
 
 pub last_is : (form : Form) (i : ℕ) (tree : Tree) → HasItems form (suc i) tree → last_of (count_below tree) ≡ i
-last_is form i hole has = absurd has
-last_is form i entered has = absurd has
-last_is form i (whole v) has = absurd has
 last_is form i (begun made ts) has = ap last_of has.1
+last_is form i _ has = absurd has
 
 -- Which children are keys.
 
-halves : (i : ℕ) → i ≡ (if is_key i then 0 else 1) + entry_of i + entry_of i
-halves zero = refl
-halves (suc zero) = refl
-halves (suc (suc i)) = omega (arith, halves i)
-
 pub even_key : (i : ℕ) → i % 2 ≡ 0 → is_key i ≡ true
-even_key i even = go (is_key i) refl
-  where
-    go : (b : Bool) → is_key i ≡ b → is_key i ≡ true
-    go true e = e
-    go false e =
-        let half : i ≡ 1 + entry_of i + entry_of i
-        = halves i ∙ ap (λ (b : Bool). (if b then 0 else 1) + entry_of i + entry_of i) e in
-        absurd (omega (arith, half, even))
+even_key zero even = refl
+even_key (suc zero) even = absurd (omega arith)
+even_key (suc (suc i)) even = even_key i (omega arith)
 
 pub odd_value : (i : ℕ) → ¬ (i % 2 ≡ 0) → is_key i ≡ false
-odd_value i odd = go (is_key i) refl
-  where
-    go : (b : Bool) → is_key i ≡ b → is_key i ≡ false
-    go false e = e
-    go true e =
-        let half : i ≡ 0 + entry_of i + entry_of i
-        = halves i ∙ ap (λ (b : Bool). (if b then 0 else 1) + entry_of i + entry_of i) e in
-        absurd (odd (omega (arith, half)))
+odd_value zero odd = absurd (odd refl)
+odd_value (suc zero) odd = refl
+odd_value (suc (suc i)) odd = odd_value i (λ even. odd (omega arith))
 
 -- Whether the last child is there.
 

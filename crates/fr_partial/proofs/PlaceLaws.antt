@@ -1,11 +1,11 @@
 -- The place on top of the stack: its shape, and what stands there.
-use Rattle.std.proofs.Common.{◌≡◌, ℕ, zero, suc, ◌<◌, Bool, true, false, List, [], ◌∷◌, length, append-nil, Option, Some, None, option_map, refl, sym, ◌∙◌, ap, subst}
-use Rattle.std.specs.Prelude.{IsSome, replicate, if◌then◌else◌}
+use Rattle.std.proofs.Common.{◌≡◌, ℕ, suc, ◌<◌, Bool, true, false, List, length, Some, None, option_map, refl, sym, ◌∙◌, ap, subst}
+use Rattle.std.specs.Prelude.{replicate, if◌then◌else◌}
+use Rattle.std.proofs.lemmas.List.{length-replicate}
 use Rattle.fr_shape.specs.declared.shape.ShapeId.{ShapeId}
 use Rattle.fr_shape.specs.Look.{Table}
 use Rattle.fr_model.specs.Collections.{ends_in_hole, is_hole, is_map, is_map_form, lacks_value}
-use Rattle.fr_model.specs.Places.{Place}
-use Rattle.fr_model.specs.Tree.{Form, as_struct, as_array, as_variant, as_some, as_ok, as_err, as_pointer, as_list, as_slice, as_closed_slice, as_set, as_map, as_dyn_array, as_dyn_object, begun, holes, count_trees, tree_occurs}
+use Rattle.fr_model.specs.Tree.{Form, as_map, begun, holes, count_trees}
 use Rattle.fr_plan.specs.declared.nodes.TypePlanNode.{TypePlanNode}
 use Rattle.fr_plan.specs.Lookups.{node_at}
 use Rattle.fr_plan.specs.LookupLaws.{LookupsAgree, LookupPathsAgree}
@@ -13,21 +13,19 @@ use Rattle.fr_plan.specs.TypePlan.{Plan}
 use Rattle.fr_frame.specs.declared.places.Place.{Place as Entry}
 use Rattle.fr_frame.specs.declared.places.Slot.{Slot}
 use Rattle.fr_frame.specs.Bodies.{Body, entered_body, whole_body, begun_body, own_tree, trees_of}
-use Rattle.fr_frame.specs.Cells.{Cell, absent}
+use Rattle.fr_frame.specs.Cells.{absent}
 use Rattle.fr_frame.specs.Outlines.{has_items, is_list_body, outline, outlined}
 use Rattle.fr_frame.specs.OutlineLaws.{found_outline, same_plain, none_found as no_outline}
-use Rattle.fr_frame.specs.Heap.{Node, body_of, node_of, heap_of, slots_occur}
+use Rattle.fr_frame.specs.Heap.{Node, body_of, node_of, heap_of}
 use Rattle.fr_frame.specs.declared.places.FrameOwner.{FrameOwner}
-use Rattle.fr_frame.specs.Changes.{SameTokens, Shows}
-use Rattle.fr_frame.specs.Kids.{Kid, gone, there, at, Plot, entered_plot, whole_plot, begun_plot, Kids, no_kids, kid, cell_of, tree_of, tree_in, trees_in, body_in, cells_in}
-use Rattle.fr_store.specs.HoldLaws.{holds_frame}
-use Rattle.fr_store.specs.StandLaws.{open_from}
-use Rattle.fr_store.specs.MoveLaws.{open_top, top_slot}
-use Rattle.fr_store.specs.Moves.{cursor_in, tree_in_slots, tree_here}
+use Rattle.fr_frame.specs.Kids.{Kid, at, Plot, entered_plot, begun_plot, Kids, no_kids, kid, cell_of, tree_of, tree_in, trees_in, body_in, cells_in}
+use Rattle.fr_store.specs.MoveLaws.{open_reach, open_top, top_slot}
+use Rattle.fr_store.specs.Moves.{cursor_in, tree_here}
 use Rattle.fr_store.specs.Numbers.{IsLast}
 use Rattle.fr_store.specs.Stands.{IsOpen, kid_shown}
-use Rattle.fr_store.specs.Ways.{Leads, node_along, owner_along}
-use Rattle.fr_store.specs.WayLaws.{leads_reach, tree_of_at, tree_tokens}
+use Rattle.fr_store.specs.Ways.{node_along, owner_along}
+use Rattle.fr_store.specs.TurnedLaws.{count_of}
+use Rattle.fr_store.specs.WayLaws.{tree_of_at}
 use Rattle.fr_partial.specs.Looks.{bare, ends_absent, is_absent, lacks_last, LooksLike}
 use Rattle.fr_partial.specs.Underway.{shape_here, IsReady}
 use Rattle.fr_partial.proofs.FitLaws.{is_there}
@@ -65,75 +63,45 @@ module _ (plan : Plan) (slots : List Slot) (stack : List ℕ) (shown : IsOpen pl
 
 -- Where a child is in a slot, what was put at the place above doesn't tell it; but it looks like what stands there.
 
-as_many : (cells : List Cell) → count_trees (trees_of cells) ≡ length cells
-as_many [] = refl
-as_many (c ∷ cells) = ap suc (as_many cells)
-
-none_many : (n : ℕ) → count_trees (trees_of (replicate n absent)) ≡ n
-none_many zero = refl
-none_many (suc n) = ap suc (none_many n)
-
 bare_outline : (body : Body) → bare (own_tree (outline body)) ≡ bare (own_tree body)
 bare_outline entered_body = refl
 bare_outline (whole_body v) = refl
 bare_outline (begun_body form cells) = ap (λ (n : ℕ). begun form (holes n)) (go (has_items form))
   where
     go : (b : Bool) → count_trees (trees_of (if b then replicate (length cells) absent else cells)) ≡ count_trees (trees_of cells)
-    go true = none_many (length cells) ∙ sym (as_many cells)
+    go true = count_of (replicate (length cells) absent) ∙ length-replicate (length cells) absent ∙ sym (count_of cells)
     go false = refl
 
 -- a map is told whole
 
 map_has_none : (form : Form) → is_map_form form ≡ true → has_items form ≡ false
-map_has_none as_struct is = refl
-map_has_none as_array is = refl
-map_has_none (as_variant k) is = refl
-map_has_none as_some is = refl
-map_has_none as_ok is = refl
-map_has_none as_err is = refl
-map_has_none as_pointer is = refl
-map_has_none as_list is = absurd (cc)
-map_has_none as_slice is = absurd (cc)
-map_has_none as_closed_slice is = absurd (cc)
-map_has_none as_set is = refl
 map_has_none (as_map base) is = refl
-map_has_none as_dyn_array is = refl
-map_has_none (as_dyn_object keys) is = refl
+map_has_none _ is = cc
 
 map_lists_not : (plot : Plot) → is_map (tree_in plot) ≡ true → is_list_body (body_in plot) ≡ false
-map_lists_not entered_plot is = refl
-map_lists_not (whole_plot v) is = refl
 map_lists_not (begun_plot form kids) is = map_has_none form is
+map_lists_not _ is = refl
 
 count_told : (kids : Kids) → count_trees (trees_of (cells_in kids)) ≡ count_trees (trees_in kids)
 count_told no_kids = refl
 count_told (kid k ks) = ap suc (count_told ks)
 
 own_looks : (plot : Plot) → LooksLike (own_tree (body_in plot)) (tree_in plot)
-own_looks entered_plot = refl
-own_looks (whole_plot v) = refl
 own_looks (begun_plot form kids) = ap (λ (n : ℕ). begun form (holes n)) (count_told kids)
+own_looks _ = refl
 
--- what was put there looks like what stands at the place at which the builder works
-pub looks_found : (plan : Plan) (slots : List Slot) (stack : List ℕ) (shown : IsOpen plan slots stack) (n : ℕ)
-    (last : IsLast stack n) → (place : Entry) → Tells slots n place
-    → LooksLike (own_tree (body_of place.piece)) (tree_here slots stack)
-looks_found plan slots stack shown n last place is =
-    let top = open_top plan slots stack shown in
-    sym (bare_outline (body_of place.piece))
-    ∙ ap (λ (found : Node). bare (own_tree found.body)) (found_is plan slots stack shown n last place is)
-    ∙ bare_outline (body_in top.plot)
-    ∙ own_looks top.plot
-    ∙ ap bare (ap tree_of (sym top.is) ∙ tree_of_at (cursor_in slots stack) (kid_shown (heap_of slots) stack))
+-- the plot on top stands there
+pub plot_here : (plan : Plan) (slots : List Slot) (stack : List ℕ) (shown : IsOpen plan slots stack)
+    → tree_in (open_top plan slots stack shown).plot ≡ tree_here slots stack
+plot_here plan slots stack shown =
+    ap tree_of (sym (open_top plan slots stack shown).is) ∙ tree_of_at (cursor_in slots stack) (kid_shown (heap_of slots) stack)
 
--- and its last child is there, or isn't, as in the tree
+-- Its last child is there, or isn't, as in the tree.
 
 hole_told : (k : Kid) → is_absent (cell_of k) ≡ is_hole (tree_of k)
-hole_told gone = refl
-hole_told (there v) = refl
 hole_told (at slot stored entered_plot) = refl
-hole_told (at slot stored (whole_plot v)) = refl
-hole_told (at slot stored (begun_plot form kids)) = refl
+hole_told (at slot stored _) = refl
+hole_told _ = refl
 
 last_told : (kids : Kids) → ends_absent (cells_in kids) ≡ ends_in_hole (trees_in kids)
 last_told no_kids = refl
@@ -141,22 +109,31 @@ last_told (kid k no_kids) = hole_told k
 last_told (kid k (kid j ks)) = last_told (kid j ks)
 
 plot_told : (plot : Plot) → lacks_last (body_in plot) ≡ lacks_value (tree_in plot)
-plot_told entered_plot = refl
-plot_told (whole_plot v) = refl
 plot_told (begun_plot form kids) = last_told kids
+plot_told _ = refl
 
-pub lacks_found : (plan : Plan) (slots : List Slot) (stack : List ℕ) (shown : IsOpen plan slots stack) (n : ℕ)
-    (last : IsLast stack n) → (place : Entry) → Tells slots n place → is_map (tree_here slots stack) ≡ true
-    → lacks_last (body_of place.piece) ≡ lacks_value (tree_here slots stack)
-lacks_found plan slots stack shown n last place is of_map =
-    let top = open_top plan slots stack shown in
-    let here : tree_in top.plot ≡ tree_here slots stack
-    = ap tree_of (sym top.is) ∙ tree_of_at (cursor_in slots stack) (kid_shown (heap_of slots) stack) in
-    let same : body_of place.piece ≡ body_in top.plot
-    = same_plain (body_of place.piece) (body_in top.plot)
-    (ap (λ (found : Node). found.body) (found_is plan slots stack shown n last place is))
-    (map_lists_not top.plot (ap is_map here ∙ of_map)) in
-    ap lacks_last same ∙ plot_told top.plot ∙ ap lacks_value here
+module _ {plan : Plan} {slots : List Slot} {stack : List ℕ} (shown : IsOpen plan slots stack) {n : ℕ} (last : IsLast stack n)
+    (place : Entry) (is : Tells slots n place) where
+  -- what was put there looks like what stands at the place at which the builder works
+  pub looks_found : LooksLike (own_tree (body_of place.piece)) (tree_here slots stack)
+  looks_found =
+      let top = open_top plan slots stack shown in
+      sym (bare_outline (body_of place.piece))
+      ∙ ap (λ (found : Node). bare (own_tree found.body)) (found_is plan slots stack shown n last place is)
+      ∙ bare_outline (body_in top.plot)
+      ∙ own_looks top.plot
+      ∙ ap bare (plot_here plan slots stack shown)
+
+  -- and of a map its last child is there, or isn't, as in the tree
+  pub lacks_found : is_map (tree_here slots stack) ≡ true → lacks_last (body_of place.piece) ≡ lacks_value (tree_here slots stack)
+  lacks_found of_map =
+      let top = open_top plan slots stack shown in
+      let here : tree_in top.plot ≡ tree_here slots stack = plot_here plan slots stack shown in
+      let same : body_of place.piece ≡ body_in top.plot
+      = same_plain (body_of place.piece) (body_in top.plot)
+      (ap (λ (found : Node). found.body) (found_is plan slots stack shown n last place is))
+      (map_lists_not top.plot (ap is_map here ∙ of_map)) in
+      ap lacks_last same ∙ plot_told top.plot ∙ ap lacks_value here
 
 module _ (agree : LookupsAgree) (paths : LookupPathsAgree) (table : Table) (root : ShapeId) (plan : Plan) (slots : List Slot)
     (stack : List ℕ) (ready : IsReady table root plan slots stack) where
@@ -167,55 +144,21 @@ module _ (agree : LookupsAgree) (paths : LookupPathsAgree) (table : Table) (root
       along agree table root plan ready.checked ready.inside ready.planned (cursor_in slots stack)
       (kid_shown (heap_of slots) stack) plan.root root.0
       (root_shaped agree table root plan ready.checked ready.inside ready.planned paths) ready.suits
-      (leads_reach (cursor_in slots stack) [] (kid_shown (heap_of slots) stack)
-      (subst (λ (p : Place). Leads p (kid_shown (heap_of slots) stack)) (sym (append-nil (cursor_in slots stack)))
-      ready.shown.stands.leads))
+      (open_reach plan slots stack ready.shown)
 
-  pub found_shaped : (n : ℕ) (last : IsLast stack n) (place : Entry) → Tells slots n place
-      → IsOfShape plan place.node (shape_here table root.0 slots stack)
-  found_shaped n last place is =
-      subst (λ (found : Node). IsOfShape plan found.node (shape_here table root.0 slots stack))
-      (sym (found_is plan slots stack ready.shown n last place is)) here_along.node_is
+  -- so is that of the place that is found there
+  module _ {n : ℕ} (last : IsLast stack n) (place : Entry) (is : Tells slots n place) where
+    found_shaped : IsOfShape plan place.node (shape_here table root.0 slots stack)
+    found_shaped =
+        subst (λ (found : Node). IsOfShape plan found.node (shape_here table root.0 slots stack))
+        (sym (found_is plan slots stack ready.shown n last place is)) here_along.node_is
 
-  pub found_inside : (n : ℕ) (last : IsLast stack n) (place : Entry) → Tells slots n place
-      → place.node.0 < length plan.nodes
-  found_inside n last place is =
-      let shaped = found_shaped n last place is in
-      is_there plan.nodes place.node.0 shaped.found shaped.there
+    pub found_inside : place.node.0 < length plan.nodes
+    found_inside = is_there plan.nodes place.node.0 found_shaped.found found_shaped.there
 
-  pub found_shape : (n : ℕ) (last : IsLast stack n) (place : Entry) → Tells slots n place
-      → (found : TypePlanNode) → node_at plan place.node ≡ Some found → found.shape.0 ≡ shape_here table root.0 slots stack
-  found_shape n last place is found met =
-      let shaped = found_shaped n last place is in
-      let both : Some found ≡ Some shaped.found = sym met ∙ shaped.there in
-      let same : found ≡ shaped.found = cc in
-      ap (λ (x : TypePlanNode). x.shape.0) same ∙ shaped.shape
-
--- Slots that show the same are open as before.
-
-pub held_is : (plan : Plan) (slots : List Slot) (stack : List ℕ) → IsOpen plan slots stack → (t : ℕ)
-    → slots_occur slots t ≡ tree_occurs (tree_in_slots slots stack) t
-held_is plan slots stack shown t = shown.tokens t ∙ tree_tokens (kid_shown (heap_of slots) stack) t
-
-pub open_shown : (plan : Plan) (slots after : List Slot) (stack : List ℕ) → IsOpen plan slots stack
-    → Shows after (heap_of slots) → SameTokens slots after → IsOpen plan after stack
-open_shown plan slots after stack shown same tokens =
-    open_from plan after stack (cursor_in slots stack) (kid_shown (heap_of slots) stack)
-    (record {
-      holds =
-          holds_frame plan (heap_of slots) (heap_of after) plan.root FrameOwner.Root 0 (kid_shown (heap_of slots) stack)
-          shown.stands.holds (λ n h. same n);
-      once = shown.stands.once;
-      leads = shown.stands.leads;
-      along = shown.stands.along;
-      left = shown.stands.left;
-    })
-    (λ t. tokens t ∙ shown.tokens t)
-    (λ n used. shown.all n (subst (λ (o : Option Node). IsSome o) (same n) used))
-
--- the plot on top stands there
-pub plot_here : (plan : Plan) (slots : List Slot) (stack : List ℕ) (shown : IsOpen plan slots stack)
-    → tree_in (open_top plan slots stack shown).plot ≡ tree_here slots stack
-plot_here plan slots stack shown =
-    let top = open_top plan slots stack shown in
-    ap tree_of (sym top.is) ∙ tree_of_at (cursor_in slots stack) (kid_shown (heap_of slots) stack)
+    pub found_shape : (found : TypePlanNode) → node_at plan place.node ≡ Some found
+        → found.shape.0 ≡ shape_here table root.0 slots stack
+    found_shape found met =
+        let both : Some found ≡ Some found_shaped.found = sym met ∙ found_shaped.there in
+        let same : found ≡ found_shaped.found = cc in
+        ap (λ (x : TypePlanNode). x.shape.0) same ∙ found_shaped.shape

@@ -1,5 +1,5 @@
 -- Pointers to slices: how they come to be open for items, and what that means.
-use Rattle.std.proofs.Common.{◌≡◌, ℕ, Bool, true, false, List, [], ◌∷◌, Option, Some, None, is_some, Ok, Err, unwrap_or, inl, inr, refl, sym, ◌∙◌, ap, subst}
+use Rattle.std.proofs.Common.{◌≡◌, ℕ, Bool, true, false, Option, Some, None, is_some, Ok, Err, unwrap_or, if◌then◌else◌, inl, inr, refl, sym, ◌∙◌, ap}
 use Rattle.fr_shape.specs.declared.error.Operation.{Operation}
 use Rattle.fr_shape.specs.declared.error.ReflectErrorKind.{ReflectErrorKind}
 use Rattle.fr_shape.specs.declared.shape.Def.{Def}
@@ -8,26 +8,23 @@ use Rattle.fr_shape.specs.declared.shape.PointerDef.{PointerDef}
 use Rattle.fr_shape.specs.declared.shape.ShapeId.{ShapeId}
 use Rattle.fr_shape.specs.declared.value.Value.{Value}
 use Rattle.fr_shape.specs.Fits.{fits}
-use Rattle.fr_shape.specs.Look.{Table, def_of, settled}
+use Rattle.fr_shape.specs.Look.{Table, def_of}
 use Rattle.fr_shape.specs.Tokens.{occurs}
 use Rattle.fr_shape.specs.Val.{Val, list_of, no_vals, ptr}
 use Rattle.fr_shape.specs.View.{view}
 use Rattle.fr_model.specs.Commands.{Call}
-use Rattle.fr_model.specs.Contents.{is_slice, kept_slice, pointer_refusal, points_to_slice, slice_anew}
-use Rattle.fr_model.specs.Items.{closed_slice, is_open_slice, shared_slice_behind, shared_slice_by, shared_slice_refusal}
-use Rattle.fr_model.specs.Step.{begin_smart_ptr, begins_pointer, puts, set_empty_shared_slice}
-use Rattle.fr_model.specs.Tree.{as_slice, as_closed_slice, Tree, hole, entered, whole, begun, change_at, tree_at, Mode, strict, deferred}
-use Rattle.fr_model.specs.Places.{Place}
-use Rattle.fr_plan.specs.TypePlan.{Plan}
-use Rattle.fr_frame.specs.declared.places.Slot.{Slot}
-use Rattle.fr_store.specs.Moves.{begun_as, IsBegunSlice, IsOpenAt}
+use Rattle.fr_model.specs.Contents.{is_slice, kept_slice, slice_anew}
+use Rattle.fr_model.specs.Items.{closed_slice, is_open_slice, shared_slice_by, shared_slice_refusal}
+use Rattle.fr_model.specs.Step.{puts, set_empty_shared_slice}
+use Rattle.fr_model.specs.Tree.{as_slice, as_closed_slice, Tree, hole, begun, Mode, strict, deferred}
+use Rattle.fr_store.specs.Moves.{begun_as, IsBegunSlice}
 use Rattle.fr_partial.specs.declared.moves.Change.{Change}
 use Rattle.fr_partial.specs.declared.moves.Move.{Move}
 use Rattle.fr_partial.specs.Moving.{ComesTo, IsRefusedWith}
 use Rattle.fr_partial.specs.Sites.{Site, shape_at}
+use Rattle.fr_partial.proofs.Converted.{settled_plain}
 use Rattle.fr_partial.proofs.PutLaws.{admits}
 use Rattle.fr_partial.proofs.SeenLaws.{shape_of_number}
-use Rattle.fr_partial.proofs.TreeLaws.{alike_here}
 
 -- What of it is kept.
 
@@ -35,101 +32,55 @@ use Rattle.fr_partial.proofs.TreeLaws.{alike_here}
 pub slice_kept : (mode : Mode) (tree : Tree) → is_some (kept_slice mode tree) ≡ true
     → begun_as as_slice tree ≡ unwrap_or (kept_slice mode tree) slice_anew
 slice_kept strict tree is = cc
-slice_kept (deferred start) hole is = cc
-slice_kept (deferred start) entered is = cc
-slice_kept (deferred start) (whole v) is = cc
 slice_kept (deferred start) (begun as_slice ts) is = refl
 slice_kept (deferred start) (begun as_closed_slice ts) is = refl
-slice_kept (deferred start) (begun _ ts) is = cc
+slice_kept (deferred start) _ is = cc
 
 pub slice_there : (mode : Mode) (tree : Tree) → is_some (kept_slice mode tree) ≡ true → IsBegunSlice tree
 slice_there strict tree is = cc
-slice_there (deferred start) hole is = cc
-slice_there (deferred start) entered is = cc
-slice_there (deferred start) (whole v) is = cc
 slice_there (deferred start) (begun as_slice ts) is = tt
 slice_there (deferred start) (begun as_closed_slice ts) is = tt
-slice_there (deferred start) (begun _ ts) is = cc
+slice_there (deferred start) _ is = cc
 
 -- or it starts anew
-pub starts_anew : (mode : Mode) (tree : Tree) → is_some (kept_slice mode tree) ≡ false
-    → slice_anew ≡ unwrap_or (kept_slice mode tree) slice_anew
-starts_anew mode tree is = go (kept_slice mode tree) refl is
-  where
-    go : (kept : Option Tree) → kept_slice mode tree ≡ kept → is_some kept ≡ false
-        → slice_anew ≡ unwrap_or (kept_slice mode tree) slice_anew
-    go (Some kept) e none = cc
-    go None e none = rw e refl
+pub starts_anew : (kept : Option Tree) (anew : Tree) → is_some kept ≡ false → anew ≡ unwrap_or kept anew
+starts_anew (Some tree) anew none = cc
+starts_anew None anew none = refl
 
 -- Closing one.
 
 pub open_there : (tree : Tree) → is_open_slice tree ≡ true → IsBegunSlice tree
-open_there hole is = cc
-open_there entered is = cc
-open_there (whole v) is = cc
 open_there (begun as_slice ts) is = tt
-open_there (begun _ ts) is = cc
+open_there _ is = cc
 
-closed_alike : (tree : Tree) → begun_as as_closed_slice tree ≡ closed_slice tree
+pub closed_alike : (tree : Tree) → begun_as as_closed_slice tree ≡ closed_slice tree
 closed_alike hole = refl
-closed_alike entered = refl
-closed_alike (whole v) = refl
-closed_alike (begun form ts) = refl
-
-pub closed_open : {plan : Plan} {slots : List Slot} {stack : List ℕ} (place : Place) (tree : Tree)
-    → IsOpenAt plan slots stack place (change_at place (begun_as as_closed_slice) tree)
-    → IsOpenAt plan slots stack place (change_at place closed_slice tree)
-closed_open {plan} {slots} {stack} place tree open_now =
-    subst (λ (t : Tree). IsOpenAt plan slots stack place t)
-    (alike_here place (begun_as as_closed_slice) closed_slice tree (closed_alike (tree_at place tree))) open_now
-
--- What it means.
-
-pub slice_means : (site : Site)
-    → pointer_refusal site.shapes (def_of site.shapes (shape_at site)) ≡ None
-    → points_to_slice site.shapes (def_of site.shapes (shape_at site)) ≡ true
-    → begin_smart_ptr site.shapes (shape_at site) site.state
-    ≡ Ok (begins_pointer site.shapes (shape_at site) site.state true)
-slice_means site admitted behind = rw (admitted, behind) refl
+closed_alike _ = refl
 
 -- A pointer to no items.
-
-settled_pointer : (table : Table) (s : ℕ) (pointer : PointerDef) → def_of table s ≡ Def.Pointer pointer
-    → settled table s ≡ Def.Pointer pointer
-settled_pointer [] s pointer e = cc
-settled_pointer (shape ∷ shapes) s pointer e = rw e refl
-
-settled_slice : (table : Table) (s : ℕ) (t : ShapeId) → def_of table s ≡ Def.Slice t → settled table s ≡ Def.Slice t
-settled_slice [] s t e = cc
-settled_slice (shape ∷ shapes) s t e = rw e refl
 
 no_items_fit : (table : Table) (s : ℕ) → is_slice (def_of table s) ≡ true → fits table s (list_of no_vals) ≡ true
 no_items_fit table s is = go (def_of table s) refl is
   where
     go : (def : Def) → def_of table s ≡ def → is_slice def ≡ true → fits table s (list_of no_vals) ≡ true
-    go (Def.Slice t) e h = rw (settled_slice table s t e) refl
+    go (Def.Slice t) e h = rw (settled_plain table s (Def.Slice t) e (λ other. cc)) refl
     go _ e h = cc
+
+slice_so : (b : Bool) → ◌≡◌ {A = Option Operation} (if b then None else Some Operation.PointeeNotSlice) None → b ≡ true
+slice_so true e = refl
+slice_so false e = cc
 
 points_fit : (table : Table) (s : ℕ) (pointer : PointerDef) → def_of table s ≡ Def.Pointer pointer
     → shared_slice_by table pointer.known pointer.pointee ≡ None → fits table s (ptr (list_of no_vals)) ≡ true
-points_fit table s pointer e may = by_known pointer.known pointer.pointee refl may
+points_fit table s pointer e may = go pointer.known pointer.pointee refl may
   where
-    behind : (pointee : Option ShapeId) → pointer.pointee ≡ pointee → shared_slice_behind table pointee ≡ None
-        → fits table s (ptr (list_of no_vals)) ≡ true
-    behind (Some t) is none = go (is_slice (def_of table t.0)) refl
-      where
-        go : (b : Bool) → is_slice (def_of table t.0) ≡ b → fits table s (ptr (list_of no_vals)) ≡ true
-        go true h = rw (settled_pointer table s pointer e, is) (no_items_fit table t.0 h)
-        go false h = let no : Some Operation.PointeeNotSlice ≡ None = rw h at none in cc
-    behind None is none = cc
-
-    by_known : (known : Option KnownPointer) (pointee : Option ShapeId) → pointer.pointee ≡ pointee
+    go : (known : Option KnownPointer) (pointee : Option ShapeId) → pointer.pointee ≡ pointee
         → shared_slice_by table known pointee ≡ None → fits table s (ptr (list_of no_vals)) ≡ true
-    by_known (Some KnownPointer.SharedReference) pointee is none = behind pointee is none
-    by_known (Some KnownPointer.Box) pointee is none = cc
-    by_known (Some KnownPointer.Arc) pointee is none = cc
-    by_known (Some KnownPointer.Rc) pointee is none = cc
-    by_known None pointee is none = cc
+    go (Some KnownPointer.SharedReference) (Some t) is none =
+        rw (settled_plain table s (Def.Pointer pointer) e (λ other. cc), is)
+        (no_items_fit table t.0 (slice_so (is_slice (def_of table t.0)) none))
+    go (Some KnownPointer.SharedReference) None is none = cc
+    go _ pointee is none = cc
 
 pub no_slice_fits : (table : Table) (s : ℕ) → shared_slice_refusal table (def_of table s) ≡ None
     → fits table s (ptr (list_of no_vals)) ≡ true

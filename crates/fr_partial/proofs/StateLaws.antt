@@ -1,88 +1,172 @@
--- A builder as its slots and its stack give it: it is in order, and stays so from state to state.
-use Rattle.std.proofs.Common.{◌≡◌, ℕ, suc, ◌+◌, Bool, true, false, List, [], ◌∷◌, ◌++◌, length, Ok, refl, sym, ◌∙◌, ap, subst, arith}
-use Rattle.fr_shape.specs.declared.shape.ShapeId.{ShapeId}
+-- A builder as its open places give it: it is in order and at rest, and stays so from state to state.
+use Rattle.std.proofs.Common.{◌≡◌, ℕ, suc, Bool, true, false, List, [], ◌∷◌, length, Result, Ok, refl, sym, ◌∙◌, ap, subst, arith}
+use Rattle.fr_shape.specs.declared.error.ReflectErrorKind.{ReflectErrorKind}
 use Rattle.fr_shape.specs.Hooks.{Meanings}
-use Rattle.fr_shape.specs.Look.{Table}
 use Rattle.fr_path.specs.declared.path_steps.PathStep.{PathStep}
 use Rattle.fr_model.specs.Commands.{Call}
-use Rattle.fr_model.specs.Laws.{StepKeepsTokens, StepKeepsOrder, held_after}
-use Rattle.fr_model.specs.Paths.{path_of}
+use Rattle.fr_model.specs.Laws.{StepKeepsOrder, StepKeepsRest}
+use Rattle.fr_model.specs.Paths.{path_of, steps_in}
 use Rattle.fr_model.specs.Places.{Place, is_root}
-use Rattle.fr_model.specs.Removed.{removed_by, replaced}
-use Rattle.fr_model.specs.Scripts.{IsFitting, brings}
+use Rattle.fr_model.specs.Scripts.{IsFitting}
 use Rattle.fr_model.specs.Step.{step}
-use Rattle.fr_model.specs.Tree.{Mode, strict, deferred, Tree, State, cursor_shape, tree_occurs}
-use Rattle.fr_model.specs.Well.{IsInOrder}
+use Rattle.fr_model.specs.Tree.{Mode as StateMode, strict, deferred, Tree, State, one_more_call}
+use Rattle.fr_model.specs.Well.{IsInOrder, RestsAround}
 use Rattle.fr_plan.specs.TypePlan.{Plan}
 use Rattle.fr_frame.specs.declared.places.Slot.{Slot}
 use Rattle.fr_frame.specs.Heap.{heap_of, marked}
-use Rattle.fr_frame.specs.Kids.{Kid, gone, there, at, entered_plot, whole_plot, begun_plot}
+use Rattle.fr_frame.specs.Kids.{Kid, at, begun_plot}
 use Rattle.fr_store.specs.Moves.{cursor_in, IsOpenAt}
 use Rattle.fr_store.specs.Stands.{IsOpen, kid_shown}
 use Rattle.fr_store.specs.Stored.{IsKept, NothingStored, StoresNoMore}
 use Rattle.fr_store.specs.Ways.{kid_nth, slots_along, Leads}
 use Rattle.fr_store.specs.WayLaws.{leads_at}
+use Rattle.fr_partial.specs.declared.mode.Mode.{Mode}
+use Rattle.fr_partial.specs.declared.moves.Move.{Move}
+use Rattle.fr_partial.specs.declared.work.Frames.{Frames}
+use Rattle.fr_partial.specs.declared.work.Parts.{Parts}
+use Rattle.fr_partial.specs.HeldPlan.{plan_in}
+use Rattle.fr_partial.specs.Making.{IsMade}
+use Rattle.fr_partial.specs.Modes.{mode_of, IsBelowStart}
+use Rattle.fr_partial.specs.Moving.{meant_by, IsMeant}
 use Rattle.fr_partial.specs.Sites.{Site}
-use Rattle.fr_partial.specs.Underway.{state_of, StoresNothing, IsUnderway}
+use Rattle.fr_partial.specs.Underway.{state_of, AreOpen, Became, StoresNothing}
+use Rattle.fr_partial.specs.Works.{site, IsSound}
 
 -- what a builder works with is in order
 abbrev pub IsSiteInOrder : Site → Type 0
 IsSiteInOrder site = IsInOrder site.shapes site.root site.state
 
-module _ {table : Table} {root : ShapeId} {plan : Plan} {steps : List PathStep} {slots : List Slot} {stack store : List ℕ}
-    {mode : Mode} {calls : ℕ} (underway : IsUnderway table root plan steps slots stack store mode calls) where
-  -- the state itself
-  pub order : IsInOrder table root.0 (state_of slots stack mode calls)
-  order = record { suits = underway.ready.suits; leads = underway.leads; began = underway.began }
+-- the state after one more call, where the builder works at this place of this tree
+abbrev pub state_then : Parts → Place → Tree → State
+state_then parts place tree = record {
+  tree = tree;
+  cursor = place;
+  mode = mode_of parts.frames.mode;
+  calls = one_more_call parts.calls;
+}
 
-  -- the same table, root and plan with other slots, another stack, store, mode and path
-  pub underway_after : (path : List PathStep) (after : List Slot) (next stored : List ℕ) (now : Mode) (count : ℕ) (state : State)
-      → IsOpen plan after next → IsKept stored after → StoresNothing now stored → state_of after next now count ≡ state
-      → IsInOrder table root.0 state → path ≡ path_of state
-      → IsUnderway table root plan path after next stored now count
-  underway_after path after next stored now count state shown kept stores is ordered way =
-      let reached : IsInOrder table root.0 (state_of after next now count)
-      = subst (λ (s : State). IsInOrder table root.0 s) (sym is) ordered in
+-- slots and stack that stand for a tree and a place are the state
+pub state_is : {plan : Plan} {slots : List Slot} {stack : List ℕ} {place : Place} {tree : Tree} (mode : StateMode) (calls count : ℕ)
+    → IsOpenAt plan slots stack place tree → calls ≡ count
+    → state_of slots stack mode calls ≡ record { tree = tree; cursor = place; mode = mode; calls = count }
+state_is {plan} {slots} {stack} {place} {tree} mode calls count is same =
+    ap (λ (t : Tree). record { tree = t; cursor = cursor_in slots stack; mode = mode; calls = calls }) is.built
+    ∙ ap (λ (p : Place). record { tree = tree; cursor = p; mode = mode; calls = calls }) is.cursor
+    ∙ ap (λ (n : ℕ). record { tree = tree; cursor = place; mode = mode; calls = n }) same
+
+module _ {parts : Parts} (sound : IsSound parts) where
+  -- the state itself
+  pub order : IsSiteInOrder (site parts)
+  order = record { suits = sound.at_work.ready.suits; leads = sound.leads; began = sound.began }
+
+  -- an admitted command that is fitting keeps the order
+  pub order_after : StepKeepsOrder → (hooks : Meanings) (next : State) (command : Call) → IsFitting parts.frames.table.now command
+      → step hooks parts.frames.table.now parts.frames.root.0 (site parts).state command ≡ Ok next
+      → IsInOrder parts.frames.table.now parts.frames.root.0 next
+  order_after law hooks next command fitting is =
+      law hooks parts.frames.table.now parts.frames.root.0 (site parts).state next command sound.at_work.ready.checked order
+      fitting is
+
+  -- and what rests around the place
+  pub rest_after : StepKeepsRest → (hooks : Meanings) (next : State) (command : Call) → IsFitting parts.frames.table.now command
+      → step hooks parts.frames.table.now parts.frames.root.0 (site parts).state command ≡ Ok next
+      → RestsAround next.cursor next.tree
+  rest_after law hooks next command fitting is =
+      law hooks parts.frames.table.now parts.frames.root.0 (site parts).state next command sound.at_work.ready.checked order
+      sound.rests fitting is
+
+  -- the same table, root and plan with other slots, another stack, store and mode
+  pub sound_so : (slots : List Slot) (stack store : List ℕ) (mode : Mode) (path : List PathStep) (calls : ℕ) (state : State)
+      → IsOpen (plan_in parts.plan) slots stack → IsKept store slots → StoresNothing (mode_of mode) store
+      → state_of slots stack (mode_of mode) calls ≡ state → IsInOrder parts.frames.table.now parts.frames.root.0 state
+      → RestsAround state.cursor state.tree → path ≡ path_of state
+      → IsSound (record parts {
+        frames = record parts.frames { slots = slots; stack = stack; store = store; mode = mode };
+        path = path;
+        calls = calls;
+      })
+  sound_so slots stack store mode path calls state shown kept stores is ordered rests way =
+      let now : State = state_of slots stack (mode_of mode) calls in
+      let reached : IsInOrder parts.frames.table.now parts.frames.root.0 now
+      = subst (λ (s : State). IsInOrder parts.frames.table.now parts.frames.root.0 s) (sym is) ordered in
       record {
-        numbered = underway.numbered;
-        served = underway.served;
-        ready = record {
-          inside = underway.ready.inside;
-          checked = underway.ready.checked;
-          planned = underway.ready.planned;
-          shown = shown;
-          suits = reached.suits;
+        numbered = sound.numbered;
+        served = sound.served;
+        at_work = record {
+          ready = record {
+            inside = sound.at_work.ready.inside;
+            checked = sound.at_work.ready.checked;
+            planned = sound.at_work.ready.planned;
+            shown = shown;
+            suits = reached.suits;
+          };
+          kept = kept;
+          stores = stores;
         };
-        kept = kept;
-        stores = stores;
         leads = reached.leads;
         began = reached.began;
+        rests = subst (λ (s : State). RestsAround s.cursor s.tree) (sym is) rests;
         path = way ∙ ap path_of (sym is);
       }
 
-  -- an admitted command that is fitting keeps the order
-  pub order_after : StepKeepsOrder → (hooks : Meanings) (next : State) (command : Call) → IsFitting table command
-      → step hooks table root.0 (state_of slots stack mode calls) command ≡ Ok next → IsInOrder table root.0 next
-  order_after law hooks next command fitting is =
-      law hooks table root.0 (state_of slots stack mode calls) next command underway.ready.checked order fitting is
+  -- One more call came to a move, and the open places became so: then it is sound, where that is what the move means.
+  module _ {plan : Plan} (same : plan ≡ plan_in parts.plan) {place : Place} {tree : Tree} {frames : Frames}
+      (became : Became plan place tree parts.frames frames) {calls : ℕ} (more : calls ≡ one_more_call parts.calls) where
+    pub sound_moved : StepKeepsOrder → StepKeepsRest → (hooks : Meanings) {move : Move} → IsMeant (site parts) move
+        → meant_by hooks (site parts) move ≡ Ok (state_then parts place tree) → (path : List PathStep)
+        → path ≡ steps_in place tree → IsSound (record parts { frames = frames; path = path; calls = calls })
+    sound_moved keeps_order keeps_rest hooks meant is path way =
+        let next : State = state_then parts place tree in
+        let steps = meant.1.means hooks ∙ is in
+        subst (λ (f : Frames). IsSound (record parts { frames = f; path = path; calls = calls })) (sym became.same)
+        (sound_so frames.slots frames.stack frames.store parts.frames.mode path calls next
+        (subst (λ (p : Plan). IsOpen p frames.slots frames.stack) same became.stands.open_still) became.kept became.stores
+        (state_is (mode_of parts.frames.mode) calls next.calls became.stands more)
+        (order_after keeps_order hooks next meant.0 meant.1.fitting steps)
+        (rest_after keeps_rest hooks next meant.0 meant.1.fitting steps) way)
 
-  -- what an admitted command leaves and drops is what was held and what it brought
-  pub tokens_after : StepKeepsTokens → (hooks : Meanings) (next : State) (command : Call)
-      → step hooks table root.0 (state_of slots stack mode calls) command ≡ Ok next → (t : ℕ)
-      → tree_occurs (state_of slots stack mode calls).tree t + brings command t
-      ≡ tree_occurs next.tree t
-      + replaced hooks table root.0 (cursor_shape table root.0 (state_of slots stack mode calls)) (state_of slots stack mode calls)
-      command t
-  tokens_after law hooks next command is t =
-      law hooks table root.0 (state_of slots stack mode calls) command underway.ready.checked order t
-      ∙ ap (λ meant. held_after meant t
-      + removed_by hooks table root.0 (cursor_shape table root.0 (state_of slots stack mode calls)) (state_of slots stack mode calls)
-      command meant t) is
+    -- and so the contracts see it
+    pub site_moved : (path : List PathStep)
+        → site (record parts { frames = frames; path = path; calls = calls })
+        ≡ record (site parts) { state = state_then parts place tree }
+    site_moved path =
+        ap (λ (f : Frames). site (record parts { frames = f; path = path; calls = calls })) became.same
+        ∙ ap (λ (s : State). record (site parts) { state = s })
+        (state_is (mode_of parts.frames.mode) calls (one_more_call parts.calls) became.stands more)
+
+    -- and so the move is made
+    pub made_moved : {A : Type 0} (done : A) (path : List PathStep) {meant : Result State ReflectErrorKind}
+        → meant ≡ Ok (state_then parts place tree)
+        → IsMade parts (record parts { frames = frames; path = path; calls = calls }) meant (Ok done)
+    made_moved done path is =
+        let now = site_moved path in
+        (is ∙ ap (λ (s : Site). Ok s.state) (sym now), ap (λ (s : Site). s.shapes) now, ap (λ (s : Site). s.root) now)
+
+-- The open places became so, and then so: all in all they became what they are now.
+pub became_through : {plan : Plan} {place other : Place} {tree next : Tree} {before between after : Frames}
+    → Became plan place tree before between → Became plan other next between after → Became plan other next before after
+became_through {plan} {place} {other} {tree} {next} {before} {between} {after} first second = record {
+  stands = second.stands;
+  kept = second.kept;
+  stores = subst (λ (f : Frames). StoresNothing (mode_of f.mode) after.store) first.same second.stores;
+  same =
+      second.same
+      ∙ ap (λ (f : Frames). record f { slots = after.slots; stack = after.stack; store = after.store }) first.same;
+}
+
+-- and they are open then
+pub open_then : {plan : Plan} {place : Place} {tree : Tree} {before after : Frames} → Became plan place tree before after
+    → AreOpen plan after
+open_then {plan} {place} {tree} {before} {after} became = record {
+  shown = became.stands.open_still;
+  kept = became.kept;
+  stores = subst (λ (f : Frames). StoresNothing (mode_of f.mode) after.store) (sym became.same) became.stores;
+}
 
 -- What is stored.
 
 -- an empty store keeps nothing, and where nothing is stored it is empty
-pub none_kept : (slots : List Slot) → IsKept [] slots → NothingStored slots
+none_kept : (slots : List Slot) → IsKept [] slots → NothingStored slots
 none_kept slots kept n = by_mark (marked (heap_of slots) n) refl
   where
     by_mark : (x : Bool) → marked (heap_of slots) n ≡ x → marked (heap_of slots) n ≡ false
@@ -91,10 +175,11 @@ none_kept slots kept n = by_mark (marked (heap_of slots) n) refl
         let listed = (kept n).0 e in
         absurd (omega (arith, listed.1))
 
+-- where nothing is stored, an empty store lists it all
 pub kept_none : (slots : List Slot) → NothingStored slots → IsKept [] slots
 kept_none slots none n = (λ e. let apart : true ≡ false = sym e ∙ none n in cc, λ listed. absurd (omega (arith, listed.1)))
 
-pub none_listed : (store : List ℕ) (slots : List Slot) → IsKept store slots → NothingStored slots → store ≡ []
+none_listed : (store : List ℕ) (slots : List Slot) → IsKept store slots → NothingStored slots → store ≡ []
 none_listed [] slots kept none = refl
 none_listed (n ∷ store) slots kept none =
     let marked_so : marked (heap_of slots) n ≡ true = (kept n).1 (0, omega arith, refl) in
@@ -102,58 +187,37 @@ none_listed (n ∷ store) slots kept none =
     cc
 
 -- in strict mode nothing is stored
-pub strict_stores : (mode : Mode) (store : List ℕ) (slots : List Slot) → mode ≡ strict → StoresNothing mode store
+pub strict_stores : (mode : StateMode) (store : List ℕ) (slots : List Slot) → mode ≡ strict → StoresNothing mode store
     → IsKept store slots → NothingStored slots
 strict_stores strict store slots is stores kept =
     none_kept slots (subst (λ (listed : List ℕ). IsKept listed slots) stores kept)
 strict_stores (deferred start) store slots is stores kept = cc
 
 -- so it stays where nothing more is stored
-pub stores_after : (mode : Mode) (store next : List ℕ) (before after : List Slot) → StoresNothing mode store
+pub stores_after : (mode : StateMode) (store next : List ℕ) (before after : List Slot) → StoresNothing mode store
     → IsKept store before → IsKept next after → StoresNoMore before after → StoresNothing mode next
 stores_after strict store next before after stores kept kept_next no_more =
     none_listed next after kept_next (λ n. no_more n (strict_stores strict store before refl stores kept n))
 stores_after (deferred start) store next before after stores kept kept_next no_more = tt
 
--- slots and stack that stand for a tree and a place are the state
-pub state_is : (plan : Plan) (slots : List Slot) (stack : List ℕ) (place : Place) (tree : Tree) (mode : Mode) (calls count : ℕ)
-    → IsOpenAt plan slots stack place tree → calls ≡ count
-    → state_of slots stack mode calls ≡ record { tree = tree; cursor = place; mode = mode; calls = count }
-state_is plan slots stack place tree mode calls count is same =
-    ap (λ (t : Tree). record { tree = t; cursor = (state_of slots stack mode calls).cursor; mode = mode; calls = calls }) is.built
-    ∙ ap (λ (p : Place). record { tree = tree; cursor = p; mode = mode; calls = calls }) is.cursor
-    ∙ ap (λ (n : ℕ). record { tree = tree; cursor = place; mode = mode; calls = n }) same
-
 -- the stack has one slot for the root, and one for each step
 along_length : (place : Place) (k : Kid) → Leads place k → length (slots_along place k) ≡ suc (length place)
 along_length [] (at slot stored plot) leads = refl
-along_length [] gone leads = absurd leads
-along_length [] (there v) leads = absurd leads
 along_length (i ∷ place) (at slot stored (begun_plot form kids)) leads =
     ap suc (along_length place (kid_nth i kids) (leads_at (i ∷ []) place (at slot stored (begun_plot form kids)) leads))
-along_length (i ∷ place) (at slot stored entered_plot) leads = absurd leads.1
-along_length (i ∷ place) (at slot stored (whole_plot v)) leads = absurd leads.1
-along_length (i ∷ place) gone leads = absurd leads
-along_length (i ∷ place) (there v) leads = absurd leads
+along_length (i ∷ place) (at slot stored _) leads = absurd leads.1
+along_length _ _ leads = absurd leads
 
+-- of an open builder
 pub stack_length : (plan : Plan) (slots : List Slot) (stack : List ℕ) → IsOpen plan slots stack
     → length stack ≡ suc (length (cursor_in slots stack))
 stack_length plan slots stack shown =
     ap length shown.stands.along
     ∙ along_length (cursor_in slots stack) (kid_shown (heap_of slots) stack) shown.stands.leads
 
-pub at_root : (place : Place) → length place ≡ 0 → place ≡ []
-at_root [] e = refl
-at_root (i ∷ place) e = absurd (omega arith)
-
-pub below_root : (place : Place) → ¬ (length place ≡ 0) → is_root place ≡ false
-below_root [] ne = absurd (ne refl)
-below_root (i ∷ place) ne = refl
-
--- below the root the place has a last number
-pub last_of : (place : Place) → is_root place ≡ false → (above : Place) × (i : ℕ) × (place ≡ above ++ i ∷ [])
-last_of [] e = cc
-last_of (i ∷ []) e = ([], i, refl)
-last_of (i ∷ j ∷ place) e =
-    let rest = last_of (j ∷ place) refl in
-    (i ∷ rest.0, rest.1, ap (λ (p : Place). i ∷ p) rest.2)
+-- what lies deeper than where deferred mode began isn't the root, and there anything may be stored
+pub below_start : (mode : StateMode) (place : Place) → IsBelowStart mode place
+    → (is_root place ≡ false) × ((store : List ℕ) → StoresNothing mode store)
+below_start (deferred start) (i ∷ place) deep = (refl, λ store. tt)
+below_start (deferred start) [] deep = absurd (omega (arith, deep))
+below_start strict place deep = absurd deep

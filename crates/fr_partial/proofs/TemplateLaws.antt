@@ -22,7 +22,7 @@ use Rattle.fr_shape.specs.TokenLaws.{occurs_times}
 use Rattle.fr_shape.specs.Val.{Val}
 use Rattle.fr_model.specs.Step.{default_by_mark, default_or, field_default}
 use Rattle.fr_model.specs.Complete.{failing_child, failing_field_in}
-use Rattle.fr_model.specs.Tree.{Form, as_struct, as_array, as_variant, as_some, as_ok, as_err, as_pointer, as_list, as_slice, as_closed_slice, as_set, as_map, as_dyn_array, as_dyn_object}
+use Rattle.fr_model.specs.Tree.{Form, as_struct, as_variant}
 use Rattle.fr_partial.proofs.FitLaws.{both_true}
 
 all_at : {X : Type 0} (p : X → Bool) (xs : List X) (i : ℕ) (x : X) → list_all p xs ≡ true → slice_get xs i ≡ Some x
@@ -197,15 +197,4 @@ pub none_failing : (hooks : Meanings) (table : Table) (s : ℕ) (form : Form) (i
     → failing_child hooks table s form i made ≡ None
 none_failing hooks table s as_struct i made served = none_failing_field hooks table s i None made served
 none_failing hooks table s (as_variant k) i made served = none_failing_field hooks table s i (Some k) made served
-none_failing hooks table s as_array i made served = refl
-none_failing hooks table s as_some i made served = refl
-none_failing hooks table s as_ok i made served = refl
-none_failing hooks table s as_err i made served = refl
-none_failing hooks table s as_pointer i made served = refl
-none_failing hooks table s as_list i made served = refl
-none_failing hooks table s as_slice i made served = refl
-none_failing hooks table s as_closed_slice i made served = refl
-none_failing hooks table s as_set i made served = refl
-none_failing hooks table s (as_map base) i made served = refl
-none_failing hooks table s as_dyn_array i made served = refl
-none_failing hooks table s (as_dyn_object keys) i made served = refl
+none_failing hooks table s _ i made served = refl

@@ -14,11 +14,9 @@ nth_same (suc i) f same (branch t ts) = ap (branch t) (nth_same i f same ts)
 
 pub unchanged : (place : Place) (t : Tree) → change_at place (λ old. old) t ≡ t
 unchanged [] t = refl
-unchanged (i ∷ place) hole = refl
-unchanged (i ∷ place) entered = refl
-unchanged (i ∷ place) (whole v) = refl
 unchanged (i ∷ place) (begun form ts) =
     ap (begun form) (nth_same i (λ child. change_at place (λ old. old) child) (unchanged place) ts)
+unchanged (i ∷ place) _ = refl
 
 nth_alike : (i : ℕ) (f g : Tree → Tree) (ts : Trees) → f (tree_nth i ts) ≡ g (tree_nth i ts)
     → change_nth i f ts ≡ change_nth i g ts
@@ -30,13 +28,11 @@ nth_alike (suc i) f g (branch t ts) same = ap (branch t) (nth_alike i f g ts sam
 pub alike_here : (place : Place) (f g : Tree → Tree) (t : Tree) → f (tree_at place t) ≡ g (tree_at place t)
     → change_at place f t ≡ change_at place g t
 alike_here [] f g t same = same
-alike_here (i ∷ place) f g hole same = refl
-alike_here (i ∷ place) f g entered same = refl
-alike_here (i ∷ place) f g (whole v) same = refl
 alike_here (i ∷ place) f g (begun form ts) same =
     ap (begun form)
     (nth_alike i (λ child. change_at place f child) (λ child. change_at place g child) ts
     (alike_here place f g (tree_nth i ts) same))
+alike_here (i ∷ place) f g _ same = refl
 
 -- what stands at a place put there again
 pub put_again : (place : Place) (t here : Tree) → tree_at place t ≡ here → change_at place (λ old. here) t ≡ t
@@ -46,28 +42,54 @@ put_again place t here is = alike_here place (λ old. here) (λ old. old) t (sym
 pub changed_below : (place : Place) (i : ℕ) (f : Tree → Tree) (t : Tree)
     → change_at (place ++ i ∷ []) f t ≡ change_at place (change_child i f) t
 changed_below [] i f t = refl
-changed_below (j ∷ place) i f hole = refl
-changed_below (j ∷ place) i f entered = refl
-changed_below (j ∷ place) i f (whole v) = refl
 changed_below (j ∷ place) i f (begun form ts) =
     ap (begun form)
     (nth_alike j (λ child. change_at (place ++ i ∷ []) f child) (λ child. change_at place (change_child i f) child) ts
     (changed_below place i f (tree_nth j ts)))
+changed_below (j ∷ place) i f _ = refl
 
-nth_over : (i : ℕ) (f g : Tree → Tree) (t : Tree) → ((x : Tree) → f x ≡ t) → (ts : Trees)
-    → change_nth i f (change_nth i g ts) ≡ change_nth i f ts
-nth_over i f g t same no_trees = refl
-nth_over zero f g t same (branch x ts) = ap (λ (y : Tree). branch y ts) (same (g x) ∙ sym (same x))
-nth_over (suc i) f g t same (branch x ts) = ap (branch x) (nth_over i f g t same ts)
+nth_both : (i : ℕ) (f g h : Tree → Tree) → ((t : Tree) → f (g t) ≡ h t) → (ts : Trees)
+    → change_nth i f (change_nth i g ts) ≡ change_nth i h ts
+nth_both i f g h same no_trees = refl
+nth_both zero f g h same (branch t ts) = ap (λ (x : Tree). branch x ts) (same t)
+nth_both (suc i) f g h same (branch t ts) = ap (branch t) (nth_both i f g h same ts)
+
+-- one change after another
+pub changed_twice : (place : Place) (f g : Tree → Tree) (t : Tree)
+    → change_at place f (change_at place g t) ≡ change_at place (λ x. f (g x)) t
+changed_twice [] f g t = refl
+changed_twice (i ∷ place) f g (begun form ts) =
+    ap (begun form)
+    (nth_both i (λ child. change_at place f child) (λ child. change_at place g child)
+    (λ child. change_at place (λ x. f (g x)) child) (changed_twice place f g) ts)
+changed_twice (i ∷ place) f g _ = refl
+
+pub nth_changed : (mode : Mode) (i : ℕ) (Below : Tree → Type 0) (change : Tree → Tree) (ts : Trees) → OffBut mode i Below ts
+    → tree_nth i (change_nth i change ts) ≡ change (tree_nth i ts)
+nth_changed mode i Below change no_trees leads = absurd leads
+nth_changed mode zero Below change (branch t ts) leads = refl
+nth_changed mode (suc i) Below change (branch t ts) leads = nth_changed mode i Below change ts leads.1
+
+pub nth_leads : (mode : Mode) (i : ℕ) (Below : Tree → Type 0) (ts : Trees) → OffBut mode i Below ts → Below (tree_nth i ts)
+nth_leads mode i Below no_trees off = absurd off
+nth_leads mode zero Below (branch t ts) off = off.0
+nth_leads mode (suc i) Below (branch t ts) off = nth_leads mode i Below ts off.1
+
+-- what stands there then
+pub changed_at : (mode : Mode) (place : Place) (change : Tree → Tree) (t : Tree) → Leads mode place t
+    → tree_at place (change_at place change t) ≡ change (tree_at place t)
+changed_at mode [] change t leads = refl
+changed_at mode (i ∷ place) change (begun form ts) leads =
+    ap (tree_at place) (nth_changed mode i (λ child. Leads mode place child) (λ child. change_at place change child) ts leads)
+    ∙ changed_at mode place change (tree_nth i ts) (nth_leads mode i (λ child. Leads mode place child) ts leads)
+changed_at mode (i ∷ place) change _ leads = absurd leads
 
 -- a value that is put over whatever became of a child
 pub put_over : (i : ℕ) (v : Val) (change : Tree → Tree) (t : Tree)
     → change_child i (λ old. whole v) (change_child i change t) ≡ change_child i (λ old. whole v) t
-put_over i v change hole = refl
-put_over i v change entered = refl
-put_over i v change (whole w) = refl
 put_over i v change (begun form ts) =
-    ap (begun form) (nth_over i (λ old. whole v) change (whole v) (λ x. refl) ts)
+    ap (begun form) (nth_both i (λ old. whole v) change (λ old. whole v) (λ x. refl) ts)
+put_over i v change _ = refl
 
 -- The end of a set's item.
 
@@ -78,16 +100,8 @@ without_changed (suc i) f (branch t ts) = ap (branch t) (without_changed i f ts)
 
 ended_over : (i : ℕ) (v : Val) (f : Tree → Tree) (t : Tree)
     → with_ended_item i v (change_child i f t) ≡ with_ended_item i v t
-ended_over i v f hole = refl
-ended_over i v f entered = refl
-ended_over i v f (whole w) = refl
 ended_over i v f (begun form ts) = ap (λ (us : Trees). begun form (and_item us v)) (without_changed i f ts)
-
-nth_both : (i : ℕ) (f g h : Tree → Tree) → ((t : Tree) → f (g t) ≡ h t) → (ts : Trees)
-    → change_nth i f (change_nth i g ts) ≡ change_nth i h ts
-nth_both i f g h same no_trees = refl
-nth_both zero f g h same (branch t ts) = ap (λ (x : Tree). branch x ts) (same t)
-nth_both (suc i) f g h same (branch t ts) = ap (branch t) (nth_both i f g h same ts)
+ended_over i v f _ = refl
 
 -- whatever became of the item, the set takes the value with which it ends
 pub item_over : (place : Place) (v : Val) (f : Tree → Tree) (t : Tree) → is_root place ≡ false
@@ -95,15 +109,13 @@ pub item_over : (place : Place) (v : Val) (f : Tree → Tree) (t : Tree) → is_
     ≡ change_at (up place) (with_ended_item (number_in place) v) t
 item_over [] v f t below = cc
 item_over (i ∷ []) v f t below = ended_over i v f t
-item_over (i ∷ j ∷ place) v f hole below = refl
-item_over (i ∷ j ∷ place) v f entered below = refl
-item_over (i ∷ j ∷ place) v f (whole w) below = refl
 item_over (i ∷ j ∷ place) v f (begun form ts) below =
     ap (begun form)
     (nth_both i (λ child. change_at (up (j ∷ place)) (with_ended_item (number_in (j ∷ place)) v) child)
     (λ child. change_at (j ∷ place) f child)
     (λ child. change_at (up (j ∷ place)) (with_ended_item (number_in (j ∷ place)) v) child)
     (λ child. item_over (j ∷ place) v f child refl) ts)
+item_over (i ∷ j ∷ place) v f _ below = refl
 
 -- The shape of a place doesn't go by what stands there.
 
@@ -116,24 +128,18 @@ nth_kept (suc i) So f (branch t ts) then was = nth_kept i So f ts then was
 pub shape_stays : (table : Table) (s : ℕ) (place : Place) (f : Tree → Tree) (t : Tree)
     → shape_in table s place (change_at place f t) ≡ shape_in table s place t
 shape_stays table s [] f t = refl
-shape_stays table s (i ∷ place) f hole = refl
-shape_stays table s (i ∷ place) f entered = refl
-shape_stays table s (i ∷ place) f (whole v) = refl
 shape_stays table s (i ∷ place) f (begun form ts) =
     nth_kept i
     (λ (child : Tree). shape_in table (child_as table s form i) place child
     ≡ shape_in table (child_as table s form i) place (tree_nth i ts))
     (λ child. change_at place f child) ts
     (shape_stays table (child_as table s form i) place f (tree_nth i ts)) refl
+shape_stays table s (i ∷ place) f _ = refl
 
 -- what stands above is a set as before
 pub set_stays : (place : Place) (f : Tree → Tree) (t : Tree) → is_root place ≡ false
     → is_set (tree_at (up place) (change_at place f t)) ≡ is_set (tree_at (up place) t)
 set_stays [] f t below = cc
-set_stays (i ∷ []) f hole below = refl
-set_stays (i ∷ []) f entered below = refl
-set_stays (i ∷ []) f (whole v) below = refl
-set_stays (i ∷ []) f (begun form ts) below = refl
 set_stays (i ∷ j ∷ place) f hole below = refl
 set_stays (i ∷ j ∷ place) f entered below = refl
 set_stays (i ∷ j ∷ place) f (whole v) below = refl
@@ -141,6 +147,8 @@ set_stays (i ∷ j ∷ place) f (begun form ts) below =
     nth_kept i
     (λ (child : Tree). is_set (tree_at (up (j ∷ place)) child) ≡ is_set (tree_at (up (j ∷ place)) (tree_nth i ts)))
     (λ child. change_at (j ∷ place) f child) ts (set_stays (j ∷ place) f (tree_nth i ts) refl) refl
+set_stays (i ∷ []) f (begun form ts) below = refl
+set_stays (i ∷ []) f _ below = refl
 
 -- Tokens.
 
@@ -149,11 +157,6 @@ nth_occur : (mode : Mode) (i : ℕ) (Below : Tree → Type 0) (f : Tree → Tree
 nth_occur mode i Below f no_trees n off = absurd off
 nth_occur mode zero Below f (branch t ts) n off = omega arith
 nth_occur mode (suc i) Below f (branch t ts) n off = omega (arith, nth_occur mode i Below f ts n off.1)
-
-nth_leads : (mode : Mode) (i : ℕ) (Below : Tree → Type 0) (ts : Trees) → OffBut mode i Below ts → Below (tree_nth i ts)
-nth_leads mode i Below no_trees off = absurd off
-nth_leads mode zero Below (branch t ts) off = off.0
-nth_leads mode (suc i) Below (branch t ts) off = nth_leads mode i Below ts off.1
 
 -- the tree has what it had, but for what stood there and what stands there then
 pub changed_occur : (mode : Mode) (place : Place) (f : Tree → Tree) (t : Tree) (n : ℕ) → Leads mode place t
@@ -166,9 +169,7 @@ changed_occur mode (i ∷ place) f (begun form ts) n leads =
       nth_occur mode i (λ child. Leads mode place child) (λ child. change_at place f child) ts n leads,
       changed_occur mode place f (tree_nth i ts) n (nth_leads mode i (λ child. Leads mode place child) ts leads),
     )
-changed_occur mode (i ∷ place) f hole n leads = absurd leads
-changed_occur mode (i ∷ place) f entered n leads = absurd leads
-changed_occur mode (i ∷ place) f (whole v) n leads = absurd leads
+changed_occur mode (i ∷ place) f _ n leads = absurd leads
 
 pub holes_occur : (count n : ℕ) → trees_occur (holes count) n ≡ 0
 holes_occur zero n = refl

@@ -1,9 +1,8 @@
 -- The end of a builder: when there is something to be built, and what comes of it.
-use Rattle.std.specs.Prelude.{◌≡◌, ◌⊎◌, ℕ, Option, Some, None, Result, Ok, Err, if◌then◌else◌}
+use Rattle.std.specs.Prelude.{◌≡◌, ◌⊎◌, Option, Some, None, Result, Ok, Err, if◌then◌else◌}
 use Rattle.fr_shape.specs.declared.error.Invariant.{Invariant}
 use Rattle.fr_shape.specs.declared.error.ReflectErrorKind.{ReflectErrorKind}
 use Rattle.fr_shape.specs.Hooks.{Meanings}
-use Rattle.fr_shape.specs.Tokens.{occurs}
 use Rattle.fr_model.specs.Places.{is_root}
 use Rattle.fr_model.specs.Step.{build}
 use Rattle.fr_model.specs.Tree.{Mode, strict, deferred, State}
@@ -26,8 +25,3 @@ IsBuiltSo hooks before (Ok built) =
     (build hooks before.shapes before.root before.state ≡ Ok built.value) × (built.calls ≡ before.state.calls)
 IsBuiltSo hooks before (Err error) =
     (error.kind ≡ ReflectErrorKind.OutOfMemory) ⊎ (build hooks before.shapes before.root before.state ≡ Err error.kind)
-
--- how often a token stands in what was built
-abbrev pub left_in : Result BuiltValue ReflectError → ℕ → ℕ
-left_in (Ok built) t = occurs built.value t
-left_in (Err error) t = 0

@@ -1,24 +1,22 @@
 -- Which variant is selected at a place, and why none is.
-use Rattle.std.specs.Prelude.{ℕ, List, Option, Some, None, Result, Ok, Err, if◌then◌else◌}
-use Rattle.fr_shape.specs.declared.error.Expected.{Expected}
+use Rattle.std.specs.Prelude.{◌≡◌, ℕ, List, Option, Some, None}
 use Rattle.fr_shape.specs.declared.error.Operation.{Operation}
-use Rattle.fr_shape.specs.declared.error.ReflectErrorKind.{ReflectErrorKind}
+use Rattle.fr_shape.specs.declared.shape.Def.{Def}
 use Rattle.fr_shape.specs.declared.shape.VariantDef.{VariantDef}
-use Rattle.fr_shape.specs.Look.{Table, def_of, variants_of}
-use Rattle.fr_model.specs.Step.{at_shape, operation_failed, was_not_a}
-use Rattle.fr_model.specs.Variants.{is_enum, selection_refusal}
+use Rattle.fr_shape.specs.Hooks.{Meanings}
+use Rattle.fr_model.specs.Commands.{Call}
+use Rattle.fr_model.specs.Scripts.{value_brought}
+use Rattle.fr_model.specs.Step.{select, step}
+use Rattle.fr_model.specs.Variants.{selection_refusal}
+use Rattle.fr_partial.specs.Sites.{Site, shape_at}
 
-abbrev pub unless_kind : Option ReflectErrorKind → ℕ → Result ℕ ReflectErrorKind
-unless_kind (Some kind) k = Err kind
-unless_kind None k = Ok k
+-- why the variant that was found in an enum isn't selected, if it isn't
+abbrev pub found_refusal : Def → (unknown : Operation) → (found : Option ℕ) → Option Operation
+found_refusal def unknown (Some k) = selection_refusal def k
+found_refusal def unknown None = Some unknown
 
--- the variant that was found, where it may be selected
-abbrev pub choice_of : Table → (s : ℕ) → (found : Option ℕ) → (unknown : Operation) → Result ℕ ReflectErrorKind
-choice_of table s (Some k) unknown = unless_kind (at_shape s (selection_refusal (def_of table s) k)) k
-choice_of table s None unknown = Err (operation_failed s unknown)
-
--- at an enum alone a variant is looked for
-abbrev pub choice : Table → (s : ℕ) → (find : List VariantDef → Option ℕ) → (unknown : Operation) → Result ℕ ReflectErrorKind
-choice table s find unknown =
-    if is_enum (def_of table s) then choice_of table s (find (variants_of (def_of table s))) unknown
-    else Err (was_not_a Expected.Enum s)
+-- the call selects a variant that is looked for so
+pub record Selects (site : Site) (call : Call) (find : List VariantDef → Option ℕ) (unknown : Operation) : Type 0 where
+  pub nothing : value_brought call ≡ None
+  pub means : (hooks : Meanings) → step hooks site.shapes site.root site.state call
+      ≡ select site.shapes (shape_at site) site.state find unknown

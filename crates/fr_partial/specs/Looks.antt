@@ -1,8 +1,11 @@
 -- A place by itself: what is seen of it without its children.
 use Rattle.std.specs.Prelude.{◌≡◌, Bool, true, false, List, [], ◌∷◌}
+use Rattle.fr_shape.specs.declared.shape.ShapeId.{ShapeId}
+use Rattle.fr_shape.specs.Look.{Table}
 use Rattle.fr_model.specs.Tree.{Tree, hole, entered, whole, begun, holes, count_trees}
 use Rattle.fr_frame.specs.Bodies.{Body, entered_body, whole_body, begun_body}
 use Rattle.fr_frame.specs.Cells.{Cell, absent, given, placed}
+use Rattle.fr_partial.specs.Sites.{Site, shape_at, tree_at_site}
 
 -- the same place with none of its children told, but how many there are
 abbrev pub bare : Tree → Tree
@@ -14,6 +17,12 @@ bare (begun form children) = begun form (holes (count_trees children))
 -- two places that are alike but for their children
 abbrev pub LooksLike : (one other : Tree) → Type 0
 LooksLike one other = bare one ≡ bare other
+
+-- what is seen of the place at which a builder works: its table, the place's shape, and how it looks
+pub record Sees (site : Site) (table : Table) (shape : ShapeId) (seen : Tree) : Type 0 where
+  pub table_is : table ≡ site.shapes
+  pub shape_is : shape.0 ≡ shape_at site
+  pub looks : LooksLike seen (tree_at_site site)
 
 -- the child isn't there
 abbrev pub is_absent : Cell → Bool

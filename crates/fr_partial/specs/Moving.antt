@@ -33,7 +33,7 @@ use Rattle.fr_partial.specs.declared.moves.Way.{Way}
 use Rattle.fr_partial.specs.Beginnings.{kept_by, MayBegin}
 use Rattle.fr_partial.specs.DynamicBeginnings.{anew_as, kept_as}
 use Rattle.fr_partial.specs.Entering.{Describes}
-use Rattle.fr_partial.specs.Ending.{column_of, completes_late, needs_none_by}
+use Rattle.fr_partial.specs.Ending.{column_of, completes_late, needs_none_by, RulesServe}
 use Rattle.fr_partial.specs.Modes.{IsBelowStart}
 use Rattle.fr_model.specs.Entering.{Way as Onward, enters}
 use Rattle.fr_partial.specs.Openings.{is_begun, HasItems, MayOpenAs}
@@ -141,18 +141,12 @@ abbrev pub completes : Rules → Taker → Meanings → Table → (s : ℕ) → 
 completes rules taker hooks table s state =
     handed_if rules taker hooks table s state (complete (column_of rules) hooks table s (cursor_tree state))
 
--- by the rules of strict mode in that mode, and in deferred mode below the place at which that began
-abbrev pub RulesServe : Rules → State → Type 0
-RulesServe Rules.Strict state = state.mode ≡ strict
-RulesServe Rules.Deferred state = IsBelowStart state.mode state.cursor
-
 -- the value may go there: up from any place below the root that is no item of a set; to a set from its item alone; it stays in strict
 -- mode alone
-abbrev pub MayTake : Rules → Taker → State → Type 0
-MayTake rules Taker.Above state = (is_root state.cursor ≡ false) × (is_set_item state ≡ false)
-MayTake rules Taker.Set state = (is_root state.cursor ≡ false) × (is_set_item state ≡ true)
-MayTake Rules.Strict Taker.Itself state = Unit {0}
-MayTake Rules.Deferred Taker.Itself state = ⊥
+abbrev pub MayTake : Taker → State → Type 0
+MayTake Taker.Above state = (is_root state.cursor ≡ false) × (is_set_item state ≡ false)
+MayTake Taker.Set state = (is_root state.cursor ≡ false) × (is_set_item state ≡ true)
+MayTake Taker.Itself state = state.mode ≡ strict
 
 -- Moves
 
@@ -174,7 +168,7 @@ MayMove table s state (Move.Go way) = MayGo table s (cursor_tree state) way
 MayMove table s state (Move.Stay change) = MayStay table s (cursor_tree state) change
 MayMove table s state Move.Leave =
     IsBelowStart state.mode state.cursor × (takes_at_end (tree_at (up state.cursor) state.tree) ≡ false)
-MayMove table s state (Move.Complete rules taker) = RulesServe rules state × MayTake rules taker state
+MayMove table s state (Move.Complete rules taker) = RulesServe rules state.mode state.cursor × MayTake taker state
 MayMove table s state Move.Defer = state.mode ≡ strict
 MayMove table s state Move.Finish = state.mode ≢ strict
 

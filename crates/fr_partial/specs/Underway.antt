@@ -1,20 +1,19 @@
--- The slots and the stack of a builder, as its state, and what is true of them. Only the contracts inside this crate speak of
--- them.
+-- The open places of a builder, as its state, and what is true of them. Only the contracts inside this crate speak of them.
 use Rattle.std.specs.Prelude.{◌≡◌, ℕ, List, []}
 use Rattle.fr_shape.specs.declared.shape.ShapeId.{ShapeId}
 use Rattle.fr_shape.specs.Checked.{IsChecked}
 use Rattle.fr_shape.specs.Look.{Table, IsIn}
-use Rattle.fr_shape.specs.Numbered.{IsNumbered}
-use Rattle.fr_model.specs.Served.{IsServed}
-use Rattle.fr_path.specs.declared.path_steps.PathStep.{PathStep}
-use Rattle.fr_model.specs.Paths.{path_of}
-use Rattle.fr_model.specs.Tree.{shape_in, Mode, strict, deferred, State}
-use Rattle.fr_model.specs.Well.{Suits, Leads, BeganAbove}
+use Rattle.fr_model.specs.Places.{Place}
+use Rattle.fr_model.specs.Tree.{change_at, shape_in, Mode, strict, deferred, State, Tree}
+use Rattle.fr_model.specs.Well.{Suits}
 use Rattle.fr_plan.specs.TypePlan.{Plan, IsPlanOf}
 use Rattle.fr_frame.specs.declared.places.Slot.{Slot}
-use Rattle.fr_store.specs.Moves.{cursor_in, tree_in_slots}
+use Rattle.fr_frame.specs.Heap.{slots_occur}
+use Rattle.fr_store.specs.Moves.{cursor_in, tree_here, tree_in_slots, IsOpenAt}
 use Rattle.fr_store.specs.Stands.{IsOpen}
 use Rattle.fr_store.specs.Stored.{IsKept}
+use Rattle.fr_partial.specs.declared.work.Frames.{Frames}
+use Rattle.fr_partial.specs.Modes.{mode_of}
 
 -- the shape of the place at which it works
 abbrev pub shape_here : Table → (root : ℕ) → List Slot → List ℕ → ℕ
@@ -43,13 +42,44 @@ abbrev pub StoresNothing : Mode → (store : List ℕ) → Type 0
 StoresNothing strict store = store ≡ []
 StoresNothing (deferred start) store = Unit {0}
 
--- A builder over a table that it serves, with the path of the place at which it works, and the slots of the places that are stored.
-pub record IsUnderway (table : Table) (root : ShapeId) (plan : Plan) (steps : List PathStep) (slots : List Slot) (stack store : List ℕ) (mode : Mode) (calls : ℕ) : Type 0 where
-  pub numbered : IsNumbered table
-  pub served : IsServed table
-  pub ready : IsReady table root plan slots stack
-  pub kept : IsKept store slots
-  pub stores : StoresNothing mode store
-  pub leads : Leads mode (cursor_in slots stack) (tree_in_slots slots stack)
-  pub began : BeganAbove mode (cursor_in slots stack)
-  pub path : steps ≡ path_of (state_of slots stack mode calls)
+-- the place on top of the stack, its shape and what stands there
+abbrev pub top_place : Frames → Place
+top_place frames = cursor_in frames.slots frames.stack
+
+abbrev pub top_shape : Frames → ℕ
+top_shape frames = shape_here frames.table.now frames.root.0 frames.slots frames.stack
+
+abbrev pub top_tree : Frames → Tree
+top_tree frames = tree_here frames.slots frames.stack
+
+-- the tree for which all places stand
+abbrev pub whole_tree : Frames → Tree
+whole_tree frames = tree_in_slots frames.slots frames.stack
+
+-- how often a token is held at all places
+abbrev pub held_in : Frames → ℕ → ℕ
+held_in frames t = slots_occur frames.slots t
+
+-- The open places stand for a tree and a place in it, and what is stored is listed.
+pub record AreOpen (plan : Plan) (frames : Frames) : Type 0 where
+  pub shown : IsOpen plan frames.slots frames.stack
+  pub kept : IsKept frames.store frames.slots
+  pub stores : StoresNothing (mode_of frames.mode) frames.store
+
+-- So they do, and the tree suits their root by a plan of it.
+pub record IsAtWork (plan : Plan) (frames : Frames) : Type 0 where
+  pub ready : IsReady frames.table.now frames.root plan frames.slots frames.stack
+  pub kept : IsKept frames.store frames.slots
+  pub stores : StoresNothing (mode_of frames.mode) frames.store
+
+-- This place is on top then, and this is the tree; what is stored is listed; and nothing else changed.
+pub record Became (plan : Plan) (place : Place) (tree : Tree) (before after : Frames) : Type 0 where
+  pub stands : IsOpenAt plan after.slots after.stack place tree
+  pub kept : IsKept after.store after.slots
+  pub stores : StoresNothing (mode_of before.mode) after.store
+  pub same : after ≡ record before { slots = after.slots; stack = after.stack; store = after.store }
+
+-- the place on top stays there, and this is made of it
+abbrev pub Changed : Plan → (change : Tree → Tree) → (before after : Frames) → Type 0
+Changed plan change before after =
+    Became plan (top_place before) (change_at (top_place before) change (whole_tree before)) before after

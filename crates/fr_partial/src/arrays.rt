@@ -1,7 +1,8 @@
 //! `init_array`: an array whose elements aren't there yet.
-ghost use Rattle.std.specs.Prelude.{◌≡◌, true, None, Some, IfErr, IfOk, OnOk};
+ghost use Rattle.std.specs.Prelude.{◌≡◌, true, IfOk};
+ghost use Rattle.std.specs.Result.{result_err};
 ghost use Rattle.fr_shape.specs.Look.{def_of};
-ghost use Rattle.fr_model.specs.Items.{init_array_refusal, whole_array_refusal};
+ghost use Rattle.fr_model.specs.Items.{init_array_refusal};
 ghost use Rattle.fr_model.specs.Tree.{cursor_tree};
 ghost use Rattle.fr_model.specs.Well.{HasElements};
 ghost use Rattle.fr_frame.specs.Bodies.{own_tree};
@@ -17,44 +18,26 @@ use crate::moves::{Change, Move};
 use crate::work::Work;
 use crate::{Partial, ReflectError};
 use fr_frame::{Form, Piece};
-use fr_shape::{Def, Hooks, Ledger, Operation, ReflectErrorKind, ShapeId, ShapeTable};
-
-/// Why an array at which this stands can't be begun, if it can't.
-fn whole_array_refusal(piece: &Piece) -> Option<Operation>
-    ensures { result ≡ whole_array_refusal (own_tree (body_of piece.now)) }
-{
-    match piece {
-        Piece::Whole(_) => Some(Operation::InitArrayOfBegun),
-        Piece::Entered | Piece::Begun(..) | Piece::Object(..) => None,
-    }
-}
+use fr_shape::{Def, Hooks, Ledger, Operation, ReflectErrorKind, Shape, ShapeId, ShapeTable};
 
 /// How many elements the array of this shape has, or why it can't be begun.
 fn array_opening(table: &ShapeTable, shape: ShapeId, piece: &Piece) -> Result<usize, Operation>
     ensures elements { IfOk result (λ count. HasElements (def_of table.now shape.0) count) }
-    ensures admitted { OnOk result
-        (init_array_refusal (def_of table.now shape.0) (own_tree (body_of piece.now)) ≡ None) }
-    ensures refused { IfErr result (λ operation.
-        init_array_refusal (def_of table.now shape.0) (own_tree (body_of piece.now))
-        ≡ Some operation) }
+    ensures refused { result_err result
+        ≡ init_array_refusal (def_of table.now shape.0) (own_tree (body_of piece.now)) }
 {
-    let Some(entry) = table.get(shape) else {
-        return Err(Operation::InitArrayOfOther);
-    };
-    match &entry.def {
-        Def::Array(_, count) if *count > MOST_ELEMENTS => Err(Operation::ArrayTooLarge),
-        Def::Array(_, count) => match whole_array_refusal(piece) {
-            Some(operation) => Err(operation),
-            None => Ok(*count as usize),
+    match table.get(shape) {
+        Some(
+            Shape {
+                def: Def::Array(_, count),
+                ..
+            },
+        ) => match piece {
+            _ if *count > MOST_ELEMENTS => Err(Operation::ArrayTooLarge),
+            Piece::Whole(_) => Err(Operation::InitArrayOfBegun),
+            Piece::Entered | Piece::Begun(..) | Piece::Object(..) => Ok(*count as usize),
         },
-        Def::Scalar(_) | Def::Str | Def::Opaque | Def::Struct(_) | Def::Enum(_) | Def::Option(_) =>
-            { Err(Operation::InitArrayOfOther) }
-        Def::Result(_, _) | Def::List(_) | Def::Map(_, _) | Def::Set(_) | Def::Pointer(_) => {
-            Err(Operation::InitArrayOfOther)
-        }
-        Def::Slice(_) | Def::Dynamic | Def::Undefined | Def::Other => {
-            Err(Operation::InitArrayOfOther)
-        }
+        _ => Err(Operation::InitArrayOfOther),
     }
 }
 
@@ -65,8 +48,8 @@ impl<'t> Work<'t> {
         ensures memory { is_begun (cursor_tree self.now.state) ≡ true
             → NeedsNone (cursor_tree self.now.state) result }
     {
-        let (shape, piece) = self.place();
-        match array_opening(self.table(), shape, piece) {
+        let (table, shape, piece) = self.place();
+        match array_opening(table, shape, piece) {
             Ok(count) => {
                 let form = Form::Array;
                 Ok(Move::Stay(Change::Open(Opening { form, count })))

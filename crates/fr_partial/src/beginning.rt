@@ -6,23 +6,20 @@ ghost use Rattle.fr_model.specs.Contents.{is_entered_in_place, kept_so, variant_
 ghost use Rattle.fr_model.specs.Tree.{as_variant, base_of_form};
 ghost use Rattle.fr_model.specs.Well.{IsFullAs};
 ghost use Rattle.fr_frame.specs.Bodies.{own_tree};
-ghost use Rattle.fr_frame.specs.Heap.{as_form, body_of, slots_occur};
+ghost use Rattle.fr_frame.specs.Heap.{as_form, body_of};
 ghost use Rattle.fr_frame.specs.Kids.{MayHave};
-ghost use Rattle.fr_store.specs.Moves.{changed_here, cursor_in, tree_here, IsOpenAt};
-ghost use Rattle.fr_store.specs.Stands.{IsOpen};
-ghost use Rattle.fr_store.specs.Stored.{IsKept, StoresNoMore};
 ghost use Rattle.fr_partial.specs.declared.beginning.Beginning.{Beginning as Onset};
 ghost use Rattle.fr_partial.specs.Beginnings.{beginning_so, beginning_in, beginning_of_some, begun_by, IsWholeSome};
 ghost use Rattle.fr_partial.specs.Modes.{mode_of};
-ghost use Rattle.fr_partial.specs.Underway.{shape_here, IsReady};
+ghost use Rattle.fr_partial.specs.Underway.{held_in, top_shape, top_tree, Changed, IsAtWork};
 
 use crate::choosing::Chosen;
 use crate::mode::Mode;
 use crate::placing::place_here;
-use fr_frame::{Form, Piece, Slots};
+use crate::work::Frames;
+use fr_frame::{Form, Piece};
 use fr_plan::TypePlanCore;
 use fr_shape::{Def, Ledger, OutOfMemory, ShapeId, ShapeTable, Value};
-use fr_store::{FrameStore, Stack};
 
 /// What of a place is kept where it is begun: all, as it is begun so already; its value alone, which becomes that of its content;
 /// or nothing.
@@ -109,28 +106,22 @@ pub fn beginning_of_some(
 /// stored beneath it is released.
 pub fn begin_so(
     plan: &TypePlanCore,
-    slots: &mut Slots,
-    stack: &Stack,
-    store: &mut FrameStore,
+    frames: &mut Frames,
     beginning: Beginning,
     form: Form,
     count: usize,
     ledger: &mut Ledger,
 ) -> Result<(), OutOfMemory>
-    requires is_open { IsOpen plan.now slots.old stack.now }
-    requires stored { IsKept store.old slots.old }
+    requires at_work { IsAtWork plan.now frames.old }
     requires may_have { MayHave (as_form form) count }
     requires base { base_of_form (as_form form) ≡ 0 }
-    requires some { beginning ≡ Onset.InPlace → IsWholeSome (tree_here slots.old stack.now) }
-    requires room { Room (slots_occur slots.old) ledger.old }
-    ensures begun { OnOk result (IsOpenAt plan.now slots.new stack.now
-        (cursor_in slots.old stack.now)
-        (changed_here (begun_by beginning (as_form form) count) slots.old stack.now)) }
-    ensures stored { OnOk result (IsKept store.new slots.new) }
-    ensures marks { OnOk result (StoresNoMore slots.old slots.new) }
-    ensures tokens { Conserved (slots_occur slots.old) ledger.old
-        (slots_occur slots.new) ledger.new }
+    requires some { beginning ≡ Onset.InPlace → IsWholeSome (top_tree frames.old) }
+    requires room { Room (held_in frames.old) ledger.old }
+    ensures changed { OnOk result (Changed plan.now (begun_by beginning (as_form form) count)
+        frames.old frames.new) }
+    ensures tokens { Conserved (held_in frames.old) ledger.old (held_in frames.new) ledger.new }
 {
+    let (slots, stack, store) = (&mut frames.slots, &frames.stack, &mut frames.store);
     match beginning {
         Beginning::AsItIs => Ok(()),
         Beginning::InPlace => stack.open_some(slots, plan),
@@ -140,42 +131,22 @@ pub fn begin_so(
 
 /// Begins the place on top, an enum, as this variant: one that is begun so stays as it is, and any other starts anew.
 pub fn begin_variant(
-    table: &ShapeTable,
-    root: ShapeId,
     plan: &TypePlanCore,
-    slots: &mut Slots,
-    stack: &Stack,
-    store: &mut FrameStore,
+    frames: &mut Frames,
     chosen: Chosen,
     ledger: &mut Ledger,
 ) -> Result<(), OutOfMemory>
-    requires ready { IsReady table.now root plan.now slots.old stack.now }
-    requires stored { IsKept store.old slots.old }
-    requires count { IsFullAs (def_of table.now (shape_here table.now root.0 slots.old stack.now))
+    requires at_work { IsAtWork plan.now frames.old }
+    requires count { IsFullAs (def_of frames.old.table.now (top_shape frames.old))
         (as_variant chosen.variant) chosen.count }
-    requires room { Room (slots_occur slots.old) ledger.old }
-    ensures begun { OnOk result (IsOpenAt plan.now slots.new stack.now
-        (cursor_in slots.old stack.now)
-        (changed_here (λ old.
-        unwrap_or (kept_so (as_variant chosen.variant) (tree_here slots.old stack.now))
-        (variant_anew (def_of table.now (shape_here table.now root.0 slots.old stack.now))
-        chosen.variant)) slots.old stack.now)) }
-    ensures stored { OnOk result (IsKept store.new slots.new) }
-    ensures marks { OnOk result (StoresNoMore slots.old slots.new) }
-    ensures tokens { Conserved (slots_occur slots.old) ledger.old
-        (slots_occur slots.new) ledger.new }
+    requires room { Room (held_in frames.old) ledger.old }
+    ensures changed { OnOk result (Changed plan.now
+        (λ old. unwrap_or (kept_so (as_variant chosen.variant) (top_tree frames.old))
+        (variant_anew (def_of frames.old.table.now (top_shape frames.old)) chosen.variant))
+        frames.old frames.new) }
+    ensures tokens { Conserved (held_in frames.old) ledger.old (held_in frames.new) ledger.new }
 {
     let form = Form::Variant(chosen.variant);
-    let (_, piece) = place_here(table, root, plan, slots, stack);
-    let beginning = beginning_so(form, piece);
-    begin_so(
-        plan,
-        slots,
-        stack,
-        store,
-        beginning,
-        form,
-        chosen.count,
-        ledger,
-    )
+    let beginning = beginning_so(form, place_here(plan, frames).1);
+    begin_so(plan, frames, beginning, form, chosen.count, ledger)
 }

@@ -7,7 +7,8 @@ ghost use Rattle.fr_model.specs.Paths.{path_of};
 ghost use Rattle.fr_model.specs.Step.{build};
 ghost use Rattle.fr_model.specs.Tree.{cursor_tree};
 ghost use Rattle.fr_partial.specs.Filling.{takes_no_memory};
-ghost use Rattle.fr_partial.specs.Building.{build_refusal, left_in, IsBuiltSo};
+ghost use Rattle.fr_partial.specs.Builder.{left_built};
+ghost use Rattle.fr_partial.specs.Building.{build_refusal, IsBuiltSo};
 ghost use Rattle.fr_partial.specs.Sites.{held_at};
 
 use crate::ending::take_root;
@@ -37,7 +38,7 @@ impl<'t> Work<'t> {
         ensures path { IfErr result (λ error. error.path ≡ path_of self.entry.state) }
         ensures fits { IfOk result (λ built.
             fits self.entry.shapes self.entry.root built.value ≡ true) }
-        ensures tokens { Conserved (held_at self.entry) ledger.old (left_in result) ledger.new }
+        ensures tokens { Conserved (held_at self.entry) ledger.old (left_built result) ledger.new }
         ensures refused { IsErr (build (H.means hooks.now) self.entry.shapes self.entry.root
             self.entry.state) → IfErr result (λ error. error.kind ≢ Kind.OutOfMemory) }
         ensures memory { takes_no_memory (cursor_tree self.entry.state) ≡ true
@@ -48,17 +49,12 @@ impl<'t> Work<'t> {
         let Work { parts } = self;
         let Parts {
             alloc: _,
-            table,
-            root,
             plan,
-            slots,
-            stack,
-            store: _,
+            frames,
             path,
-            mode: _,
             calls,
         } = Box::into_inner(parts);
-        let result = take_root(table, root, plan.core(), hooks, slots, stack, ledger);
+        let result = take_root(plan.core(), hooks, frames, ledger);
         drop(plan);
         match result {
             Ok(value) => Ok(Built { value, calls }),

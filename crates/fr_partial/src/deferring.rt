@@ -3,10 +3,10 @@ ghost use Rattle.std.specs.Prelude.{◌≡◌, ◌≢◌, length, IfErr, Ok, OnE
 ghost use Rattle.fr_shape.specs.declared.error.ReflectErrorKind.{ReflectErrorKind as Kind};
 ghost use Rattle.fr_shape.specs.Released.{Conserved, Room};
 ghost use Rattle.fr_model.specs.Tree.{deferred, one_more_call};
-ghost use Rattle.fr_frame.specs.Heap.{slots_occur};
 ghost use Rattle.fr_partial.specs.declared.moves.Move.{Move as Moves};
 ghost use Rattle.fr_partial.specs.Making.{IsMade};
 ghost use Rattle.fr_partial.specs.Moving.{meant_by, IsMeant};
+ghost use Rattle.fr_partial.specs.Underway.{held_in};
 ghost use Rattle.fr_partial.specs.Works.{site, IsSound};
 
 use crate::mode::Mode;
@@ -25,11 +25,11 @@ pub fn defer(parts: &mut Parts) -> Result<(), ReflectErrorKind>
       calls = one_more_call (site parts.old).state.calls;
     })) result }
     ensures never { IfErr result (λ kind. ⊥) }
-    ensures slots { parts.new.slots ≡ parts.old.slots }
+    ensures slots { parts.new.frames.slots ≡ parts.old.frames.slots }
 {
     law_well();
-    let start = parts.stack.len() - 1;
-    parts.mode = Mode::Deferred(start);
+    let start = parts.frames.stack.len() - 1;
+    parts.frames.mode = Mode::Deferred(start);
     parts.calls = parts.calls.saturating_add(1);
     Ok(())
 }
@@ -43,25 +43,26 @@ pub fn finish<H: Hooks>(
 ) -> Result<(), ReflectErrorKind>
     requires sound { IsSound parts.old }
     requires meant { IsMeant (site parts.old) Moves.Finish }
-    requires room { Room (slots_occur parts.old.slots) ledger.old }
+    requires room { Room (held_in parts.old.frames) ledger.old }
     ensures sound { OnOk result (IsSound parts.new) }
     ensures moved { IsMade parts.old parts.new
         (meant_by (H.means hooks.now) (site parts.old) Moves.Finish) result }
     ensures path { OnErr result (parts.new.path ≡ parts.old.path) }
-    ensures tokens { Conserved (slots_occur parts.old.slots) ledger.old
-        (slots_occur parts.new.slots) ledger.new }
+    ensures tokens { Conserved (held_in parts.old.frames) ledger.old
+        (held_in parts.new.frames) ledger.new }
 {
     law_paths();
     law_plan_lookups();
     law_well();
     let plan = parts.plan.core();
-    let (slots, stack) = (&mut parts.slots, &mut parts.stack);
-    match parts
+    let frames = &mut parts.frames;
+    let (slots, stack) = (&mut frames.slots, &mut frames.stack);
+    match frames
         .store
-        .finish(slots, stack, parts.table, plan, hooks, ledger)
+        .finish(slots, stack, frames.table, plan, hooks, ledger)
     {
         Ok(()) => {
-            parts.mode = Mode::Strict;
+            frames.mode = Mode::Strict;
             parts.calls = parts.calls.saturating_add(1);
             Ok(())
         }

@@ -7,19 +7,17 @@ ghost use Rattle.fr_shape.specs.View.{view};
 ghost use Rattle.fr_model.specs.DynamicPlaces.{kept_array, kept_object};
 ghost use Rattle.fr_model.specs.Tree.{begun, whole, Trees};
 ghost use Rattle.fr_frame.specs.Bodies.{own_tree};
-ghost use Rattle.fr_frame.specs.Heap.{as_form, body_of, slots_occur};
-ghost use Rattle.fr_store.specs.Moves.{changed_here, cursor_in, tree_here, IsOpenAt};
-ghost use Rattle.fr_store.specs.Stored.{IsKept, StoresNoMore};
+ghost use Rattle.fr_frame.specs.Heap.{as_form, body_of};
 ghost use Rattle.fr_partial.specs.DynamicBeginnings.{anew_as, beginning_as, kept_as};
 ghost use Rattle.fr_partial.specs.Openings.{is_begun};
-ghost use Rattle.fr_partial.specs.Underway.{IsReady};
+ghost use Rattle.fr_partial.specs.Underway.{held_in, top_tree, Changed, IsAtWork};
 
 use crate::beginning::Beginning;
 use crate::placing::place_here;
-use fr_frame::{Form, Piece, Slots};
+use crate::work::Frames;
+use fr_frame::{Form, Piece};
 use fr_plan::TypePlanCore;
 use fr_shape::{Def, Dyn, Ledger, OutOfMemory, ShapeId, ShapeTable, Value};
-use fr_store::{FrameStore, Stack};
 
 /// What a dynamic place is begun with: the elements of an array, or the entries of an object.
 #[derive(Clone, Copy)]
@@ -106,30 +104,21 @@ fn beginning_as(parts: Parts, piece: &Piece) -> Beginning
 /// Begins the dynamic place on top with such parts: those that it has stay as they are. Where it has none such, all that was put there
 /// and all that is stored beneath it is released. Only a whole value takes memory for its parts.
 pub fn begin_parts(
-    table: &ShapeTable,
-    root: ShapeId,
     plan: &TypePlanCore,
-    slots: &mut Slots,
-    stack: &Stack,
-    store: &mut FrameStore,
+    frames: &mut Frames,
     parts: Parts,
     ledger: &mut Ledger,
 ) -> Result<(), OutOfMemory>
-    requires ready { IsReady table.now root plan.now slots.old stack.now }
-    requires stored { IsKept store.old slots.old }
-    requires room { Room (slots_occur slots.old) ledger.old }
-    ensures begun { OnOk result (IsOpenAt plan.now slots.new stack.now
-        (cursor_in slots.old stack.now)
-        (changed_here (λ old.
-        unwrap_or (kept_as parts (tree_here slots.old stack.now)) (anew_as parts))
-        slots.old stack.now)) }
-    ensures stored { OnOk result (IsKept store.new slots.new) }
-    ensures marks { OnOk result (StoresNoMore slots.old slots.new) }
-    ensures memory { is_begun (tree_here slots.old stack.now) ≡ true → IsOk result }
-    ensures tokens { Conserved (slots_occur slots.old) ledger.old
-        (slots_occur slots.new) ledger.new }
+    requires at_work { IsAtWork plan.now frames.old }
+    requires room { Room (held_in frames.old) ledger.old }
+    ensures changed { OnOk result (Changed plan.now
+        (λ old. unwrap_or (kept_as parts (top_tree frames.old)) (anew_as parts))
+        frames.old frames.new) }
+    ensures memory { is_begun (top_tree frames.old) ≡ true → IsOk result }
+    ensures tokens { Conserved (held_in frames.old) ledger.old (held_in frames.new) ledger.new }
 {
-    let beginning = beginning_as(parts, place_here(table, root, plan, slots, stack).1);
+    let beginning = beginning_as(parts, place_here(plan, frames).1);
+    let (slots, stack, store) = (&mut frames.slots, &frames.stack, &mut frames.store);
     match beginning {
         Beginning::AsItIs => Ok(()),
         Beginning::InPlace => match parts {

@@ -4,8 +4,8 @@ ghost use Rattle.fr_model.specs.Commands.{Call};
 ghost use Rattle.fr_partial.specs.Builder.{holds, IsCall};
 ghost use Rattle.fr_partial.specs.Moving.{Decides};
 
-use crate::choosing::{choice, nth_variant, variant_named, variant_told_by};
-use crate::moves::{Change, Move};
+use crate::choosing::{nth_variant, select};
+use crate::moves::Move;
 use crate::work::Work;
 use crate::{Partial, ReflectError};
 use fr_shape::{Hooks, Ledger, Operation, ReflectErrorKind};
@@ -13,44 +13,30 @@ use fr_shape::{Hooks, Ledger, Operation, ReflectErrorKind};
 impl<'t> Work<'t> {
     /// The variant of this number is selected.
     fn select_nth_variant_move<'k>(&self, index: usize) -> Result<Move<'k>, ReflectErrorKind>
-        ensures decides { Decides self.now (Call.SelectNthVariant index) result }
+        ensures { Decides self.now (Call.SelectNthVariant index) result }
     {
         self.law_sound();
-        let (shape, _) = self.place();
-        let table = self.table();
+        let (table, shape, _) = self.place();
         let found = nth_variant(table, shape, index);
-        match choice(table, shape, found, Operation::VariantIndexOutOfBounds) {
-            Ok(chosen) => Ok(Move::Stay(Change::Select(chosen))),
-            Err(kind) => Err(kind),
-        }
+        select(table, shape, found, Operation::VariantIndexOutOfBounds)
     }
 
     /// The variant of this name is selected.
     fn select_variant_named_move<'k>(&self, name: &str) -> Result<Move<'k>, ReflectErrorKind>
-        ensures decides { Decides self.now (Call.SelectVariantNamed name.now) result }
+        ensures { Decides self.now (Call.SelectVariantNamed name.now) result }
     {
-        self.law_sound();
-        let (shape, _) = self.place();
-        let table = self.table();
-        let found = variant_named(&self.parts, shape, name);
-        match choice(table, shape, found, Operation::VariantNameUnknown) {
-            Ok(chosen) => Ok(Move::Stay(Change::Select(chosen))),
-            Err(kind) => Err(kind),
-        }
+        let (table, shape, _) = self.place();
+        let found = self.variant_named(shape, name);
+        select(table, shape, found, Operation::VariantNameUnknown)
     }
 
     /// The first variant that has this discriminant is selected.
     fn select_variant_move<'k>(&self, discriminant: i64) -> Result<Move<'k>, ReflectErrorKind>
-        ensures decides { Decides self.now (Call.SelectVariant discriminant) result }
+        ensures { Decides self.now (Call.SelectVariant discriminant) result }
     {
-        self.law_sound();
-        let (shape, _) = self.place();
-        let table = self.table();
-        let found = variant_told_by(&self.parts, shape, discriminant);
-        match choice(table, shape, found, Operation::DiscriminantUnknown) {
-            Ok(chosen) => Ok(Move::Stay(Change::Select(chosen))),
-            Err(kind) => Err(kind),
-        }
+        let (table, shape, _) = self.place();
+        let found = self.variant_told_by(shape, discriminant);
+        select(table, shape, found, Operation::DiscriminantUnknown)
     }
 }
 
@@ -65,8 +51,8 @@ impl<'t, H: Hooks> Partial<'t, H> {
         ledger: &mut Ledger,
     ) -> Result<Partial<'t, H>, ReflectError>
         requires room { Room (holds self) ledger.old }
-        ensures call { IsCall (H.means self.entry.hooks) self.entry (Call.SelectNthVariant index) result
-            ledger.old ledger.new }
+        ensures call { IsCall (H.means self.entry.hooks) self.entry
+            (Call.SelectNthVariant index) result ledger.old ledger.new }
     {
         let decided = self.work.select_nth_variant_move(index);
         self.run(decided, ledger)
@@ -80,8 +66,8 @@ impl<'t, H: Hooks> Partial<'t, H> {
         ledger: &mut Ledger,
     ) -> Result<Partial<'t, H>, ReflectError>
         requires room { Room (holds self) ledger.old }
-        ensures call { IsCall (H.means self.entry.hooks) self.entry (Call.SelectVariantNamed variant_name.now) result
-            ledger.old ledger.new }
+        ensures call { IsCall (H.means self.entry.hooks) self.entry
+            (Call.SelectVariantNamed variant_name.now) result ledger.old ledger.new }
     {
         let decided = self.work.select_variant_named_move(variant_name);
         self.run(decided, ledger)
@@ -95,8 +81,8 @@ impl<'t, H: Hooks> Partial<'t, H> {
         ledger: &mut Ledger,
     ) -> Result<Partial<'t, H>, ReflectError>
         requires room { Room (holds self) ledger.old }
-        ensures call { IsCall (H.means self.entry.hooks) self.entry (Call.SelectVariant discriminant) result
-            ledger.old ledger.new }
+        ensures call { IsCall (H.means self.entry.hooks) self.entry
+            (Call.SelectVariant discriminant) result ledger.old ledger.new }
     {
         let decided = self.work.select_variant_move(discriminant);
         self.run(decided, ledger)

@@ -9,26 +9,23 @@ ghost use Rattle.fr_model.specs.Places.{is_root, up};
 ghost use Rattle.fr_model.specs.Step.{field_default, field_refusal, put_child};
 ghost use Rattle.fr_model.specs.Tree.{tree_at, whole};
 ghost use Rattle.fr_frame.specs.Bodies.{own_tree};
-ghost use Rattle.fr_frame.specs.Heap.{body_of, slots_occur};
-ghost use Rattle.fr_store.specs.Moves.{changed_here, cursor_in, takes_at_end, tree_here, tree_in_slots, IsOpenAt};
-ghost use Rattle.fr_store.specs.Stands.{IsOpen};
-ghost use Rattle.fr_store.specs.Stored.{IsKept};
+ghost use Rattle.fr_frame.specs.Heap.{body_of};
+ghost use Rattle.fr_store.specs.Moves.{takes_at_end};
 ghost use Rattle.fr_partial.specs.Entering.{Describes};
 ghost use Rattle.fr_partial.specs.FieldDefaults.{default_in};
-ghost use Rattle.fr_partial.specs.Modes.{mode_of};
-ghost use Rattle.fr_partial.specs.Underway.{shape_here, IsReady, StoresNothing};
+ghost use Rattle.fr_partial.specs.Underway.{held_in, top_place, top_shape, top_tree, whole_tree, AreOpen, Became, Changed, IsAtWork};
 
 use crate::admitting::{Opening, field_of, named_refusal, selected};
 use crate::going::enter;
 use crate::mode::Mode;
 use crate::moves::Way;
-use fr_frame::{Piece, Slots};
+use crate::work::Frames;
+use fr_frame::Piece;
 use fr_plan::{TypePlanCore, law_plan_lookups};
 use fr_shape::{
     DefaultSource, Field, Ledger, Operation, OutOfMemory, ReflectErrorKind, ShapeId, ShapeTable,
     Template, Value,
 };
-use fr_store::{FrameStore, Stack};
 
 /// What a field is set to by its default, or why it can't be.
 fn field_default<'a>(
@@ -82,78 +79,60 @@ pub fn default_in<'a>(
 /// Goes back from a whole place, whose value stays there.
 fn leave_whole(
     plan: &TypePlanCore,
-    slots: &mut Slots,
-    stack: &mut Stack,
-    store: &mut FrameStore,
-    mode: Mode,
+    frames: &mut Frames,
     ledger: &mut Ledger,
 ) -> Result<(), OutOfMemory>
-    requires is_open { IsOpen plan.now slots.old stack.old }
-    requires stored { IsKept store.old slots.old }
-    requires mode { StoresNothing (mode_of mode) store.old }
-    requires below { is_root (cursor_in slots.old stack.old) ≡ false }
-    requires not_item { takes_at_end (tree_at (up (cursor_in slots.old stack.old))
-        (tree_in_slots slots.old stack.old)) ≡ false }
-    requires holds_value { (v : Val) × (tree_here slots.old stack.old ≡ whole v) }
-    requires room { Room (slots_occur slots.old) ledger.old }
-    ensures left { OnOk result (IsOpenAt plan.now slots.new stack.new
-        (up (cursor_in slots.old stack.old)) (tree_in_slots slots.old stack.old)) }
-    ensures stored { OnOk result (IsKept store.new slots.new) }
-    ensures mode { OnOk result (StoresNothing (mode_of mode) store.new) }
-    ensures conserved { Conserved (slots_occur slots.old) ledger.old
-        (slots_occur slots.new) ledger.new }
+    requires are_open { AreOpen plan.now frames.old }
+    requires below { is_root (top_place frames.old) ≡ false }
+    requires not_item { takes_at_end (tree_at (up (top_place frames.old))
+        (whole_tree frames.old)) ≡ false }
+    requires holds_value { (v : Val) × (top_tree frames.old ≡ whole v) }
+    requires room { Room (held_in frames.old) ledger.old }
+    ensures left { OnOk result (Became plan.now (up (top_place frames.old))
+        (whole_tree frames.old) frames.old frames.new) }
+    ensures tokens { Conserved (held_in frames.old) ledger.old (held_in frames.new) ledger.new }
 {
-    match mode {
+    let (slots, stack) = (&mut frames.slots, &mut frames.stack);
+    match frames.mode {
         Mode::Strict => {
             let Ok(()) = stack.end(slots, plan, ledger) else {
                 unreachable!()
             };
             Ok(())
         }
-        Mode::Deferred(_) => stack.leave(slots, store, plan),
+        Mode::Deferred(_) => stack.leave(slots, &mut frames.store, plan),
     }
 }
 
 /// Puts a value without tokens at child `i` of the place on top, which may be entered, in the stead of all that was put there and is
 /// stored beneath it. The place stays on top.
 pub fn put_in_child(
-    table: &ShapeTable,
-    root: ShapeId,
     plan: &TypePlanCore,
-    slots: &mut Slots,
-    stack: &mut Stack,
-    store: &mut FrameStore,
+    frames: &mut Frames,
     i: usize,
     opening: Opening,
     value: Value,
-    mode: Mode,
     ledger: &mut Ledger,
 ) -> Result<(), OutOfMemory>
-    requires ready { IsReady table.now root plan.now slots.old stack.old }
-    requires stored { IsKept store.old slots.old }
-    requires mode { StoresNothing (mode_of mode) store.old }
-    requires opening { Describes table.now (shape_here table.now root.0 slots.old stack.old)
-        (tree_here slots.old stack.old) opening }
-    requires admitted { field_refusal
-        (def_of table.now (shape_here table.now root.0 slots.old stack.old))
-        (tree_here slots.old stack.old) i ≡ None }
+    requires at_work { IsAtWork plan.now frames.old }
+    requires opening { Describes frames.old.table.now (top_shape frames.old)
+        (top_tree frames.old) opening }
+    requires admitted { field_refusal (def_of frames.old.table.now (top_shape frames.old))
+        (top_tree frames.old) i ≡ None }
     requires light { tokens (view value) ≡ [] }
-    requires room { Room (slots_occur slots.old) ledger.old }
-    ensures put { OnOk result (IsOpenAt plan.now slots.new stack.new (cursor_in slots.old stack.old)
-        (changed_here (put_child
-        (def_of table.now (shape_here table.now root.0 slots.old stack.old)) i (view value))
-        slots.old stack.old)) }
-    ensures stored { OnOk result (IsKept store.new slots.new) }
-    ensures mode { OnOk result (StoresNothing (mode_of mode) store.new) }
-    ensures tokens { Conserved (slots_occur slots.old) ledger.old
-        (slots_occur slots.new) ledger.new }
+    requires room { Room (held_in frames.old) ledger.old }
+    ensures changed { OnOk result (Changed plan.now
+        (put_child (def_of frames.old.table.now (top_shape frames.old)) i (view value))
+        frames.old frames.new) }
+    ensures tokens { Conserved (held_in frames.old) ledger.old (held_in frames.new) ledger.new }
 {
     law_plan_lookups();
     let Ok(_) = u32::try_from(i) else {
         return Err(OutOfMemory);
     };
     let way = Way::Child(i, opening);
-    enter(table, root, plan, slots, stack, store, way, ledger)?;
-    stack.set(slots, store, plan, value, ledger);
-    leave_whole(plan, slots, stack, store, mode, ledger)
+    enter(plan, frames, way, ledger)?;
+    let (slots, store) = (&mut frames.slots, &mut frames.store);
+    frames.stack.set(slots, store, plan, value, ledger);
+    leave_whole(plan, frames, ledger)
 }

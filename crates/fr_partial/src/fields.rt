@@ -5,7 +5,7 @@ ghost use Rattle.fr_model.specs.Commands.{Call};
 ghost use Rattle.fr_partial.specs.Builder.{holds, IsCall};
 ghost use Rattle.fr_partial.specs.Moving.{Decides};
 
-use crate::admitting::{field_named, named_refusal, nth_opening, opening_at, selected};
+use crate::admitting::{named_refusal, nth_opening, opening_at, selected};
 use crate::field_defaults::default_in;
 use crate::moves::{Change, Move, Way};
 use crate::set::copy_template;
@@ -17,14 +17,13 @@ impl<'t> Work<'t> {
     /// On to the first field that is declared under this name.
     #[inline(always)]
     fn begin_field_move<'k>(&self, name: &str) -> Result<Move<'k>, ReflectErrorKind>
-        ensures decides { Decides self.now (Call.BeginField name.now) result }
+        ensures { Decides self.now (Call.BeginField name.now) result }
     {
-        let (shape, piece) = self.place();
-        let table = self.table();
+        let (table, shape, piece) = self.place();
         if let Some(operation) = named_refusal(table, shape, piece) {
             return Err(ReflectErrorKind::OperationFailed { shape, operation });
         }
-        match field_named(&self.parts, shape, selected(piece), name) {
+        match self.field_named(shape, selected(piece), name) {
             Some(i) => Ok(Move::Go(Way::Child(i, opening_at(table, shape, piece, i)))),
             None => Err(ReflectErrorKind::FieldError { shape }),
         }
@@ -33,10 +32,10 @@ impl<'t> Work<'t> {
     /// On to the field or element of this number.
     #[inline(always)]
     fn begin_nth_field_move<'k>(&self, idx: usize) -> Result<Move<'k>, ReflectErrorKind>
-        ensures decides { Decides self.now (Call.BeginNthField idx) result }
+        ensures { Decides self.now (Call.BeginNthField idx) result }
     {
-        let (shape, piece) = self.place();
-        match nth_opening(self.table(), shape, piece, idx) {
+        let (table, shape, piece) = self.place();
+        match nth_opening(table, shape, piece, idx) {
             Ok(opening) => Ok(Move::Go(Way::Child(idx, opening))),
             Err(operation) => Err(ReflectErrorKind::OperationFailed { shape, operation }),
         }
@@ -44,11 +43,10 @@ impl<'t> Work<'t> {
 
     /// A copy of its default takes the place of the field of this number.
     fn set_nth_field_to_default_move<'k>(&self, idx: usize) -> Result<Move<'k>, ReflectErrorKind>
-        ensures decides { Decides self.now (Call.SetNthFieldToDefault idx) result }
+        ensures { Decides self.now (Call.SetNthFieldToDefault idx) result }
     {
         self.law_sound();
-        let (shape, piece) = self.place();
-        let table = self.table();
+        let (table, shape, piece) = self.place();
         let template = match default_in(table, shape, piece, idx) {
             Ok(template) => template,
             Err(kind) => return Err(kind),
@@ -71,8 +69,8 @@ impl<'t, H: Hooks> Partial<'t, H> {
         ledger: &mut Ledger,
     ) -> Result<Partial<'t, H>, ReflectError>
         requires room { Room (holds self) ledger.old }
-        ensures call { IsCall (H.means self.entry.hooks) self.entry (Call.BeginField field_name.now) result
-            ledger.old ledger.new }
+        ensures call { IsCall (H.means self.entry.hooks) self.entry
+            (Call.BeginField field_name.now) result ledger.old ledger.new }
     {
         let decided = self.work.begin_field_move(field_name);
         self.run(decided, ledger)
@@ -104,8 +102,8 @@ impl<'t, H: Hooks> Partial<'t, H> {
         ledger: &mut Ledger,
     ) -> Result<Partial<'t, H>, ReflectError>
         requires room { Room (holds self) ledger.old }
-        ensures call { IsCall (H.means self.entry.hooks) self.entry (Call.SetNthFieldToDefault idx) result
-            ledger.old ledger.new }
+        ensures call { IsCall (H.means self.entry.hooks) self.entry
+            (Call.SetNthFieldToDefault idx) result ledger.old ledger.new }
     {
         let decided = self.work.set_nth_field_to_default_move(idx);
         self.run(decided, ledger)

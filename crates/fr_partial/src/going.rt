@@ -1,39 +1,36 @@
 //! Going on to a child, whichever way.
-ghost use Rattle.std.specs.Prelude.{◌≡◌, ◌<◌, ◌^◌, [], ◌∷◌, ◌++◌, length, Ok, OnErr, OnOk};
+ghost use Rattle.std.specs.Prelude.{◌≡◌, ◌<◌, ◌^◌, [], ◌∷◌, ◌++◌, Ok, OnErr, OnOk};
 ghost use Rattle.fr_shape.specs.Released.{Conserved, Room};
-ghost use Rattle.fr_frame.specs.Heap.{as_form, slots_occur};
+ghost use Rattle.fr_frame.specs.Heap.{as_form};
 ghost use Rattle.fr_frame.specs.Kids.{child_node, entry_found, slice_item_found};
 ghost use Rattle.fr_model.specs.Places.{is_key};
-ghost use Rattle.fr_store.specs.Moves.{changed_here, cursor_in, node_here, tree_here, IsOpenAt};
-ghost use Rattle.fr_store.specs.Stands.{IsOpen};
-ghost use Rattle.fr_store.specs.Stored.{IsKept, StoresNoMore};
+ghost use Rattle.fr_model.specs.Tree.{change_at};
+ghost use Rattle.fr_store.specs.Moves.{node_here};
 ghost use Rattle.fr_partial.specs.declared.moves.Move.{Move as Moves};
 ghost use Rattle.fr_partial.specs.Making.{IsMade};
 ghost use Rattle.fr_partial.specs.Moving.{gone, number_told, onward, IsMeant, MayGo};
 ghost use Rattle.fr_model.specs.Entering.{entered_on, number_on};
 ghost use Rattle.fr_partial.specs.Sites.{shape_at};
-ghost use Rattle.fr_partial.specs.Underway.{shape_here, IsReady};
+ghost use Rattle.fr_partial.specs.Underway.{held_in, top_place, top_shape, top_tree, whole_tree, Became, IsAtWork};
 ghost use Rattle.fr_partial.specs.Works.{site, IsSound};
 
 use crate::beginning::begin_so;
 use crate::moves::Way;
-use crate::work::Parts;
-use fr_frame::{Form, Slots};
+use crate::work::{Frames, Parts};
+use fr_frame::Form;
 use fr_model::{law_paths, law_well};
 use fr_plan::{NodeId, TypePlanCore, law_plan_lookups};
-use fr_shape::{Ledger, OutOfMemory, ReflectErrorKind, ShapeId, ShapeTable};
-use fr_store::{FrameStore, Stack};
+use fr_shape::{Ledger, OutOfMemory, ReflectErrorKind};
 
 /// The plan's node of the place on top of the stack.
-fn node_here(plan: &TypePlanCore, slots: &Slots, stack: &Stack) -> NodeId
-    requires { IsOpen plan.now slots.now stack.now }
-    ensures { result ≡ node_here plan.now slots.now stack.now }
+fn node_here(_plan: &TypePlanCore, frames: &Frames) -> NodeId
+    requires { IsAtWork _plan.now frames.now }
+    ensures { result ≡ node_here _plan.now frames.now.slots frames.now.stack }
 {
-    let _plan = plan;
-    let Some(top) = stack.top() else {
+    let Some(top) = frames.stack.top() else {
         unreachable!()
     };
-    match slots.place(top) {
+    match frames.slots.place(top) {
         Some(place) => place.node,
         None => unreachable!(),
     }
@@ -84,35 +81,26 @@ fn child_node(plan: &TypePlanCore, node: NodeId, form: Form, i: usize) -> NodeId
 /// Goes on to a child of the place on top. Where there is no memory, all that was put is still there.
 #[inline(always)]
 pub fn enter(
-    table: &ShapeTable,
-    root: ShapeId,
     plan: &TypePlanCore,
-    slots: &mut Slots,
-    stack: &mut Stack,
-    store: &mut FrameStore,
+    frames: &mut Frames,
     way: Way,
     ledger: &mut Ledger,
 ) -> Result<(), OutOfMemory>
-    requires ready { IsReady table.now root plan.now slots.old stack.old }
-    requires stored { IsKept store.old slots.old }
-    requires may { MayGo table.now (shape_here table.now root.0 slots.old stack.old)
-        (tree_here slots.old stack.old) way }
+    requires at_work { IsAtWork plan.now frames.old }
+    requires may { MayGo frames.old.table.now (top_shape frames.old) (top_tree frames.old) way }
     requires small { number_told way < 2 ^ 32 }
-    requires room { Room (slots_occur slots.old) ledger.old }
-    ensures entered { OnOk result (IsOpenAt plan.now slots.new stack.new
-        (cursor_in slots.old stack.old
-        ++ number_on (onward way.entry (tree_here slots.old stack.old)) (tree_here slots.old stack.old)
-        ∷ [])
-        (changed_here (entered_on table.now (shape_here table.now root.0 slots.old stack.old)
-        (onward way.entry (tree_here slots.old stack.old))) slots.old stack.old)) }
-    ensures stored { OnOk result (IsKept store.new slots.new) }
-    ensures marks { OnOk result (StoresNoMore slots.old slots.new) }
-    ensures tokens { Conserved (slots_occur slots.old) ledger.old
-        (slots_occur slots.new) ledger.new }
+    requires room { Room (held_in frames.old) ledger.old }
+    ensures entered { OnOk result (Became plan.now
+        (top_place frames.old
+        ++ number_on (onward way.entry (top_tree frames.old)) (top_tree frames.old) ∷ [])
+        (change_at (top_place frames.old) (entered_on frames.old.table.now (top_shape frames.old)
+        (onward way.entry (top_tree frames.old))) (whole_tree frames.old)) frames.old frames.new) }
+    ensures tokens { Conserved (held_in frames.old) ledger.old (held_in frames.new) ledger.new }
 {
     law_plan_lookups();
-    let _root = root;
-    let above = node_here(plan, slots, stack);
+    let above = node_here(plan, frames);
+    let table = frames.table;
+    let (slots, stack, store) = (&mut frames.slots, &mut frames.stack, &mut frames.store);
     match way {
         Way::Child(i, opening) => {
             let node = child_node(plan, above, opening.form, i);
@@ -135,8 +123,9 @@ pub fn enter(
         Way::Entry(key) => stack.enter_entry(slots, table, plan, above, key),
         Way::Content(form, beginning) => {
             let node = child_node(plan, above, form, 0);
-            begin_so(plan, slots, stack, store, beginning, form, 1, ledger)?;
-            stack.enter(slots, store, table, plan, node, form, 0)
+            begin_so(plan, frames, beginning, form, 1, ledger)?;
+            let (slots, store) = (&mut frames.slots, &mut frames.store);
+            frames.stack.enter(slots, store, table, plan, node, form, 0)
         }
     }
 }
@@ -147,14 +136,14 @@ pub fn enter(
 pub fn go(parts: &mut Parts, way: Way, ledger: &mut Ledger) -> Result<(), ReflectErrorKind>
     requires sound { IsSound parts.old }
     requires meant { IsMeant (site parts.old) (Moves.Go way) }
-    requires room { Room (slots_occur parts.old.slots) ledger.old }
+    requires room { Room (held_in parts.old.frames) ledger.old }
     ensures sound { OnOk result (IsSound parts.new) }
     ensures moved { IsMade parts.old parts.new
         (Ok (gone (site parts.old).shapes (shape_at (site parts.old)) (site parts.old).state
         way.entry)) result }
     ensures path { OnErr result (parts.new.path ≡ parts.old.path) }
-    ensures tokens { Conserved (slots_occur parts.old.slots) ledger.old
-        (slots_occur parts.new.slots) ledger.new }
+    ensures tokens { Conserved (held_in parts.old.frames) ledger.old
+        (held_in parts.new.frames) ledger.new }
 {
     match go_on(parts, way, ledger) {
         Ok(()) => Ok(()),
@@ -167,32 +156,20 @@ pub fn go(parts: &mut Parts, way: Way, ledger: &mut Ledger) -> Result<(), Reflec
 fn go_on(parts: &mut Parts, way: Way, ledger: &mut Ledger) -> Result<(), OutOfMemory>
     requires sound { IsSound parts.old }
     requires meant { IsMeant (site parts.old) (Moves.Go way) }
-    requires room { Room (slots_occur parts.old.slots) ledger.old }
+    requires room { Room (held_in parts.old.frames) ledger.old }
     ensures sound { OnOk result (IsSound parts.new) }
     ensures moved { OnOk result (site parts.new ≡ record (site parts.old) {
       state =
           gone (site parts.old).shapes (shape_at (site parts.old)) (site parts.old).state way.entry;
     }) }
     ensures path { OnErr result (parts.new.path ≡ parts.old.path) }
-    ensures tokens { Conserved (slots_occur parts.old.slots) ledger.old
-        (slots_occur parts.new.slots) ledger.new }
+    ensures tokens { Conserved (held_in parts.old.frames) ledger.old
+        (held_in parts.new.frames) ledger.new }
 {
     law_paths();
-    law_plan_lookups();
     law_well();
     let step = way.step(parts.alloc)?;
-    let plan = parts.plan.core();
-    let (slots, stack, store) = (&mut parts.slots, &mut parts.stack, &mut parts.store);
-    enter(
-        parts.table,
-        parts.root,
-        plan,
-        slots,
-        stack,
-        store,
-        way,
-        ledger,
-    )?;
+    enter(parts.plan.core(), &mut parts.frames, way, ledger)?;
     parts.path.push(step)?;
     parts.calls = parts.calls.saturating_add(1);
     Ok(())

@@ -1,7 +1,9 @@
 //! `init_list`, `init_list_with_capacity` and `begin_list_item`: a list, a dynamic array or a slice behind a pointer, item by item.
-ghost use Rattle.std.specs.Prelude.{◌≡◌, ℕ, true, None, Some, IfErr, IfOk, OnOk};
+ghost use Rattle.std.specs.Prelude.{◌≡◌, ◌≢◌, IfSome, true, IfOk};
+ghost use Rattle.std.specs.Result.{result_err};
+ghost use Rattle.fr_shape.specs.declared.error.ReflectErrorKind.{ReflectErrorKind as Kind};
 ghost use Rattle.fr_shape.specs.Look.{def_of};
-ghost use Rattle.fr_model.specs.Items.{begun_item_refusal, item_refusal, is_list_like, unbegun_refusal, unless_list};
+ghost use Rattle.fr_model.specs.Items.{item_refusal, is_list_like, unbegun_refusal, unless_list};
 ghost use Rattle.fr_model.specs.Step.{at_shape, init_list_refusal};
 ghost use Rattle.fr_model.specs.Tree.{cursor_tree, tracker_of};
 ghost use Rattle.fr_frame.specs.Bodies.{own_tree};
@@ -19,7 +21,8 @@ use crate::work::Work;
 use crate::{Partial, ReflectError};
 use fr_frame::{Form, Piece};
 use fr_shape::{
-    Def, Hooks, InitCall, Ledger, Operation, ReflectErrorKind, ShapeId, ShapeTable, TrackerKind,
+    Def, Hooks, InitCall, Ledger, Operation, ReflectErrorKind, Shape, ShapeId, ShapeTable,
+    TrackerKind,
 };
 
 /// Nothing, where the shape is a list or a dynamic one; else this refusal.
@@ -27,13 +30,18 @@ fn unless_list(table: &ShapeTable, shape: ShapeId, refusal: Operation) -> Option
     ensures { result ≡ unless_list refusal (def_of table.now shape.0) }
 {
     match table.get(shape) {
-        Some(entry) if matches!(&entry.def, Def::List(_) | Def::Dynamic) => None,
-        Some(_) | None => Some(refusal),
+        Some(
+            Shape {
+                def: Def::List(_) | Def::Dynamic,
+                ..
+            },
+        ) => None,
+        _ => Some(refusal),
     }
 }
 
 /// The form of a begun place, as refusals name it.
-pub fn tracker(form: Form) -> TrackerKind
+fn tracker(form: Form) -> TrackerKind
     ensures { result ≡ tracker_of (as_form form) }
 {
     match form {
@@ -51,37 +59,51 @@ pub fn tracker(form: Form) -> TrackerKind
     }
 }
 
+/// The refusal of a call that is to begin a place that is begun so already.
+pub fn unexpected(call: InitCall, form: Form) -> ReflectErrorKind
+    ensures { result ≡ Kind.UnexpectedTracker call (tracker_of (as_form form)) }
+{
+    let current = tracker(form);
+    ReflectErrorKind::UnexpectedTracker { call, current }
+}
+
+/// The same refusal, of this shape.
+pub fn at_shape(shape: ShapeId, refused: Option<Operation>) -> Option<ReflectErrorKind>
+    ensures refused { result ≡ at_shape shape.0 refused }
+    ensures named { IfSome result (λ kind. kind ≢ Kind.OutOfMemory) }
+{
+    let operation = refused?;
+    Some(ReflectErrorKind::OperationFailed { shape, operation })
+}
+
 /// Whether a place that is begun so is left as it is where a list is to be begun.
 fn is_list_like(form: Form) -> bool
     ensures { result ≡ is_list_like (as_form form) }
 {
-    match form {
-        Form::List | Form::Slice | Form::ClosedSlice | Form::DynArray => true,
-        Form::Struct | Form::Array | Form::Variant(_) => false,
-        Form::Some | Form::Ok | Form::Err | Form::Pointer => false,
-        Form::Set | Form::Map(_) => false,
-    }
+    matches!(
+        form,
+        Form::List | Form::Slice | Form::ClosedSlice | Form::DynArray
+    )
 }
 
 /// Why no list can be begun at a place of this shape at which this stands, if none can.
 fn init_list_refusal(table: &ShapeTable, shape: ShapeId, piece: &Piece) -> Option<ReflectErrorKind>
-    ensures { result
+    ensures refused { result
         ≡ init_list_refusal shape.0 (def_of table.now shape.0) (own_tree (body_of piece.now)) }
+    ensures named { IfSome result (λ kind. kind ≢ Kind.OutOfMemory) }
 {
-    let refused = match piece {
-        Piece::Begun(form, _) => {
-            if is_list_like(*form) {
-                return None;
-            }
-            let (call, current) = (InitCall::List, tracker(*form));
-            return Some(ReflectErrorKind::UnexpectedTracker { call, current });
+    match piece {
+        Piece::Begun(form, _) if is_list_like(*form) => None,
+        Piece::Begun(form, _) => Some(unexpected(InitCall::List, *form)),
+        Piece::Object(..) => None,
+        Piece::Entered => at_shape(shape, unless_list(table, shape, Operation::InitListOfOther)),
+        Piece::Whole(_) => {
+            at_shape(
+                shape,
+                unless_list(table, shape, Operation::InitListOfWholeOther),
+            )
         }
-        Piece::Object(..) => return None,
-        Piece::Entered => unless_list(table, shape, Operation::InitListOfOther),
-        Piece::Whole(_) => unless_list(table, shape, Operation::InitListOfWholeOther),
-    };
-    let operation = refused?;
-    Some(ReflectErrorKind::OperationFailed { shape, operation })
+    }
 }
 
 /// The refusal of an item at a place of this shape that isn't begun with items.
@@ -89,20 +111,24 @@ fn unbegun_refusal(table: &ShapeTable, shape: ShapeId) -> Operation
     ensures { result ≡ unbegun_refusal (def_of table.now shape.0) }
 {
     match table.get(shape) {
-        Some(entry) if matches!(&entry.def, Def::List(_)) => Operation::ItemBeforeInitList,
-        Some(_) | None => Operation::ItemOfOther,
+        Some(
+            Shape {
+                def: Def::List(_),
+                ..
+            },
+        ) => Operation::ItemBeforeInitList,
+        _ => Operation::ItemOfOther,
     }
 }
 
 /// As what a place is begun that takes one more item, and how many it has, or why it takes none.
+#[tactic(auto, using(crate::proofs::LookLaws::begun_items))]
 #[inline]
 fn item_opening(table: &ShapeTable, shape: ShapeId, piece: &Piece) -> Result<Opening, Operation>
     ensures items { IfOk result (λ opening.
         HasItems (as_form opening.form) opening.count (own_tree (body_of piece.now))) }
-    ensures admitted { OnOk result
-        (item_refusal (def_of table.now shape.0) (own_tree (body_of piece.now)) ≡ None) }
-    ensures refused { IfErr result (λ operation.
-        item_refusal (def_of table.now shape.0) (own_tree (body_of piece.now)) ≡ Some operation) }
+    ensures refused { result_err result
+        ≡ item_refusal (def_of table.now shape.0) (own_tree (body_of piece.now)) }
 {
     let Piece::Begun(made, children) = piece else {
         return Err(unbegun_refusal(table, shape));
@@ -125,18 +151,13 @@ impl<'t> Work<'t> {
             → NeedsNone (cursor_tree self.now.state) result }
     {
         self.law_sound();
-        let (shape, piece) = self.place();
-        let table = self.table();
-        let dynamic = is_dynamic(table, shape);
+        let (table, shape, piece) = self.place();
         match init_list_refusal(table, shape, piece) {
             Some(kind) => Err(kind),
+            None if is_dynamic(table, shape) => Ok(Move::Stay(Change::Gather(Parts::Elements))),
             None => {
-                if dynamic {
-                    Ok(Move::Stay(Change::Gather(Parts::Elements)))
-                } else {
-                    let (form, count) = (Form::List, 0);
-                    Ok(Move::Stay(Change::Open(Opening { form, count })))
-                }
+                let (form, count) = (Form::List, 0);
+                Ok(Move::Stay(Change::Open(Opening { form, count })))
             }
         }
     }
@@ -144,10 +165,10 @@ impl<'t> Work<'t> {
     /// On to a new item of a list, a slice or a dynamic array.
     #[inline(always)]
     fn begin_list_item_move<'k>(&self) -> Result<Move<'k>, ReflectErrorKind>
-        ensures decides { Decides self.now Call.BeginListItem result }
+        ensures { Decides self.now Call.BeginListItem result }
     {
-        let (shape, piece) = self.place();
-        match item_opening(self.table(), shape, piece) {
+        let (table, shape, piece) = self.place();
+        match item_opening(table, shape, piece) {
             Ok(opening) => Ok(Move::Go(Way::Item(opening))),
             Err(operation) => Err(ReflectErrorKind::OperationFailed { shape, operation }),
         }

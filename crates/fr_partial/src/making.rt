@@ -3,9 +3,9 @@ ghost use Rattle.std.specs.Prelude.{◌≡◌, ◌≢◌, ◌+◌, false, true, 
 ghost use Rattle.fr_shape.specs.declared.error.ReflectErrorKind.{ReflectErrorKind as Kind};
 ghost use Rattle.fr_shape.specs.Released.{Conserved, Room};
 ghost use Rattle.fr_model.specs.Tree.{cursor_tree};
-ghost use Rattle.fr_frame.specs.Heap.{slots_occur};
 ghost use Rattle.fr_partial.specs.Making.{IsMade};
 ghost use Rattle.fr_partial.specs.Moving.{carried, is_late, meant_by, needs_none, IsMeant};
+ghost use Rattle.fr_partial.specs.Underway.{held_in};
 ghost use Rattle.fr_partial.specs.Works.{site, IsSound};
 
 use crate::deferring::{defer, finish};
@@ -27,13 +27,13 @@ pub fn make<H: Hooks>(
 ) -> Result<(), ReflectErrorKind>
     requires sound { IsSound parts.old }
     requires meant { IsMeant (site parts.old) decided }
-    requires room { Room (λ t. slots_occur parts.old.slots t + carried decided t) ledger.old }
+    requires room { Room (λ t. held_in parts.old.frames t + carried decided t) ledger.old }
     ensures sound { OnOk result (IsSound parts.new) }
     ensures moved { IsMade parts.old parts.new
         (meant_by (H.means hooks.now) (site parts.old) decided.entry) result }
     ensures path { OnErr result (parts.new.path ≡ parts.old.path) }
-    ensures tokens { Conserved (λ t. slots_occur parts.old.slots t + carried decided.entry t)
-        ledger.old (slots_occur parts.new.slots) ledger.new }
+    ensures tokens { Conserved (λ t. held_in parts.old.frames t + carried decided.entry t)
+        ledger.old (held_in parts.new.frames) ledger.new }
     ensures refused { is_late decided.entry ≡ false
         → IsErr (meant_by (H.means hooks.now) (site parts.old) decided.entry)
         → IfErr result (λ kind. kind ≢ Kind.OutOfMemory) }

@@ -1,7 +1,9 @@
 //! `init_map`, `begin_key` and `begin_value`: a map, entry by entry.
-ghost use Rattle.std.specs.Prelude.{◌≡◌, suc, true, None, Some, IfErr, IfOk, OnOk};
+ghost use Rattle.std.specs.Prelude.{◌≡◌, ◌≢◌, IfSome, suc, true, IfOk};
+ghost use Rattle.std.specs.Result.{result_err};
+ghost use Rattle.fr_shape.specs.declared.error.ReflectErrorKind.{ReflectErrorKind as Kind};
 ghost use Rattle.fr_shape.specs.Look.{def_of};
-ghost use Rattle.fr_model.specs.Collections.{is_map_form, is_map_like, unless_map};
+ghost use Rattle.fr_model.specs.Collections.{is_map_form, unless_map};
 ghost use Rattle.fr_model.specs.Step.{init_map_refusal};
 ghost use Rattle.fr_model.specs.Tree.{cursor_tree};
 ghost use Rattle.fr_frame.specs.Bodies.{own_tree};
@@ -16,67 +18,44 @@ ghost use Rattle.fr_partial.specs.Moving.{Decides, NeedsNone};
 
 use crate::admitting::Opening;
 use crate::dynamic_places::{Parts, is_dynamic};
-use crate::lists::tracker;
+use crate::lists::{at_shape, unexpected};
 use crate::moves::{Change, Move, Way};
 use crate::work::Work;
 use crate::{Partial, ReflectError};
 use fr_frame::{Children, Form, Piece};
-use fr_shape::{Def, Hooks, InitCall, Ledger, Operation, ReflectErrorKind, ShapeId, ShapeTable};
+use fr_shape::{
+    Def, Hooks, InitCall, Ledger, Operation, ReflectErrorKind, Shape, ShapeId, ShapeTable,
+};
 
 /// Nothing, where the shape is a map or a dynamic one; else this refusal.
 fn unless_map(table: &ShapeTable, shape: ShapeId, refusal: Operation) -> Option<Operation>
     ensures { result ≡ unless_map refusal (def_of table.now shape.0) }
 {
     match table.get(shape) {
-        Some(entry) if matches!(&entry.def, Def::Map(_, _) | Def::Dynamic) => None,
-        Some(_) | None => Some(refusal),
-    }
-}
-
-/// Whether a place that is begun so is a map.
-fn is_map(form: Form) -> bool
-    ensures { result ≡ is_map_form (as_form form) }
-{
-    match form {
-        Form::Map(_) => true,
-        Form::Struct | Form::Array | Form::Variant(_) => false,
-        Form::Some | Form::Ok | Form::Err | Form::Pointer => false,
-        Form::List | Form::Slice | Form::ClosedSlice | Form::Set => false,
-        Form::DynArray => false,
-    }
-}
-
-/// Whether a map may be begun at a place that is begun so.
-fn is_map_like(form: Form) -> bool
-    ensures { result ≡ is_map_like (as_form form) }
-{
-    match form {
-        Form::Map(_) => true,
-        Form::Struct | Form::Array | Form::Variant(_) => false,
-        Form::Some | Form::Ok | Form::Err | Form::Pointer => false,
-        Form::List | Form::Slice | Form::ClosedSlice | Form::Set => false,
-        Form::DynArray => true,
+        Some(
+            Shape {
+                def: Def::Map(_, _) | Def::Dynamic,
+                ..
+            },
+        ) => None,
+        _ => Some(refusal),
     }
 }
 
 /// Why no map can be begun at a place of this shape at which this stands, if none can.
 fn init_map_refusal(table: &ShapeTable, shape: ShapeId, piece: &Piece) -> Option<ReflectErrorKind>
-    ensures { result
+    ensures refused { result
         ≡ init_map_refusal shape.0 (def_of table.now shape.0) (own_tree (body_of piece.now)) }
+    ensures named { IfSome result (λ kind. kind ≢ Kind.OutOfMemory) }
 {
-    let refused = match piece {
-        Piece::Begun(form, _) => {
-            if is_map_like(*form) {
-                return None;
-            }
-            let (call, current) = (InitCall::Map, tracker(*form));
-            return Some(ReflectErrorKind::UnexpectedTracker { call, current });
-        }
-        Piece::Object(..) => return None,
-        Piece::Entered | Piece::Whole(_) => unless_map(table, shape, Operation::InitMapOfOther),
-    };
-    let operation = refused?;
-    Some(ReflectErrorKind::OperationFailed { shape, operation })
+    match piece {
+        Piece::Begun(Form::Map(_) | Form::DynArray, _) | Piece::Object(..) => None,
+        Piece::Begun(form, _) => Some(unexpected(InitCall::Map, *form)),
+        Piece::Entered | Piece::Whole(_) => at_shape(
+            shape,
+            unless_map(table, shape, Operation::InitMapOfOther),
+        ),
+    }
 }
 
 /// Whether the last of these children isn't there.
@@ -95,27 +74,24 @@ fn lacks_last(children: &Children) -> bool
 }
 
 /// As what a begun map is entered at one more key, and how many children it has, or why none can be begun.
+#[tactic(auto, using(crate::proofs::LookLaws::begun_items))]
 #[inline]
 fn key_opening(piece: &Piece) -> Result<Opening, Operation>
     ensures items { IfOk result (λ opening.
         HasItems (as_form opening.form) opening.count (own_tree (body_of piece.now))) }
     ensures map { IfOk result (λ opening. is_map_form (as_form opening.form) ≡ true) }
-    ensures admitted { OnOk result (key_refusal_by (own_tree (body_of piece.now))
-        (lacks_last (body_of piece.now)) ≡ None) }
-    ensures refused { IfErr result (λ operation. key_refusal_by (own_tree (body_of piece.now))
-        (lacks_last (body_of piece.now)) ≡ Some operation) }
+    ensures refused { result_err result
+        ≡ key_refusal_by (own_tree (body_of piece.now)) (lacks_last (body_of piece.now)) }
 {
     let Piece::Begun(made, children) = piece else {
         return Err(Operation::KeyBeforeInitMap);
     };
-    if !is_map(*made) {
-        return Err(Operation::KeyBeforeInitMap);
-    }
-    if lacks_last(children) {
-        return Err(Operation::KeyBeforeValue);
-    }
     let (form, count) = (*made, children.len());
-    Ok(Opening { form, count })
+    match form {
+        Form::Map(_) if lacks_last(children) => Err(Operation::KeyBeforeValue),
+        Form::Map(_) => Ok(Opening { form, count }),
+        _ => Err(Operation::KeyBeforeInitMap),
+    }
 }
 
 /// As what a begun map is entered at the value that its last entry lacks, and the number of that child, or why it can't be begun.
@@ -124,22 +100,19 @@ fn value_opening(piece: &Piece) -> Result<Opening, Operation>
     ensures items { IfOk result (λ opening.
         HasItems (as_form opening.form) (suc opening.count) (own_tree (body_of piece.now))) }
     ensures map { IfOk result (λ opening. is_map_form (as_form opening.form) ≡ true) }
-    ensures admitted { OnOk result (value_refusal_by (own_tree (body_of piece.now))
-        (lacks_last (body_of piece.now)) ≡ None) }
-    ensures refused { IfErr result (λ operation. value_refusal_by (own_tree (body_of piece.now))
-        (lacks_last (body_of piece.now)) ≡ Some operation) }
+    ensures refused { result_err result
+        ≡ value_refusal_by (own_tree (body_of piece.now)) (lacks_last (body_of piece.now)) }
 {
     let Piece::Begun(made, children) = piece else {
         return Err(Operation::ValueBeforeKey);
     };
-    if !is_map(*made) {
-        return Err(Operation::ValueBeforeKey);
+    match made {
+        Form::Map(_) if lacks_last(children) => {
+            let (form, count) = (*made, children.len() - 1);
+            Ok(Opening { form, count })
+        }
+        _ => Err(Operation::ValueBeforeKey),
     }
-    if !lacks_last(children) {
-        return Err(Operation::ValueBeforeKey);
-    }
-    let (form, count) = (*made, children.len() - 1);
-    Ok(Opening { form, count })
 }
 
 impl<'t> Work<'t> {
@@ -150,18 +123,13 @@ impl<'t> Work<'t> {
             → NeedsNone (cursor_tree self.now.state) result }
     {
         self.law_sound();
-        let (shape, piece) = self.place();
-        let table = self.table();
-        let dynamic = is_dynamic(table, shape);
+        let (table, shape, piece) = self.place();
         match init_map_refusal(table, shape, piece) {
             Some(kind) => Err(kind),
+            None if is_dynamic(table, shape) => Ok(Move::Stay(Change::Gather(Parts::Entries))),
             None => {
-                if dynamic {
-                    Ok(Move::Stay(Change::Gather(Parts::Entries)))
-                } else {
-                    let (form, count) = (Form::Map(0), 0);
-                    Ok(Move::Stay(Change::Open(Opening { form, count })))
-                }
+                let (form, count) = (Form::Map(0), 0);
+                Ok(Move::Stay(Change::Open(Opening { form, count })))
             }
         }
     }
@@ -169,9 +137,9 @@ impl<'t> Work<'t> {
     /// On to the key of a new entry.
     #[inline(always)]
     fn begin_key_move<'k>(&self) -> Result<Move<'k>, ReflectErrorKind>
-        ensures decides { Decides self.now Call.BeginKey result }
+        ensures { Decides self.now Call.BeginKey result }
     {
-        let (shape, piece) = self.place();
+        let (_, shape, piece) = self.place();
         match key_opening(piece) {
             Ok(opening) => Ok(Move::Go(Way::Key(opening))),
             Err(operation) => Err(ReflectErrorKind::OperationFailed { shape, operation }),
@@ -181,9 +149,9 @@ impl<'t> Work<'t> {
     /// On to the value that the last entry lacks.
     #[inline(always)]
     fn begin_value_move<'k>(&self) -> Result<Move<'k>, ReflectErrorKind>
-        ensures decides { Decides self.now Call.BeginValue result }
+        ensures { Decides self.now Call.BeginValue result }
     {
-        let (shape, piece) = self.place();
+        let (_, shape, piece) = self.place();
         match value_opening(piece) {
             Ok(opening) => Ok(Move::Go(Way::Value(opening))),
             Err(operation) => Err(ReflectErrorKind::OperationFailed { shape, operation }),

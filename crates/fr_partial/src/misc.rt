@@ -27,7 +27,7 @@ impl<'t> Work<'t> {
             → takes_no_memory (cursor_tree self.now.state) ≡ true
             → NeedsNone (cursor_tree self.now.state) result }
     {
-        let (_, piece) = self.place();
+        let (_, _, piece) = self.place();
         if is_open_slice(piece) {
             return match self.mode() {
                 Mode::Strict => Ok(Move::Complete(Rules::Strict, Taker::Itself)),

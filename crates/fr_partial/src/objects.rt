@@ -1,7 +1,7 @@
 //! `begin_object_entry`: a dynamic value that is an object, entry by entry.
-ghost use Rattle.std.specs.Prelude.{◌≡◌, [], ◌∷◌, ◌++◌, None, Ok, OnOk, true};
+ghost use Rattle.std.specs.Prelude.{◌≡◌};
 ghost use Rattle.fr_shape.specs.Look.{def_of};
-ghost use Rattle.fr_model.specs.DynamicPlaces.{entry_refusal, is_begun_object};
+ghost use Rattle.fr_model.specs.DynamicPlaces.{entry_refusal};
 ghost use Rattle.fr_frame.specs.Bodies.{own_tree};
 ghost use Rattle.fr_frame.specs.Heap.{body_of};
 ghost use Rattle.fr_shape.specs.Released.{Room};
@@ -9,46 +9,32 @@ ghost use Rattle.fr_model.specs.Commands.{Call};
 ghost use Rattle.fr_partial.specs.Builder.{holds, IsCall};
 ghost use Rattle.fr_partial.specs.Moving.{Decides};
 
+use crate::dynamic_places::is_dynamic;
 use crate::moves::{Move, Way};
 use crate::work::Work;
 use crate::{Partial, ReflectError};
 use fr_frame::Piece;
-use fr_shape::{Def, Hooks, Ledger, Operation, ReflectErrorKind, ShapeId, ShapeTable};
-
-/// Whether the place is begun as a dynamic object.
-fn is_object(piece: &Piece) -> bool
-    ensures { result ≡ is_begun_object (own_tree (body_of piece.now)) }
-{
-    match piece {
-        Piece::Entered | Piece::Whole(_) | Piece::Begun(..) => false,
-        Piece::Object(..) => true,
-    }
-}
+use fr_shape::{Hooks, Ledger, Operation, ReflectErrorKind, ShapeId, ShapeTable};
 
 /// Why no entry can be begun at a place of this shape at which this stands, if none can.
 fn entry_refusal(table: &ShapeTable, shape: ShapeId, piece: &Piece) -> Option<Operation>
     ensures { result
         ≡ entry_refusal (def_of table.now shape.0) (own_tree (body_of piece.now)) }
 {
-    match table.get(shape) {
-        Some(entry) if matches!(&entry.def, Def::Dynamic) => {
-            if is_object(piece) {
-                None
-            } else {
-                Some(Operation::EntryBeforeInitMap)
-            }
-        }
-        Some(_) | None => Some(Operation::EntryOfOther),
+    match (is_dynamic(table, shape), piece) {
+        (true, Piece::Object(..)) => None,
+        (true, _) => Some(Operation::EntryBeforeInitMap),
+        (false, _) => Some(Operation::EntryOfOther),
     }
 }
 
 impl<'t> Work<'t> {
     /// On to the entry of this key of a dynamic object.
     fn begin_object_entry_move<'k>(&self, key: &'k str) -> Result<Move<'k>, ReflectErrorKind>
-        ensures decides { Decides self.now (Call.BeginObjectEntry key.now) result }
+        ensures { Decides self.now (Call.BeginObjectEntry key.now) result }
     {
-        let (shape, piece) = self.place();
-        match entry_refusal(self.table(), shape, piece) {
+        let (table, shape, piece) = self.place();
+        match entry_refusal(table, shape, piece) {
             None => Ok(Move::Go(Way::Entry(key))),
             Some(operation) => Err(ReflectErrorKind::OperationFailed { shape, operation }),
         }
@@ -64,8 +50,8 @@ impl<'t, H: Hooks> Partial<'t, H> {
         ledger: &mut Ledger,
     ) -> Result<Partial<'t, H>, ReflectError>
         requires room { Room (holds self) ledger.old }
-        ensures call { IsCall (H.means self.entry.hooks) self.entry (Call.BeginObjectEntry key.now) result
-            ledger.old ledger.new }
+        ensures call { IsCall (H.means self.entry.hooks) self.entry
+            (Call.BeginObjectEntry key.now) result ledger.old ledger.new }
     {
         let decided = self.work.begin_object_entry_move(key);
         self.run(decided, ledger)

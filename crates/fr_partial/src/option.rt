@@ -24,20 +24,17 @@ fn content_of(table: &ShapeTable, shape: ShapeId) -> Option<ShapeId>
 {
     match &table.get(shape)?.def {
         Def::Option(content) => Some(*content),
-        Def::Scalar(_) | Def::Str | Def::Opaque | Def::Struct(_) | Def::Enum(_) => None,
-        Def::Result(_, _) | Def::List(_) | Def::Map(_, _) | Def::Set(_) | Def::Array(_, _) => None,
-        Def::Pointer(_) | Def::Slice(_) | Def::Dynamic | Def::Undefined | Def::Other => None,
+        _ => None,
     }
 }
 
 impl<'t> Work<'t> {
     /// On to the content of an option.
     fn begin_some_move<'k>(&self) -> Result<Move<'k>, ReflectErrorKind>
-        ensures decides { Decides self.now Call.BeginSome result }
+        ensures { Decides self.now Call.BeginSome result }
     {
         self.law_sound();
-        let (shape, piece) = self.place();
-        let table = self.table();
+        let (table, shape, piece) = self.place();
         let Some(content) = content_of(table, shape) else {
             let (expected, actual) = (Expected::Option, shape);
             return Err(ReflectErrorKind::WasNotA { expected, actual });

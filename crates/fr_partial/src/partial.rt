@@ -6,7 +6,7 @@ ghost use Rattle.fr_shape.specs.Released.{Room};
 ghost use Rattle.fr_model.specs.Commands.{Call};
 ghost use Rattle.fr_model.specs.Served.{IsServed};
 ghost use Rattle.fr_model.specs.Tree.{cursor_tree};
-ghost use Rattle.fr_model.specs.Well.{IsInOrder};
+ghost use Rattle.fr_model.specs.Well.{IsInOrder, RestsAround};
 ghost use Rattle.fr_partial.specs.Builder.{holds, site_of, IsCall, IsNotOutOfMemory};
 ghost use Rattle.fr_partial.specs.Moving.{carries, Decides, IsMeant, NeedsNone, WasDecided};
 
@@ -41,13 +41,14 @@ impl<'t, H> Model for Partial<'t, H> {
 
 impl<'t, H: Hooks> Partial<'t, H> {
     /// Does nothing: its contract is what is true of every builder, whoever made it. With it the laws of fr_model apply
-    /// to a builder that one was handed. That its tokens are distinct follows from the caller's own premises, by
-    /// `law_well`.
+    /// to a builder that one was handed: its state is well but for its tokens. That these are distinct follows from the
+    /// caller's own premises, by `law_well`.
     pub fn law_in_order(&self)
         ensures numbered { IsNumbered self.now.shapes }
         ensures checked { IsChecked self.now.shapes }
         ensures served { IsServed self.now.shapes }
         ensures in_order { IsInOrder self.now.shapes self.now.root self.now.state }
+        ensures rests { RestsAround self.now.state.cursor self.now.state.tree }
     {
         self.work.law_sound();
     }

@@ -18,7 +18,7 @@ use crate::{Partial, ReflectError};
 use fr_frame::Form;
 use fr_shape::{
     Def, Hooks, Items, KnownPointer, Ledger, Operation, OutOfMemory, PointerDef, ReflectErrorKind,
-    ShapeId, ShapeTable, Value,
+    Shape, ShapeId, ShapeTable, Value,
 };
 use std::alloc::Global;
 
@@ -26,10 +26,10 @@ use std::alloc::Global;
 fn owns(pointer: &PointerDef) -> bool
     ensures { result ≡ owns pointer.now.known }
 {
-    match pointer.known {
-        Some(KnownPointer::Box | KnownPointer::Arc | KnownPointer::Rc) => true,
-        Some(KnownPointer::SharedReference) | None => false,
-    }
+    matches!(
+        pointer.known,
+        Some(KnownPointer::Box | KnownPointer::Arc | KnownPointer::Rc)
+    )
 }
 
 /// Why what such a pointer points to can't be entered as a whole, if it can't.
@@ -39,10 +39,7 @@ fn inside_refusal(table: &ShapeTable, owned: bool, pointee: ShapeId) -> Option<O
     match &table.get(pointee)?.def {
         Def::Slice(_) if !owned => Some(Operation::SlicePointerNotBuildable),
         Def::Str if !owned => Some(Operation::PointeeNotBuildable),
-        Def::Slice(_) | Def::Str | Def::Scalar(_) | Def::Opaque | Def::Struct(_) | Def::Enum(_) =>
-            None,
-        Def::Option(_) | Def::Result(_, _) | Def::List(_) | Def::Map(_, _) | Def::Set(_) => None,
-        Def::Array(_, _) | Def::Pointer(_) | Def::Dynamic | Def::Undefined | Def::Other => None,
+        _ => None,
     }
 }
 
@@ -50,27 +47,19 @@ fn inside_refusal(table: &ShapeTable, owned: bool, pointee: ShapeId) -> Option<O
 fn pointer_refusal(table: &ShapeTable, shape: ShapeId) -> Option<Operation>
     ensures { result ≡ pointer_refusal table.now (def_of table.now shape.0) }
 {
-    let Some(entry) = table.get(shape) else {
-        return Some(Operation::PointerNotConstructible);
-    };
-    match &entry.def {
-        Def::Pointer(pointer) => {
-            if !pointer.constructible {
-                return Some(Operation::PointerNotConstructible);
-            }
+    match table.get(shape) {
+        Some(
+            Shape {
+                def: Def::Pointer(pointer),
+                ..
+            },
+        ) if pointer.constructible => {
             match pointer.pointee {
                 Some(pointee) => inside_refusal(table, owns(pointer), pointee),
                 None => Some(Operation::PointerWithoutPointee),
             }
         }
-        Def::Scalar(_) | Def::Str | Def::Opaque | Def::Struct(_) | Def::Enum(_) | Def::Option(_) =>
-            { Some(Operation::PointerNotConstructible) }
-        Def::Result(_, _) | Def::List(_) | Def::Map(_, _) | Def::Set(_) | Def::Array(_, _) => {
-            Some(Operation::PointerNotConstructible)
-        }
-        Def::Slice(_) | Def::Dynamic | Def::Undefined | Def::Other => {
-            Some(Operation::PointerNotConstructible)
-        }
+        _ => Some(Operation::PointerNotConstructible),
     }
 }
 
@@ -78,10 +67,13 @@ fn pointer_refusal(table: &ShapeTable, shape: ShapeId) -> Option<Operation>
 fn is_slice(table: &ShapeTable, shape: ShapeId) -> bool
     ensures { result ≡ is_slice (def_of table.now shape.0) }
 {
-    match table.get(shape) {
-        Some(entry) => matches!(&entry.def, Def::Slice(_)),
-        None => false,
-    }
+    matches!(
+        table.get(shape),
+        Some(Shape {
+            def: Def::Slice(_),
+            ..
+        })
+    )
 }
 
 /// Whether a place of this shape, which can be begun as a pointer, points to a slice.
@@ -89,17 +81,17 @@ fn points_to_slice(table: &ShapeTable, shape: ShapeId) -> bool
     requires { pointer_refusal table.now (def_of table.now shape.0) ≡ None }
     ensures { result ≡ points_to_slice table.now (def_of table.now shape.0) }
 {
-    let Some(entry) = table.get(shape) else {
-        return false;
-    };
-    match &entry.def {
-        Def::Pointer(pointer) => match pointer.pointee {
+    match table.get(shape) {
+        Some(
+            Shape {
+                def: Def::Pointer(pointer),
+                ..
+            },
+        ) => match pointer.pointee {
             Some(pointee) => is_slice(table, pointee),
             None => false,
         },
-        Def::Scalar(_) | Def::Str | Def::Opaque | Def::Struct(_) | Def::Enum(_) => false,
-        Def::Option(_) | Def::Result(_, _) | Def::List(_) | Def::Map(_, _) | Def::Set(_) => false,
-        Def::Array(_, _) | Def::Slice(_) | Def::Dynamic | Def::Undefined | Def::Other => false,
+        _ => false,
     }
 }
 
@@ -107,19 +99,13 @@ fn points_to_slice(table: &ShapeTable, shape: ShapeId) -> bool
 fn shared_slice_by(table: &ShapeTable, pointer: &PointerDef) -> Option<Operation>
     ensures { result ≡ shared_slice_by table.now pointer.now.known pointer.now.pointee }
 {
-    match pointer.known {
-        Some(KnownPointer::SharedReference) => {}
-        Some(KnownPointer::Box | KnownPointer::Arc | KnownPointer::Rc) | None => {
-            return Some(Operation::NotSharedReference);
+    match (pointer.known, pointer.pointee) {
+        (Some(KnownPointer::SharedReference), Some(pointee)) if is_slice(table, pointee) => None,
+        (Some(KnownPointer::SharedReference), Some(_)) => Some(Operation::PointeeNotSlice),
+        (Some(KnownPointer::SharedReference), None) => {
+            Some(Operation::SharedReferenceWithoutPointee)
         }
-    }
-    let Some(pointee) = pointer.pointee else {
-        return Some(Operation::SharedReferenceWithoutPointee);
-    };
-    if is_slice(table, pointee) {
-        None
-    } else {
-        Some(Operation::PointeeNotSlice)
+        _ => Some(Operation::NotSharedReference),
     }
 }
 
@@ -128,19 +114,13 @@ fn shared_slice_refusal(table: &ShapeTable, shape: ShapeId) -> Option<Operation>
     ensures { result ≡ shared_slice_refusal table.now (def_of table.now shape.0) }
 {
     match table.get(shape) {
-        Some(entry) => match &entry.def {
-            Def::Pointer(pointer) => shared_slice_by(table, pointer),
-            Def::Scalar(_) | Def::Str | Def::Opaque | Def::Struct(_) | Def::Enum(_) => {
-                Some(Operation::NotSharedReference)
-            }
-            Def::Option(_) | Def::Result(_, _) | Def::List(_) | Def::Map(_, _) | Def::Set(_) => {
-                Some(Operation::NotSharedReference)
-            }
-            Def::Array(_, _) | Def::Slice(_) | Def::Dynamic | Def::Undefined | Def::Other => {
-                Some(Operation::NotSharedReference)
-            }
-        },
-        None => Some(Operation::NotSharedReference),
+        Some(
+            Shape {
+                def: Def::Pointer(pointer),
+                ..
+            },
+        ) => shared_slice_by(table, pointer),
+        _ => Some(Operation::NotSharedReference),
     }
 }
 
@@ -154,11 +134,10 @@ fn empty_slice(alloc: Global) -> Result<Value, OutOfMemory>
 impl<'t> Work<'t> {
     /// On to what a pointer points to, or the pointer is open for the items of a slice.
     fn begin_smart_ptr_move<'k>(&self) -> Result<Move<'k>, ReflectErrorKind>
-        ensures decides { Decides self.now Call.BeginSmartPtr result }
+        ensures { Decides self.now Call.BeginSmartPtr result }
     {
         self.law_sound();
-        let (shape, piece) = self.place();
-        let table = self.table();
+        let (table, shape, piece) = self.place();
         if let Some(operation) = pointer_refusal(table, shape) {
             return Err(ReflectErrorKind::OperationFailed { shape, operation });
         }
@@ -171,10 +150,10 @@ impl<'t> Work<'t> {
 
     /// A pointer to no items takes the place.
     fn set_empty_shared_slice_move<'k>(&self) -> Result<Move<'k>, ReflectErrorKind>
-        ensures decides { Decides self.now Call.SetEmptySharedSlice result }
+        ensures { Decides self.now Call.SetEmptySharedSlice result }
     {
-        let (shape, _) = self.place();
-        if let Some(operation) = shared_slice_refusal(self.table(), shape) {
+        let (table, shape, _) = self.place();
+        if let Some(operation) = shared_slice_refusal(table, shape) {
             return Err(ReflectErrorKind::OperationFailed { shape, operation });
         }
         match empty_slice(self.alloc()) {

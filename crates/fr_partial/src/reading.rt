@@ -47,7 +47,7 @@ impl<'t, H: Hooks> Partial<'t, H> {
     pub fn shape(&self) -> ShapeId
         ensures shape { result.0 ≡ here self.now }
     {
-        self.work.place().0
+        self.work.place().1
     }
 
     /// The table whose shapes it builds.

@@ -14,27 +14,30 @@ use crate::moves::{Move, Way};
 use crate::work::Work;
 use crate::{Partial, ReflectError};
 use fr_frame::Form;
-use fr_shape::{Def, Expected, Hooks, Ledger, ReflectErrorKind, ShapeId, ShapeTable};
+use fr_shape::{Def, Expected, Hooks, Ledger, ReflectErrorKind, Shape, ShapeId, ShapeTable};
 
 /// Whether the shape is a result.
 fn is_result(table: &ShapeTable, shape: ShapeId) -> bool
     ensures { result ≡ is_result (def_of table.now shape.0) }
 {
-    match table.get(shape) {
-        Some(entry) => matches!(&entry.def, Def::Result(_, _)),
-        None => false,
-    }
+    matches!(
+        table.get(shape),
+        Some(Shape {
+            def: Def::Result(_, _),
+            ..
+        })
+    )
 }
 
 impl<'t> Work<'t> {
     /// On to this side of a result.
     fn begin_side_move<'k>(&self, side: Form) -> Result<Move<'k>, ReflectErrorKind>
-        requires side { IsSide (as_form side) }
-        ensures decides { Decides self.now (side_call (as_form side)) result }
+        requires { IsSide (as_form side) }
+        ensures { Decides self.now (side_call (as_form side)) result }
     {
         self.law_sound();
-        let (actual, piece) = self.place();
-        if !is_result(self.table(), actual) {
+        let (table, actual, piece) = self.place();
+        if !is_result(table, actual) {
             let expected = Expected::Result;
             return Err(ReflectErrorKind::WasNotA { expected, actual });
         }

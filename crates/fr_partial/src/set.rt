@@ -20,7 +20,7 @@ use crate::moves::{Change, Move};
 use crate::work::Work;
 use crate::{Partial, ReflectError};
 use fr_shape::{
-    Def, Dyn, Hooks, Ledger, Operation, OutOfMemory, ReflectErrorKind, ScalarKind, ShapeId,
+    Def, Dyn, Hooks, Ledger, Operation, OutOfMemory, ReflectErrorKind, ScalarKind, Shape, ShapeId,
     ShapeTable, Shaped, Template, Value, clone_template, release,
 };
 use std::alloc::Global;
@@ -37,20 +37,20 @@ pub(crate) fn copy_template(alloc: Global, template: &Template) -> Result<Value,
 fn is_str(table: &ShapeTable, shape: ShapeId) -> bool
     ensures { result ≡ is_str (def_of table.now shape.0) }
 {
-    match table.get(shape) {
-        Some(entry) => matches!(&entry.def, Def::Str),
-        None => false,
-    }
+    matches!(table.get(shape), Some(Shape { def: Def::Str, .. }))
 }
 
 /// Whether the shape is an owned text.
 fn is_owned_string(table: &ShapeTable, shape: ShapeId) -> bool
     ensures { result ≡ is_owned_string (def_of table.now shape.0) }
 {
-    match table.get(shape) {
-        Some(entry) => matches!(&entry.def, Def::Scalar(ScalarKind::String)),
-        None => false,
-    }
+    matches!(
+        table.get(shape),
+        Some(Shape {
+            def: Def::Scalar(ScalarKind::String),
+            ..
+        })
+    )
 }
 
 /// Whether a place of one shape takes a value of the other.
@@ -91,8 +91,7 @@ impl<'t> Work<'t> {
         ensures released { OnErr result (RoseBy (occurs value.value) ledger.old ledger.new) }
     {
         self.law_sound();
-        let (expected, _) = self.place();
-        let table = self.table();
+        let (table, expected, _) = self.place();
         let actual = value.shape();
         let plain = value.into_value();
         if converts(table, expected, actual) {
@@ -110,11 +109,11 @@ impl<'t> Work<'t> {
 
     /// A copy of the default of the place's shape takes the place.
     fn set_default_move<'k>(&self) -> Result<Move<'k>, ReflectErrorKind>
-        ensures decides { Decides self.now Call.SetDefault result }
+        ensures { Decides self.now Call.SetDefault result }
     {
         self.law_sound();
-        let (shape, _) = self.place();
-        let Some(template) = self.table().preset(shape) else {
+        let (table, shape, _) = self.place();
+        let Some(template) = table.preset(shape) else {
             let operation = Operation::NoDefault;
             return Err(ReflectErrorKind::OperationFailed { shape, operation });
         };

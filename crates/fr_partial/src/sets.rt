@@ -1,5 +1,7 @@
 //! `init_set` and `begin_set_item`: a set, item by item.
-ghost use Rattle.std.specs.Prelude.{◌≡◌, true, None, Some, IfErr, IfOk, OnOk};
+ghost use Rattle.std.specs.Prelude.{◌≡◌, ◌≢◌, true, IfOk, IfSome};
+ghost use Rattle.std.specs.Result.{result_err};
+ghost use Rattle.fr_shape.specs.declared.error.ReflectErrorKind.{ReflectErrorKind as Kind};
 ghost use Rattle.fr_shape.specs.Look.{def_of};
 ghost use Rattle.fr_model.specs.Collections.{is_set_form, set_item_refusal, unless_set};
 ghost use Rattle.fr_model.specs.Step.{init_set_refusal};
@@ -13,71 +15,67 @@ ghost use Rattle.fr_partial.specs.Builder.{holds, IsCall, IsNotOutOfMemory};
 ghost use Rattle.fr_partial.specs.Moving.{Decides, NeedsNone};
 
 use crate::admitting::Opening;
-use crate::lists::tracker;
+use crate::lists::{at_shape, unexpected};
 use crate::moves::{Change, Move, Way};
 use crate::work::Work;
 use crate::{Partial, ReflectError};
 use fr_frame::{Form, Piece};
 use fr_shape::{
-    Def, Hooks, InitCall, Ledger, Operation, ReflectErrorKind, ShapeId, ShapeTable, TrackerKind,
+    Def, Hooks, InitCall, Ledger, Operation, ReflectErrorKind, Shape, ShapeId, ShapeTable,
+    TrackerKind,
 };
+
+/// Whether a place that is begun so is a set.
+pub fn is_set(form: Form) -> bool
+    ensures { result ≡ is_set_form (as_form form) }
+{
+    matches!(form, Form::Set)
+}
 
 /// Nothing, where the shape is a set; else this refusal.
 fn unless_set(table: &ShapeTable, shape: ShapeId, refusal: Operation) -> Option<Operation>
     ensures { result ≡ unless_set refusal (def_of table.now shape.0) }
 {
     match table.get(shape) {
-        Some(entry) if matches!(&entry.def, Def::Set(_)) => None,
-        Some(_) | None => Some(refusal),
-    }
-}
-
-/// Whether a place that is begun so is a set.
-pub fn is_set(form: Form) -> bool
-    ensures { result ≡ is_set_form (as_form form) }
-{
-    match form {
-        Form::Set => true,
-        Form::Struct | Form::Array | Form::Variant(_) => false,
-        Form::Some | Form::Ok | Form::Err | Form::Pointer => false,
-        Form::List | Form::Slice | Form::ClosedSlice | Form::Map(_) | Form::DynArray => false,
+        Some(
+            Shape {
+                def: Def::Set(_),
+                ..
+            },
+        ) => None,
+        _ => Some(refusal),
     }
 }
 
 /// Why no set can be begun at a place of this shape at which this stands, if none can.
 fn init_set_refusal(table: &ShapeTable, shape: ShapeId, piece: &Piece) -> Option<ReflectErrorKind>
-    ensures { result
+    ensures refused { result
         ≡ init_set_refusal shape.0 (def_of table.now shape.0) (own_tree (body_of piece.now)) }
+    ensures named { IfSome result (λ kind. kind ≢ Kind.OutOfMemory) }
 {
-    let refused = match piece {
-        Piece::Begun(form, _) => {
-            if is_set(*form) {
-                return None;
-            }
-            let (call, current) = (InitCall::Set, tracker(*form));
-            return Some(ReflectErrorKind::UnexpectedTracker { call, current });
-        }
+    match piece {
+        Piece::Begun(Form::Set, _) => None,
+        Piece::Begun(form, _) => Some(unexpected(InitCall::Set, *form)),
         Piece::Object(..) => {
             let (call, current) = (InitCall::Set, TrackerKind::DynamicValue);
-            return Some(ReflectErrorKind::UnexpectedTracker { call, current });
+            Some(ReflectErrorKind::UnexpectedTracker { call, current })
         }
-        Piece::Entered | Piece::Whole(_) => unless_set(table, shape, Operation::InitSetOfOther),
-    };
-    let operation = refused?;
-    Some(ReflectErrorKind::OperationFailed { shape, operation })
+        Piece::Entered | Piece::Whole(_) => at_shape(
+            shape,
+            unless_set(table, shape, Operation::InitSetOfOther),
+        ),
+    }
 }
 
 /// As what a set is begun that takes one more item, and how many it has, or why the place takes none.
+#[tactic(auto, using(crate::proofs::LookLaws::begun_items))]
 #[inline]
 fn set_item_opening(table: &ShapeTable, shape: ShapeId, piece: &Piece) -> Result<Opening, Operation>
     ensures items { IfOk result (λ opening.
         HasItems (as_form opening.form) opening.count (own_tree (body_of piece.now))) }
     ensures grows { IfOk result (λ opening. TakesItems (as_form opening.form)) }
-    ensures admitted { OnOk result
-        (set_item_refusal (def_of table.now shape.0) (own_tree (body_of piece.now)) ≡ None) }
-    ensures refused { IfErr result (λ operation.
-        set_item_refusal (def_of table.now shape.0) (own_tree (body_of piece.now))
-        ≡ Some operation) }
+    ensures refused { result_err result
+        ≡ set_item_refusal (def_of table.now shape.0) (own_tree (body_of piece.now)) }
 {
     if let Some(operation) = unless_set(table, shape, Operation::SetItemOfOther) {
         return Err(operation);
@@ -85,11 +83,11 @@ fn set_item_opening(table: &ShapeTable, shape: ShapeId, piece: &Piece) -> Result
     let Piece::Begun(made, children) = piece else {
         return Err(Operation::SetItemBeforeInitSet);
     };
-    if !is_set(*made) {
-        return Err(Operation::SetItemBeforeInitSet);
-    }
     let (form, count) = (*made, children.len());
-    Ok(Opening { form, count })
+    match form {
+        Form::Set => Ok(Opening { form, count }),
+        _ => Err(Operation::SetItemBeforeInitSet),
+    }
 }
 
 impl<'t> Work<'t> {
@@ -100,8 +98,8 @@ impl<'t> Work<'t> {
             → NeedsNone (cursor_tree self.now.state) result }
     {
         self.law_sound();
-        let (shape, piece) = self.place();
-        match init_set_refusal(self.table(), shape, piece) {
+        let (table, shape, piece) = self.place();
+        match init_set_refusal(table, shape, piece) {
             Some(kind) => Err(kind),
             None => {
                 let (form, count) = (Form::Set, 0);
@@ -113,10 +111,10 @@ impl<'t> Work<'t> {
     /// On to a new item of a set.
     #[inline(always)]
     fn begin_set_item_move<'k>(&self) -> Result<Move<'k>, ReflectErrorKind>
-        ensures decides { Decides self.now Call.BeginSetItem result }
+        ensures { Decides self.now Call.BeginSetItem result }
     {
-        let (shape, piece) = self.place();
-        match set_item_opening(self.table(), shape, piece) {
+        let (table, shape, piece) = self.place();
+        match set_item_opening(table, shape, piece) {
             Ok(opening) => Ok(Move::Go(Way::Item(opening))),
             Err(operation) => Err(ReflectErrorKind::OperationFailed { shape, operation }),
         }

@@ -15,7 +15,7 @@ ghost use Rattle.fr_partial.specs.Starting.{IsPlanFrom, RefusedWith};
 use crate::Partial;
 use crate::held_plan::HeldPlan;
 use crate::mode::Mode;
-use crate::work::{Parts, Work};
+use crate::work::{Frames, Parts, Work};
 use fr_frame::{FrameOwner, Slots};
 use fr_model::law_well;
 use fr_path::Path;
@@ -190,16 +190,19 @@ impl<'t, H: Hooks> Partial<'t, H> {
         let Ok((slots, stack)) = first_place(alloc, table, plan.core(), root) else {
             return Err(PlanError::OutOfMemory);
         };
-        let parts = Parts {
-            alloc,
+        let frames = Frames {
             table,
             root,
-            plan,
             slots,
             stack,
             store: FrameStore::new(alloc),
-            path: Path::new(alloc),
             mode: Mode::Strict,
+        };
+        let parts = Parts {
+            alloc,
+            plan,
+            frames,
+            path: Path::new(alloc),
             calls: 0,
         };
         let Ok(parts) = Box::new(alloc, parts) else {

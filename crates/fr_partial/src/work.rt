@@ -8,15 +8,16 @@ ghost use Rattle.fr_model.specs.Paths.{path_of};
 ghost use Rattle.fr_model.specs.Served.{IsServed};
 ghost use Rattle.fr_model.specs.Step.{begin_deferred};
 ghost use Rattle.fr_model.specs.Tree.{strict};
-ghost use Rattle.fr_model.specs.Well.{IsInOrder};
+ghost use Rattle.fr_model.specs.Well.{IsInOrder, RestsAround};
 ghost use Rattle.fr_frame.specs.Bodies.{own_tree};
-ghost use Rattle.fr_frame.specs.Heap.{body_of, slots_occur};
+ghost use Rattle.fr_frame.specs.Heap.{body_of};
 ghost use Rattle.fr_partial.specs.Builder.{IsNotOutOfMemory};
-ghost use Rattle.fr_partial.specs.Looks.{lacks_last, LooksLike};
+ghost use Rattle.fr_partial.specs.Looks.{lacks_last, Sees};
 ghost use Rattle.fr_partial.specs.Making.{left_at, IsMoved};
 ghost use Rattle.fr_partial.specs.Modes.{mode_of};
 ghost use Rattle.fr_partial.specs.Moving.{carried, is_late, meant_by, needs_none, IsMeant};
-ghost use Rattle.fr_partial.specs.Sites.{held_at, shape_at, tree_at_site};
+ghost use Rattle.fr_partial.specs.Sites.{held_at, tree_at_site};
+ghost use Rattle.fr_partial.specs.Underway.{held_in};
 
 use crate::ReflectError;
 use crate::deferring::defer;
@@ -33,22 +34,28 @@ use fr_store::{FrameStore, Stack};
 use std::alloc::Global;
 use std::marker::Model;
 
+/// The open places of a value of shape `root`, and those that were left half done.
+#[derive(Drop)]
+pub struct Frames<'t> {
+    pub table: &'t ShapeTable,
+    pub root: ShapeId,
+    /// All these places, and what was put at them.
+    pub slots: Slots,
+    /// The slots of the open ones, the root's first and that of the place at which the builder works last.
+    pub stack: Stack,
+    /// The slots of those that were left half done.
+    pub store: FrameStore,
+    pub mode: Mode,
+}
+
 /// What a builder goes by, and all that its calls change.
 #[derive(Drop)]
 pub struct Parts<'t> {
     pub alloc: Global,
-    pub table: &'t ShapeTable,
-    pub root: ShapeId,
     pub plan: HeldPlan<'t>,
-    /// The open places, and what was put at them.
-    pub slots: Slots,
-    /// Their slots, the root's first and that of the place at which the builder works last.
-    pub stack: Stack,
-    /// The slots of the places that were left half done.
-    pub store: FrameStore,
+    pub frames: Frames<'t>,
     /// The path of the place at which the builder works.
     pub path: Path,
-    pub mode: Mode,
     /// How many calls succeeded.
     pub calls: u32,
 }
@@ -77,23 +84,18 @@ impl<'t> Model for Work<'t> {
 #[cold]
 #[inline(never)]
 fn release(parts: Box<Parts>, ledger: &mut Ledger) -> Path
-    requires room { Room (slots_occur parts.value.slots) ledger.old }
+    requires room { Room (held_in parts.value.frames) ledger.old }
     ensures path { result ≡ parts.entry.value.path }
-    ensures released { RoseBy (slots_occur parts.entry.value.slots) ledger.old ledger.new }
+    ensures released { RoseBy (held_in parts.entry.value.frames) ledger.old ledger.new }
 {
     let Parts {
         alloc: _,
-        table: _,
-        root: _,
         plan,
-        slots,
-        stack: _,
-        store: _,
+        frames,
         path,
-        mode: _,
         calls: _,
     } = Box::into_inner(parts);
-    slots.release(ledger);
+    frames.slots.release(ledger);
     drop(plan);
     path
 }
@@ -105,6 +107,7 @@ impl<'t> Work<'t> {
         ensures checked { IsChecked self.now.shapes }
         ensures served { IsServed self.now.shapes }
         ensures in_order { IsInOrder self.now.shapes self.now.root self.now.state }
+        ensures rests { RestsAround self.now.state.cursor self.now.state.tree }
     {
         let _parts = &self.parts;
     }
@@ -118,14 +121,14 @@ impl<'t> Work<'t> {
     pub fn table(&self) -> &ShapeTable
         ensures table { result.now ≡ self.now.shapes }
     {
-        self.parts.table
+        self.parts.frames.table
     }
 
     /// The shape of what is built.
     pub fn root(&self) -> ShapeId
         ensures root { result.0 ≡ self.now.root }
     {
-        self.parts.root
+        self.parts.frames.root
     }
 
     /// The path of the place at which the builder works.
@@ -140,35 +143,33 @@ impl<'t> Work<'t> {
         ensures count { result ≡ length (path_of self.now.state) + 1 }
     {
         law_paths();
-        self.parts.stack.len()
+        self.parts.frames.stack.len()
     }
 
     /// How many levels the place lies below the root.
     pub fn depth(&self) -> usize
         ensures depth { result ≡ length self.now.state.cursor }
     {
-        self.parts.stack.len() - 1
+        self.parts.frames.stack.len() - 1
     }
 
     /// The mode.
     pub fn mode(&self) -> Mode
         ensures mode { mode_of result ≡ self.now.state.mode }
     {
-        self.parts.mode
+        self.parts.frames.mode
     }
 
-    /// The shape of the place at which the builder works, and what was put there, in which a child that is stored isn't told, but of
-    /// a map whether the last one is there.
+    /// The table, the shape of the place at which the builder works, and what was put there, in which a child that is stored isn't
+    /// told, but of a map whether the last one is there.
     #[inline]
-    pub fn place(&self) -> (ShapeId, &Piece)
-        ensures shape { result.0.0 ≡ shape_at self.now }
-        ensures piece { LooksLike (own_tree (body_of result.1.now)) (tree_at_site self.now) }
+    pub fn place(&self) -> (&ShapeTable, ShapeId, &Piece)
+        ensures seen { Sees self.now result.0.now result.1 (own_tree (body_of result.2.now)) }
         ensures last { is_map (tree_at_site self.now) ≡ true
-            → lacks_last (body_of result.1.now) ≡ lacks_value (tree_at_site self.now) }
+            → lacks_last (body_of result.2.now) ≡ lacks_value (tree_at_site self.now) }
     {
-        let parts = &*self.parts;
-        let (slots, stack) = (&parts.slots, &parts.stack);
-        place_here(parts.table, parts.root, parts.plan.core(), slots, stack)
+        let (shape, piece) = place_here(self.parts.plan.core(), &self.parts.frames);
+        (self.parts.frames.table, shape, piece)
     }
 
     /// From now on places that are left stay as they are. Takes no memory.

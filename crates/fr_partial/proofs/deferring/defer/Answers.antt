@@ -1,11 +1,10 @@
 use Rattle.std.proofs.Common.{◌≡◌, ℕ, ◌-◌, length, Ok, refl, sym, ap, ◌∙◌, arith}
 use Rattle.fr_shape.specs.Hooks.{no_hooks}
 use Rattle.fr_model.specs.Tree.{State, one_more_call, deferred}
-use Rattle.fr_partial.specs.declared.work.Parts.{Parts}
-use Rattle.fr_partial.specs.HeldPlan.{plan_in}
-use Rattle.fr_partial.specs.Underway.{state_of}
+use Rattle.fr_partial.specs.declared.mode.Mode.{Mode}
 use Rattle.fr_partial.specs.Works.{site}
-use Rattle.fr_partial.proofs.StateLaws.{order_after, stack_length, underway_after}
+use Rattle.fr_partial.proofs.StateLaws.{order_after, rest_after, sound_so}
+use Rattle.fr_partial.proofs.WorkLaws.{open_count}
 use Rattle.fr_partial.proofs.deferring.defer.Goals as goal
 use Rattle.fr_partial.proofs.deferring.defer.Goals.{After-saturating_add-parts}
 
@@ -13,24 +12,27 @@ abbrev next : State → State
 next state = record state { mode = deferred (length state.cursor); calls = one_more_call state.calls }
 
 state_is : (c : After-saturating_add-parts)
-    → state_of c.args.parts.now.slots c.args.parts.now.stack (deferred (c.len-start.result - 1)) c.saturating_add-parts.result
+    → record (site c.args.parts.now).state { mode = deferred (c.len-start.result - 1); calls = c.saturating_add-parts.result }
     ≡ next (site c.args.parts.now).state
 state_is c =
-    let parts : Parts = c.args.parts.now in
-    let deep : c.len-start.result - 1 ≡ length (site c.args.parts.now).state.cursor
-    = omega (arith, stack_length (plan_in parts.plan) parts.slots parts.stack c.requires.sound.ready.shown, c.len-start.ensures.count) in
-    ap (λ (n : ℕ). state_of parts.slots parts.stack (deferred n) c.saturating_add-parts.result) deep
-    ∙ ap (λ (n : ℕ). state_of parts.slots parts.stack (deferred (length (site c.args.parts.now).state.cursor)) n)
-    c.saturating_add-parts.ensures
+    let state : State = (site c.args.parts.now).state in
+    let deep : c.len-start.result - 1 ≡ length state.cursor
+    = omega (arith, open_count c.requires.sound refl, c.len-start.ensures.count) in
+    ap (λ (n : ℕ). record state { mode = deferred n; calls = c.saturating_add-parts.result }) deep
+    ∙ ap (λ (n : ℕ). record state { mode = deferred (length state.cursor); calls = n }) c.saturating_add-parts.ensures
 
 pub returns-clause-sound : goal.returns-clause-sound
 returns-clause-sound c =
-    let parts : Parts = c.args.parts.now in
-    underway_after c.requires.sound parts.path parts.slots parts.stack parts.store (deferred (c.len-start.result - 1))
-    c.saturating_add-parts.result (next (site parts).state) c.requires.sound.ready.shown c.requires.sound.kept tt
+    let parts = c.args.parts.now in
+    let meant = c.requires.meant in
+    let work = c.requires.sound.at_work in
+    sound_so c.requires.sound parts.frames.slots parts.frames.stack parts.frames.store (Mode.Deferred (c.len-start.result - 1))
+    parts.path c.saturating_add-parts.result (next (site parts).state) work.ready.shown work.kept tt
     (state_is (goal.at.returns-clause-sound c).After-saturating_add-parts)
-    (order_after c.requires.sound c.law_well.ensures.in_order no_hooks (next (site parts).state) c.requires.meant.0
-    c.requires.meant.1.fitting (c.requires.meant.1.means no_hooks))
+    (order_after c.requires.sound c.law_well.ensures.in_order no_hooks (next (site parts).state) meant.0 meant.1.fitting
+    (meant.1.means no_hooks))
+    (rest_after c.requires.sound c.law_well.ensures.rests no_hooks (next (site parts).state) meant.0 meant.1.fitting
+    (meant.1.means no_hooks))
     c.requires.sound.path
 
 pub returns-clause-moved : goal.returns-clause-moved

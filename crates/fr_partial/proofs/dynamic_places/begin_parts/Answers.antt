@@ -1,191 +1,114 @@
-use Rattle.std.proofs.Common.{◌≡◌, ℕ, List, refl, sym, ap, ◌∙◌, subst, unwrap_or}
+use Rattle.std.proofs.Common.{◌≡◌, refl, sym, ◌∙◌, subst, unwrap_or}
 use Rattle.fr_model.specs.DynamicPlaces.{array_anew, object_anew}
 use Rattle.fr_model.specs.Tree.{Tree}
-use Rattle.fr_plan.specs.TypePlan.{Plan}
-use Rattle.fr_frame.specs.declared.places.Slot.{Slot}
-use Rattle.fr_frame.specs.Bodies.{own_tree}
-use Rattle.fr_frame.specs.Heap.{body_of}
-use Rattle.fr_store.specs.Moves.{around_elements, around_members, changed_here, cursor_in, tree_here, tree_in_slots, IsOpenAt}
-use Rattle.fr_partial.specs.Looks.{bare}
+use Rattle.fr_store.specs.Moves.{around_elements, around_members}
 use Rattle.fr_partial.specs.declared.beginning.Beginning.{Beginning}
 use Rattle.fr_partial.specs.declared.dynamic_places.Parts.{Parts}
-use Rattle.fr_partial.specs.DynamicBeginnings.{anew_as, beginning_as, kept_as}
-use Rattle.fr_partial.proofs.DynamicLaws.{anew_with, as_alike, elements_kept, entries_kept, never_begun, stays_with, whole_with}
+use Rattle.fr_partial.specs.declared.work.Frames.{Frames}
+use Rattle.fr_partial.specs.DynamicBeginnings.{anew_as, kept_as}
+use Rattle.fr_partial.specs.Underway.{top_tree, Changed}
+use Rattle.fr_partial.proofs.DynamicLaws.{as_alike, begins_so, elements_kept, entries_kept, never_begun, BeginsSo}
 use Rattle.fr_partial.proofs.HereLaws.{holds_elements, holds_entries}
-use Rattle.fr_partial.proofs.KeepLaws.{kept_released, kept_same, marks_kept, room_here}
+use Rattle.fr_partial.proofs.KeepLaws.{are_open, became, became_marked, changed_as, kept_released, room_here, unchanged_as}
 use Rattle.fr_partial.proofs.KeptLaws.{on_ok}
-use Rattle.fr_partial.proofs.TreeLaws.{alike_here, unchanged}
 use Rattle.fr_partial.proofs.dynamic_places.begin_parts.Goals as goal
+use Rattle.fr_partial.proofs.dynamic_places.begin_parts.Goals.{After-beginning_as-beginning}
 
--- how the place on top begins
-begins : (parts : Parts) (slots : List Slot) (stack : List ℕ) (seen : Tree) (b made : Beginning)
-    → ◌≡◌ {A = Tree} (bare seen) (bare (tree_here slots stack)) → b ≡ beginning_as parts seen → b ≡ made
-    → beginning_as parts (tree_here slots stack) ≡ made
-begins parts slots stack seen b made looks told is = sym (as_alike seen (tree_here slots stack) looks parts) ∙ sym told ∙ is
+-- how the place on top begins, as it is met
+begins : (c : After-beginning_as-beginning) {made : Beginning} {told : Parts} → c.beginning_as-beginning.result ≡ made
+    → c.args.parts ≡ told → BeginsSo told made (top_tree c.args.frames.now)
+begins c {made} {told} made_is told_is =
+    subst (λ (p : Parts). BeginsSo p made (top_tree c.args.frames.now)) told_is
+    (subst (λ (b : Beginning). BeginsSo c.args.parts b (top_tree c.args.frames.now))
+    (sym (as_alike _ (top_tree c.args.frames.now) c.place_here.ensures.piece c.args.parts) ∙ sym c.beginning_as-beginning.ensures
+    ∙ made_is)
+    (begins_so c.args.parts (top_tree c.args.frames.now)))
 
--- a change by which the place comes to be what was kept, or anew
-becomes_so : (plan : Plan) (parts : Parts) (before after : List Slot) (stack : List ℕ) (change : Tree → Tree)
-    → change (tree_here before stack) ≡ unwrap_or (kept_as parts (tree_here before stack)) (anew_as parts)
-    → IsOpenAt plan after stack (cursor_in before stack) (changed_here change before stack)
-    → IsOpenAt plan after stack (cursor_in before stack)
-    (changed_here (λ old. unwrap_or (kept_as parts (tree_here before stack)) (anew_as parts)) before stack)
-becomes_so plan parts before after stack change same then =
-    subst (λ (t : Tree). IsOpenAt plan after stack (cursor_in before stack) t)
-    (alike_here (cursor_in before stack) change
-    (λ (old : Tree). unwrap_or (kept_as parts (tree_here before stack)) (anew_as parts)) (tree_in_slots before stack) same)
-    then
+-- a change by which it comes to be what was kept, or anew
+gathered : (c : After-beginning_as-beginning) {told : Parts} {after : Frames} → c.args.parts ≡ told → (change : Tree → Tree)
+    → change (top_tree c.args.frames.now) ≡ unwrap_or (kept_as told (top_tree c.args.frames.now)) (anew_as told)
+    → Changed c.args.plan.now change c.args.frames.now after
+    → Changed c.args.plan.now (λ old. unwrap_or (kept_as c.args.parts (top_tree c.args.frames.now)) (anew_as c.args.parts))
+    c.args.frames.now after
+gathered c {told} is change same done =
+    changed_as change (λ old. unwrap_or (kept_as c.args.parts (top_tree c.args.frames.now)) (anew_as c.args.parts))
+    (subst (λ (p : Parts). change (top_tree c.args.frames.now) ≡ unwrap_or (kept_as p (top_tree c.args.frames.now)) (anew_as p))
+    (sym is) same)
+    done
 
 pub open_array-requires-clause-holds : goal.open_array-requires-clause-holds
 open_array-requires-clause-holds c =
-    holds_elements c.args.plan.now c.args.slots.now c.args.stack.now c.requires.ready.shown
-    (whole_with Parts.Elements (tree_here c.args.slots.now c.args.stack.now)
-    (ap (λ (p : Parts). beginning_as p (tree_here c.args.slots.now c.args.stack.now)) (sym c.in-Elements.is)
-    ∙ begins c.args.parts c.args.slots.now c.args.stack.now (own_tree (body_of c.place_here.result.1.now))
-    c.beginning_as-beginning.result Beginning.InPlace c.place_here.ensures.piece c.beginning_as-beginning.ensures
-    c.in-InPlace.is))
+    let at = (goal.at.open_array-requires-clause-holds c).After-beginning_as-beginning in
+    holds_elements c.requires.at_work.ready.shown (begins at c.in-InPlace.is c.in-Elements.is)
 
 pub open_object-requires-clause-holds : goal.open_object-requires-clause-holds
 open_object-requires-clause-holds c =
-    holds_entries c.args.plan.now c.args.slots.now c.args.stack.now c.requires.ready.shown
-    (whole_with Parts.Entries (tree_here c.args.slots.now c.args.stack.now)
-    (ap (λ (p : Parts). beginning_as p (tree_here c.args.slots.now c.args.stack.now)) (sym c.in-Entries.is)
-    ∙ begins c.args.parts c.args.slots.now c.args.stack.now (own_tree (body_of c.place_here.result.1.now))
-    c.beginning_as-beginning.result Beginning.InPlace c.place_here.ensures.piece c.beginning_as-beginning.ensures
-    c.in-InPlace.is))
+    let at = (goal.at.open_object-requires-clause-holds c).After-beginning_as-beginning in
+    holds_entries c.requires.at_work.ready.shown (begins at c.in-InPlace.is c.in-Entries.is)
 
 pub restart_array-requires-clause-room : goal.restart_array-requires-clause-room
-restart_array-requires-clause-room c =
-    room_here c.args.plan.now c.args.slots.now c.args.stack.now c.args.ledger.now c.requires.ready.shown c.requires.room
+restart_array-requires-clause-room c = room_here _ _ _ _ c.requires.at_work.ready.shown c.requires.room
 
 pub restart_object-requires-clause-room : goal.restart_object-requires-clause-room
-restart_object-requires-clause-room c =
-    room_here c.args.plan.now c.args.slots.now c.args.stack.now c.args.ledger.now c.requires.ready.shown c.requires.room
+restart_object-requires-clause-room c = room_here _ _ _ _ c.requires.at_work.ready.shown c.requires.room
 
-pub returns-in-AsItIs-clause-begun : goal.returns-in-AsItIs-clause-begun
-returns-in-AsItIs-clause-begun c =
-    becomes_so c.args.plan.now c.args.parts c.args.slots.now c.args.slots.now c.args.stack.now (λ (old : Tree). old)
-    (stays_with c.args.parts (tree_here c.args.slots.now c.args.stack.now)
-    (begins c.args.parts c.args.slots.now c.args.stack.now (own_tree (body_of c.place_here.result.1.now))
-    c.beginning_as-beginning.result Beginning.AsItIs c.place_here.ensures.piece c.beginning_as-beginning.ensures
-    c.in-AsItIs.is))
-    (record {
-      open_still = c.requires.ready.shown;
-      cursor = refl;
-      built = sym (unchanged (cursor_in c.args.slots.now c.args.stack.now) (tree_in_slots c.args.slots.now c.args.stack.now));
-    })
+pub returns-in-AsItIs-clause-changed : goal.returns-in-AsItIs-clause-changed
+returns-in-AsItIs-clause-changed c =
+    unchanged_as (are_open c.requires.at_work) _
+    (begins (goal.at.returns-in-AsItIs-clause-changed c).After-beginning_as-beginning c.in-AsItIs.is refl)
 
-pub returns-in-Elements-clause-begun : goal.returns-in-Elements-clause-begun
-returns-in-Elements-clause-begun c =
+pub returns-in-Elements-clause-changed : goal.returns-in-Elements-clause-changed
+returns-in-Elements-clause-changed c =
+    let at = (goal.at.returns-in-Elements-clause-changed c).After-beginning_as-beginning in
     on_ok c.open_array.result
-    (becomes_so c.args.plan.now c.args.parts c.args.slots.now c.open_array.new.slots c.args.stack.now around_elements
-    (subst
-    (λ (p : Parts). around_elements (tree_here c.args.slots.now c.args.stack.now)
-    ≡ unwrap_or (kept_as p (tree_here c.args.slots.now c.args.stack.now)) (anew_as p))
-    (sym c.in-Elements.is)
-    (elements_kept (tree_here c.args.slots.now c.args.stack.now)
-    (whole_with Parts.Elements (tree_here c.args.slots.now c.args.stack.now)
-    (ap (λ (p : Parts). beginning_as p (tree_here c.args.slots.now c.args.stack.now)) (sym c.in-Elements.is)
-    ∙ begins c.args.parts c.args.slots.now c.args.stack.now (own_tree (body_of c.place_here.result.1.now))
-    c.beginning_as-beginning.result Beginning.InPlace c.place_here.ensures.piece c.beginning_as-beginning.ensures
-    c.in-InPlace.is)))))
+    (λ opened.
+    gathered at c.in-Elements.is around_elements (elements_kept _ (begins at c.in-InPlace.is c.in-Elements.is))
+    (became_marked (are_open c.requires.at_work) c.open_array.ensures.marks opened))
     c.open_array.ensures.opened
 
 pub returns-in-Elements-clause-memory : goal.returns-in-Elements-clause-memory
 returns-in-Elements-clause-memory c begun =
-    absurd
-    (never_begun c.args.parts (tree_here c.args.slots.now c.args.stack.now)
-    (whole_with c.args.parts (tree_here c.args.slots.now c.args.stack.now)
-    (begins c.args.parts c.args.slots.now c.args.stack.now (own_tree (body_of c.place_here.result.1.now))
-    c.beginning_as-beginning.result Beginning.InPlace c.place_here.ensures.piece c.beginning_as-beginning.ensures
-    c.in-InPlace.is)) begun)
+    let at = (goal.at.returns-in-Elements-clause-memory c).After-beginning_as-beginning in
+    absurd (never_begun _ _ (begins at c.in-InPlace.is refl) begun)
 
-pub returns-in-Elements-clause-stored : goal.returns-in-Elements-clause-stored
-returns-in-Elements-clause-stored c =
-    on_ok c.open_array.result
-    (λ opened. marks_kept c.args.store.now c.args.slots.now c.open_array.new.slots c.open_array.ensures.marks c.requires.stored)
-    c.open_array.ensures.opened
-
-pub returns-in-Elements-clause-marks : goal.returns-in-Elements-clause-marks
-returns-in-Elements-clause-marks c =
-    on_ok c.open_array.result (λ opened n none. c.open_array.ensures.marks n ∙ none) c.open_array.ensures.opened
-
-pub returns-in-Elements-clause-tokens : goal.returns-in-Elements-clause-tokens
-returns-in-Elements-clause-tokens c =
-    kept_same c.args.slots.now c.open_array.new.slots c.args.ledger.now c.open_array.ensures.tokens
-
-pub returns-in-Entries-clause-begun : goal.returns-in-Entries-clause-begun
-returns-in-Entries-clause-begun c =
+pub returns-in-Entries-clause-changed : goal.returns-in-Entries-clause-changed
+returns-in-Entries-clause-changed c =
+    let at = (goal.at.returns-in-Entries-clause-changed c).After-beginning_as-beginning in
     on_ok c.open_object.result
-    (becomes_so c.args.plan.now c.args.parts c.args.slots.now c.open_object.new.slots c.args.stack.now around_members
-    (subst
-    (λ (p : Parts). around_members (tree_here c.args.slots.now c.args.stack.now)
-    ≡ unwrap_or (kept_as p (tree_here c.args.slots.now c.args.stack.now)) (anew_as p))
-    (sym c.in-Entries.is)
-    (entries_kept (tree_here c.args.slots.now c.args.stack.now)
-    (whole_with Parts.Entries (tree_here c.args.slots.now c.args.stack.now)
-    (ap (λ (p : Parts). beginning_as p (tree_here c.args.slots.now c.args.stack.now)) (sym c.in-Entries.is)
-    ∙ begins c.args.parts c.args.slots.now c.args.stack.now (own_tree (body_of c.place_here.result.1.now))
-    c.beginning_as-beginning.result Beginning.InPlace c.place_here.ensures.piece c.beginning_as-beginning.ensures
-    c.in-InPlace.is)))))
+    (λ opened.
+    gathered at c.in-Entries.is around_members (entries_kept _ (begins at c.in-InPlace.is c.in-Entries.is))
+    (became_marked (are_open c.requires.at_work) c.open_object.ensures.marks opened))
     c.open_object.ensures.opened
 
 pub returns-in-Entries-clause-memory : goal.returns-in-Entries-clause-memory
 returns-in-Entries-clause-memory c begun =
-    absurd
-    (never_begun c.args.parts (tree_here c.args.slots.now c.args.stack.now)
-    (whole_with c.args.parts (tree_here c.args.slots.now c.args.stack.now)
-    (begins c.args.parts c.args.slots.now c.args.stack.now (own_tree (body_of c.place_here.result.1.now))
-    c.beginning_as-beginning.result Beginning.InPlace c.place_here.ensures.piece c.beginning_as-beginning.ensures
-    c.in-InPlace.is)) begun)
+    let at = (goal.at.returns-in-Entries-clause-memory c).After-beginning_as-beginning in
+    absurd (never_begun _ _ (begins at c.in-InPlace.is refl) begun)
 
-pub returns-in-Entries-clause-stored : goal.returns-in-Entries-clause-stored
-returns-in-Entries-clause-stored c =
-    on_ok c.open_object.result
-    (λ opened. marks_kept c.args.store.now c.args.slots.now c.open_object.new.slots c.open_object.ensures.marks c.requires.stored)
-    c.open_object.ensures.opened
+pub returns-in-Elements-parts : goal.returns-in-Elements-parts
+returns-in-Elements-parts c =
+    let at = (goal.at.returns-in-Elements-parts c).After-beginning_as-beginning in
+    record {
+      changed =
+          gathered at c.in-Elements-parts.is (λ old. array_anew) (begins at c.in-Anew.is c.in-Elements-parts.is)
+          (became (are_open c.requires.at_work) c.restart_array.ensures.kept c.restart_array.ensures.marks
+          c.restart_array.ensures.restarted);
+      memory = λ begun. refl;
+      tokens =
+          kept_released c.requires.at_work.ready.shown (λ old. array_anew) c.restart_array.ensures.restarted
+          c.restart_array.ensures.released (λ t. refl);
+    }
 
-pub returns-in-Entries-clause-marks : goal.returns-in-Entries-clause-marks
-returns-in-Entries-clause-marks c =
-    on_ok c.open_object.result (λ opened n none. c.open_object.ensures.marks n ∙ none) c.open_object.ensures.opened
-
-pub returns-in-Entries-clause-tokens : goal.returns-in-Entries-clause-tokens
-returns-in-Entries-clause-tokens c =
-    kept_same c.args.slots.now c.open_object.new.slots c.args.ledger.now c.open_object.ensures.tokens
-
-pub returns-in-Elements-parts-clause-begun : goal.returns-in-Elements-parts-clause-begun
-returns-in-Elements-parts-clause-begun c =
-    becomes_so c.args.plan.now c.args.parts c.args.slots.now c.restart_array.new.slots c.args.stack.now (λ (old : Tree). array_anew)
-    (subst
-    (λ (p : Parts). array_anew ≡ unwrap_or (kept_as p (tree_here c.args.slots.now c.args.stack.now)) (anew_as p))
-    (sym c.in-Elements-parts.is)
-    (anew_with Parts.Elements (tree_here c.args.slots.now c.args.stack.now)
-    (ap (λ (p : Parts). beginning_as p (tree_here c.args.slots.now c.args.stack.now)) (sym c.in-Elements-parts.is)
-    ∙ begins c.args.parts c.args.slots.now c.args.stack.now (own_tree (body_of c.place_here.result.1.now))
-    c.beginning_as-beginning.result Beginning.Anew c.place_here.ensures.piece c.beginning_as-beginning.ensures
-    c.in-Anew.is)))
-    c.restart_array.ensures.restarted
-
-pub returns-in-Elements-parts-clause-tokens : goal.returns-in-Elements-parts-clause-tokens
-returns-in-Elements-parts-clause-tokens c =
-    kept_released c.args.plan.now c.args.slots.now c.restart_array.new.slots c.args.stack.now c.args.stack.now (λ old. array_anew)
-    c.args.ledger.now c.restart_array.new.ledger c.requires.ready.shown c.restart_array.ensures.restarted (λ t. refl)
-    c.restart_array.ensures.released
-
-pub returns-in-Entries-parts-clause-begun : goal.returns-in-Entries-parts-clause-begun
-returns-in-Entries-parts-clause-begun c =
-    becomes_so c.args.plan.now c.args.parts c.args.slots.now c.restart_object.new.slots c.args.stack.now (λ (old : Tree). object_anew)
-    (subst
-    (λ (p : Parts). object_anew ≡ unwrap_or (kept_as p (tree_here c.args.slots.now c.args.stack.now)) (anew_as p))
-    (sym c.in-Entries-parts.is)
-    (anew_with Parts.Entries (tree_here c.args.slots.now c.args.stack.now)
-    (ap (λ (p : Parts). beginning_as p (tree_here c.args.slots.now c.args.stack.now)) (sym c.in-Entries-parts.is)
-    ∙ begins c.args.parts c.args.slots.now c.args.stack.now (own_tree (body_of c.place_here.result.1.now))
-    c.beginning_as-beginning.result Beginning.Anew c.place_here.ensures.piece c.beginning_as-beginning.ensures
-    c.in-Anew.is)))
-    c.restart_object.ensures.restarted
-
-pub returns-in-Entries-parts-clause-tokens : goal.returns-in-Entries-parts-clause-tokens
-returns-in-Entries-parts-clause-tokens c =
-    kept_released c.args.plan.now c.args.slots.now c.restart_object.new.slots c.args.stack.now c.args.stack.now (λ old. object_anew)
-    c.args.ledger.now c.restart_object.new.ledger c.requires.ready.shown c.restart_object.ensures.restarted (λ t. refl)
-    c.restart_object.ensures.released
+pub returns-in-Entries-parts : goal.returns-in-Entries-parts
+returns-in-Entries-parts c =
+    let at = (goal.at.returns-in-Entries-parts c).After-beginning_as-beginning in
+    record {
+      changed =
+          gathered at c.in-Entries-parts.is (λ old. object_anew) (begins at c.in-Anew.is c.in-Entries-parts.is)
+          (became (are_open c.requires.at_work) c.restart_object.ensures.kept c.restart_object.ensures.marks
+          c.restart_object.ensures.restarted);
+      memory = λ begun. refl;
+      tokens =
+          kept_released c.requires.at_work.ready.shown (λ old. object_anew) c.restart_object.ensures.restarted
+          c.restart_object.ensures.released (λ t. refl);
+    }

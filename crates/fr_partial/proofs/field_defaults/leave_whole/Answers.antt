@@ -1,47 +1,49 @@
-use Rattle.std.proofs.Common.{◌≡◌, false, IsOk, Some, subst}
+use Rattle.std.proofs.Common.{IsOk, refl, sym, subst}
 use Rattle.fr_shape.specs.Val.{Val}
 use Rattle.fr_model.specs.Places.{up}
 use Rattle.fr_model.specs.Tree.{Tree, whole}
-use Rattle.fr_frame.specs.Bodies.{Body, takes_memory, value_of}
-use Rattle.fr_store.specs.Moves.{changed_here, cursor_in, tree_in_slots, IsOpenAt}
-use Rattle.fr_partial.proofs.HereLaws.{holds_value, top_body, unboxed_here, value_here}
-use Rattle.fr_partial.proofs.KeepLaws.{room_here}
+use Rattle.fr_store.specs.Moves.{changed_here, IsOpenAt}
+use Rattle.fr_partial.specs.declared.mode.Mode.{Mode}
+use Rattle.fr_partial.specs.Modes.{mode_of}
+use Rattle.fr_partial.specs.Underway.{top_place, whole_tree, StoresNothing}
+use Rattle.fr_partial.proofs.HereLaws.{holds_value, of_unboxed, of_value}
+use Rattle.fr_partial.proofs.KeepLaws.{became_marked, room_here}
+use Rattle.fr_partial.proofs.KeptLaws.{on_ok}
 use Rattle.fr_partial.proofs.TreeLaws.{put_again}
 use Rattle.fr_partial.proofs.field_defaults.leave_whole.Goals as goal
-use Rattle.fr_partial.proofs.field_defaults.leave_whole.Goals.{In-Ok}
 
 pub end-requires-clause-complete : goal.end-requires-clause-complete
-end-requires-clause-complete c =
-    holds_value c.args.plan.now c.args.slots.now c.args.stack.now c.requires.is_open c.requires.holds_value.0
-    c.requires.holds_value.1
+end-requires-clause-complete c = holds_value c.requires.are_open.shown c.requires.holds_value.0 c.requires.holds_value.1
 
 pub end-requires-clause-room : goal.end-requires-clause-room
-end-requires-clause-room c =
-    room_here c.args.plan.now c.args.slots.now c.args.stack.now c.args.ledger.now c.requires.is_open c.requires.room
+end-requires-clause-room c = room_here _ _ _ _ c.requires.are_open.shown c.requires.room
 
 pub unreachable-requires : goal.unreachable-requires
 unreachable-requires c =
     let there : IsOk c.end.result
-    = top_body c.args.plan.now c.args.slots.now c.args.stack.now c.requires.is_open
-    (λ (body : Body). takes_memory body ≡ false → IsOk c.end.result) c.end.ensures.memory
-    (unboxed_here c.args.plan.now c.args.slots.now c.args.stack.now c.requires.is_open c.requires.holds_value.0
-    c.requires.holds_value.1) in
+    = of_unboxed c.requires.are_open.shown c.requires.holds_value.0 c.requires.holds_value.1 (IsOk c.end.result)
+    c.end.ensures.memory in
     let no = rw c.in_default.is at there in
     cc
 
-left : (c : In-Ok) → IsOpenAt c.args.plan.now c.end.new.slots c.end.new.self (up (cursor_in c.args.slots.now c.args.stack.now))
-    (tree_in_slots c.args.slots.now c.args.stack.now)
-left c =
-    let v : Val = c.requires.holds_value.0 in
-    subst
-    (λ (t : Tree). IsOpenAt c.args.plan.now c.end.new.slots c.end.new.self (up (cursor_in c.args.slots.now c.args.stack.now)) t)
-    (put_again (cursor_in c.args.slots.now c.args.stack.now) (tree_in_slots c.args.slots.now c.args.stack.now) (whole v)
-    c.requires.holds_value.1)
-    (top_body c.args.plan.now c.args.slots.now c.args.stack.now c.requires.is_open
-    (λ (body : Body). (w : Val) → value_of body ≡ Some w
-    → IsOpenAt c.args.plan.now c.end.new.slots c.end.new.self (up (cursor_in c.args.slots.now c.args.stack.now))
-    (changed_here (λ old. whole w) c.args.slots.now c.args.stack.now)) c.in-Ok.ensures.ended v
-    (value_here c.args.plan.now c.args.slots.now c.args.stack.now c.requires.is_open v c.requires.holds_value.1))
-
 pub returns-in-Ok-clause-left : goal.returns-in-Ok-clause-left
-returns-in-Ok-clause-left c = left (goal.at.returns-in-Ok-clause-left c).In-Ok
+returns-in-Ok-clause-left c =
+    let v : Val = c.requires.holds_value.0 in
+    became_marked c.requires.are_open c.end.ensures.marks
+    (subst
+    (λ (t : Tree). IsOpenAt c.args.plan.now c.end.new.slots c.end.new.self (up (top_place c.args.frames.now)) t)
+    (put_again (top_place c.args.frames.now) (whole_tree c.args.frames.now) (whole v) c.requires.holds_value.1)
+    (of_value c.requires.are_open.shown v c.requires.holds_value.1
+    (λ w. IsOpenAt c.args.plan.now c.end.new.slots c.end.new.self (up (top_place c.args.frames.now))
+    (changed_here (λ old. whole w) c.args.frames.now.slots c.args.frames.now.stack)) c.in-Ok.ensures.ended))
+
+pub returns-in-Deferred-clause-left : goal.returns-in-Deferred-clause-left
+returns-in-Deferred-clause-left c =
+    on_ok c.leave.result
+    (λ left. record {
+      stands = left;
+      kept = c.leave.ensures.kept;
+      stores = subst (λ (mode : Mode). StoresNothing (mode_of mode) c.leave.new.store) (sym c.in-Deferred.is) tt;
+      same = refl;
+    })
+    c.leave.ensures.left

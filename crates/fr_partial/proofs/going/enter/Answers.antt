@@ -1,181 +1,207 @@
-use Rattle.std.proofs.Common.{ap, sym, ◌∙◌}
-use Rattle.fr_shape.specs.Look.{def_of}
-use Rattle.fr_model.specs.Step.{enter, opened_as}
-use Rattle.fr_model.specs.Tree.{Form, change_child}
-use Rattle.fr_plan.specs.declared.nodes.NodeId.{NodeId}
-use Rattle.fr_frame.specs.Completing.{shape_of}
+use Rattle.std.proofs.Common.{◌≡◌, false, refl, ap, sym, ◌∙◌}
+use Rattle.fr_model.specs.Collections.{is_map_form}
+use Rattle.fr_model.specs.Step.{opened_as}
+use Rattle.fr_model.specs.Tree.{Form, base_of_form}
 use Rattle.fr_frame.specs.Heap.{as_form}
 use Rattle.fr_frame.specs.Kids.{child_node}
-use Rattle.fr_store.specs.Moves.{count_here, node_here, tree_here}
-use Rattle.fr_partial.specs.Beginnings.{begun_by}
+use Rattle.fr_store.specs.Moves.{count_here, node_here, TakesMany}
 use Rattle.fr_partial.specs.declared.moves.Way.{Way}
-use Rattle.fr_partial.specs.Underway.{shape_here}
+use Rattle.fr_partial.specs.Underway.{Changed}
 use Rattle.fr_partial.proofs.BelowLaws.{around_base, around_map}
-use Rattle.fr_partial.proofs.GoingLaws.{found_on, has_then, is_planned, may_as, node_then, none_then, opened_has, opens, opens_base, opens_many, opens_no_map, went, went_entry, went_then}
-use Rattle.fr_partial.proofs.KeptLaws.{has_content, may_have_one, whole_some}
+use Rattle.fr_partial.proofs.GoingLaws.{has_then, is_object, is_planned, keys_are_apart, keys_are_counted, may_go, node_after, node_is, none_then, of_opening, opened_has, opens, went, went_after, went_entry, Goes}
+use Rattle.fr_partial.proofs.KeepLaws.{are_open, became, became_marked}
+use Rattle.fr_partial.proofs.KeptLaws.{has_content, may_have_one, on_ok, whole_some}
 use Rattle.fr_partial.proofs.ListLaws.{has_count, has_form}
 use Rattle.fr_partial.proofs.MapLaws.{has_last, has_map, map_form, value_lacks}
-use Rattle.fr_partial.proofs.ObjectLaws.{apart_here, counted_here, entry_object}
-use Rattle.fr_partial.proofs.PlaceLaws.{here_along}
+use Rattle.fr_partial.proofs.StateLaws.{open_then}
 use Rattle.fr_partial.proofs.going.enter.Goals as goal
+use Rattle.fr_partial.proofs.going.enter.Goals.{After-node_here-above, In_ok-begin-in-Child}
 
-pub begin-requires-clause-may_open : goal.begin-requires-clause-may_open
-begin-requires-clause-may_open c =
-    opens c.law_plan_lookups.ensures.agree c.law_plan_lookups.ensures.paths c.requires.ready c.in-Child.i c.in-Child.opening (may_as c.requires.ready c.args.way (Way.Child c.in-Child.i c.in-Child.opening) c.in-Child.is c.requires.may)
+-- the way, as it is met
+abbrev goes : (c : After-node_here-above) {way : Way} → c.args.way ≡ way → Goes c.args.plan.now c.args.frames.now c.args.way way
+goes c is = record {
+  agree = c.law_plan_lookups.ensures.agree;
+  paths = c.law_plan_lookups.ensures.paths;
+  work = c.requires.at_work;
+  may = c.requires.may;
+  is = is;
+  above = c.node_here-above.result;
+  above_is = c.node_here-above.ensures;
+}
 
-pub begin-requires-clause-many : goal.begin-requires-clause-many
-begin-requires-clause-many c =
-    opens_many c.law_plan_lookups.ensures.agree c.law_plan_lookups.ensures.paths c.requires.ready c.in-Child.i c.in-Child.opening (may_as c.requires.ready c.args.way (Way.Child c.in-Child.i c.in-Child.opening) c.in-Child.is c.requires.may)
+-- A field or an element.
 
-pub begin-requires-clause-base : goal.begin-requires-clause-base
-begin-requires-clause-base c =
-    opens_base c.law_plan_lookups.ensures.agree c.law_plan_lookups.ensures.paths c.requires.ready c.in-Child.i c.in-Child.opening (may_as c.requires.ready c.args.way (Way.Child c.in-Child.i c.in-Child.opening) c.in-Child.is c.requires.may)
+pub begin-requires : goal.begin-requires
+begin-requires c =
+    let way = goes (goal.at.begin-requires c).After-node_here-above c.in-Child.is in
+    record {
+      is_open = c.requires.at_work.ready.shown;
+      may_open = opens way;
+      many = of_opening way TakesMany tt tt (λ k. tt);
+      base = of_opening way (λ form. base_of_form form ≡ 0) refl refl (λ k. refl);
+    }
 
-pub enter-requires-clause-child : goal.enter-requires-clause-child
-enter-requires-clause-child c =
-    has_then c.law_plan_lookups.ensures.agree c.law_plan_lookups.ensures.paths c.requires.ready (opened_as (as_form c.in-Child.opening.form) c.in-Child.opening.count) c.begin.new.slots c.in_ok-begin-in-Child.ensures.begun (as_form c.in-Child.opening.form) c.in-Child.i (opened_has c.law_plan_lookups.ensures.agree c.law_plan_lookups.ensures.paths c.requires.ready c.in-Child.i c.in-Child.opening (may_as c.requires.ready c.args.way (Way.Child c.in-Child.i c.in-Child.opening) c.in-Child.is c.requires.may))
+begun : (c : In_ok-begin-in-Child) → Changed c.args.plan.now (opened_as (as_form c.in-Child.opening.form) c.in-Child.opening.count)
+    c.args.frames.now (record c.args.frames.now { slots = c.begin.new.slots })
+begun c = became_marked (are_open c.requires.at_work) c.begin.ensures.marks c.in_ok-begin-in-Child.ensures.begun
 
-pub enter-requires-clause-node : goal.enter-requires-clause-node
-enter-requires-clause-node c =
-    (found_on c.args.plan.now (as_form c.in-Child.opening.form) c.in-Child.i c.child_node-node.ensures c.node_here-above.ensures)
-    ∙ ap (λ (n : NodeId). child_node c.args.plan.now n (as_form c.in-Child.opening.form) c.in-Child.i) (sym (node_then c.law_plan_lookups.ensures.agree c.law_plan_lookups.ensures.paths c.requires.ready (opened_as (as_form c.in-Child.opening.form) c.in-Child.opening.count) c.begin.new.slots c.in_ok-begin-in-Child.ensures.begun))
-
-pub enter-requires-clause-planned : goal.enter-requires-clause-planned
-enter-requires-clause-planned c =
-    is_planned c.law_plan_lookups.ensures.agree c.law_plan_lookups.ensures.paths c.requires.ready (Way.Child c.in-Child.i c.in-Child.opening) (may_as c.requires.ready c.args.way (Way.Child c.in-Child.i c.in-Child.opening) c.in-Child.is c.requires.may) _ (found_on c.args.plan.now (as_form c.in-Child.opening.form) c.in-Child.i c.child_node-node.ensures c.node_here-above.ensures)
-
-pub enter-requires-clause-map_hole : goal.enter-requires-clause-map_hole
-enter-requires-clause-map_hole c =
-    none_then c.law_plan_lookups.ensures.agree c.law_plan_lookups.ensures.paths c.requires.ready (opened_as (as_form c.in-Child.opening.form) c.in-Child.opening.count) c.begin.new.slots c.in_ok-begin-in-Child.ensures.begun (as_form c.in-Child.opening.form) c.in-Child.i (opened_has c.law_plan_lookups.ensures.agree c.law_plan_lookups.ensures.paths c.requires.ready c.in-Child.i c.in-Child.opening (may_as c.requires.ready c.args.way (Way.Child c.in-Child.i c.in-Child.opening) c.in-Child.is c.requires.may))
-    (opens_no_map c.law_plan_lookups.ensures.agree c.law_plan_lookups.ensures.paths c.requires.ready c.in-Child.i c.in-Child.opening (may_as c.requires.ready c.args.way (Way.Child c.in-Child.i c.in-Child.opening) c.in-Child.is c.requires.may))
+pub enter-requires : goal.enter-requires
+enter-requires c =
+    let at = goal.at.enter-requires c in
+    let way = goes at.After-node_here-above c.in-Child.is in
+    let now = begun at.In_ok-begin-in-Child in
+    let shown = c.requires.at_work.ready.shown in
+    record {
+      is_open = now.stands.open_still;
+      kept = now.kept;
+      child = has_then shown _ now _ _ (opened_has way);
+      node = node_after shown _ now (as_form c.in-Child.opening.form) c.in-Child.i (node_is way c.child_node-node.ensures);
+      planned = is_planned way c.child_node-node.ensures;
+      map_hole =
+          none_then shown _ now _ _ (opened_has way) (of_opening way (λ form. is_map_form form ≡ false) refl refl (λ k. refl));
+    }
 
 pub returns-in_ok-begin-in-Child-clause-entered : goal.returns-in_ok-begin-in-Child-clause-entered
 returns-in_ok-begin-in-Child-clause-entered c =
-    went c.law_plan_lookups.ensures.agree c.law_plan_lookups.ensures.paths c.requires.ready (Way.Child c.in-Child.i c.in-Child.opening) (may_as c.requires.ready c.args.way (Way.Child c.in-Child.i c.in-Child.opening) c.in-Child.is c.requires.may) _ (found_on c.args.plan.now (as_form c.in-Child.opening.form) c.in-Child.i c.child_node-node.ensures c.node_here-above.ensures) c.enter.result c.enter.new.slots c.enter.new.self c.args.way
-    c.in-Child.is
-    (went_then c.law_plan_lookups.ensures.agree c.law_plan_lookups.ensures.paths c.requires.ready (opened_as (as_form c.in-Child.opening.form) c.in-Child.opening.count) c.begin.new.slots c.in_ok-begin-in-Child.ensures.begun c.enter.result c.enter.new.slots c.enter.new.self c.in-Child.i
-    (change_child c.in-Child.i (enter (def_of c.args.table.now (shape_of c.args.plan.now c.child_node-node.result))))
-    c.enter.ensures.entered)
+    let at = goal.at.returns-in_ok-begin-in-Child-clause-entered c in
+    let now = begun at.In_ok-begin-in-Child in
+    on_ok c.enter.result
+    (λ done.
+    went (goes at.After-node_here-above c.in-Child.is) c.child_node-node.ensures
+    (went_after c.requires.at_work.ready.shown _ now _ _
+    (became (open_then now) c.enter.ensures.kept c.enter.ensures.marks done)))
+    c.enter.ensures.entered
 
-pub add_item-requires-clause-begun : goal.add_item-requires-clause-begun
-add_item-requires-clause-begun c =
-    has_form (as_form c.in-Item.opening.form) c.in-Item.opening.count (tree_here c.args.slots.now c.args.stack.now) (may_as c.requires.ready c.args.way (Way.Item c.in-Item.opening) c.in-Item.is c.requires.may).0
+-- An item.
 
-pub add_item-requires-clause-grows : goal.add_item-requires-clause-grows
-add_item-requires-clause-grows c =
-    (may_as c.requires.ready c.args.way (Way.Item c.in-Item.opening) c.in-Item.is c.requires.may).1
-
-pub add_item-requires-clause-node : goal.add_item-requires-clause-node
-add_item-requires-clause-node c =
-    (found_on c.args.plan.now (as_form c.in-Item.opening.form) c.in-Item.opening.count c.child_node-node-in-Item.ensures c.node_here-above.ensures)
-    ∙ ap (child_node c.args.plan.now (node_here c.args.plan.now c.args.slots.now c.args.stack.now) (as_form c.in-Item.opening.form)) (sym (has_count (as_form c.in-Item.opening.form) c.in-Item.opening.count (tree_here c.args.slots.now c.args.stack.now) (may_as c.requires.ready c.args.way (Way.Item c.in-Item.opening) c.in-Item.is c.requires.may).0))
-
-pub add_item-requires-clause-planned : goal.add_item-requires-clause-planned
-add_item-requires-clause-planned c =
-    is_planned c.law_plan_lookups.ensures.agree c.law_plan_lookups.ensures.paths c.requires.ready (Way.Item c.in-Item.opening) (may_as c.requires.ready c.args.way (Way.Item c.in-Item.opening) c.in-Item.is c.requires.may) _ (found_on c.args.plan.now (as_form c.in-Item.opening.form) c.in-Item.opening.count c.child_node-node-in-Item.ensures c.node_here-above.ensures)
+pub add_item-requires : goal.add_item-requires
+add_item-requires c =
+    let way = goes (goal.at.add_item-requires c).After-node_here-above c.in-Item.is in
+    let may = may_go way in
+    record {
+      is_open = c.requires.at_work.ready.shown;
+      begun = has_form _ _ _ may.0;
+      grows = may.1;
+      node =
+          node_is way c.child_node-node-in-Item.ensures
+          ∙ ap (child_node c.args.plan.now _ (as_form c.in-Item.opening.form)) (sym (has_count _ _ _ may.0));
+      planned = is_planned way c.child_node-node-in-Item.ensures;
+    }
 
 pub returns-in-Item-clause-entered : goal.returns-in-Item-clause-entered
 returns-in-Item-clause-entered c =
-    went c.law_plan_lookups.ensures.agree c.law_plan_lookups.ensures.paths c.requires.ready (Way.Item c.in-Item.opening) (may_as c.requires.ready c.args.way (Way.Item c.in-Item.opening) c.in-Item.is c.requires.may) _ (found_on c.args.plan.now (as_form c.in-Item.opening.form) c.in-Item.opening.count c.child_node-node-in-Item.ensures c.node_here-above.ensures) c.add_item.result c.add_item.new.slots c.add_item.new.self c.args.way
-    c.in-Item.is c.add_item.ensures.entered
+    on_ok c.add_item.result
+    (λ done.
+    went (goes (goal.at.returns-in-Item-clause-entered c).After-node_here-above c.in-Item.is) c.child_node-node-in-Item.ensures
+    (became_marked (are_open c.requires.at_work) c.add_item.ensures.marks done))
+    c.add_item.ensures.entered
 
-pub add_key-requires-clause-begun : goal.add_key-requires-clause-begun
-add_key-requires-clause-begun c =
-    has_map (as_form c.in-Key.opening.form) c.in-Key.opening.count (tree_here c.args.slots.now c.args.stack.now) (may_as c.requires.ready c.args.way (Way.Key c.in-Key.opening) c.in-Key.is c.requires.may).0 (may_as c.requires.ready c.args.way (Way.Key c.in-Key.opening) c.in-Key.is c.requires.may).1
+-- A key.
 
-pub add_key-requires-clause-node : goal.add_key-requires-clause-node
-add_key-requires-clause-node c =
-    (found_on c.args.plan.now (as_form c.in-Key.opening.form) c.in-Key.opening.count c.child_node-node-in-Key.ensures c.node_here-above.ensures)
-    ∙ ap (child_node c.args.plan.now (node_here c.args.plan.now c.args.slots.now c.args.stack.now) (as_form c.in-Key.opening.form)) (sym (has_count (as_form c.in-Key.opening.form) c.in-Key.opening.count (tree_here c.args.slots.now c.args.stack.now) (may_as c.requires.ready c.args.way (Way.Key c.in-Key.opening) c.in-Key.is c.requires.may).0))
-    ∙ ap
-    (λ (f : Form). child_node c.args.plan.now (node_here c.args.plan.now c.args.slots.now c.args.stack.now) f
-    (count_here c.args.slots.now c.args.stack.now)) (map_form (as_form c.in-Key.opening.form) (may_as c.requires.ready c.args.way (Way.Key c.in-Key.opening) c.in-Key.is c.requires.may).1).1
-
-pub add_key-requires-clause-planned : goal.add_key-requires-clause-planned
-add_key-requires-clause-planned c =
-    is_planned c.law_plan_lookups.ensures.agree c.law_plan_lookups.ensures.paths c.requires.ready (Way.Key c.in-Key.opening) (may_as c.requires.ready c.args.way (Way.Key c.in-Key.opening) c.in-Key.is c.requires.may) _ (found_on c.args.plan.now (as_form c.in-Key.opening.form) c.in-Key.opening.count c.child_node-node-in-Key.ensures c.node_here-above.ensures)
+pub add_key-requires : goal.add_key-requires
+add_key-requires c =
+    let way = goes (goal.at.add_key-requires c).After-node_here-above c.in-Key.is in
+    let may = may_go way in
+    record {
+      is_open = c.requires.at_work.ready.shown;
+      begun = has_map _ _ _ may.0 may.1;
+      node =
+          node_is way c.child_node-node-in-Key.ensures
+          ∙ ap (child_node c.args.plan.now _ (as_form c.in-Key.opening.form)) (sym (has_count _ _ _ may.0))
+          ∙ ap (λ (f : Form). child_node c.args.plan.now (node_here c.args.plan.now c.args.frames.now.slots c.args.frames.now.stack) f
+          (count_here c.args.frames.now.slots c.args.frames.now.stack)) (map_form (as_form c.in-Key.opening.form) may.1).1;
+      planned = is_planned way c.child_node-node-in-Key.ensures;
+    }
 
 pub returns-in-Key-clause-entered : goal.returns-in-Key-clause-entered
 returns-in-Key-clause-entered c =
-    went c.law_plan_lookups.ensures.agree c.law_plan_lookups.ensures.paths c.requires.ready (Way.Key c.in-Key.opening) (may_as c.requires.ready c.args.way (Way.Key c.in-Key.opening) c.in-Key.is c.requires.may) _ (found_on c.args.plan.now (as_form c.in-Key.opening.form) c.in-Key.opening.count c.child_node-node-in-Key.ensures c.node_here-above.ensures) c.add_key.result c.add_key.new.slots c.add_key.new.self c.args.way
-    c.in-Key.is c.add_key.ensures.entered
+    on_ok c.add_key.result
+    (λ done.
+    went (goes (goal.at.returns-in-Key-clause-entered c).After-node_here-above c.in-Key.is) c.child_node-node-in-Key.ensures
+    (became_marked (are_open c.requires.at_work) c.add_key.ensures.marks done))
+    c.add_key.ensures.entered
 
-pub enter-requires-in-Value-clause-child : goal.enter-requires-in-Value-clause-child
-enter-requires-in-Value-clause-child c =
-    has_last (as_form c.in-Value.opening.form) c.in-Value.opening.count (tree_here c.args.slots.now c.args.stack.now) (may_as c.requires.ready c.args.way (Way.Value c.in-Value.opening) c.in-Value.is c.requires.may).0
+-- A value.
 
-pub enter-requires-in-Value-clause-node : goal.enter-requires-in-Value-clause-node
-enter-requires-in-Value-clause-node c =
-    (found_on c.args.plan.now (as_form c.in-Value.opening.form) c.in-Value.opening.count c.child_node-node-in-Value.ensures c.node_here-above.ensures)
-
-pub enter-requires-in-Value-clause-planned : goal.enter-requires-in-Value-clause-planned
-enter-requires-in-Value-clause-planned c =
-    is_planned c.law_plan_lookups.ensures.agree c.law_plan_lookups.ensures.paths c.requires.ready (Way.Value c.in-Value.opening) (may_as c.requires.ready c.args.way (Way.Value c.in-Value.opening) c.in-Value.is c.requires.may) _ (found_on c.args.plan.now (as_form c.in-Value.opening.form) c.in-Value.opening.count c.child_node-node-in-Value.ensures c.node_here-above.ensures)
-
-pub enter-requires-in-Value-clause-map_hole : goal.enter-requires-in-Value-clause-map_hole
-enter-requires-in-Value-clause-map_hole c of_map =
-    value_lacks (as_form c.in-Value.opening.form) c.in-Value.opening.count (tree_here c.args.slots.now c.args.stack.now) (may_as c.requires.ready c.args.way (Way.Value c.in-Value.opening) c.in-Value.is c.requires.may).0 (may_as c.requires.ready c.args.way (Way.Value c.in-Value.opening) c.in-Value.is c.requires.may).2
+pub enter-requires-in-Value : goal.enter-requires-in-Value
+enter-requires-in-Value c =
+    let way = goes (goal.at.enter-requires-in-Value c).After-node_here-above c.in-Value.is in
+    let may = may_go way in
+    record {
+      is_open = c.requires.at_work.ready.shown;
+      kept = c.requires.at_work.kept;
+      child = has_last _ _ _ may.0;
+      node = node_is way c.child_node-node-in-Value.ensures;
+      planned = is_planned way c.child_node-node-in-Value.ensures;
+      map_hole = λ of_map. value_lacks _ _ _ may.0 may.2;
+    }
 
 pub returns-in-Value-clause-entered : goal.returns-in-Value-clause-entered
 returns-in-Value-clause-entered c =
-    went c.law_plan_lookups.ensures.agree c.law_plan_lookups.ensures.paths c.requires.ready (Way.Value c.in-Value.opening) (may_as c.requires.ready c.args.way (Way.Value c.in-Value.opening) c.in-Value.is c.requires.may) _ (found_on c.args.plan.now (as_form c.in-Value.opening.form) c.in-Value.opening.count c.child_node-node-in-Value.ensures c.node_here-above.ensures) c.enter-in-Value.result c.enter-in-Value.new.slots c.enter-in-Value.new.self
-    c.args.way c.in-Value.is c.enter-in-Value.ensures.entered
+    on_ok c.enter-in-Value.result
+    (λ done.
+    went (goes (goal.at.returns-in-Value-clause-entered c).After-node_here-above c.in-Value.is)
+    c.child_node-node-in-Value.ensures
+    (became (are_open c.requires.at_work) c.enter-in-Value.ensures.kept c.enter-in-Value.ensures.marks done))
+    c.enter-in-Value.ensures.entered
 
-pub enter_entry-requires-clause-begun : goal.enter_entry-requires-clause-begun
-enter_entry-requires-clause-begun c =
-    entry_object (def_of c.args.table.now (shape_here c.args.table.now c.args.root.0 c.args.slots.now c.args.stack.now)) (tree_here c.args.slots.now c.args.stack.now) (may_as c.requires.ready c.args.way (Way.Entry c.in-Entry.key) c.in-Entry.is c.requires.may)
+-- An entry.
 
-pub enter_entry-requires-clause-apart : goal.enter_entry-requires-clause-apart
-enter_entry-requires-clause-apart c =
-    apart_here c.args.table.now (shape_here c.args.table.now c.args.root.0 c.args.slots.now c.args.stack.now) (tree_here c.args.slots.now c.args.stack.now) (entry_object (def_of c.args.table.now (shape_here c.args.table.now c.args.root.0 c.args.slots.now c.args.stack.now)) (tree_here c.args.slots.now c.args.stack.now) (may_as c.requires.ready c.args.way (Way.Entry c.in-Entry.key) c.in-Entry.is c.requires.may)) (here_along c.law_plan_lookups.ensures.agree c.law_plan_lookups.ensures.paths c.args.table.now c.args.root c.args.plan.now c.args.slots.now c.args.stack.now c.requires.ready).suits
-
-pub enter_entry-requires-clause-counted : goal.enter_entry-requires-clause-counted
-enter_entry-requires-clause-counted c =
-    counted_here c.args.table.now (shape_here c.args.table.now c.args.root.0 c.args.slots.now c.args.stack.now) (tree_here c.args.slots.now c.args.stack.now) (entry_object (def_of c.args.table.now (shape_here c.args.table.now c.args.root.0 c.args.slots.now c.args.stack.now)) (tree_here c.args.slots.now c.args.stack.now) (may_as c.requires.ready c.args.way (Way.Entry c.in-Entry.key) c.in-Entry.is c.requires.may)) (here_along c.law_plan_lookups.ensures.agree c.law_plan_lookups.ensures.paths c.args.table.now c.args.root c.args.plan.now c.args.slots.now c.args.stack.now c.requires.ready).suits
-
-pub enter_entry-requires-clause-planned : goal.enter_entry-requires-clause-planned
-enter_entry-requires-clause-planned c =
-    is_planned c.law_plan_lookups.ensures.agree c.law_plan_lookups.ensures.paths c.requires.ready (Way.Entry c.in-Entry.key) (may_as c.requires.ready c.args.way (Way.Entry c.in-Entry.key) c.in-Entry.is c.requires.may) _ c.node_here-above.ensures
+pub enter_entry-requires : goal.enter_entry-requires
+enter_entry-requires c =
+    let way = goes (goal.at.enter_entry-requires c).After-node_here-above c.in-Entry.is in
+    record {
+      is_open = c.requires.at_work.ready.shown;
+      begun = is_object way;
+      apart = keys_are_apart way;
+      counted = keys_are_counted way;
+      node = c.node_here-above.ensures;
+      planned = is_planned way refl;
+    }
 
 pub returns-in-Entry-clause-entered : goal.returns-in-Entry-clause-entered
 returns-in-Entry-clause-entered c =
-    went_entry c.law_plan_lookups.ensures.agree c.law_plan_lookups.ensures.paths c.requires.ready c.in-Entry.key (may_as c.requires.ready c.args.way (Way.Entry c.in-Entry.key) c.in-Entry.is c.requires.may) _ c.node_here-above.ensures c.enter_entry.result c.enter_entry.new.slots
-    c.enter_entry.new.self c.args.way c.in-Entry.is c.enter_entry.ensures.entered
+    on_ok c.enter_entry.result
+    (λ done.
+    went_entry (goes (goal.at.returns-in-Entry-clause-entered c).After-node_here-above c.in-Entry.is)
+    (became_marked (are_open c.requires.at_work) c.enter_entry.ensures.marks done))
+    c.enter_entry.ensures.entered
 
-pub begin_so-requires-clause-may_have : goal.begin_so-requires-clause-may_have
-begin_so-requires-clause-may_have c =
-    may_have_one (as_form c.in-Content.form)
+-- A content.
 
-pub begin_so-requires-clause-base : goal.begin_so-requires-clause-base
-begin_so-requires-clause-base c =
-    around_base (as_form c.in-Content.form) (may_as c.requires.ready c.args.way (Way.Content c.in-Content.form c.in-Content.beginning) c.in-Content.is c.requires.may).0
+pub begin_so-requires : goal.begin_so-requires
+begin_so-requires c =
+    let may = may_go (goes (goal.at.begin_so-requires c).After-node_here-above c.in-Content.is) in
+    record {
+      at_work = c.requires.at_work;
+      may_have = may_have_one _ may.0;
+      base = around_base _ may.0;
+      some = whole_some _ _ _ may.2;
+      room = c.requires.room;
+    }
 
-pub begin_so-requires-clause-some : goal.begin_so-requires-clause-some
-begin_so-requires-clause-some c in_place =
-    whole_some c.in-Content.beginning (as_form c.in-Content.form) (tree_here c.args.slots.now c.args.stack.now) (may_as c.requires.ready c.args.way (Way.Content c.in-Content.form c.in-Content.beginning) c.in-Content.is c.requires.may).2 in_place
-
-pub enter-requires-in-Content-clause-child : goal.enter-requires-in-Content-clause-child
-enter-requires-in-Content-clause-child c =
-    has_then c.law_plan_lookups.ensures.agree c.law_plan_lookups.ensures.paths c.requires.ready (begun_by c.in-Content.beginning (as_form c.in-Content.form) 1) c.begin_so.new.slots c.in_ok-begin_so-in-Content.ensures.begun (as_form c.in-Content.form) 0 (has_content c.in-Content.beginning (as_form c.in-Content.form) (tree_here c.args.slots.now c.args.stack.now) (may_as c.requires.ready c.args.way (Way.Content c.in-Content.form c.in-Content.beginning) c.in-Content.is c.requires.may).2)
-
-pub enter-requires-in-Content-clause-node : goal.enter-requires-in-Content-clause-node
-enter-requires-in-Content-clause-node c =
-    (found_on c.args.plan.now (as_form c.in-Content.form) 0 c.child_node-node-in-Content.ensures c.node_here-above.ensures)
-    ∙ ap (λ (n : NodeId). child_node c.args.plan.now n (as_form c.in-Content.form) 0) (sym (node_then c.law_plan_lookups.ensures.agree c.law_plan_lookups.ensures.paths c.requires.ready (begun_by c.in-Content.beginning (as_form c.in-Content.form) 1) c.begin_so.new.slots c.in_ok-begin_so-in-Content.ensures.begun))
-
-pub enter-requires-in-Content-clause-planned : goal.enter-requires-in-Content-clause-planned
-enter-requires-in-Content-clause-planned c =
-    is_planned c.law_plan_lookups.ensures.agree c.law_plan_lookups.ensures.paths c.requires.ready (Way.Content c.in-Content.form c.in-Content.beginning) (may_as c.requires.ready c.args.way (Way.Content c.in-Content.form c.in-Content.beginning) c.in-Content.is c.requires.may) _ (found_on c.args.plan.now (as_form c.in-Content.form) 0 c.child_node-node-in-Content.ensures c.node_here-above.ensures)
-
-pub enter-requires-in-Content-clause-map_hole : goal.enter-requires-in-Content-clause-map_hole
-enter-requires-in-Content-clause-map_hole c =
-    none_then c.law_plan_lookups.ensures.agree c.law_plan_lookups.ensures.paths c.requires.ready (begun_by c.in-Content.beginning (as_form c.in-Content.form) 1) c.begin_so.new.slots c.in_ok-begin_so-in-Content.ensures.begun (as_form c.in-Content.form) 0 (has_content c.in-Content.beginning (as_form c.in-Content.form) (tree_here c.args.slots.now c.args.stack.now) (may_as c.requires.ready c.args.way (Way.Content c.in-Content.form c.in-Content.beginning) c.in-Content.is c.requires.may).2)
-    (around_map (as_form c.in-Content.form) (may_as c.requires.ready c.args.way (Way.Content c.in-Content.form c.in-Content.beginning) c.in-Content.is c.requires.may).0)
+pub enter-requires-in-Content : goal.enter-requires-in-Content
+enter-requires-in-Content c =
+    let way = goes (goal.at.enter-requires-in-Content c).After-node_here-above c.in-Content.is in
+    let may = may_go way in
+    let now = c.in_ok-begin_so-in-Content.ensures.changed in
+    let shown = c.requires.at_work.ready.shown in
+    record {
+      is_open = now.stands.open_still;
+      kept = now.kept;
+      child = has_then shown _ now _ _ (has_content _ _ _ may.2);
+      node = node_after shown _ now (as_form c.in-Content.form) 0 (node_is way c.child_node-node-in-Content.ensures);
+      planned = is_planned way c.child_node-node-in-Content.ensures;
+      map_hole = none_then shown _ now _ _ (has_content _ _ _ may.2) (around_map _ may.0);
+    }
 
 pub returns-in_ok-begin_so-in-Content-clause-entered : goal.returns-in_ok-begin_so-in-Content-clause-entered
 returns-in_ok-begin_so-in-Content-clause-entered c =
-    went c.law_plan_lookups.ensures.agree c.law_plan_lookups.ensures.paths c.requires.ready (Way.Content c.in-Content.form c.in-Content.beginning) (may_as c.requires.ready c.args.way (Way.Content c.in-Content.form c.in-Content.beginning) c.in-Content.is c.requires.may) _ (found_on c.args.plan.now (as_form c.in-Content.form) 0 c.child_node-node-in-Content.ensures c.node_here-above.ensures) c.enter-in-Content.result c.enter-in-Content.new.slots
-    c.enter-in-Content.new.self c.args.way c.in-Content.is
-    (went_then c.law_plan_lookups.ensures.agree c.law_plan_lookups.ensures.paths c.requires.ready (begun_by c.in-Content.beginning (as_form c.in-Content.form) 1) c.begin_so.new.slots c.in_ok-begin_so-in-Content.ensures.begun c.enter-in-Content.result c.enter-in-Content.new.slots c.enter-in-Content.new.self 0
-    (change_child 0 (enter (def_of c.args.table.now (shape_of c.args.plan.now c.child_node-node-in-Content.result))))
-    c.enter-in-Content.ensures.entered)
+    let now = c.in_ok-begin_so-in-Content.ensures.changed in
+    on_ok c.enter-in-Content.result
+    (λ done.
+    went (goes (goal.at.returns-in_ok-begin_so-in-Content-clause-entered c).After-node_here-above c.in-Content.is)
+    c.child_node-node-in-Content.ensures
+    (went_after c.requires.at_work.ready.shown _ now _ _
+    (became (open_then now) c.enter-in-Content.ensures.kept c.enter-in-Content.ensures.marks done)))
+    c.enter-in-Content.ensures.entered

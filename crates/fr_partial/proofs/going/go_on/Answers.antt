@@ -1,43 +1,41 @@
-use Rattle.std.proofs.Common.{List, [], ◌∷◌, ◌++◌, sym, ap, ◌∙◌, subst}
+use Rattle.std.proofs.Common.{List, [], ◌∷◌, ◌++◌, refl, sym, ap, ◌∙◌}
 use Rattle.fr_shape.specs.Hooks.{no_hooks}
+use Rattle.fr_shape.specs.Look.{def_of, Table}
 use Rattle.fr_path.specs.declared.path_steps.PathStep.{PathStep}
-use Rattle.fr_model.specs.Entering.{entered_on, number_on}
-use Rattle.fr_model.specs.Paths.{path_of}
+use Rattle.fr_model.specs.PathLaws.{step_on}
 use Rattle.fr_model.specs.Tree.{cursor_tree, State}
-use Rattle.fr_plan.specs.TypePlan.{Plan}
-use Rattle.fr_store.specs.Stands.{IsOpen}
 use Rattle.fr_partial.specs.declared.work.Parts.{Parts}
-use Rattle.fr_partial.specs.Modes.{mode_of}
-use Rattle.fr_partial.specs.Moving.{gone, onward, step_told}
+use Rattle.fr_partial.specs.Moving.{onward}
 use Rattle.fr_partial.specs.Sites.{shape_at}
 use Rattle.fr_partial.specs.Works.{site}
-use Rattle.fr_partial.proofs.GoingLaws.{step_is}
-use Rattle.fr_partial.proofs.StateLaws.{order_after, state_is, stores_after, underway_after}
+use Rattle.fr_partial.proofs.ContentLaws.{suits_here}
+use Rattle.fr_partial.proofs.GoingLaws.{admitted, step_is}
+use Rattle.fr_partial.proofs.StateLaws.{order, site_moved, sound_moved}
 use Rattle.fr_partial.proofs.going.go_on.Goals as goal
+
+pub enter-requires-clause-may : goal.enter-requires-clause-may
+enter-requires-clause-may c = c.requires.meant.1.may
 
 pub returns-clause-sound : goal.returns-clause-sound
 returns-clause-sound c =
     let parts : Parts = c.args.parts.now in
-    let state : State = (site c.args.parts.now).state in
-    let next : State = gone parts.table.now (shape_at (site parts)) state c.args.way in
-    let meant = c.requires.meant in
-    underway_after c.requires.sound c.push.new.self c.enter.new.slots c.enter.new.stack c.enter.new.store
-    (mode_of parts.mode) c.saturating_add-parts.result next
-    (subst (λ (p : Plan). IsOpen p c.enter.new.slots c.enter.new.stack) c.core-plan.ensures
-    c.in_ok-enter.ensures.entered.open_still)
-    c.in_ok-enter.ensures.stored
-    (stores_after (mode_of parts.mode) parts.store c.enter.new.store parts.slots c.enter.new.slots
-    c.requires.sound.stores c.requires.sound.kept c.in_ok-enter.ensures.stored c.in_ok-enter.ensures.marks)
-    (state_is _ c.enter.new.slots c.enter.new.stack _ _ (mode_of parts.mode) c.saturating_add-parts.result _
-    c.in_ok-enter.ensures.entered c.saturating_add-parts.ensures)
-    (order_after c.requires.sound c.law_well.ensures.in_order no_hooks next meant.0 meant.1.fitting (meant.1.means no_hooks))
+    let state : State = (site parts).state in
+    let table : Table = parts.frames.table.now in
+    let ordered = order c.requires.sound in
+    let suits = suits_here (site parts) ordered in
+    let may = c.requires.meant.1.may in
+    let here = cursor_tree state in
+    let s = shape_at (site parts) in
+    sound_moved c.requires.sound c.core.ensures c.in_ok-enter.ensures.entered c.saturating_add-parts.ensures
+    c.law_well.ensures.in_order c.law_well.ensures.rests no_hooks c.requires.meant refl c.push.new.self
     (c.in_ok-push.ensures.appended
-    ∙ ap (λ (step : PathStep). parts.path ++ step ∷ []) c.in_ok-step.ensures.step
-    ∙ ap (λ (steps : List PathStep). steps ++ step_told c.args.way ∷ []) c.requires.sound.path
-    ∙ ap (λ (step : PathStep). path_of state ++ step ∷ [])
-    (sym
-    (step_is c.law_plan_lookups.ensures.agree c.law_plan_lookups.ensures.paths c.requires.sound.ready c.args.way meant.1.may))
+    ∙ ap (λ (step : PathStep). parts.path ++ step ∷ [])
+    (c.in_ok-step.ensures.step ∙ sym (step_is table s here suits c.args.way may))
+    ∙ ap (λ (steps : List PathStep). steps ++ step_on (def_of table s) here (onward c.args.way here) ∷ []) c.requires.sound.path
     ∙ sym
-    (c.law_paths.ensures.enter state
-    (entered_on parts.table.now (shape_at (site parts)) (onward c.args.way (cursor_tree state)))
-    (number_on (onward c.args.way (cursor_tree state)) (cursor_tree state)) c.requires.sound.leads))
+    (c.law_paths.ensures.enter_way table parts.frames.root.0 state (onward c.args.way here) ordered
+    (admitted table s here suits c.args.way may)))
+
+pub returns-clause-moved : goal.returns-clause-moved
+returns-clause-moved c =
+    site_moved c.requires.sound c.core.ensures c.in_ok-enter.ensures.entered c.saturating_add-parts.ensures c.push.new.self

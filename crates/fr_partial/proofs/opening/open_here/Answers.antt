@@ -1,43 +1,44 @@
-use Rattle.std.proofs.Common.{refl, sym, ◌∙◌, subst}
+use Rattle.std.proofs.Common.{◌≡◌, ℕ, true, refl, ap, sym, ◌∙◌}
+use Rattle.fr_shape.specs.declared.shape.Def.{Def}
 use Rattle.fr_shape.specs.Look.{def_of}
-use Rattle.fr_model.specs.Tree.{Tree}
-use Rattle.fr_frame.specs.Bodies.{own_tree}
-use Rattle.fr_frame.specs.Heap.{as_form, body_of}
-use Rattle.fr_store.specs.Moves.{cursor_in, tree_here, tree_in_slots, IsOpenAt}
-use Rattle.fr_partial.specs.Underway.{shape_here}
+use Rattle.fr_model.specs.Step.{opened, opened_as, opened_value, parts_as}
+use Rattle.fr_model.specs.Tree.{Form, form_of, Tree, entered, whole, begun, holes}
+use Rattle.fr_frame.specs.Heap.{as_form}
+use Rattle.fr_partial.specs.Openings.{is_begun, MayOpenAs}
+use Rattle.fr_partial.specs.Underway.{top_shape}
 use Rattle.fr_partial.proofs.HereLaws.{may_open_here}
+use Rattle.fr_partial.proofs.KeepLaws.{are_open, became_marked, changed_as, unchanged_as}
 use Rattle.fr_partial.proofs.KeptLaws.{on_ok}
-use Rattle.fr_partial.proofs.OpeningLaws.{opened_so, stays_so}
 use Rattle.fr_partial.proofs.LookLaws.{begun_alike}
 use Rattle.fr_partial.proofs.opening.open_here.Goals as goal
 
+-- a place that is opened so is opened as its definition tells
+opened_alike : (def : Def) (form : Form) (count : ℕ) (tree : Tree) → MayOpenAs def form count tree
+    → opened_as form count tree ≡ opened def tree
+opened_alike def form count entered may =
+    ap (λ (f : Form). begun f (holes count)) may.0 ∙ ap (λ (n : ℕ). begun (form_of def) (holes n)) may.1
+opened_alike def form count (whole v) may = ap (λ (f : Form). opened_value f v (parts_as f v)) may.0
+opened_alike def form count _ may = refl
+
+-- one that is begun stays as it is
+begun_stays : (def : Def) (tree : Tree) → is_begun tree ≡ true → tree ≡ opened def tree
+begun_stays def (begun form ts) is = refl
+begun_stays def _ is = cc
+
 pub begin-requires-clause-may_open : goal.begin-requires-clause-may_open
-begin-requires-clause-may_open c =
-    may_open_here c.args.plan.now c.args.slots.now c.args.stack.now c.requires.ready.shown
-    (def_of c.args.table.now (shape_here c.args.table.now c.args.root.0 c.args.slots.now c.args.stack.now))
-    (as_form c.args.opening.form) c.args.opening.count c.requires.may_open
+begin-requires-clause-may_open c = may_open_here c.requires.at_work.ready.shown _ _ _ c.requires.may_open
 
-pub returns-then-begun-clause-opened : goal.returns-then-begun-clause-opened
-returns-then-begun-clause-opened c = record {
-  open_still = c.requires.ready.shown;
-  cursor = refl;
-  built =
-      stays_so (def_of c.args.table.now (shape_here c.args.table.now c.args.root.0 c.args.slots.now c.args.stack.now))
-      (cursor_in c.args.slots.now c.args.stack.now) (tree_in_slots c.args.slots.now c.args.stack.now)
-      (sym
-      (begun_alike (own_tree (body_of c.place_here.result.1.now)) (tree_here c.args.slots.now c.args.stack.now)
-      c.place_here.ensures.piece)
-      ∙ sym c.is_begun-begun.ensures
-      ∙ c.if-begun.true);
-}
+pub returns-then-begun-clause-changed : goal.returns-then-begun-clause-changed
+returns-then-begun-clause-changed c =
+    unchanged_as (are_open c.requires.at_work) _
+    (begun_stays _ _ (sym (begun_alike _ _ c.place_here.ensures.piece) ∙ sym c.is_begun-begun.ensures ∙ c.if-begun.true))
 
-pub returns-else-begun-clause-opened : goal.returns-else-begun-clause-opened
-returns-else-begun-clause-opened c =
+pub returns-else-begun-clause-changed : goal.returns-else-begun-clause-changed
+returns-else-begun-clause-changed c =
     on_ok c.begin.result
-    (subst (λ (t : Tree). IsOpenAt c.args.plan.now c.begin.new.slots c.args.stack.now
-    (cursor_in c.args.slots.now c.args.stack.now) t)
-    (opened_so
-    (def_of c.args.table.now (shape_here c.args.table.now c.args.root.0 c.args.slots.now c.args.stack.now))
-    (as_form c.args.opening.form) c.args.opening.count (cursor_in c.args.slots.now c.args.stack.now)
-    (tree_in_slots c.args.slots.now c.args.stack.now) c.requires.may_open))
+    (λ begun.
+    changed_as (opened_as (as_form c.args.opening.form) c.args.opening.count)
+    (opened (def_of c.args.frames.now.table.now (top_shape c.args.frames.now)))
+    (opened_alike _ _ _ _ c.requires.may_open)
+    (became_marked (are_open c.requires.at_work) c.begin.ensures.marks begun))
     c.begin.ensures.begun

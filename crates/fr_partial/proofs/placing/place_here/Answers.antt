@@ -4,26 +4,18 @@ use Rattle.fr_partial.proofs.placing.place_here.Goals as goal
 pub node-requires : goal.node-requires
 node-requires c = record {
   inside =
-      found_inside c.law_plan_lookups.ensures.agree c.law_plan_lookups.ensures.paths c.args.table.now c.args.root
-      c.args.plan.now c.args.slots.now c.args.stack.now c.requires c.in-Some.top.0 c.in-Some.ensures.last
-      c.in-Some-place.place.now c.in-Some-place.ensures.place;
+      found_inside c.law_plan_lookups.ensures.agree c.law_plan_lookups.ensures.paths _ _ _ _ _ c.requires.ready
+      c.in-Some.ensures.last c.in-Some-place.place.now c.in-Some-place.ensures.place;
 }
 
 pub unreachable-requires-in-None : goal.unreachable-requires-in-None
-unreachable-requires-in-None c =
-    none_found c.args.plan.now c.args.slots.now c.args.stack.now c.requires.shown c.in-Some.top.0 c.in-Some.ensures.last
-    c.in-None.ensures.place
+unreachable-requires-in-None c = none_found _ _ _ c.requires.ready.shown _ c.in-Some.ensures.last c.in-None.ensures.place
 
 pub returns : goal.returns
 returns c = record {
   shape =
-      found_shape c.law_plan_lookups.ensures.agree c.law_plan_lookups.ensures.paths c.args.table.now c.args.root
-      c.args.plan.now c.args.slots.now c.args.stack.now c.requires c.in-Some.top.0 c.in-Some.ensures.last
-      c.in-Some-place.place.now c.in-Some-place.ensures.place c.node.result.now c.node.ensures.node;
-  last =
-      lacks_found c.args.plan.now c.args.slots.now c.args.stack.now c.requires.shown c.in-Some.top.0 c.in-Some.ensures.last
-      c.in-Some-place.place.now c.in-Some-place.ensures.place;
-  piece =
-      looks_found c.args.plan.now c.args.slots.now c.args.stack.now c.requires.shown c.in-Some.top.0 c.in-Some.ensures.last
-      c.in-Some-place.place.now c.in-Some-place.ensures.place;
+      found_shape c.law_plan_lookups.ensures.agree c.law_plan_lookups.ensures.paths _ _ _ _ _ c.requires.ready
+      c.in-Some.ensures.last c.in-Some-place.place.now c.in-Some-place.ensures.place c.node.result.now c.node.ensures.node;
+  last = lacks_found c.requires.ready.shown c.in-Some.ensures.last c.in-Some-place.place.now c.in-Some-place.ensures.place;
+  piece = looks_found c.requires.ready.shown c.in-Some.ensures.last c.in-Some-place.place.now c.in-Some-place.ensures.place;
 }

@@ -1,65 +1,38 @@
-use Rattle.std.proofs.Common.{sym, ◌∙◌, subst, unwrap_or}
+use Rattle.std.proofs.Common.{◌≡◌, is_some, sym, ◌∙◌}
 use Rattle.fr_model.specs.Contents.{kept_slice, slice_anew}
-use Rattle.fr_model.specs.Tree.{as_slice, Tree}
-use Rattle.fr_frame.specs.Bodies.{own_tree}
-use Rattle.fr_frame.specs.Heap.{body_of}
-use Rattle.fr_store.specs.Moves.{begun_as, cursor_in, tree_here, tree_in_slots, IsOpenAt}
+use Rattle.fr_model.specs.Tree.{as_slice}
+use Rattle.fr_store.specs.Moves.{begun_as}
 use Rattle.fr_partial.specs.Modes.{mode_of}
-use Rattle.fr_partial.proofs.KeepLaws.{kept_anew, kept_same, marks_kept, room_here}
+use Rattle.fr_partial.specs.Underway.{top_tree}
+use Rattle.fr_partial.proofs.KeepLaws.{are_open, became_marked, changed_as}
 use Rattle.fr_partial.proofs.KeptLaws.{on_ok}
 use Rattle.fr_partial.proofs.LookLaws.{slice_alike}
 use Rattle.fr_partial.proofs.SliceLaws.{slice_kept, slice_there, starts_anew}
-use Rattle.fr_partial.proofs.TreeLaws.{alike_here}
 use Rattle.fr_partial.proofs.slices.begin_slice.Goals as goal
+use Rattle.fr_partial.proofs.slices.begin_slice.Goals.{After-keeps_items-kept}
+
+-- whether it keeps its items
+kept_is : (c : After-keeps_items-kept) → is_some (kept_slice (mode_of c.args.frames.now.mode) (top_tree c.args.frames.now))
+    ≡ c.keeps_items-kept.result
+kept_is c =
+    sym (slice_alike _ (top_tree c.args.frames.now) c.place_here.ensures.piece (mode_of c.args.frames.now.mode))
+    ∙ sym c.keeps_items-kept.ensures
 
 pub reform-requires-clause-slice : goal.reform-requires-clause-slice
 reform-requires-clause-slice c =
-    let here : Tree = tree_here c.args.slots.now c.args.stack.now in
-    slice_there (mode_of c.args.mode) here
-    (sym (slice_alike (own_tree (body_of c.place_here.result.1.now)) here c.place_here.ensures.piece (mode_of c.args.mode))
-    ∙ sym c.keeps_items-kept.ensures ∙ c.if-kept.true)
+    slice_there _ _ (kept_is (goal.at.reform-requires-clause-slice c).After-keeps_items-kept ∙ c.if-kept.true)
 
-pub restart-requires-clause-room : goal.restart-requires-clause-room
-restart-requires-clause-room c =
-    room_here c.args.plan.now c.args.slots.now c.args.stack.now c.args.ledger.now c.requires.ready.shown c.requires.room
+pub returns-then-kept-clause-changed : goal.returns-then-kept-clause-changed
+returns-then-kept-clause-changed c =
+    changed_as (begun_as as_slice) _
+    (slice_kept _ _ (kept_is (goal.at.returns-then-kept-clause-changed c).After-keeps_items-kept ∙ c.if-kept.true))
+    (became_marked (are_open c.requires.at_work) c.reform.ensures.marks c.reform.ensures.reformed)
 
-pub returns-then-kept-clause-begun : goal.returns-then-kept-clause-begun
-returns-then-kept-clause-begun c =
-    let here : Tree = tree_here c.args.slots.now c.args.stack.now in
-    subst (λ (t : Tree). IsOpenAt c.args.plan.now c.reform.new.slots c.args.stack.now
-    (cursor_in c.args.slots.now c.args.stack.now) t)
-    (alike_here (cursor_in c.args.slots.now c.args.stack.now) (begun_as as_slice)
-    (λ (old : Tree). unwrap_or (kept_slice (mode_of c.args.mode) here) slice_anew)
-    (tree_in_slots c.args.slots.now c.args.stack.now)
-    (slice_kept (mode_of c.args.mode) here
-    (sym (slice_alike (own_tree (body_of c.place_here.result.1.now)) here c.place_here.ensures.piece (mode_of c.args.mode))
-    ∙ sym c.keeps_items-kept.ensures ∙ c.if-kept.true)))
-    c.reform.ensures.reformed
-
-pub returns-then-kept-clause-stored : goal.returns-then-kept-clause-stored
-returns-then-kept-clause-stored c =
-    marks_kept c.args.store.now c.args.slots.now c.reform.new.slots c.reform.ensures.marks c.requires.stored
-
-pub returns-then-kept-clause-tokens : goal.returns-then-kept-clause-tokens
-returns-then-kept-clause-tokens c =
-    kept_same c.args.slots.now c.reform.new.slots c.args.ledger.now c.reform.ensures.tokens
-
-pub returns-else-kept-clause-begun : goal.returns-else-kept-clause-begun
-returns-else-kept-clause-begun c =
-    let here : Tree = tree_here c.args.slots.now c.args.stack.now in
-    on_ok c.restart.result
-    (subst (λ (t : Tree). IsOpenAt c.args.plan.now c.restart.new.slots c.args.stack.now
-    (cursor_in c.args.slots.now c.args.stack.now) t)
-    (alike_here (cursor_in c.args.slots.now c.args.stack.now) (λ (old : Tree). slice_anew)
-    (λ (old : Tree). unwrap_or (kept_slice (mode_of c.args.mode) here) slice_anew)
-    (tree_in_slots c.args.slots.now c.args.stack.now)
-    (starts_anew (mode_of c.args.mode) here
-    (sym (slice_alike (own_tree (body_of c.place_here.result.1.now)) here c.place_here.ensures.piece (mode_of c.args.mode))
-    ∙ sym c.keeps_items-kept.ensures ∙ c.if-kept.false))))
-    c.restart.ensures.restarted
-
-pub returns-else-kept-clause-tokens : goal.returns-else-kept-clause-tokens
-returns-else-kept-clause-tokens c =
-    kept_anew c.args.plan.now c.args.slots.now c.restart.new.slots c.args.stack.now as_slice 0
-    c.args.ledger.now c.restart.new.ledger c.restart.result c.requires.ready.shown c.restart.ensures.restarted
-    c.restart.ensures.released c.restart.ensures.tokens
+pub returns-else-kept-clause-changed : goal.returns-else-kept-clause-changed
+returns-else-kept-clause-changed c =
+    on_ok c.begin_so.result
+    (λ done.
+    changed_as (λ old. slice_anew) _
+    (starts_anew _ _ (kept_is (goal.at.returns-else-kept-clause-changed c).After-keeps_items-kept ∙ c.if-kept.false))
+    done)
+    c.begin_so.ensures.changed

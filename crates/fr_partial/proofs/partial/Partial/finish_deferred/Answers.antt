@@ -1,16 +1,10 @@
 use Rattle.std.proofs.Common.{refl}
 use Rattle.fr_model.specs.Commands.{Call}
-use Rattle.fr_partial.proofs.CallLaws.{decided_of, nothing_spent, some_call}
+use Rattle.fr_partial.proofs.CallLaws.{called, meant_of}
 use Rattle.fr_partial.proofs.partial.Partial.finish_deferred.Goals as goal
 
 pub run-requires-clause-meant : goal.run-requires-clause-meant
-run-requires-clause-meant g c =
-    some_call _ Call.FinishDeferred c.finish_deferred_move-decided.result
-    (decided_of c.self.inside.work c.self.view_is Call.FinishDeferred c.finish_deferred_move-decided.result c.finish_deferred_move-decided.ensures.decides)
+run-requires-clause-meant g c = meant_of c.self.view_is Call.FinishDeferred _ c.finish_deferred_move-decided.ensures.decides
 
 pub returns : goal.returns
-returns g c = record {
-  call = c.run.ensures.call Call.FinishDeferred
-      (decided_of c.self.inside.work c.self.view_is Call.FinishDeferred c.finish_deferred_move-decided.result c.finish_deferred_move-decided.ensures.decides)
-      c.args.ledger.now (nothing_spent Call.FinishDeferred (λ t. refl) c.finish_deferred_move-decided.result c.args.ledger.now);
-}
+returns g c = record { call = called c.self.view_is Call.FinishDeferred _ c.finish_deferred_move-decided.ensures.decides (λ t. refl) _ c.run.ensures.call }

@@ -1,15 +1,10 @@
 use Rattle.std.proofs.Common.{refl}
 use Rattle.fr_model.specs.Commands.{Call}
-use Rattle.fr_partial.proofs.CallLaws.{decided_of, nothing_spent, some_call}
+use Rattle.fr_partial.proofs.CallLaws.{called, meant_of}
 use Rattle.fr_partial.proofs.partial.Partial.init_list.Goals as goal
 
 pub run-requires-clause-meant : goal.run-requires-clause-meant
-run-requires-clause-meant g c =
-    some_call _ Call.InitList c.init_list_move-decided.result
-    (decided_of c.self.inside.work c.self.view_is Call.InitList c.init_list_move-decided.result c.init_list_move-decided.ensures.decides)
+run-requires-clause-meant g c = meant_of c.self.view_is Call.InitList _ c.init_list_move-decided.ensures.decides
 
 pub returns-clause-call : goal.returns-clause-call
-returns-clause-call g c =
-    c.run.ensures.call Call.InitList
-    (decided_of c.self.inside.work c.self.view_is Call.InitList c.init_list_move-decided.result c.init_list_move-decided.ensures.decides)
-    c.args.ledger.now (nothing_spent Call.InitList (λ t. refl) c.init_list_move-decided.result c.args.ledger.now)
+returns-clause-call g c = called c.self.view_is Call.InitList _ c.init_list_move-decided.ensures.decides (λ t. refl) _ c.run.ensures.call

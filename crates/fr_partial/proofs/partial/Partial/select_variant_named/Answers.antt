@@ -1,16 +1,10 @@
 use Rattle.std.proofs.Common.{refl}
 use Rattle.fr_model.specs.Commands.{Call}
-use Rattle.fr_partial.proofs.CallLaws.{decided_of, nothing_spent, some_call}
+use Rattle.fr_partial.proofs.CallLaws.{called, meant_of}
 use Rattle.fr_partial.proofs.partial.Partial.select_variant_named.Goals as goal
 
 pub run-requires-clause-meant : goal.run-requires-clause-meant
-run-requires-clause-meant g c =
-    some_call _ (Call.SelectVariantNamed c.args.variant_name.now) c.select_variant_named_move-decided.result
-    (decided_of c.self.inside.work c.self.view_is (Call.SelectVariantNamed c.args.variant_name.now) c.select_variant_named_move-decided.result c.select_variant_named_move-decided.ensures.decides)
+run-requires-clause-meant g c = meant_of c.self.view_is (Call.SelectVariantNamed c.args.variant_name.now) _ c.select_variant_named_move-decided.ensures
 
 pub returns : goal.returns
-returns g c = record {
-  call = c.run.ensures.call (Call.SelectVariantNamed c.args.variant_name.now)
-      (decided_of c.self.inside.work c.self.view_is (Call.SelectVariantNamed c.args.variant_name.now) c.select_variant_named_move-decided.result c.select_variant_named_move-decided.ensures.decides)
-      c.args.ledger.now (nothing_spent (Call.SelectVariantNamed c.args.variant_name.now) (λ t. refl) c.select_variant_named_move-decided.result c.args.ledger.now);
-}
+returns g c = record { call = called c.self.view_is (Call.SelectVariantNamed c.args.variant_name.now) _ c.select_variant_named_move-decided.ensures (λ t. refl) _ c.run.ensures.call }

@@ -1,16 +1,10 @@
 use Rattle.std.proofs.Common.{refl}
 use Rattle.fr_model.specs.Commands.{Call}
-use Rattle.fr_partial.proofs.CallLaws.{decided_of, nothing_spent, some_call}
+use Rattle.fr_partial.proofs.CallLaws.{called, meant_of}
 use Rattle.fr_partial.proofs.partial.Partial.set_nth_field_to_default.Goals as goal
 
 pub run-requires-clause-meant : goal.run-requires-clause-meant
-run-requires-clause-meant g c =
-    some_call _ (Call.SetNthFieldToDefault c.args.idx) c.set_nth_field_to_default_move-decided.result
-    (decided_of c.self.inside.work c.self.view_is (Call.SetNthFieldToDefault c.args.idx) c.set_nth_field_to_default_move-decided.result c.set_nth_field_to_default_move-decided.ensures.decides)
+run-requires-clause-meant g c = meant_of c.self.view_is (Call.SetNthFieldToDefault c.args.idx) _ c.set_nth_field_to_default_move-decided.ensures
 
 pub returns : goal.returns
-returns g c = record {
-  call = c.run.ensures.call (Call.SetNthFieldToDefault c.args.idx)
-      (decided_of c.self.inside.work c.self.view_is (Call.SetNthFieldToDefault c.args.idx) c.set_nth_field_to_default_move-decided.result c.set_nth_field_to_default_move-decided.ensures.decides)
-      c.args.ledger.now (nothing_spent (Call.SetNthFieldToDefault c.args.idx) (λ t. refl) c.set_nth_field_to_default_move-decided.result c.args.ledger.now);
-}
+returns g c = record { call = called c.self.view_is (Call.SetNthFieldToDefault c.args.idx) _ c.set_nth_field_to_default_move-decided.ensures (λ t. refl) _ c.run.ensures.call }

@@ -1,33 +1,20 @@
 use Rattle.std.proofs.Common.{refl, sym, ◌∙◌}
-use Rattle.fr_model.specs.Collections.{key_refusal}
 use Rattle.fr_model.specs.Commands.{Call}
-use Rattle.fr_model.specs.Entering.{Way as Onward, enters}
-use Rattle.fr_model.specs.Tree.{cursor_tree}
-use Rattle.fr_frame.specs.Bodies.{own_tree}
-use Rattle.fr_frame.specs.Heap.{as_form, body_of}
+use Rattle.fr_frame.specs.Heap.{as_form}
 use Rattle.fr_partial.specs.declared.moves.Way.{Way}
-use Rattle.fr_partial.specs.Sites.{shape_at}
-use Rattle.fr_partial.proofs.DecidingLaws.{admitted, cannot, goes}
-use Rattle.fr_partial.proofs.SeenLaws.{at_place, items_seen, key_seen}
+use Rattle.fr_partial.proofs.DecidingLaws.{cannot, goes_unless}
+use Rattle.fr_partial.proofs.SeenLaws.{items_seen, key_seen}
 use Rattle.fr_partial.proofs.work.Work.begin_key_move.Goals as goal
 
 pub returns-in-Ok : goal.returns-in-Ok
-returns-in-Ok c = record {
-  decides =
-      let at = at_place c.args.self.now refl c.place.result.0 (own_tree (body_of c.place.result.1.now)) c.place.ensures.shape
-      c.place.ensures.piece in
-      let may = sym (key_seen at _ c.place.ensures.last) ∙ c.in-Ok.ensures.admitted in
-      goes c.args.self.now Call.BeginKey (Way.Key c.in-Ok.opening) tt (λ t. refl)
-      (items_seen at (as_form c.in-Ok.opening.form) c.in-Ok.opening.count c.in-Ok.ensures.items, c.in-Ok.ensures.map, may)
-      (λ hooks. admitted (shape_at c.args.self.now) (key_refusal (cursor_tree c.args.self.now.state)) _ may);
-}
+returns-in-Ok c =
+    let at = c.place.ensures.seen in
+    let may = c.in-Ok.ensures.refused ∙ key_seen at _ c.place.ensures.last in
+    goes_unless c.args.self.now Call.BeginKey (Way.Key c.in-Ok.opening) refl (λ hooks. refl) may
+    (items_seen at (as_form c.in-Ok.opening.form) c.in-Ok.opening.count c.in-Ok.ensures.items, c.in-Ok.ensures.map, sym may)
 
 pub returns-in-Err : goal.returns-in-Err
-returns-in-Err c = record {
-  decides =
-      let at = at_place c.args.self.now refl c.place.result.0 (own_tree (body_of c.place.result.1.now)) c.place.ensures.shape
-      c.place.ensures.piece in
-      cannot at Call.BeginKey (key_refusal (cursor_tree c.args.self.now.state))
-      (enters c.args.self.now.shapes (shape_at c.args.self.now) c.args.self.now.state Onward.Key) c.in-Err.operation (λ hooks. refl)
-      (sym (key_seen at _ c.place.ensures.last) ∙ c.in-Err.ensures.refused);
-}
+returns-in-Err c =
+    let at = c.place.ensures.seen in
+    cannot at Call.BeginKey _ c.in-Err.operation (λ hooks. refl)
+    (c.in-Err.ensures.refused ∙ key_seen at _ c.place.ensures.last)

@@ -1,43 +1,21 @@
 use Rattle.std.proofs.Common.{inl, refl, sym, ◌∙◌}
-use Rattle.fr_shape.specs.Look.{def_of}
 use Rattle.fr_model.specs.Commands.{Call}
-use Rattle.fr_model.specs.Entering.{Way as Onward, enters}
-use Rattle.fr_model.specs.Items.{item_refusal}
-use Rattle.fr_model.specs.Tree.{cursor_tree}
-use Rattle.fr_frame.specs.Bodies.{own_tree}
-use Rattle.fr_frame.specs.Heap.{as_form, body_of}
+use Rattle.fr_frame.specs.Heap.{as_form}
 use Rattle.fr_partial.specs.declared.moves.Way.{Way}
-use Rattle.fr_partial.specs.Sites.{shape_at}
-use Rattle.fr_partial.proofs.DecidingLaws.{admitted, cannot, goes}
+use Rattle.fr_partial.proofs.DecidingLaws.{cannot, goes_unless}
 use Rattle.fr_partial.proofs.ListLaws.{grows}
-use Rattle.fr_partial.proofs.SeenLaws.{at_place, item_seen, items_seen}
+use Rattle.fr_partial.proofs.SeenLaws.{item_seen, items_seen}
 use Rattle.fr_partial.proofs.work.Work.begin_list_item_move.Goals as goal
 
 pub returns-in-Ok : goal.returns-in-Ok
-returns-in-Ok c = record {
-  decides =
-      let at = at_place c.args.self.now c.table.ensures.table c.place.result.0 (own_tree (body_of c.place.result.1.now)) c.place.ensures.shape
-      c.place.ensures.piece in
-      let may = sym (item_seen at) ∙ c.in-Ok.ensures.admitted in
-      let has = items_seen at (as_form c.in-Ok.opening.form) c.in-Ok.opening.count c.in-Ok.ensures.items in
-      goes c.args.self.now Call.BeginListItem (Way.Item c.in-Ok.opening) tt (λ t. refl) (
-        has,
-        grows (def_of c.args.self.now.shapes (shape_at c.args.self.now)) (as_form c.in-Ok.opening.form) c.in-Ok.opening.count
-            (cursor_tree c.args.self.now.state) has may,
-        inl may,
-      )
-      (λ hooks.
-      admitted (shape_at c.args.self.now)
-      (item_refusal (def_of c.args.self.now.shapes (shape_at c.args.self.now)) (cursor_tree c.args.self.now.state)) _ may);
-}
+returns-in-Ok c =
+    let at = c.place.ensures.seen in
+    let may = c.in-Ok.ensures.refused ∙ item_seen at in
+    let has = items_seen at (as_form c.in-Ok.opening.form) c.in-Ok.opening.count c.in-Ok.ensures.items in
+    goes_unless c.args.self.now Call.BeginListItem (Way.Item c.in-Ok.opening) refl (λ hooks. refl) may
+    (has, grows _ _ _ _ has (sym may), inl (sym may))
 
 pub returns-in-Err : goal.returns-in-Err
-returns-in-Err c = record {
-  decides =
-      let at = at_place c.args.self.now c.table.ensures.table c.place.result.0 (own_tree (body_of c.place.result.1.now)) c.place.ensures.shape
-      c.place.ensures.piece in
-      cannot at Call.BeginListItem
-      (item_refusal (def_of c.args.self.now.shapes (shape_at c.args.self.now)) (cursor_tree c.args.self.now.state))
-      (enters c.args.self.now.shapes (shape_at c.args.self.now) c.args.self.now.state Onward.Item) c.in-Err.operation
-      (λ hooks. refl) (sym (item_seen at) ∙ c.in-Err.ensures.refused);
-}
+returns-in-Err c =
+    let at = c.place.ensures.seen in
+    cannot at Call.BeginListItem _ c.in-Err.operation (λ hooks. refl) (c.in-Err.ensures.refused ∙ item_seen at)

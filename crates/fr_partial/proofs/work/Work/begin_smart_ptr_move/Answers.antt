@@ -1,65 +1,45 @@
-use Rattle.std.proofs.Common.{◌≡◌, false, None, refl, sym, ◌∙◌}
+use Rattle.std.proofs.Common.{◌≡◌, true, false, None, refl, sym, ◌∙◌}
 use Rattle.fr_shape.specs.Look.{def_of}
 use Rattle.fr_model.specs.Commands.{Call}
 use Rattle.fr_model.specs.Contents.{pointer_refusal, points_to_slice}
-use Rattle.fr_model.specs.Step.{begins_pointer, content_kept}
+use Rattle.fr_model.specs.Step.{content_kept}
 use Rattle.fr_model.specs.Tree.{as_pointer, cursor_tree}
 use Rattle.fr_frame.specs.declared.places.Form.{Form}
-use Rattle.fr_frame.specs.Bodies.{own_tree}
-use Rattle.fr_frame.specs.Heap.{body_of}
 use Rattle.fr_partial.specs.Beginnings.{beginning_in}
+use Rattle.fr_partial.specs.declared.moves.Change.{Change}
 use Rattle.fr_partial.specs.Modes.{mode_of}
 use Rattle.fr_partial.specs.Sites.{shape_at}
-use Rattle.fr_partial.proofs.ContentLaws.{content_goes, full_here, in_wanted, pointer_full, pointer_means, pointer_seen, slice_opens, slice_seen}
-use Rattle.fr_partial.proofs.DecidingLaws.{cannot}
+use Rattle.fr_partial.proofs.ContentLaws.{content_goes, full_here, in_wanted, pointer_full, pointer_seen, slice_seen}
+use Rattle.fr_partial.proofs.DecidingLaws.{cannot, remains}
 use Rattle.fr_partial.proofs.KeptLaws.{kept_in_is, may_begin_in}
-use Rattle.fr_partial.proofs.SeenLaws.{at_place}
 use Rattle.fr_partial.proofs.work.Work.begin_smart_ptr_move.Goals as goal
 
 pub returns : goal.returns
-returns c = record {
-  decides =
-      let site = c.args.self.now in
-      let at = at_place site c.table-table.ensures.table c.place.result.0 (own_tree (body_of c.place.result.1.now)) c.place.ensures.shape
-      c.place.ensures.piece in
-      let def = def_of site.shapes (shape_at site) in
-      let may : pointer_refusal site.shapes def ≡ None = sym (pointer_seen at) ∙ sym c.in_default.ensures in
-      let behind : points_to_slice site.shapes def ≡ false
-      = sym (slice_seen at) ∙ sym c.points_to_slice.ensures ∙ c.if-points_to_slice.false in
-      content_goes site Call.BeginSmartPtr Form.Pointer c.beginning_in-beginning.result
-      (beginning_in site.state.mode as_pointer (cursor_tree site.state)) (content_kept site.state as_pointer) refl refl
-      (pointer_full site.shapes def may)
-      (in_wanted at (mode_of c.mode.result) c.beginning_in-beginning.result c.mode.ensures.mode as_pointer c.beginning_in-beginning.ensures)
-      (may_begin_in site.state.mode as_pointer refl def (cursor_tree site.state) (full_here site c.law_sound.ensures.in_order))
-      (kept_in_is site.state.mode as_pointer (cursor_tree site.state)) (λ hooks. pointer_means site may behind);
-}
+returns c =
+    let site = c.args.self.now in
+    let at = c.place.ensures.seen in
+    let def = def_of site.shapes (shape_at site) in
+    let may : None ≡ pointer_refusal site.shapes def = c.in_default.ensures ∙ pointer_seen at in
+    let behind : points_to_slice site.shapes def ≡ false
+    = sym (slice_seen at) ∙ sym c.points_to_slice.ensures ∙ c.if-points_to_slice.false in
+    content_goes site Call.BeginSmartPtr Form.Pointer c.beginning_in-beginning.result
+    (beginning_in site.state.mode as_pointer (cursor_tree site.state)) (content_kept site.state as_pointer) refl refl
+    (pointer_full site.shapes def (sym may))
+    (in_wanted at (mode_of c.mode.result) c.beginning_in-beginning.result c.mode.ensures.mode as_pointer c.beginning_in-beginning.ensures)
+    (may_begin_in site.state.mode as_pointer refl def (cursor_tree site.state) (full_here site c.law_sound.ensures.in_order))
+    (kept_in_is site.state.mode as_pointer (cursor_tree site.state)) (λ hooks. rw (← may, behind) refl)
 
 pub returns-then-points_to_slice : goal.returns-then-points_to_slice
-returns-then-points_to_slice c = record {
-  decides =
-      let site = c.args.self.now in
-      let at = at_place site c.table-table.ensures.table c.place.result.0 (own_tree (body_of c.place.result.1.now)) c.place.ensures.shape
-      c.place.ensures.piece in
-      let def = def_of site.shapes (shape_at site) in
-      record {
-        fitting = tt;
-        same_tokens = λ t. refl;
-        may = tt;
-        late = λ late. cc;
-        means = λ hooks.
-            slice_opens site (sym (pointer_seen at) ∙ sym c.in_default.ensures)
-            (sym (slice_seen at) ∙ sym c.points_to_slice.ensures ∙ c.if-points_to_slice.true);
-      };
-}
+returns-then-points_to_slice c =
+    let site = c.args.self.now in
+    let at = c.place.ensures.seen in
+    let def = def_of site.shapes (shape_at site) in
+    let may : None ≡ pointer_refusal site.shapes def = c.in_default.ensures ∙ pointer_seen at in
+    let behind : points_to_slice site.shapes def ≡ true
+    = sym (slice_seen at) ∙ sym c.points_to_slice.ensures ∙ c.if-points_to_slice.true in
+    remains site Call.BeginSmartPtr Change.OpenSlice refl (λ t. refl) tt (λ hooks. rw (← may, behind) refl)
 
 pub returns-in-Some : goal.returns-in-Some
-returns-in-Some c = record {
-  decides =
-      let site = c.args.self.now in
-      let at = at_place site c.table-table.ensures.table c.place.result.0 (own_tree (body_of c.place.result.1.now)) c.place.ensures.shape
-      c.place.ensures.piece in
-      let def = def_of site.shapes (shape_at site) in
-      cannot at Call.BeginSmartPtr (pointer_refusal site.shapes def)
-      (begins_pointer site.shapes (shape_at site) site.state (points_to_slice site.shapes def)) c.in-Some.operation (λ hooks. refl)
-      (sym (pointer_seen at) ∙ sym c.in-Some.ensures);
-}
+returns-in-Some c =
+    let at = c.place.ensures.seen in
+    cannot at Call.BeginSmartPtr _ c.in-Some.operation (λ hooks. refl) (c.in-Some.ensures ∙ pointer_seen at)

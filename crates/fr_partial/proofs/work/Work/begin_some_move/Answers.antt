@@ -1,4 +1,4 @@
-use Rattle.std.proofs.Common.{◌≡◌, true, refl, sym, ap, ◌∙◌}
+use Rattle.std.proofs.Common.{◌≡◌, true, false, refl, sym, ap, ◌∙◌}
 use Rattle.fr_shape.specs.declared.error.Expected.{Expected}
 use Rattle.fr_shape.specs.Fills.{is_option}
 use Rattle.fr_shape.specs.Look.{def_of}
@@ -7,41 +7,34 @@ use Rattle.fr_model.specs.Places.{content_shape}
 use Rattle.fr_model.specs.Step.{option_kept}
 use Rattle.fr_model.specs.Tree.{cursor_tree}
 use Rattle.fr_frame.specs.declared.places.Form.{Form}
-use Rattle.fr_frame.specs.Bodies.{own_tree}
-use Rattle.fr_frame.specs.Heap.{body_of}
 use Rattle.fr_partial.specs.Beginnings.{beginning_of_some}
 use Rattle.fr_partial.specs.Modes.{mode_of}
 use Rattle.fr_partial.specs.Sites.{shape_at}
-use Rattle.fr_partial.proofs.ContentLaws.{content_goes, full_here, no_some, option_full, some_means, some_wanted}
+use Rattle.fr_partial.proofs.ContentLaws.{content_goes, full_here, option_full, some_wanted}
 use Rattle.fr_partial.proofs.DecidingLaws.{is_not}
 use Rattle.fr_partial.proofs.KeptLaws.{kept_some_is, may_begin_some}
-use Rattle.fr_partial.proofs.SeenLaws.{at_place, def_seen}
+use Rattle.fr_partial.proofs.SeenLaws.{def_seen}
 use Rattle.fr_partial.proofs.work.Work.begin_some_move.Goals as goal
 
 pub returns : goal.returns
-returns c = record {
-  decides =
-      let site = c.args.self.now in
-      let at = at_place site c.table-table.ensures.table c.place.result.0 (own_tree (body_of c.place.result.1.now)) c.place.ensures.shape
-      c.place.ensures.piece in
-      let def = def_of site.shapes (shape_at site) in
-      let content = def_of site.shapes (content_shape def) in
-      let option : is_option def ≡ true = ap is_option (sym (def_seen at)) ∙ c.in-Some.ensures.some in
-      content_goes site Call.BeginSome Form.Some c.beginning_of_some-beginning.result
-      (beginning_of_some site.state.mode content (cursor_tree site.state)) (option_kept site.shapes (shape_at site) site.state) refl
-      refl (option_full def option)
-      (some_wanted at (mode_of c.mode.result) c.beginning_of_some-beginning.result c.mode.ensures.mode c.in-Some.content.0
-      c.in-Some.ensures.content c.beginning_of_some-beginning.ensures)
-      (may_begin_some site.state.mode content def (cursor_tree site.state) (full_here site c.law_sound.ensures.in_order))
-      (kept_some_is site.state.mode content (cursor_tree site.state)) (λ hooks. some_means site option);
-}
+returns c =
+    let site = c.args.self.now in
+    let at = c.place.ensures.seen in
+    let def = def_of site.shapes (shape_at site) in
+    let content = def_of site.shapes (content_shape def) in
+    let option : is_option def ≡ true = ap is_option (sym (def_seen at)) ∙ c.in-Some.ensures.some in
+    content_goes site Call.BeginSome Form.Some c.beginning_of_some-beginning.result
+    (beginning_of_some site.state.mode content (cursor_tree site.state)) (option_kept site.shapes (shape_at site) site.state) refl
+    refl (option_full def option)
+    (some_wanted at (mode_of c.mode.result) c.beginning_of_some-beginning.result c.mode.ensures.mode c.in-Some.content.0
+    c.in-Some.ensures.content c.beginning_of_some-beginning.ensures)
+    (may_begin_some site.state.mode content def (cursor_tree site.state) (full_here site c.law_sound.ensures.in_order))
+    (kept_some_is site.state.mode content (cursor_tree site.state)) (λ hooks. rw option refl)
 
 pub returns-in_default : goal.returns-in_default
-returns-in_default c = record {
-  decides =
-      let site = c.args.self.now in
-      let at = at_place site c.table-table.ensures.table c.place.result.0 (own_tree (body_of c.place.result.1.now)) c.place.ensures.shape
-      c.place.ensures.piece in
-      is_not at Call.BeginSome Expected.Option
-      (λ hooks. no_some site (ap is_option (sym (def_seen at)) ∙ c.in_default.ensures.none));
-}
+returns-in_default c =
+    let site = c.args.self.now in
+    let at = c.place.ensures.seen in
+    let other : is_option (def_of site.shapes (shape_at site)) ≡ false
+    = ap is_option (sym (def_seen at)) ∙ c.in_default.ensures.none in
+    is_not at Call.BeginSome Expected.Option (λ hooks. rw other refl)

@@ -1,28 +1,40 @@
-use Rattle.std.proofs.Common.{refl}
+use Rattle.std.proofs.Common.{◌≡◌, ℕ, ◌+◌, refl, sym, ◌∙◌, ap}
+use Rattle.fr_shape.specs.TokenLaws.{Conserved_same, Room_conserved, Room_same}
+use Rattle.fr_partial.specs.declared.work.Parts.{Parts}
 use Rattle.fr_partial.specs.Moving.{carried}
+use Rattle.fr_partial.specs.Sites.{held_at}
+use Rattle.fr_partial.specs.Underway.{held_in}
+use Rattle.fr_partial.proofs.KeepLaws.{kept_through}
 use Rattle.fr_partial.proofs.RemovedLaws.{all_released}
-use Rattle.fr_partial.proofs.WorkLaws.{kept_left, released_left, room_left, room_lent}
+use Rattle.fr_partial.proofs.WorkLaws.{held_seen}
+use Rattle.fr_partial.proofs.work.Work.make.Given.{Over}
 use Rattle.fr_partial.proofs.work.Work.make.Goals as goal
+use Rattle.fr_partial.proofs.work.Work.make.Goals.{After-deref_mut}
+
+-- what is held as the move begins
+held : (g : Over) (c : After-deref_mut g) → (t : ℕ)
+    → held_in c.deref_mut.result.now.frames t + carried c.args.decided t ≡ held_at c.args.self t + carried c.args.decided t
+held g c t =
+    ap (λ (p : Parts). held_in p.frames t + carried c.args.decided t) c.deref_mut.ensures.value
+    ∙ ap (λ (n : ℕ). n + carried c.args.decided t) (held_seen c.self.invariant c.self.view_is t)
 
 pub make-requires-clause-room : goal.make-requires-clause-room
 make-requires-clause-room g c =
-    room_lent c.self.inside.parts.value c.self.invariant c.self.view_is c.deref_mut.ensures.value (carried c.args.decided)
-    c.args.ledger.now c.requires.room
+    Room_same _ _ c.args.ledger.now (λ t. sym (held g (goal.at.make-requires-clause-room g c).After-deref_mut t)) c.requires.room
 
 pub release-path-requires : goal.release-path-requires
 release-path-requires g c = record {
   room =
-      room_left c.self.inside.parts.value c.self.invariant c.self.view_is c.deref_mut.ensures.value (carried c.args.decided)
-      c.make.new.parts.slots _ _ c.make.ensures.tokens c.requires.room;
+      Room_conserved _ _ _ _ c.make.ensures.tokens
+      (Room_same _ _ c.args.ledger.now (λ t. sym (held g (goal.at.release-path-requires g c).After-deref_mut t)) c.requires.room);
 }
 
 pub returns-in-Ok-clause-tokens : goal.returns-in-Ok-clause-tokens
 returns-in-Ok-clause-tokens g c =
-    kept_left c.self.inside.parts.value c.self.invariant c.self.view_is c.deref_mut.ensures.value (carried c.args.decided)
-    c.make.new.parts.slots _ _ c.make.ensures.tokens c.make.new.parts c.in-Ok.ensures.sound refl
+    Conserved_same _ _ _ _ _ _ (held g (goal.at.returns-in-Ok-clause-tokens g c).After-deref_mut)
+    (held_seen c.in-Ok.ensures.sound refl) c.make.ensures.tokens
 
 pub returns-in-Err-clause-tokens : goal.returns-in-Err-clause-tokens
 returns-in-Err-clause-tokens g c =
-    all_released _ _ _
-    (released_left c.self.inside.parts.value c.self.invariant c.self.view_is c.deref_mut.ensures.value (carried c.args.decided)
-    c.make.new.parts.slots _ _ c.make.ensures.tokens _ c.release-path.ensures.released)
+    Conserved_same _ _ _ _ _ _ (held g (goal.at.returns-in-Err-clause-tokens g c).After-deref_mut) (λ t. refl)
+    (kept_through _ _ _ _ _ _ c.make.ensures.tokens (all_released _ _ _ c.release-path.ensures.released))

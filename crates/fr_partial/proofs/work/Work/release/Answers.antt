@@ -1,12 +1,13 @@
-use Rattle.fr_partial.proofs.WorkLaws.{room_all, rose_all}
+use Rattle.std.proofs.Common.{ℕ, sym}
+use Rattle.fr_shape.specs.TokenLaws.{Room_same, RoseBy_same}
+use Rattle.fr_partial.proofs.WorkLaws.{held_seen}
 use Rattle.fr_partial.proofs.work.Work.release.Goals as goal
 
 pub release-requires : goal.release-requires
 release-requires c = record {
-  room = room_all c.self.inside.parts.value c.self.invariant c.self.view_is c.args.ledger.now c.requires.room;
+  room = Room_same _ _ c.args.ledger.now (λ (t : ℕ). sym (held_seen c.self.invariant c.self.view_is t)) c.requires.room;
 }
 
 pub returns-clause-released : goal.returns-clause-released
 returns-clause-released c =
-    rose_all c.self.inside.parts.value c.self.invariant c.self.view_is c.args.ledger.now c.release.new.ledger
-    c.release.ensures.released
+    RoseBy_same _ _ c.args.ledger.now c.release.new.ledger (held_seen c.self.invariant c.self.view_is) c.release.ensures.released

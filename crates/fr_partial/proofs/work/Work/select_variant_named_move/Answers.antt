@@ -1,34 +1,9 @@
-use Rattle.std.proofs.Common.{◌≡◌, ap, sym, ◌∙◌, refl}
-use Rattle.fr_shape.specs.declared.error.Operation.{Operation}
-use Rattle.fr_shape.specs.Look.{Table, def_of, variants_of}
+use Rattle.std.proofs.Common.{refl}
 use Rattle.fr_model.specs.Commands.{Call}
 use Rattle.fr_model.specs.Variants.{variant_named}
-use Rattle.fr_partial.specs.declared.work.Parts.{Parts}
-use Rattle.fr_partial.specs.Sites.{Site}
-use Rattle.fr_partial.proofs.ChoiceLaws.{selected, unselected}
 use Rattle.fr_partial.proofs.work.Work.select_variant_named_move.Goals as goal
-use Rattle.fr_partial.proofs.work.Work.select_variant_named_move.Goals.{After-choice}
 
--- what was found, in the table that is seen
-found : (c : After-choice) → c.variant_named-found.result
-    ≡ variant_named c.args.name.now (variants_of (def_of c.table-table.result.now c.place.result.0.0))
-found c =
-    c.variant_named-found.ensures.found
-    ∙ ap (λ (t : Table). variant_named c.args.name.now (variants_of (def_of t c.place.result.0.0)))
-    (ap (λ (p : Parts). p.table.now) c.deref.ensures ∙ ap (λ (w : Site). w.shapes) c.self.view_is ∙ sym c.table-table.ensures.table)
-
-pub returns-in-Ok : goal.returns-in-Ok
-returns-in-Ok c = record {
-  decides =
-      selected c.args.self.now (Call.SelectVariantNamed c.args.name.now) (variant_named c.args.name.now) Operation.VariantNameUnknown (λ hooks. refl)
-      c.table-table.result.now c.place.result.0 c.table-table.ensures.table c.place.ensures.shape tt (λ t. refl) c.in-Ok.chosen
-      (c.in-Ok.ensures.chosen (variant_named c.args.name.now) (found (goal.at.returns-in-Ok c).After-choice)) c.in-Ok.ensures.count;
-}
-
-pub returns-in-Err : goal.returns-in-Err
-returns-in-Err c = record {
-  decides =
-      unselected c.args.self.now (Call.SelectVariantNamed c.args.name.now) (variant_named c.args.name.now) Operation.VariantNameUnknown (λ hooks. refl)
-      c.table-table.result.now c.place.result.0 c.table-table.ensures.table c.place.ensures.shape c.in-Err.kind
-      (c.in-Err.ensures.refused (variant_named c.args.name.now) (found (goal.at.returns-in-Err c).After-choice));
-}
+pub returns : goal.returns
+returns c =
+    c.select.ensures c.args.self.now _ c.place.ensures.seen (Call.SelectVariantNamed c.args.name.now) (variant_named c.args.name.now)
+    (record { nothing = refl; means = λ hooks. refl }) c.variant_named-found.ensures

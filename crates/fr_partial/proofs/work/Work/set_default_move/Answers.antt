@@ -1,31 +1,20 @@
-use Rattle.std.proofs.Common.{sym}
 use Rattle.fr_partial.proofs.PutLaws.{copy_wanted, default_copied, default_missing, default_template}
 use Rattle.fr_partial.proofs.work.Work.set_default_move.Goals as goal
 
 pub copy_template-requires : goal.copy_template-requires
 copy_template-requires c = record {
   no_token =
-      (default_template c.args.self.now c.table.result.now c.place.result.0 c.table.ensures.table c.place.ensures.shape
-      c.law_sound.ensures.checked c.in-Some.template.now (sym c.in-Some.ensures.template)).light;
+      (default_template c.place.ensures.seen c.law_sound.ensures.checked c.in-Some.template.now c.in-Some.ensures.template).light;
 }
 
 pub returns-in_default : goal.returns-in_default
-returns-in_default c = record {
-  decides =
-      default_missing c.args.self.now c.table.result.now c.place.result.0 c.table.ensures.table c.place.ensures.shape
-      (sym c.in_default.ensures.template);
-}
+returns-in_default c = default_missing c.place.ensures.seen c.in_default.ensures.template
 
 pub returns-in-Ok : goal.returns-in-Ok
-returns-in-Ok c = record {
-  decides =
-      default_copied c.args.self.now c.table.result.now c.place.result.0 c.table.ensures.table c.place.ensures.shape
-      c.law_sound.ensures.checked c.in-Some.template.now (sym c.in-Some.ensures.template) c.in-Ok.value c.in-Ok.ensures.copy;
-}
+returns-in-Ok c =
+    default_copied c.place.ensures.seen c.law_sound.ensures.checked c.in-Some.template.now c.in-Some.ensures.template c.in-Ok.value
+    c.in-Ok.ensures.copy
 
 pub returns-in-Err : goal.returns-in-Err
-returns-in-Err c = record {
-  decides =
-      copy_wanted c.args.self.now c.table.result.now c.place.result.0 c.table.ensures.table c.place.ensures.shape
-      c.law_sound.ensures.checked c.in-Some.template.now (sym c.in-Some.ensures.template);
-}
+returns-in-Err c =
+    copy_wanted c.place.ensures.seen c.law_sound.ensures.checked c.in-Some.template.now c.in-Some.ensures.template

@@ -3,22 +3,18 @@ use Rattle.fr_partial.proofs.SliceLaws.{no_slice_put, no_slice_wanted, shared_re
 use Rattle.fr_partial.proofs.work.Work.set_empty_shared_slice_move.Goals as goal
 
 pub returns-in-Some : goal.returns-in-Some
-returns-in-Some c = record {
-  decides =
-      shared_refused c.args.self.now c.table.result.now c.place.result.0 c.table.ensures.table c.place.ensures.shape
-      c.in-Some.operation (sym c.in-Some.ensures);
-}
+returns-in-Some c =
+    let at = c.place.ensures.seen in
+    shared_refused c.args.self.now c.place.result.0.now c.place.result.1 at.table_is at.shape_is c.in-Some.operation
+    (sym c.in-Some.ensures)
 
 pub returns-in-Ok : goal.returns-in-Ok
-returns-in-Ok c = record {
-  decides =
-      no_slice_put c.args.self.now c.table.result.now c.place.result.0 c.table.ensures.table c.place.ensures.shape
-      (sym c.in_default.ensures) c.in-Ok.value c.in-Ok.ensures;
-}
+returns-in-Ok c =
+    let at = c.place.ensures.seen in
+    no_slice_put c.args.self.now c.place.result.0.now c.place.result.1 at.table_is at.shape_is (sym c.in_default.ensures)
+    c.in-Ok.value c.in-Ok.ensures
 
 pub returns-in-Err : goal.returns-in-Err
-returns-in-Err c = record {
-  decides =
-      no_slice_wanted c.args.self.now c.table.result.now c.place.result.0 c.table.ensures.table c.place.ensures.shape
-      (sym c.in_default.ensures);
-}
+returns-in-Err c =
+    let at = c.place.ensures.seen in
+    no_slice_wanted c.args.self.now c.place.result.0.now c.place.result.1 at.table_is at.shape_is (sym c.in_default.ensures)

@@ -18,8 +18,7 @@ use Rattle.fr_partial.proofs.work.Work.set_shape_move.Goals.{After-converts, Aft
 told : (c : After-converts) → converts c.args.self.now.shapes (shape_at c.args.self.now) c.args.value.shape ≡ c.converts.result
 told c =
     sym
-    (converts_seen c.args.self.now c.table-table.result.now c.place.result.0.0 c.shape-actual.result.0 c.args.value.shape
-    c.table-table.ensures.table c.place.ensures.shape c.shape-actual.ensures.shape)
+    (converts_seen c.place.ensures.seen c.shape-actual.result.0 c.args.value.shape c.shape-actual.ensures.shape)
     ∙ sym c.converts.ensures
 
 -- and whether it takes one as it is
@@ -27,20 +26,18 @@ takes : (c : After-takes_shape) → takes_shape c.args.self.now.shapes (shape_at
     ≡ c.takes_shape.result
 takes c =
     sym
-    (takes_seen c.args.self.now c.table-table.result.now c.place.result.0.0 c.shape-actual.result.0 c.args.value.shape
-    c.table-table.ensures.table c.place.ensures.shape c.shape-actual.ensures.shape)
+    (takes_seen c.place.ensures.seen c.shape-actual.result.0 c.args.value.shape c.shape-actual.ensures.shape)
     ∙ sym c.takes_shape.ensures
 
 as_other : (c : Then-converts) → converts c.args.self.now.shapes (shape_at c.args.self.now) c.args.value.shape ≡ true
 as_other c =
     sym
-    (converts_seen c.args.self.now c.table-table.result.now c.place.result.0.0 c.shape-actual.result.0 c.args.value.shape
-    c.table-table.ensures.table c.place.ensures.shape c.shape-actual.ensures.shape)
+    (converts_seen c.place.ensures.seen c.shape-actual.result.0 c.args.value.shape c.shape-actual.ensures.shape)
     ∙ sym c.converts.ensures ∙ c.if-converts.true
 
 pub converted-requires-clause-fits : goal.converted-requires-clause-fits
 converted-requires-clause-fits c =
-    ap (λ (t : Table). fits t c.shape-actual.result.0 (view c.into_value-plain.result)) c.table-table.ensures.table
+    ap (λ (t : Table). fits t c.shape-actual.result.0 (view c.into_value-plain.result)) c.place.ensures.seen.table_is
     ∙ ap (λ (n : ℕ). fits c.args.self.now.shapes n (view c.into_value-plain.result)) c.shape-actual.ensures.shape
     ∙ ap (fits c.args.self.now.shapes c.args.value.shape) c.into_value-plain.ensures.value
     ∙ c.requires.fits
@@ -66,8 +63,7 @@ returns-in-Ok-clause-decides c =
     = ap (λ (ledger : List ℕ). slice_index ledger t) c.in-Ok.ensures.unreleased in
     omega (arith, same, stays, c.converted.ensures.released.each t))
     (sym
-    (converted_seen c.args.self.now c.table-table.result.now c.place.result.0.0 c.shape-actual.result.0 c.args.value.shape
-    c.table-table.ensures.table c.place.ensures.shape c.shape-actual.ensures.shape (view c.into_value-plain.result)
+    (converted_seen c.place.ensures.seen c.shape-actual.result.0 c.args.value.shape c.shape-actual.ensures.shape (view c.into_value-plain.result)
     c.args.value.value c.into_value-plain.ensures.value)
     ∙ c.in-Ok.ensures.made)
 
@@ -76,17 +72,16 @@ returns-in-Err-clause-decides c =
     unconverted c.args.self.now c.args.value.shape c.args.value.value
     (as_other (goal.at.returns-in-Err-clause-decides c).Then-converts) c.in-Err.kind
     (subst (λ made. IsUnconverted made c.args.value.shape c.in-Err.kind)
-    (converted_seen c.args.self.now c.table-table.result.now c.place.result.0.0 c.shape-actual.result.0 c.args.value.shape
-    c.table-table.ensures.table c.place.ensures.shape c.shape-actual.ensures.shape (view c.into_value-plain.result)
+    (converted_seen c.place.ensures.seen c.shape-actual.result.0 c.args.value.shape c.shape-actual.ensures.shape (view c.into_value-plain.result)
     c.args.value.value c.into_value-plain.ensures.value)
     (subst (λ (n : ℕ). IsUnconverted
-    (converted c.table-table.result.now c.place.result.0.0 (def_of c.table-table.result.now c.shape-actual.result.0)
+    (converted c.place.result.0.now c.place.result.1.0 (def_of c.place.result.0.now c.shape-actual.result.0)
     (view c.into_value-plain.result)) n c.in-Err.kind) c.shape-actual.ensures.shape c.in-Err.ensures.refused))
 
 pub returns-in-Err-clause-memory : goal.returns-in-Err-clause-memory
 returns-in-Err-clause-memory c none =
     let no = c.converted.ensures.memory
-    (ap (λ (t : Table). copies_to_convert (def_of t c.shape-actual.result.0)) c.table-table.ensures.table
+    (ap (λ (t : Table). copies_to_convert (def_of t c.shape-actual.result.0)) c.place.ensures.seen.table_is
     ∙ ap (λ (n : ℕ). copies_to_convert (def_of c.args.self.now.shapes n)) c.shape-actual.ensures.shape
     ∙ only_copies c.args.self.now.shapes (shape_at c.args.self.now) c.args.value.shape
     (as_other (goal.at.returns-in-Err-clause-memory c).Then-converts) none) in
@@ -99,16 +94,16 @@ returns-in-Err-clause-released c =
 
 pub returns-then-takes_shape-clause-decides : goal.returns-then-takes_shape-clause-decides
 returns-then-takes_shape-clause-decides c =
-    taken c.args.self.now c.args.value.shape c.args.value.value c.into_value-plain.result c.into_value-plain.ensures.value
-    c.requires.fits
+    taken c.args.self.now c.args.value.shape c.args.value.value
     (told (goal.at.returns-then-takes_shape-clause-decides c).After-converts ∙ c.if-converts.false)
+    c.into_value-plain.result c.into_value-plain.ensures.value c.requires.fits
     (takes (goal.at.returns-then-takes_shape-clause-decides c).After-takes_shape ∙ c.if-takes_shape.true)
 
 pub returns-else-takes_shape-clause-decides : goal.returns-else-takes_shape-clause-decides
 returns-else-takes_shape-clause-decides c =
-    not_taken c.args.self.now c.args.value.shape c.args.value.value c.place.result.0 c.shape-actual.result
-    c.place.ensures.shape c.shape-actual.ensures.shape
-    (told (goal.at.returns-else-takes_shape-clause-decides c).After-converts ∙ c.if-converts.false)
+    not_taken c.args.self.now c.args.value.shape c.args.value.value
+    (told (goal.at.returns-else-takes_shape-clause-decides c).After-converts ∙ c.if-converts.false) c.place.result.1
+    c.shape-actual.result c.place.ensures.seen.shape_is c.shape-actual.ensures.shape
     (takes (goal.at.returns-else-takes_shape-clause-decides c).After-takes_shape ∙ c.if-takes_shape.false)
 
 pub returns-else-takes_shape-clause-released : goal.returns-else-takes_shape-clause-released

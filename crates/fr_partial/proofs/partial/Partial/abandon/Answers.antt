@@ -1,0 +1,9 @@
+use Rattle.std.proofs.Common.{sym, subst}
+use Rattle.fr_shape.specs.Released.{Room}
+use Rattle.fr_partial.specs.Builder.{Builder, holds}
+use Rattle.fr_partial.proofs.partial.Partial.abandon.Goals as goal
+
+pub release-requires : goal.release-requires
+release-requires g c = record {
+  room = subst (λ (b : Builder _). Room (holds b) c.args.ledger.now) (sym c.self.view_is) c.requires.room;
+}
