@@ -15,7 +15,7 @@ abbrev pub found_refusal : Def → (unknown : Operation) → (found : Option ℕ
 found_refusal def unknown (Some k) = selection_refusal def k
 found_refusal def unknown None = Some unknown
 
--- the call selects a variant that is looked for so
+-- the call brings no value, and selects the variant that is found so, or is refused with this operation where none is
 pub record Selects (site : Site) (call : Call) (find : List VariantDef → Option ℕ) (unknown : Operation) : Type 0 where
   pub nothing : value_brought call ≡ None
   pub means : (hooks : Meanings) → step hooks site.shapes site.root site.state call

@@ -1,5 +1,5 @@
 -- What becomes of a place that is completed.
-use Rattle.std.specs.Prelude.{◌≡◌, ◌⊎◌, ◌&&◌, ◌||◌, not, nat_lt, ℕ, Bool, true, false, List, [], ◌∷◌, ◌++◌, length, Some, None, IsSome}
+use Rattle.std.specs.Prelude.{◌≡◌, ◌⊎◌, ◌&&◌, ◌||◌, not, ℕ, Bool, true, false, List, [], ◌∷◌, ◌++◌, Some, None, IsSome}
 use Rattle.fr_shape.specs.declared.error.ReflectErrorKind.{ReflectErrorKind}
 use Rattle.fr_shape.specs.Hooks.{Meanings}
 use Rattle.fr_shape.specs.Look.{Table}
@@ -20,7 +20,7 @@ use Rattle.fr_partial.specs.declared.moves.Rules.{Rules}
 use Rattle.fr_partial.specs.declared.moves.Taker.{Taker}
 use Rattle.fr_partial.specs.declared.work.Frames.{Frames}
 use Rattle.fr_partial.specs.Filling.{takes_no_memory}
-use Rattle.fr_partial.specs.Modes.{mode_of, IsBelowStart}
+use Rattle.fr_partial.specs.Modes.{is_below_start, mode_of, IsBelowStart}
 use Rattle.fr_partial.specs.Underway.{top_place, top_shape, top_tree, whole_tree, Became, Changed}
 use Rattle.fr_store.specs.Moves.{AtTop}
 
@@ -28,7 +28,7 @@ abbrev pub column_of : Rules → Column
 column_of Rules.Strict = strict_column
 column_of Rules.Deferred = deferred_column
 
--- by the rules of strict mode in that mode, and in deferred mode below the place at which that began
+-- the rules of strict mode serve in that mode, and those of the end of deferred mode in that mode, below the place at which it began
 abbrev pub RulesServe : Rules → Mode → (cursor : Place) → Type 0
 RulesServe Rules.Strict mode cursor = mode ≡ strict
 RulesServe Rules.Deferred mode cursor = IsBelowStart mode cursor
@@ -95,10 +95,6 @@ pub record IsCompleted (rules : Rules) (taker : Taker) (means : Meanings) (plan 
 pub record IsHeldUpAt (means : Meanings) (table : Table) (s : ℕ) (t : Tree) (kind : ReflectErrorKind) : Type 0 where
   pub incomplete : complete deferred_column means table s t ≡ None
   pub cause_is : (path : List PathStep) → kind ≡ cause_by deferred_column means table s path t
-
-abbrev pub is_below_start : Mode → (cursor : Place) → Bool
-is_below_start strict cursor = false
-is_below_start (deferred start) cursor = nat_lt start (length cursor)
 
 -- As the place at the cursor is left, all that was left beneath it is completed: in deferred mode, below the place at which that began,
 -- it is an item of a set, or a part of a dynamic value, and no pointer to a slice that is open.

@@ -1,5 +1,5 @@
 -- The mode of a builder, as its state tells it.
-use Rattle.std.specs.Prelude.{◌<◌, length}
+use Rattle.std.specs.Prelude.{◌<◌, Bool, false, length, nat_lt}
 use Rattle.fr_model.specs.Places.{Place}
 use Rattle.fr_model.specs.Tree.{Mode as StateMode, strict, deferred}
 use Rattle.fr_partial.specs.declared.mode.Mode.{Mode}
@@ -12,3 +12,8 @@ mode_of (Mode.Deferred start) = deferred start
 abbrev pub IsBelowStart : StateMode → (cursor : Place) → Type 0
 IsBelowStart strict cursor = ⊥
 IsBelowStart (deferred start) cursor = start < length cursor
+
+-- whether it is
+abbrev pub is_below_start : StateMode → (cursor : Place) → Bool
+is_below_start strict cursor = false
+is_below_start (deferred start) cursor = nat_lt start (length cursor)

@@ -60,7 +60,7 @@ whole_tree frames = tree_in_slots frames.slots frames.stack
 abbrev pub held_in : Frames → ℕ → ℕ
 held_in frames t = slots_occur frames.slots t
 
--- The open places stand for a tree and a place in it, and what is stored is listed.
+-- The open places stand for a tree and a place in it; what is stored is listed, and in strict mode nothing is.
 pub record AreOpen (plan : Plan) (frames : Frames) : Type 0 where
   pub shown : IsOpen plan frames.slots frames.stack
   pub kept : IsKept frames.store frames.slots
@@ -72,7 +72,7 @@ pub record IsAtWork (plan : Plan) (frames : Frames) : Type 0 where
   pub kept : IsKept frames.store frames.slots
   pub stores : StoresNothing (mode_of frames.mode) frames.store
 
--- This place is on top then, and this is the tree; what is stored is listed; and nothing else changed.
+-- This place is on top then, and this is the tree; what is stored is listed, and in strict mode nothing is; and nothing else changed.
 pub record Became (plan : Plan) (place : Place) (tree : Tree) (before after : Frames) : Type 0 where
   pub stands : IsOpenAt plan after.slots after.stack place tree
   pub kept : IsKept after.store after.slots

@@ -46,7 +46,8 @@ fn layout_refusal(repr: EnumRepr) -> Option<Operation>
     match repr {
         EnumRepr::Rust => Some(Operation::RustLayout),
         EnumRepr::RustNPO => Some(Operation::RustNpoLayout),
-        _ => None,
+        EnumRepr::U8 | EnumRepr::U16 | EnumRepr::U32 | EnumRepr::U64 | EnumRepr::USize => None,
+        EnumRepr::I8 | EnumRepr::I16 | EnumRepr::I32 | EnumRepr::I64 | EnumRepr::ISize => None,
     }
 }
 

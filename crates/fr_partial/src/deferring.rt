@@ -1,6 +1,5 @@
 //! Into deferred mode, and its end.
-ghost use Rattle.std.specs.Prelude.{◌≡◌, ◌≢◌, length, IfErr, Ok, OnErr, OnOk};
-ghost use Rattle.fr_shape.specs.declared.error.ReflectErrorKind.{ReflectErrorKind as Kind};
+ghost use Rattle.std.specs.Prelude.{◌≡◌, length, IfErr, Ok, OnErr, OnOk};
 ghost use Rattle.fr_shape.specs.Released.{Conserved, Room};
 ghost use Rattle.fr_model.specs.Tree.{deferred, one_more_call};
 ghost use Rattle.fr_partial.specs.declared.moves.Move.{Move as Moves};

@@ -67,7 +67,7 @@ pub fn unexpected(call: InitCall, form: Form) -> ReflectErrorKind
     ReflectErrorKind::UnexpectedTracker { call, current }
 }
 
-/// The same refusal, of this shape.
+/// The refusal of this operation at a place of this shape, if it is refused.
 pub fn at_shape(shape: ShapeId, refused: Option<Operation>) -> Option<ReflectErrorKind>
     ensures refused { result ≡ at_shape shape.0 refused }
     ensures named { IfSome result (λ kind. kind ≢ Kind.OutOfMemory) }

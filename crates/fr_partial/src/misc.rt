@@ -1,5 +1,5 @@
 //! `end`, `build` and `abandon`, and deferred mode: `begin_deferred` and `finish_deferred`.
-ghost use Rattle.std.specs.Prelude.{◌≡◌, ◌≢◌, false, length, None, Some, true};
+ghost use Rattle.std.specs.Prelude.{◌≡◌, false, length, None, Some, true};
 ghost use Rattle.fr_shape.specs.Released.{Room, RoseBy};
 ghost use Rattle.fr_model.specs.Commands.{Call};
 ghost use Rattle.fr_model.specs.Items.{is_open_slice};
