@@ -24,6 +24,12 @@ set_shape-requires-clause-fits c =
     (c.in_ok-entered.ensures.call.step.1 ∙ c.requires.same) c.new-value.ensures.shape c.new-value.ensures.value
     c.requires.string
 
+pub set_shape-requires-clause-room : goal.set_shape-requires-clause-room
+set_shape-requires-clause-room c =
+    no_room _ _
+    (with_text _ _ c.args.pair.text (none_left _ _ _ _ c.in_ok-entered.ensures.call.tokens (none_brought _ c.requires.tokens))
+    c.new-value.ensures.value)
+
 pub returns-in_err-set_shape-clause-released : goal.returns-in_err-set_shape-clause-released
 returns-in_err-set_shape-clause-released c =
     stays _ _ _ _ c.set_shape.ensures.call.tokens
