@@ -14,7 +14,8 @@ use std::ops::Index;
 
 /// Values of one type, each of which keeps the index under which it was put.
 ///
-/// Contracts see the list of the values, at most `u32::MAX` of them. How much memory is taken ahead of need is only code.
+/// Contracts see the list of the values, at most `u32::MAX` of them. How much memory is taken ahead
+/// of need is only code.
 #[derive(Drop)]
 pub struct Arena<T> {
     values: Vec<T>,

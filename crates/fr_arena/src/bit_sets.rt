@@ -11,8 +11,8 @@ use std::marker::Model;
 
 /// A set of numbers below a capacity that is fixed when it is made.
 ///
-/// Contracts see the capacity and the finite set of the numbers. How they lie in memory is only code:
-/// up to a capacity of 64 in one word of the value itself, above it in a vector of words.
+/// Contracts see the capacity and the finite set of the numbers. How they lie in memory is only
+/// code: up to a capacity of 64 in one word of the value itself, above it in a vector of words.
 #[derive(Drop)]
 pub struct ISet {
     words: Words,
@@ -74,7 +74,8 @@ impl Words {
 }
 
 impl ISet {
-    /// The empty set with room for at least `count` numbers: the capacity is the next multiple of 64, and 64 at least.
+    /// The empty set with room for at least `count` numbers: the capacity is the next multiple of
+    /// 64, and 64 at least.
     pub fn new(alloc: Global, count: usize) -> Result<Self, OutOfMemory>
         ensures empty { IfOk result (λ it. it.members ≡ set.empty) }
         ensures by_index { IfOk result (λ it. (index : ℕ) → set.contains it.members index ≡ false) }

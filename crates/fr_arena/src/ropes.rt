@@ -14,9 +14,9 @@ use std::{mem, vec};
 
 /// A list of items that grows by chunks of a fixed size, with a count of those that are marked.
 ///
-/// Contracts see the items, the count, the chunk size and with these the number of chunks. Where the items lie
-/// is only code: each chunk is a vector that is made with room for the chunk size and never grows, so an item
-/// stays where it was pushed until the rope is drained.
+/// Contracts see the items, the count, the chunk size and with these the number of chunks. Where
+/// the items lie is only code: each chunk is a vector that is made with room for the chunk size and
+/// never grows, so an item stays where it was pushed until the rope is drained.
 #[derive(Drop)]
 pub struct ListRope<T> {
     chunks: Vec<Vec<T>>,
@@ -87,7 +87,8 @@ impl<T> ListRope<T> {
         Ok(())
     }
 
-    /// Marks one more item: the first that isn't marked yet, so the last one where each is marked as it comes.
+    /// Marks one more item: the first that isn't marked yet, so the last one where each is marked
+    /// as it comes.
     pub fn mark_last_initialized(&mut self)
         requires unmarked { self.old.marked < length self.old.items }
         ensures marked { self.new ≡ record self.old { marked = self.old.marked + 1 } }
@@ -145,8 +146,8 @@ impl<T> ListRope<T> {
 
     /// Hands all items to `f`, in order, and frees the chunks.
     ///
-    /// A caller whose own contract says what became of the items goes over `take_items` instead: no clause
-    /// says what a closure that is passed on did to the values that it borrows.
+    /// A caller whose own contract says what became of the items goes over `take_items` instead: no
+    /// clause says what a closure that is passed on did to the values that it borrows.
     pub fn drain_into<F: FnMut(T)>(&mut self, mut f: F)
         requires callable { F.IsAlwaysCallable f }
         requires whole { self.old.marked ≡ length self.old.items }

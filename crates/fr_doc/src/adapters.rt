@@ -1,5 +1,5 @@
-//! Devices over the readers and writers of std. As devices they tell no content, since few readers and
-//! writers do.
+//! Devices over the readers and writers of std. As devices they tell no content, since few readers
+//! and writers do.
 ghost use Rattle.std.specs.Prelude.{◌≡◌, ◌≤◌, None, IfOk, length, take};
 ghost use Rattle.std.specs.Io.KnownBytes.{ReadConsumes, Appends};
 ghost use Rattle.fr_doc.specs.Causes.{HasCause, MovesAtMost, TakesSome, CountsFault};
@@ -55,9 +55,9 @@ impl<R: Read> Source for ReaderSource<R> {
     }
 }
 
-/// A sink over a writer. A call is one `write` and then, where that is no fault, one `flush`. An `Err` is
-/// a fault, and so is a `write` that takes nothing of a piece that isn't empty. Where the `flush` fails,
-/// the writer has taken bytes all the same.
+/// A sink over a writer. A call is one `write` and then, where that is no fault, one `flush`. An
+/// `Err` is a fault, and so is a `write` that takes nothing of a piece that isn't empty. Where the
+/// `flush` fails, the writer has taken bytes all the same.
 #[derive(Drop)]
 pub struct WriterSink<W> {
     writer: W,

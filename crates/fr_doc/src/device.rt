@@ -1,9 +1,11 @@
-//! What a program reads from and writes to: two traits that say which bytes move and why a call fails.
+//! What a program reads from and writes to: two traits that say which bytes move and why a call
+//! fails.
 ghost use Rattle.std.specs.Prelude.{◌<◌, ◌≡◌, ◌≤◌, ℕ, List, Option, length};
 ghost use Rattle.fr_doc.specs.Causes.{HasCause, MovesAtMost, ReadMoves, EndsOnlyAtEnd};
 ghost use Rattle.fr_doc.specs.Causes.{WriteMoves, TakesSome, Rose, one_more};
 
-/// The device failed. Its count of faults is higher than before the call, or stands at its last value.
+/// The device failed. Its count of faults is higher than before the call, or stands at its last
+/// value.
 #[derive(Drop)]
 pub struct Failed;
 
@@ -22,9 +24,9 @@ pub trait Source {
     /// The bytes that are left, where the device tells them.
     ghost left: { Self → Option (List ℕ) };
 
-    /// The device's own count of its faults, a u64 that never falls and stands still at its last value. A call that
-    /// fails leaves it higher than before, or at that value. Whether a call that succeeds leaves it as it was, and by
-    /// how much a failure raises it, is the device's to say.
+    /// The device's own count of its faults, a u64 that never falls and stands still at its last
+    /// value. A call that fails leaves it higher than before, or at that value. Whether a call that
+    /// succeeds leaves it as it was, and by how much a failure raises it, is the device's to say.
     ghost faults: { Self → ℕ };
 
     /// Reads the next bytes to the front of a piece, and returns how many. 0 is the end.
@@ -42,9 +44,9 @@ pub trait Sink {
     /// The bytes that were taken, where the device tells them.
     ghost taken: { Self → Option (List ℕ) };
 
-    /// The device's own count of its faults, a u64 that never falls and stands still at its last value. A call that
-    /// fails leaves it higher than before, or at that value. Whether a call that succeeds leaves it as it was, and by
-    /// how much a failure raises it, is the device's to say.
+    /// The device's own count of its faults, a u64 that never falls and stands still at its last
+    /// value. A call that fails leaves it higher than before, or at that value. Whether a call that
+    /// succeeds leaves it as it was, and by how much a failure raises it, is the device's to say.
     ghost faults: { Self → ℕ };
 
     /// Takes bytes from the front of a piece, and returns how many. To take nothing of a piece that

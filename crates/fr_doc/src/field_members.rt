@@ -45,7 +45,8 @@ pub fn field_members_of(json: &Json) -> Result<FieldMembers<'_>, FormError>
 }
 
 impl<'j> FieldMembers<'j> {
-    /// The same with what stands under one key more, if it is a field's. The first part of a key counts.
+    /// The same with what stands under one key more, if it is a field's. The first part of a key
+    /// counts.
     #[tactic(auto, unfolding(crate::specs::FieldMembers::parts_and))]
     fn with(mut self, key: &str, inner: &'j Json) -> Option<FieldMembers<'j>>
         ensures { option_map parts_view result

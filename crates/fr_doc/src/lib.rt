@@ -1,5 +1,5 @@
-//! The documents of a program: the devices that they come from and go to, the JSON forms of values and shapes, and
-//! what can be wrong with a document.
+//! The documents of a program: the devices that they come from and go to, the JSON forms of values
+//! and shapes, and what can be wrong with a document.
 #![tactic(auto)]
 
 mod adapters;

@@ -11,8 +11,8 @@ use std::alloc::{AllocError, Global};
 /// The most bytes of a document.
 pub const DOCUMENT_LIMIT: usize = 8_388_608;
 
-/// The most bytes that are read of an input: one more than a document may have, which shows that it is
-/// too long.
+/// The most bytes that are read of an input: one more than a document may have, which shows that it
+/// is too long.
 pub const INPUT_LIMIT: usize = DOCUMENT_LIMIT + 1;
 
 /// The most bytes of one call of a source.

@@ -37,8 +37,8 @@ impl Model for MemSource {
 }
 
 impl MemSource {
-    /// A source that gives at most `piece` bytes a call, and fails at the calls whose numbers are in
-    /// `fails`. The first call is number 1.
+    /// A source that gives at most `piece` bytes a call, and fails at the calls whose numbers are
+    /// in `fails`. The first call is number 1.
     pub fn new(bytes: Items<u8>, piece: usize, fails: Items<u64>) -> MemSource
         requires positive { 0 < piece }
         ensures unread { result ≡ record {

@@ -5,8 +5,8 @@ ghost use Rattle.fr_doc.specs.Causes.{one_more};
 use super::device::{Failed, count_fault};
 use fr_shape::Items;
 
-/// The numbers of the calls that are to fail, from 1 on, and the counts of the calls and of the faults
-/// so far, which stand still at their last value.
+/// The numbers of the calls that are to fail, from 1 on, and the counts of the calls and of the
+/// faults so far, which stand still at their last value.
 #[derive(Drop)]
 pub(crate) struct Schedule {
     pub(crate) fails: Items<u64>,

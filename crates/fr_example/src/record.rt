@@ -26,14 +26,16 @@ pub struct Pair {
     pub text: Text,
 }
 
-/// Builds a struct from texts, in whatever order they come. It returns the value exactly where the struct has a plan,
-/// each name is that of a field that is a `String` or a dynamic value, and every other field has a fill: each field that was
-/// named holds the last text given for it. Otherwise it returns the first refusal: `Alloc` for a shape that has no plan,
-/// `FieldError` for a name that no field has, `WrongShape` for a field that takes no text, and last of all
-/// `UninitializedField` for a field that was not named and has no fill. Where there is no pair at all, the struct's own default
-/// comes before that. `root` is the shape of the struct, `string` that of the texts. Out of memory is `OutOfMemory`, at any pair
-/// or at the end. The error's path is that of the place before the call that was refused: the field for `WrongShape`, the root for any
-/// other refusal, and either of them where memory ran out.
+/// Builds a struct from texts, in whatever order they come. It returns the value exactly where the
+/// struct has a plan, each name is that of a field that is a `String` or a dynamic value, and every
+/// other field has a fill: each field that was named holds the last text given for it. Otherwise it
+/// returns the first refusal: `Alloc` for a shape that has no plan, `FieldError` for a name that no
+/// field has, `WrongShape` for a field that takes no text, and last of all `UninitializedField` for
+/// a field that was not named and has no fill. Where there is no pair at all, the struct's own
+/// default comes before that. `root` is the shape of the struct, `string` that of the texts. Out of
+/// memory is `OutOfMemory`, at any pair or at the end. The error's path is that of the place before
+/// the call that was refused: the field for `WrongShape`, the root for any other refusal, and
+/// either of them where memory ran out.
 pub fn record_of(
     alloc: Global,
     table: &ShapeTable,
@@ -79,7 +81,8 @@ fn unplanned(alloc: Global, refused: PlanError) -> ReflectError
     }
 }
 
-/// Puts a text into the field of its name. The builder works at a struct, and does so again afterwards.
+/// Puts a text into the field of its name. The builder works at a struct, and does so again
+/// afterwards.
 fn put<'t>(
     partial: Partial<'t, NoHooks>,
     table: &'t ShapeTable,

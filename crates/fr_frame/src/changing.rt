@@ -15,8 +15,8 @@ use crate::slots::Slots;
 use fr_shape::{Ledger, OutOfMemory, Value};
 
 impl SlotId {
-    /// Puts a value in the stead of all that was put at the place, whose tokens are released. Children in slots of their own
-    /// stay there. Takes no memory.
+    /// Puts a value in the stead of all that was put at the place, whose tokens are released.
+    /// Children in slots of their own stay there. Takes no memory.
     pub fn put(self, slots: &mut Slots, value: Value, ledger: &mut Ledger)
         requires in_use { IsInUse slots.old self.0 }
         requires room { IfInUse slots.old self.0 (λ at. Room (body_occurs at.body) ledger.old) }
@@ -33,8 +33,8 @@ impl SlotId {
         release_piece(before, ledger);
     }
 
-    /// Begins the place, so that its children can be entered: an entered one has none of so many children yet, of a whole
-    /// one each has its part of the value, a begun one stays as it is.
+    /// Begins the place, so that its children can be entered: an entered one has none of so many
+    /// children yet, of a whole one each has its part of the value, a begun one stays as it is.
     pub fn begin(self, slots: &mut Slots, form: Form, count: usize) -> Result<(), OutOfMemory>
         requires in_use { IsInUse slots.old self.0 }
         requires may_open { IfInUse slots.old self.0 (λ at. MayOpen (as_form form) at.body) }
@@ -65,8 +65,9 @@ impl SlotId {
         open_some(alloc, &mut place.piece)
     }
 
-    /// Begins the place anew, with so many children, none of which is there. The tokens of what was put at it are released, once
-    /// there is memory for the children. Children in slots of their own stay there.
+    /// Begins the place anew, with so many children, none of which is there. The tokens of what was
+    /// put at it are released, once there is memory for the children. Children in slots of their
+    /// own stay there.
     pub fn restart(
         self,
         slots: &mut Slots,

@@ -20,12 +20,15 @@ use std::alloc::Global;
 use std::default::Default;
 use std::marker::Model;
 
-/// The children of a begun place: their values side by side, so that they become a product as they are.
+/// The children of a begun place: their values side by side, so that they become a product as they
+/// are.
 ///
-/// `given` has the numbers of those whose values these are. Of any other child the value is `Unit` where the child isn't
-/// there, and a token with the number of its slot where it is in one. Contracts see one list of children.
+/// `given` has the numbers of those whose values these are. Of any other child the value is `Unit`
+/// where the child isn't there, and a token with the number of its slot where it is in one.
+/// Contracts see one list of children.
 ///
-/// `index` finds a value among the first children, all of which are there; it is there for the items of sets.
+/// `index` finds a value among the first children, all of which are there; it is there for the
+/// items of sets.
 #[derive(Drop)]
 pub struct Children {
     values: Vec<Value>,
@@ -130,7 +133,8 @@ fn nothing() -> Value
 /// So many children have no index.
 const FEW: usize = 16;
 
-/// Lets an index have more of the values, from the first one on, as far as they are given and there is memory.
+/// Lets an index have more of the values, from the first one on, as far as they are given and there
+/// is memory.
 fn index_given(index: &mut ValueIndex, values: &[Value], given: &ISet)
     requires { IsIndexed given.now values.now index.old }
     ensures { IsIndexed given.now values.now index.new }
@@ -275,7 +279,8 @@ impl Children {
         self.values[i] = value;
     }
 
-    /// One child more behind the others, which isn't there yet. Doesn't look at the others, but where there is no room for it.
+    /// One child more behind the others, which isn't there yet. Doesn't look at the others, but
+    /// where there is no room for it.
     pub(crate) fn push(&mut self, alloc: Global) -> Result<(), OutOfMemory>
         ensures added { OnOk result (self.new ≡ self.old ++ absent ∷ []) }
         ensures refused { OnErr result (self.new ≡ self.old) }
@@ -289,8 +294,8 @@ impl Children {
         Ok(())
     }
 
-    /// Two children more behind the others, which aren't there yet. Doesn't look at the others, but where there is no room
-    /// for them.
+    /// Two children more behind the others, which aren't there yet. Doesn't look at the others, but
+    /// where there is no room for them.
     pub(crate) fn push_two(&mut self, alloc: Global) -> Result<(), OutOfMemory>
         ensures added { OnOk result (self.new ≡ self.old ++ absent ∷ absent ∷ []) }
         ensures refused { OnErr result (self.new ≡ self.old) }
@@ -312,8 +317,8 @@ impl Children {
         self.index.cut_at(self.values.len());
     }
 
-    /// Lets the index have more children, from the first one on, as far as their values are there and there is memory. A few are
-    /// looked at faster without one.
+    /// Lets the index have more children, from the first one on, as far as their values are there
+    /// and there is memory. A few are looked at faster without one.
     fn index_more(&mut self)
         ensures { self.new ≡ self.old }
     {
@@ -323,7 +328,8 @@ impl Children {
         index_given(&mut self.index, self.values.as_slice(), &self.given);
     }
 
-    /// The number from which on the value of a child may be `same` as this one, where the index finds none that is.
+    /// The number from which on the value of a child may be `same` as this one, where the index
+    /// finds none that is.
     fn past_index(&self, value: &Value) -> Option<usize>
         ensures found { IfNone result (has_same_cell (view value.now) self.now ≡ true) }
         ensures past { IfSome result (λ first. has_same_cell (view value.now) self.now
@@ -348,7 +354,8 @@ impl Children {
         }
     }
 
-    /// Whether the value of some child is `same` as this one. Looks only at those that the index doesn't have.
+    /// Whether the value of some child is `same` as this one. Looks only at those that the index
+    /// doesn't have.
     fn has_same(&self, value: &Value) -> bool
         ensures { result ≡ has_same_cell (view value.now) self.now }
     {
@@ -391,8 +398,8 @@ impl Children {
         last
     }
 
-    /// Lets a child go that isn't there, and puts a value behind the others, unless one of them is `same`: then it is
-    /// released. Takes no memory.
+    /// Lets a child go that isn't there, and puts a value behind the others, unless one of them is
+    /// `same`: then it is released. Takes no memory.
     pub(crate) fn end_item(&mut self, i: usize, value: Value, ledger: &mut Ledger)
         requires absent { slice_get self.old i ≡ Some absent }
         requires room { Room (occurs (view value)) ledger.old }
@@ -411,7 +418,8 @@ impl Children {
         }
     }
 
-    /// The values of children, each of which is there, and the set of their numbers. Takes no memory.
+    /// The values of children, each of which is there, and the set of their numbers. Takes no
+    /// memory.
     pub(crate) fn into_parts(self) -> (Vec<Value>, ISet)
         requires { IsSome (values_of self) }
         ensures values { values_of self ≡ Some (vals_view result.0.items) }
@@ -420,7 +428,8 @@ impl Children {
         (self.values, self.given)
     }
 
-    /// Children that are all there with these values, whose numbers are in this set. Takes no memory.
+    /// Children that are all there with these values, whose numbers are in this set. Takes no
+    /// memory.
     pub(crate) fn of_parts(values: Vec<Value>, numbers: ISet) -> Children
         requires { HasNumbers (length values.items) numbers }
         ensures { result ≡ map (λ v. given (view v)) values.items }

@@ -55,9 +55,9 @@ pub(crate) fn fill_piece<H: Hooks>(
 }
 
 impl SlotId {
-    /// Completes the place, so that its value can be taken out: a child that isn't there takes a copy
-    /// of its template, and every child's value has to pass its field's validators. What is lacking is
-    /// found before anything is copied.
+    /// Completes the place, so that its value can be taken out: a child that isn't there takes a
+    /// copy of its template, and every child's value has to pass its field's validators. What is
+    /// lacking is found before anything is copied.
     pub fn fill_and_require_fields<H: Hooks>(
         self,
         slots: &mut Slots,

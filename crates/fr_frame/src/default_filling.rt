@@ -101,8 +101,8 @@ fn fill_holes(
     Ok(())
 }
 
-/// Lets each field that isn't there take its fill, where it has one. A field that is marked to take a
-/// default that there isn't is found before.
+/// Lets each field that isn't there take its fill, where it has one. A field that is marked to take
+/// a default that there isn't is found before.
 fn default_fields(
     alloc: Global,
     table: &ShapeTable,

@@ -1,5 +1,5 @@
-//! Completing one place by the rules of the end of deferred mode: its holes take their fills, then none may be left, then its
-//! fields' validators run.
+//! Completing one place by the rules of the end of deferred mode: its holes take their fills, then
+//! none may be left, then its fields' validators run.
 ghost use Rattle.std.specs.Prelude.{◌≡◌, ◌≢◌, ◌⊎◌, ℕ, None, Some, true, IfErr, OnOk};
 ghost use Rattle.fr_shape.specs.Checked.{IsChecked};
 ghost use Rattle.fr_shape.specs.Look.{Table};
@@ -24,8 +24,9 @@ use fr_plan::TypePlanCore;
 use fr_shape::{Hooks, ReflectErrorKind, ShapeTable};
 
 impl SlotId {
-    /// Lets each hole of the place take its fill by the rules of deferred mode, where it has one, and an entered place what it
-    /// makes of itself. A field that is marked to take a default that there isn't is found before anything is copied.
+    /// Lets each hole of the place take its fill by the rules of deferred mode, where it has one,
+    /// and an entered place what it makes of itself. A field that is marked to take a default that
+    /// there isn't is found before anything is copied.
     pub fn fill_defaults<H: Hooks>(
         self,
         slots: &mut Slots,
@@ -57,7 +58,8 @@ impl SlotId {
         default_piece(alloc, table, plan, place.node, &mut place.piece)
     }
 
-    /// Tests that nothing of the place is left out: that it isn't just entered, and that each child is there. Takes no memory.
+    /// Tests that nothing of the place is left out: that it isn't just entered, and that each child
+    /// is there. Takes no memory.
     pub fn require_full_initialization<H: Hooks>(
         self,
         slots: &mut Slots,
@@ -80,9 +82,9 @@ impl SlotId {
         test_full(table, plan, place.node, &place.piece)
     }
 
-    /// Runs the validators of the fields of a begun struct or variant whose children are all there, in index order. Any other place,
-    /// be it entered, whole, an array, or begun around one child, has none to run, and passes. Only what is said of a value that fails
-    /// takes memory.
+    /// Runs the validators of the fields of a begun struct or variant whose children are all there,
+    /// in index order. Any other place, be it entered, whole, an array, or begun around one child,
+    /// has none to run, and passes. Only what is said of a value that fails takes memory.
     pub fn run_validators<H: Hooks>(
         self,
         slots: &Slots,
@@ -103,7 +105,8 @@ impl SlotId {
     {
         match slots.place(self) {
             Some(place) => {
-                // What is told of a list doesn't say whether its items are there, and it has no fields.
+                // What is told of a list doesn't say whether its items are there, and it has no
+                // fields.
                 if is_list(&place.piece) {
                     return Ok(());
                 }
@@ -113,8 +116,8 @@ impl SlotId {
         }
     }
 
-    /// Completes the place by the rules of the end of deferred mode, so that its value can be taken out: fills, then that nothing
-    /// is left out, then validators. A begun place stays begun.
+    /// Completes the place by the rules of the end of deferred mode, so that its value can be taken
+    /// out: fills, then that nothing is left out, then validators. A begun place stays begun.
     pub fn complete_by_defaults<H: Hooks>(
         self,
         slots: &mut Slots,

@@ -22,8 +22,8 @@ pub(crate) fn holds_item(entries: &Arena<Slot>, slot: SlotId, list: SlotId, numb
     }
 }
 
-/// Takes the value of an item of this list that has completed, of this number, out of its slot, which is then free. None where no such
-/// item lies there.
+/// Takes the value of an item of this list that has completed, of this number, out of its slot,
+/// which is then free. None where no such item lies there.
 fn take_item(
     entries: &mut Arena<Slot>,
     free: &mut Option<SlotId>,
@@ -48,7 +48,8 @@ fn take_item(
     Some(item.value)
 }
 
-/// Puts the item of this number at its child, in a list: with its value where it has completed, and its slot is free then.
+/// Puts the item of this number at its child, in a list: with its value where it has completed, and
+/// its slot is free then.
 fn put_item(
     entries: &mut Arena<Slot>,
     free: &mut Option<SlotId>,
@@ -71,8 +72,8 @@ fn put_item(
     }
 }
 
-/// Puts a list's items, which are in these slots, at its last children, in order: those that have completed with their values, and
-/// their slots are free then. Takes no memory.
+/// Puts a list's items, which are in these slots, at its last children, in order: those that have
+/// completed with their values, and their slots are free then. Takes no memory.
 fn put_items(
     entries: &mut Arena<Slot>,
     free: &mut Option<SlotId>,
@@ -148,8 +149,8 @@ fn drain_list(entries: &mut Arena<Slot>, free: &mut Option<SlotId>, id: SlotId)
     *entries.get_mut(id.idx()) = Slot::Used(place);
 }
 
-/// The same where the items aren't there yet. Whoever changes a place begins with it, and few places are lists with items, so the way
-/// out is short.
+/// The same where the items aren't there yet. Whoever changes a place begins with it, and few
+/// places are lists with items, so the way out is short.
 pub(crate) fn drain(entries: &mut Arena<Slot>, free: &mut Option<SlotId>, id: SlotId)
     ensures seen { slots_seen entries.new ≡ slots_seen entries.old }
     ensures plain { IsUsedAt entries.old id.0 → IsPlainAt entries.new id.0 }

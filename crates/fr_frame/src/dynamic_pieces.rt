@@ -13,7 +13,8 @@ use crate::places::{Form, Piece};
 use fr_shape::{OutOfMemory, Text};
 use std::alloc::Global;
 
-/// Begins a whole dynamic array in its stead, with its elements. It stays as it was where there is no memory for that.
+/// Begins a whole dynamic array in its stead, with its elements. It stays as it was where there is
+/// no memory for that.
 pub(crate) fn open_array(alloc: Global, piece: &mut Piece) -> Result<(), OutOfMemory>
     requires { HoldsArray (body_of piece.old) }
     ensures opened { OnOk result (body_of piece.new ≡ opened_array (body_of piece.old)) }
@@ -29,7 +30,8 @@ pub(crate) fn open_array(alloc: Global, piece: &mut Piece) -> Result<(), OutOfMe
     Ok(())
 }
 
-/// Begins a whole dynamic object in its stead, with its entries. It stays as it was where there is no memory for that.
+/// Begins a whole dynamic object in its stead, with its entries. It stays as it was where there is
+/// no memory for that.
 pub(crate) fn open_object(alloc: Global, piece: &mut Piece) -> Result<(), OutOfMemory>
     requires { HoldsObject (body_of piece.old) }
     ensures opened { OnOk result (body_of piece.new ≡ opened_object (body_of piece.old)) }
@@ -45,7 +47,8 @@ pub(crate) fn open_object(alloc: Global, piece: &mut Piece) -> Result<(), OutOfM
     Ok(())
 }
 
-/// The number of the entry that a begun object has under a key, where it has one, and the key back. Doesn't look at each entry.
+/// The number of the entry that a begun object has under a key, where it has one, and the key back.
+/// Doesn't look at each entry.
 pub(crate) fn entry_number(piece: &Piece, key: Text) -> (Option<usize>, Text)
     requires object { IsObjectBody (body_of piece.now) }
     requires apart { keys_apart (keys_in (body_of piece.now)) ≡ true }
@@ -78,7 +81,8 @@ fn push_entry(
     Ok(())
 }
 
-/// One entry more at a begun object, behind the others, under a key that it doesn't have. The entry's value isn't there yet.
+/// One entry more at a begun object, behind the others, under a key that it doesn't have. The
+/// entry's value isn't there yet.
 pub(crate) fn add_entry_for(alloc: Global, piece: &mut Piece, key: Text) -> Result<(), OutOfMemory>
     requires object { IsObjectBody (body_of piece.old) }
     requires lacked { entry_found key (keys_in (body_of piece.old)) ≡ None }

@@ -36,7 +36,8 @@ impl SlotId {
         open_array(alloc, &mut place.piece)
     }
 
-    /// Begins a whole dynamic object with its entries as they are, so that they can be entered by their keys.
+    /// Begins a whole dynamic object with its entries as they are, so that they can be entered by
+    /// their keys.
     pub fn open_object(self, slots: &mut Slots) -> Result<(), OutOfMemory>
         requires in_use { IsInUse slots.old self.0 }
         requires holds { IfInUse slots.old self.0 (λ at. HoldsObject at.body) }
@@ -50,8 +51,8 @@ impl SlotId {
         open_object(alloc, &mut place.piece)
     }
 
-    /// Puts something else in the stead of all that was put at the place, whose tokens are released. Children in slots of their own
-    /// stay there. Takes no memory.
+    /// Puts something else in the stead of all that was put at the place, whose tokens are
+    /// released. Children in slots of their own stay there. Takes no memory.
     fn replace(self, slots: &mut Slots, piece: Piece, ledger: &mut Ledger)
         requires in_use { IsInUse slots.old self.0 }
         requires room { IfInUse slots.old self.0 (λ at. Room (body_occurs at.body) ledger.old) }
@@ -68,8 +69,8 @@ impl SlotId {
         release_piece(before, ledger);
     }
 
-    /// Begins the place anew as a dynamic array without elements. The tokens of what was put at it are released. Children in slots
-    /// of their own stay there. Takes no memory.
+    /// Begins the place anew as a dynamic array without elements. The tokens of what was put at it
+    /// are released. Children in slots of their own stay there. Takes no memory.
     pub fn restart_array(self, slots: &mut Slots, ledger: &mut Ledger)
         requires in_use { IsInUse slots.old self.0 }
         requires room { IfInUse slots.old self.0 (λ at. Room (body_occurs at.body) ledger.old) }
@@ -84,8 +85,8 @@ impl SlotId {
         self.replace(slots, Piece::Begun(Form::DynArray, children), ledger);
     }
 
-    /// Begins the place anew as a dynamic object without entries. The tokens of what was put at it are released. Children in slots
-    /// of their own stay there. Takes no memory.
+    /// Begins the place anew as a dynamic object without entries. The tokens of what was put at it
+    /// are released. Children in slots of their own stay there. Takes no memory.
     pub fn restart_object(self, slots: &mut Slots, ledger: &mut Ledger)
         requires in_use { IsInUse slots.old self.0 }
         requires room { IfInUse slots.old self.0 (λ at. Room (body_occurs at.body) ledger.old) }
@@ -103,7 +104,8 @@ impl SlotId {
 }
 
 impl Slots {
-    /// The number of the entry that a begun dynamic object has under a key, where it has one, and the key back.
+    /// The number of the entry that a begun dynamic object has under a key, where it has one, and
+    /// the key back.
     fn entry_number(&self, parent: SlotId, key: Text) -> (Option<usize>, Text)
         requires parent { IfInUse self.now parent.0 (λ above. IsObjectBody above.body) }
         requires apart { IfInUse self.now parent.0 (λ above.
@@ -118,8 +120,8 @@ impl Slots {
         }
     }
 
-    /// One entry more at a begun dynamic object, behind the others, under a key that it doesn't have. The entry's value isn't there
-    /// yet.
+    /// One entry more at a begun dynamic object, behind the others, under a key that it doesn't
+    /// have. The entry's value isn't there yet.
     fn add_entry_for(&mut self, parent: SlotId, key: Text) -> Result<(), OutOfMemory>
         requires parent { IfInUse self.old parent.0 (λ above. IsObjectBody above.body) }
         requires lacked { IfInUse self.old parent.0 (λ above.
@@ -162,8 +164,8 @@ impl Slots {
         self.enter(table, plan, node, FrameOwner::Child(parent, i as u32))
     }
 
-    /// A slot for the value, of this node, of a new entry under a key that the begun dynamic object doesn't have. The object has it
-    /// behind its other entries from then on.
+    /// A slot for the value, of this node, of a new entry under a key that the begun dynamic object
+    /// doesn't have. The object has it behind its other entries from then on.
     fn enter_new_entry(
         &mut self,
         table: &ShapeTable,
@@ -203,8 +205,9 @@ impl Slots {
         Ok(id)
     }
 
-    /// A slot for the value, of this node, that a begun dynamic object has under a key. What the object held of it goes into the slot;
-    /// where it has no such key it has one more entry from then on, behind the others. Finds the key without looking at each.
+    /// A slot for the value, of this node, that a begun dynamic object has under a key. What the
+    /// object held of it goes into the slot; where it has no such key it has one more entry from
+    /// then on, behind the others. Finds the key without looking at each.
     pub fn enter_entry(
         &mut self,
         table: &ShapeTable,

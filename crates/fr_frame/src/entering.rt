@@ -13,8 +13,9 @@ use fr_plan::{NodeId, TypePlanCore};
 use fr_shape::{OutOfMemory, ShapeTable};
 
 impl Slots {
-    /// Puts a place of this node, which lies so deep, into a slot that is free. What its owner held of it goes into the slot, and
-    /// the owner then knows the slot; an owner that has no such child, or has it in a slot already, stays as it is. Takes no memory.
+    /// Puts a place of this node, which lies so deep, into a slot that is free. What its owner held
+    /// of it goes into the slot, and the owner then knows the slot; an owner that has no such
+    /// child, or has it in a slot already, stays as it is. Takes no memory.
     pub(crate) fn settle(
         &mut self,
         table: &ShapeTable,
@@ -47,8 +48,9 @@ impl Slots {
         self.lower(id, place);
     }
 
-    /// A slot for a place of this node. What its owner held of it goes into the slot, and the owner then knows the slot; an
-    /// owner that has no such child, or has it in a slot already, stays as it is.
+    /// A slot for a place of this node. What its owner held of it goes into the slot, and the owner
+    /// then knows the slot; an owner that has no such child, or has it in a slot already, stays as
+    /// it is.
     pub fn enter(
         &mut self,
         table: &ShapeTable,

@@ -1,4 +1,5 @@
-//! What the holes of a struct or of a variant take by the rules of the end of deferred mode, field by field.
+//! What the holes of a struct or of a variant take by the rules of the end of deferred mode, field
+//! by field.
 ghost use Rattle.std.specs.Prelude.{◌≡◌, None, Some, IfErr, IfOk, IsSome, OnOk};
 ghost use Rattle.std.specs.Option.{option_copied, option_map};
 ghost use Rattle.fr_shape.specs.Checked.{IsChecked};

@@ -1,4 +1,5 @@
-//! What a plan says of the fields of a struct or of a variant: what each takes where it is a hole, and its validators.
+//! What a plan says of the fields of a struct or of a variant: what each takes where it is a hole,
+//! and its validators.
 ghost use Rattle.std.specs.Prelude.{◌≡◌, ◌<◌, ℕ, length, slice_get, None, Some, IfOk};
 ghost use Rattle.std.specs.Option.{option_copied};
 ghost use Rattle.fr_shape.specs.Checked.{IsChecked};
@@ -39,7 +40,8 @@ fn told_at(variants: &[VariantPlanMeta], i: usize) -> Option<&VariantPlanMeta>
     variants.get(i)
 }
 
-/// The plans of the fields of an enum's variant, in order. Where there is no such variant there are none.
+/// The plans of the fields of an enum's variant, in order. Where there is no such variant there are
+/// none.
 fn plans_of_variant(plan: &TypePlanCore, node: NodeId, variant: u32) -> &[FieldPlan]
     requires { IsPlanned plan.now node }
     ensures told { (table : Table) → IsChecked table → IsPlanFor table plan.now
@@ -57,8 +59,8 @@ fn plans_of_variant(plan: &TypePlanCore, node: NodeId, variant: u32) -> &[FieldP
     }
 }
 
-/// The plans of the fields of a struct, or of the variant that is selected, in order. The plan says the same whichever table it is a
-/// plan of.
+/// The plans of the fields of a struct, or of the variant that is selected, in order. The plan says
+/// the same whichever table it is a plan of.
 pub(crate) fn fields_told(plan: &TypePlanCore, node: NodeId, selected: Option<u32>) -> &[FieldPlan]
     requires { IsPlanned plan.now node }
     ensures told { (table : Table) → IsChecked table → IsPlanFor table plan.now
@@ -87,7 +89,8 @@ pub(crate) fn plans_of_fields<'a>(
     fields_told(plan, node, selected)
 }
 
-/// Whether a field of the struct that a node builds, or of the variant that is selected, has a validator. No field is looked at.
+/// Whether a field of the struct that a node builds, or of the variant that is selected, has a
+/// validator. No field is looked at.
 pub(crate) fn has_validators(plan: &TypePlanCore, node: NodeId, selected: Option<u32>) -> bool
     requires { node.0 < length plan.now.nodes }
     ensures { (table : Table) → IsChecked table → IsPlanFor table plan.now

@@ -17,8 +17,8 @@ use fr_plan::{NodeId, TypePlanCore};
 use fr_shape::{Def, OutOfMemory, ShapeTable, Value, clone_template};
 use std::alloc::Global;
 
-/// Puts a copy of its template at each field that isn't there, of a struct or of the variant that is selected. Only these need
-/// memory.
+/// Puts a copy of its template at each field that isn't there, of a struct or of the variant that
+/// is selected. Only these need memory.
 fn fill_holes(
     alloc: Global,
     table: &ShapeTable,
@@ -91,7 +91,8 @@ fn made_of_entered(
     }
 }
 
-/// Lets a place hold what it makes. One that is whole, or all of whose children are there, stays as it is.
+/// Lets a place hold what it makes. One that is whole, or all of whose children are there, stays as
+/// it is.
 pub(crate) fn fill(
     alloc: Global,
     table: &ShapeTable,

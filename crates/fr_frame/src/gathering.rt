@@ -14,9 +14,9 @@ use fr_shape::{Ledger, OutOfMemory, Value, release};
 use std::alloc::Global;
 use std::mem;
 
-/// The entries that keys and values make that come in turn. A key that comes again keeps its place and takes the
-/// new value; the new key and the old value are released, and so is a last key that has no value. Without memory
-/// the parts are handed back.
+/// The entries that keys and values make that come in turn. A key that comes again keeps its place
+/// and takes the new value; the new key and the old value are released, and so is a last key that
+/// has no value. Without memory the parts are handed back.
 pub(crate) fn merge_entries(
     alloc: Global,
     parts: Vec<Value>,
@@ -111,8 +111,8 @@ fn put_entry(
     }
 }
 
-/// The items that values make that come one after the other: one that is `same` as an earlier one is released.
-/// Without memory they are handed back.
+/// The items that values make that come one after the other: one that is `same` as an earlier one
+/// is released. Without memory they are handed back.
 pub(crate) fn distinct_items(
     alloc: Global,
     items: Vec<Value>,

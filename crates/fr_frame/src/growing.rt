@@ -15,8 +15,9 @@ use crate::slots::Slots;
 use fr_plan::{NodeId, TypePlanCore};
 use fr_shape::{OutOfMemory, ShapeTable};
 
-/// Lets a list that has its items in slots of their own be begun so instead, and leaves them there. False, and nothing is changed, where
-/// no such list is in the slot, or where a place that is begun so has no items in slots.
+/// Lets a list that has its items in slots of their own be begun so instead, and leaves them there.
+/// False, and nothing is changed, where no such list is in the slot, or where a place that is begun
+/// so has no items in slots.
 fn reform_list(slot: &mut Slot, form: Form) -> bool
     ensures reformed { result ≡ true → IsReformed form slot.old slot.new }
     ensures kept { result ≡ false → slot.new ≡ slot.old }
@@ -35,8 +36,8 @@ fn reform_list(slot: &mut Slot, form: Form) -> bool
 }
 
 impl SlotId {
-    /// Lets a begun place be begun so instead, with the children that it has: so an open pointer to a slice is closed, or opened
-    /// again. Takes no memory.
+    /// Lets a begun place be begun so instead, with the children that it has: so an open pointer to
+    /// a slice is closed, or opened again. Takes no memory.
     pub fn reform(self, slots: &mut Slots, form: Form)
         requires in_use { IsInUse slots.old self.0 }
         ensures reformed { Shows slots.new
@@ -120,8 +121,8 @@ impl Slots {
         add_entry(alloc, &mut place.piece)
     }
 
-    /// A slot for a new item of this node, which the list or open pointer to a slice has behind its other children from then on, in the
-    /// slot where it stays when it completes.
+    /// A slot for a new item of this node, which the list or open pointer to a slice has behind its
+    /// other children from then on, in the slot where it stays when it completes.
     fn enter_list_item(
         &mut self,
         table: &ShapeTable,
@@ -169,7 +170,8 @@ impl Slots {
         Ok(id)
     }
 
-    /// A slot for a new item of this node, which the place that takes items has behind its other children from then on.
+    /// A slot for a new item of this node, which the place that takes items has behind its other
+    /// children from then on.
     fn enter_new_item(
         &mut self,
         table: &ShapeTable,
@@ -206,8 +208,8 @@ impl Slots {
         Ok(id)
     }
 
-    /// A slot for a new item of this node, which the place that takes items, a list, a set or an open pointer to a slice, has
-    /// behind its other children from then on.
+    /// A slot for a new item of this node, which the place that takes items, a list, a set or an
+    /// open pointer to a slice, has behind its other children from then on.
     pub fn enter_item(
         &mut self,
         table: &ShapeTable,
@@ -236,8 +238,8 @@ impl Slots {
         }
     }
 
-    /// A slot for the key of a new entry, which is of this node and which the begun map has behind its other children from
-    /// then on, and behind it the entry's value, which isn't there yet.
+    /// A slot for the key of a new entry, which is of this node and which the begun map has behind
+    /// its other children from then on, and behind it the entry's value, which isn't there yet.
     pub fn enter_key(
         &mut self,
         table: &ShapeTable,

@@ -21,8 +21,9 @@ use fr_arena::{Arena, ListRope};
 use fr_shape::{Ledger, OutOfMemory, Value};
 use std::alloc::Global;
 
-/// One item more in a list, which will be in this slot: it has its room in the piece, and the slot comes behind those of the other
-/// items. It is refused where these have no room in the piece, which doesn't happen.
+/// One item more in a list, which will be in this slot: it has its room in the piece, and the slot
+/// comes behind those of the other items. It is refused where these have no room in the piece,
+/// which doesn't happen.
 fn push_item(
     alloc: Global,
     piece: &mut Piece,
@@ -67,7 +68,8 @@ fn begin_rope(alloc: Global, slot: &mut Slot) -> Result<(), OutOfMemory>
     Ok(())
 }
 
-/// A slot in use by a list has a rope for its items from then on. Most have one, so the test is short.
+/// A slot in use by a list has a rope for its items from then on. Most have one, so the test is
+/// short.
 fn make_list(alloc: Global, slot: &mut Slot) -> Result<(), OutOfMemory>
     ensures seen { IsSeenAs slot.old slot.new }
     ensures list { OnOk result (is_used slot.old ≡ true → is_list slot.new ≡ true) }
@@ -78,8 +80,8 @@ fn make_list(alloc: Global, slot: &mut Slot) -> Result<(), OutOfMemory>
     Ok(())
 }
 
-/// One item more in the list in this slot, which will be in the slot `item`. A list that has no items in slots of their own yet gets a
-/// rope for them first.
+/// One item more in the list in this slot, which will be in the slot `item`. A list that has no
+/// items in slots of their own yet gets a rope for them first.
 fn add_item_in(alloc: Global, slot: &mut Slot, item: SlotId) -> Result<(), OutOfMemory>
     requires { IsListIn slot.old }
     ensures added { OnOk result (IsAddedIn item.0 slot.old slot.new) }
@@ -125,7 +127,8 @@ fn is_of_list(entries: &Arena<Slot>, owner: &FrameOwner) -> bool
     }
 }
 
-/// The list that has the place in a slot among its items, and the item's number among the list's children.
+/// The list that has the place in a slot among its items, and the item's number among the list's
+/// children.
 fn list_of(entries: &Arena<Slot>, id: SlotId) -> Option<(SlotId, u32)>
     requires { id.0 < length entries.now }
     ensures below { IfSome result (λ found.
@@ -147,7 +150,8 @@ fn list_of(entries: &Arena<Slot>, id: SlotId) -> Option<(SlotId, u32)>
     }
 }
 
-/// Whether the place in a slot belongs to a list that has items in slots of their own. Few places do, so the test is short.
+/// Whether the place in a slot belongs to a list that has items in slots of their own. Few places
+/// do, so the test is short.
 pub(crate) fn is_in_list(entries: &Arena<Slot>, id: SlotId) -> bool
     ensures { result ≡ in_list entries.now id.0 }
 {
@@ -182,8 +186,8 @@ fn take_piece(slot: &mut Slot) -> Piece
     }
 }
 
-/// Puts an item that has completed into the slot of its place, from which its value was taken. Nothing is there any more that would
-/// have to be let go.
+/// Puts an item that has completed into the slot of its place, from which its value was taken.
+/// Nothing is there any more that would have to be let go.
 fn put_item(slot: &mut Slot, value: Value, list: SlotId, number: u32)
     requires emptied { IsEmptied slot.old }
     ensures { slot.new ≡ Entry.Item (record { value = value; list = list; number = number }) }
@@ -212,8 +216,9 @@ impl Slots {
         add_item_in(alloc, self.entries.get_mut(list.idx()), item)
     }
 
-    /// Lets a place that is whole, or begun with each child there, and is an item of a list have completed: it keeps its slot, with its
-    /// value. None where the place is no such item; then nothing is changed.
+    /// Lets a place that is whole, or begun with each child there, and is an item of a list have
+    /// completed: it keeps its slot, with its value. None where the place is no such item; then
+    /// nothing is changed.
     #[inline(never)]
     pub(crate) fn complete_item(
         &mut self,

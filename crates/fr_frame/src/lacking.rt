@@ -1,5 +1,5 @@
-//! What a place lacks whose children are given or not there. Only what is said of a value that fails
-//! takes memory.
+//! What a place lacks whose children are given or not there. Only what is said of a value that
+//! fails takes memory.
 ghost use Rattle.std.specs.Prelude.{◌≡◌, ◌<◌, None, length, IfErr, IsSome, OnErr, OnOk};
 ghost use Rattle.std.specs.Option.{option_map, option_copied, option_or};
 ghost use Rattle.fr_shape.specs.Checked.{IsChecked};
@@ -61,8 +61,8 @@ fn value_for<'a>(
     }
 }
 
-/// Tests a field of a struct or of a variant, of which this is the value, if it is there: there has to be one, and it
-/// has to be valid.
+/// Tests a field of a struct or of a variant, of which this is the value, if it is there: there has
+/// to be one, and it has to be valid.
 fn test_field<H: Hooks>(
     alloc: Global,
     table: &ShapeTable,
@@ -197,7 +197,8 @@ fn test_entered<H: Hooks>(
     }
 }
 
-/// Tests a place whose children are elements, a content, a side or a pointee, each given or not there: all have to be there.
+/// Tests a place whose children are elements, a content, a side or a pointee, each given or not
+/// there: all have to be there.
 pub(crate) fn test_others(
     plan: &TypePlanCore,
     node: NodeId,

@@ -30,8 +30,8 @@ impl Slots {
         }
     }
 
-    /// Lets a child of a set go, which isn't there, and puts a value behind the set's other children, unless one of them is
-    /// `same`: then it is released.
+    /// Lets a child of a set go, which isn't there, and puts a value behind the set's other
+    /// children, unless one of them is `same`: then it is released.
     fn end_child(&mut self, parent: SlotId, i: u32, value: Value, ledger: &mut Ledger)
         requires in_use { IsInUse self.old parent.0 }
         requires set { IfInUse self.old parent.0 (λ at. IsSetBody at.body) }
@@ -63,7 +63,8 @@ impl Slots {
 }
 
 impl SlotId {
-    /// Takes what was put at the place out of its slot, which is then free, and tells where the place belonged.
+    /// Takes what was put at the place out of its slot, which is then free, and tells where the
+    /// place belonged.
     fn take_out(self, slots: &mut Slots) -> (FrameOwner, Piece)
         requires { IsInUse slots.old self.0 }
         ensures taken { IfInUse slots.old self.0 (λ at.
@@ -90,9 +91,10 @@ impl SlotId {
         piece
     }
 
-    /// The value of a place that is whole, or begun with each child there. Its slot is then free, and its owner has it in no
-    /// slot. A content, a side, a pointee or a slice goes into a box. A set or a map, of which what is there twice is released, and a
-    /// dynamic array or object are put together anew. Where there is no memory for that, what was put at the place is released.
+    /// The value of a place that is whole, or begun with each child there. Its slot is then free,
+    /// and its owner has it in no slot. A content, a side, a pointee or a slice goes into a box. A
+    /// set or a map, of which what is there twice is released, and a dynamic array or object are
+    /// put together anew. Where there is no memory for that, what was put at the place is released.
     pub fn into_value(self, slots: &mut Slots, ledger: &mut Ledger) -> Result<Value, OutOfMemory>
         requires complete { IfInUse slots.old self.0 (λ at. IsSome (value_of at.body)) }
         requires room { IfInUse slots.old self.0 (λ at. Room (body_occurs at.body) ledger.old) }
@@ -114,7 +116,8 @@ impl SlotId {
         value_of(alloc, piece, ledger)
     }
 
-    /// Hands the value of a place to its owner, and the slot is then free, as `hand_up` says, but at an item that keeps its slot.
+    /// Hands the value of a place to its owner, and the slot is then free, as `hand_up` says, but
+    /// at an item that keeps its slot.
     fn hand_over(self, slots: &mut Slots, ledger: &mut Ledger) -> Result<(), OutOfMemory>
         requires complete { IfInUse slots.old self.0 (λ at. IsSome (value_of at.body)) }
         requires owned { IfInUse slots.old self.0 (λ at.
@@ -137,9 +140,10 @@ impl SlotId {
         Ok(())
     }
 
-    /// Hands the value of a place that is whole, or begun with each child there, to its owner, which has the place in this slot.
-    /// The slot is then free. What a set or a map leaves out of its value, as it is there twice, is released. Where there is
-    /// no memory for making the value, what was put at the place is released.
+    /// Hands the value of a place that is whole, or begun with each child there, to its owner,
+    /// which has the place in this slot. The slot is then free. What a set or a map leaves out of
+    /// its value, as it is there twice, is released. Where there is no memory for making the value,
+    /// what was put at the place is released.
     pub fn hand_up(self, slots: &mut Slots, ledger: &mut Ledger) -> Result<(), OutOfMemory>
         requires complete { IfInUse slots.old self.0 (λ at. IsSome (value_of at.body)) }
         requires owned { IfInUse slots.old self.0 (λ at.
@@ -164,9 +168,10 @@ impl SlotId {
         }
     }
 
-    /// Puts the value of a set's item that is whole, or begun with each child there, behind the set's other items, unless
-    /// one of them is `same`: then the value is released. The item's slot is then free, and the set has no child for it.
-    /// Where there is no memory for making the value, what was put at the item is released, and the set's child isn't there.
+    /// Puts the value of a set's item that is whole, or begun with each child there, behind the
+    /// set's other items, unless one of them is `same`: then the value is released. The item's slot
+    /// is then free, and the set has no child for it. Where there is no memory for making the
+    /// value, what was put at the item is released, and the set's child isn't there.
     pub fn end_item(self, slots: &mut Slots, ledger: &mut Ledger) -> Result<(), OutOfMemory>
         requires complete { IfInUse slots.old self.0 (λ at. IsSome (value_of at.body)) }
         requires owned { IfInUse slots.old self.0 (λ at.
@@ -190,8 +195,8 @@ impl SlotId {
         Ok(())
     }
 
-    /// Records the tokens of what was put at the place as released. Its slot is then free, and its owner has it in no slot.
-    /// Children in slots of their own stay there.
+    /// Records the tokens of what was put at the place as released. Its slot is then free, and its
+    /// owner has it in no slot. Children in slots of their own stay there.
     pub fn release_frame(self, slots: &mut Slots, ledger: &mut Ledger)
         requires in_use { IsInUse slots.old self.0 }
         requires room { IfInUse slots.old self.0 (λ at. Room (body_occurs at.body) ledger.old) }

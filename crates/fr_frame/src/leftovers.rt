@@ -1,4 +1,5 @@
-//! What is left of a place after its fills: the value of an entered place, the first child that isn't there.
+//! What is left of a place after its fills: the value of an entered place, the first child that
+//! isn't there.
 ghost use Rattle.std.specs.Prelude.{◌≡◌, ◌<◌, length, None, Some, IfErr, OnOk};
 ghost use Rattle.fr_shape.specs.Checked.{IsChecked};
 ghost use Rattle.fr_shape.specs.Look.{def_of};

@@ -1,7 +1,8 @@
-//! Slots: the places of which a value is being built, each under a number that stays while it is in use.
+//! Slots: the places of which a value is being built, each under a number that stays while it is in
+//! use.
 //!
-//! A begun place holds the values of its children. A child that is being built is in a slot of its own, and its parent
-//! knows which.
+//! A begun place holds the values of its children. A child that is being built is in a slot of its
+//! own, and its parent knows which.
 #![tactic(auto)]
 
 mod changing;

@@ -57,7 +57,8 @@ impl Slots {
         link(&mut place.piece, i, id)
     }
 
-    /// Lets the owner of a place have it in this slot, and hands out the value that it had there, if it had one.
+    /// Lets the owner of a place have it in this slot, and hands out the value that it had there,
+    /// if it had one.
     pub(crate) fn link(&mut self, id: SlotId, owner: &FrameOwner) -> Option<Value>
         requires { IsOwnerInUse self.old owner.now }
         ensures rest { Shows self.new (links owner.now id.0 (heap_of self.old)) }

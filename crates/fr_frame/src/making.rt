@@ -27,8 +27,8 @@ fn list_of(values: Vec<Value>) -> Value
     Value::List(Items::from_vec(values))
 }
 
-/// The value that is made of those of the children of a place that is begun so, where that holds no box and
-/// isn't put together anew. Takes no memory.
+/// The value that is made of those of the children of a place that is begun so, where that holds no
+/// box and isn't put together anew. Takes no memory.
 fn value_of_parts(form: Form, values: Vec<Value>) -> Value
     requires no_box { boxes (as_form form) ≡ false }
     requires as_it_is { gathers (as_form form) ≡ false }
@@ -55,7 +55,8 @@ fn only(mut values: Vec<Value>) -> Value
     }
 }
 
-/// What the box of a place that is begun so holds: the value of its one child, or the list of a slice's items. Takes no memory.
+/// What the box of a place that is begun so holds: the value of its one child, or the list of a
+/// slice's items. Takes no memory.
 fn value_in_box(form: Form, values: Vec<Value>) -> Value
     requires boxes { boxes (as_form form) ≡ true }
     requires one { is_around (as_form form) ≡ true → length values.items ≡ 1 }
@@ -84,8 +85,8 @@ fn value_of_box(form: Form, held: Box<Value>) -> Value
     }
 }
 
-/// The set of those of these values that aren't `same` as an earlier one, which are released. Without memory they are
-/// handed back.
+/// The set of those of these values that aren't `same` as an earlier one, which are released.
+/// Without memory they are handed back.
 fn set_of(alloc: Global, values: Vec<Value>, ledger: &mut Ledger) -> Result<Value, Vec<Value>>
     requires room { Room (vals_occur (vals_view values.items)) ledger.old }
     ensures value { IfOk result (λ v.
@@ -108,8 +109,8 @@ fn of_entries(entries: Vec<(Value, Value)>) -> Value
     Value::Map(Items::from_vec(entries))
 }
 
-/// The map of these keys and values, which take turns. A key that comes again takes the new value; the new key and the old
-/// value are released. Without memory they are handed back.
+/// The map of these keys and values, which take turns. A key that comes again takes the new value;
+/// the new key and the old value are released. Without memory they are handed back.
 fn map_of(alloc: Global, values: Vec<Value>, ledger: &mut Ledger) -> Result<Value, Vec<Value>>
     requires room { Room (vals_occur (vals_view values.items)) ledger.old }
     ensures value { IfOk result (λ v.
@@ -125,7 +126,8 @@ fn map_of(alloc: Global, values: Vec<Value>, ledger: &mut Ledger) -> Result<Valu
     }
 }
 
-/// The value that is put together anew of those of the children of a place that is begun so. Without memory they are handed back.
+/// The value that is put together anew of those of the children of a place that is begun so.
+/// Without memory they are handed back.
 fn value_gathered(
     alloc: Global,
     form: Form,
@@ -151,7 +153,8 @@ fn value_gathered(
     }
 }
 
-/// The value of a place that is begun with each child there, which holds no box. Without memory the children are handed back.
+/// The value of a place that is begun with each child there, which holds no box. Without memory the
+/// children are handed back.
 fn value_of_children(
     alloc: Global,
     form: Form,
@@ -179,7 +182,8 @@ fn value_of_children(
     }
 }
 
-/// The value of a dynamic object with each child there. Without memory its keys and children are handed back.
+/// The value of a dynamic object with each child there. Without memory its keys and children are
+/// handed back.
 fn value_of_object(
     alloc: Global,
     keys: Keys,
@@ -213,7 +217,8 @@ fn value_made(form: Form, children: Children, mut held: Box<Value>) -> Value
     value_of_box(form, held)
 }
 
-/// The value of a place that is begun with each child there. Without memory the children are handed back.
+/// The value of a place that is begun with each child there. Without memory the children are handed
+/// back.
 fn value_of_begun(
     alloc: Global,
     form: Form,
@@ -239,7 +244,8 @@ fn value_of_begun(
     }
 }
 
-/// The value of a place that is whole, or begun with each child there. Without memory the place is handed back.
+/// The value of a place that is whole, or begun with each child there. Without memory the place is
+/// handed back.
 fn value_or_back(alloc: Global, piece: Piece, ledger: &mut Ledger) -> Result<Value, Piece>
     requires there { IsSome (value_of (body_of piece)) }
     requires room { Room (body_occurs (body_of piece)) ledger.old }
@@ -264,8 +270,8 @@ fn value_or_back(alloc: Global, piece: Piece, ledger: &mut Ledger) -> Result<Val
     }
 }
 
-/// The value of a place that is whole, or begun with each child there. Where there is no memory for making it, what was put
-/// at the place is released. Most places are whole, so that way is short.
+/// The value of a place that is whole, or begun with each child there. Where there is no memory for
+/// making it, what was put at the place is released. Most places are whole, so that way is short.
 pub(crate) fn value_of(
     alloc: Global,
     piece: Piece,
@@ -292,8 +298,8 @@ pub(crate) fn value_of(
     }
 }
 
-/// Lets a place that is whole, or begun with each child there, be whole with its value. It stays as it was where there is no
-/// memory for making it.
+/// Lets a place that is whole, or begun with each child there, be whole with its value. It stays as
+/// it was where there is no memory for making it.
 pub(crate) fn make_whole(
     alloc: Global,
     piece: &mut Piece,

@@ -109,7 +109,8 @@ fn put_entries(children: &mut Children, mut entries: Vec<(Value, Value)>)
     }
 }
 
-/// Takes keys and values, in turn, out of a map. It stays as it was where there is no memory for them.
+/// Takes keys and values, in turn, out of a map. It stays as it was where there is no memory for
+/// them.
 fn children_of_map(alloc: Global, value: &mut Value) -> Result<Children, OutOfMemory>
     requires { IsSome (entries_of (view value.old)) }
     ensures parts { IfOk result (λ children.
@@ -126,7 +127,8 @@ fn children_of_map(alloc: Global, value: &mut Value) -> Result<Children, OutOfMe
     Ok(children)
 }
 
-/// As what a place that holds this is begun: a map over the entries that it has. None where they are too many to be numbered.
+/// As what a place that holds this is begun: a map over the entries that it has. None where they
+/// are too many to be numbered.
 pub(crate) fn over_base(form: Form, value: &Value) -> Option<Form>
     ensures over { IfSome result (λ over.
         as_form over ≡ over_base (as_form form) (view value.now)) }
@@ -142,8 +144,8 @@ pub(crate) fn over_base(form: Form, value: &Value) -> Option<Form>
     }
 }
 
-/// Takes the values of its children out of a value that has some, as children that are all there. The value stays where there is
-/// no memory for them.
+/// Takes the values of its children out of a value that has some, as children that are all there.
+/// The value stays where there is no memory for them.
 pub(crate) fn children_of(
     alloc: Global,
     form: Form,

@@ -51,7 +51,8 @@ pub(crate) fn slot_at(piece: &Piece, i: usize) -> Option<SlotId>
     }
 }
 
-/// Puts child `i` into a slot, where there is that child and it is in none, and hands its value out, if it was there.
+/// Puts child `i` into a slot, where there is that child and it is in none, and hands its value
+/// out, if it was there.
 fn link_child(children: &mut Children, i: u32, slot: SlotId) -> Option<Value>
     ensures linked { (form : TreeForm) →
         begun_body form children.new ≡ linked slot.0 i (begun_body form children.old) }
@@ -66,7 +67,8 @@ fn link_child(children: &mut Children, i: u32, slot: SlotId) -> Option<Value>
     children.place(at, slot)
 }
 
-/// Puts child `i` into a slot, where the place has it and it is in none, and hands its value out, if it was there.
+/// Puts child `i` into a slot, where the place has it and it is in none, and hands its value out,
+/// if it was there.
 pub(crate) fn link(piece: &mut Piece, i: u32, slot: SlotId) -> Option<Value>
     ensures piece { body_of piece.new ≡ linked slot.0 i (body_of piece.old) }
     ensures taken { option_map view result ≡ held_value (cell_at (body_of piece.old) i) }
@@ -145,7 +147,8 @@ fn product_of(values: Vec<Value>) -> Value
     Value::Product(Items::from_vec(values))
 }
 
-/// Begins the place in its stead, with so many children. It stays as it was where there is no memory for them.
+/// Begins the place in its stead, with so many children. It stays as it was where there is no
+/// memory for them.
 pub(crate) fn open(
     alloc: Global,
     piece: &mut Piece,
@@ -199,7 +202,8 @@ fn held_in(piece: Piece) -> Value
     }
 }
 
-/// Begins a whole `Some` in its stead, around its content. It stays as it was where there is no memory for that.
+/// Begins a whole `Some` in its stead, around its content. It stays as it was where there is no
+/// memory for that.
 pub(crate) fn open_some(alloc: Global, piece: &mut Piece) -> Result<(), OutOfMemory>
     requires { HoldsSome (body_of piece.old) }
     ensures opened { OnOk result (body_of piece.new ≡ opened_some (body_of piece.old)) }
@@ -262,8 +266,8 @@ pub(crate) fn add_entry(alloc: Global, piece: &mut Piece) -> Result<(), OutOfMem
     }
 }
 
-/// Lets child `i` of a begun set, which isn't there, go, and puts a value behind the others, unless one of them is `same`:
-/// then it is released. Takes no memory.
+/// Lets child `i` of a begun set, which isn't there, go, and puts a value behind the others, unless
+/// one of them is `same`: then it is released. Takes no memory.
 pub(crate) fn end_child(piece: &mut Piece, i: u32, value: Value, ledger: &mut Ledger)
     requires set { IsSetBody (body_of piece.old) }
     requires absent { cell_at (body_of piece.old) i ≡ Some absent }

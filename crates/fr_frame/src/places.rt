@@ -38,11 +38,12 @@ pub enum FrameOwner {
     Child(SlotId, u32),
 }
 
-/// As what a place is begun: with the fields of a struct or of an enum's variant of this number, with the elements of an array,
-/// around one child, which is the content of an option, of either side of a result, or what a pointer points to, with the items
-/// of a list, as a pointer to a slice, with its items, that is open for more of them or closed, with the items of a set, with
-/// the keys and values of a map, which take turns, over as many entries as it had when it was begun, or with the elements of a
-/// dynamic array.
+/// As what a place is begun: with the fields of a struct or of an enum's variant of this number,
+/// with the elements of an array, around one child, which is the content of an option, of either
+/// side of a result, or what a pointer points to, with the items of a list, as a pointer to a
+/// slice, with its items, that is open for more of them or closed, with the items of a set, with
+/// the keys and values of a map, which take turns, over as many entries as it had when it was
+/// begun, or with the elements of a dynamic array.
 #[derive(Clone, Copy)]
 pub enum Form {
     Struct,
@@ -60,15 +61,16 @@ pub enum Form {
     DynArray,
 }
 
-/// What the children of a begun place are: the fields of a struct, or of the variant of this number, for which there are fills and
-/// validators; or something else, for which there are none.
+/// What the children of a begun place are: the fields of a struct, or of the variant of this
+/// number, for which there are fills and validators; or something else, for which there are none.
 #[derive(Clone, Copy)]
 pub(crate) enum Parts {
     Fields(Option<u32>),
     Others,
 }
 
-/// The step to child `i` of a map over a base of so many entries: to a key or a value of an entry, whose number doesn't count them.
+/// The step to child `i` of a map over a base of so many entries: to a key or a value of an entry,
+/// whose number doesn't count them.
 fn entry_step(base: u32, i: u32) -> PathStep
     ensures step { result ≡ step_as (as_map base) i }
 {
@@ -87,8 +89,8 @@ impl Form {
     ghost use Rattle.fr_frame.specs.Items.{keeps_items};
     ghost use Rattle.fr_frame.specs.Outlines.{has_items};
 
-    /// The step to child `i` of a place that is begun so. A content, a side or a pointee is child 0; of a map's children each other
-    /// one is a key, before its value.
+    /// The step to child `i` of a place that is begun so. A content, a side or a pointee is child
+    /// 0; of a map's children each other one is a key, before its value.
     pub fn step(self, i: u32) -> PathStep
         ensures step { result ≡ step_as (as_form self) i }
     {
@@ -169,7 +171,8 @@ impl Form {
         }
     }
 
-    /// Whether the items of a place that is begun so keep their slots: it is a list or a pointer to a slice.
+    /// Whether the items of a place that is begun so keep their slots: it is a list or a pointer to
+    /// a slice.
     pub(crate) fn keeps_items(self) -> bool
         ensures told { result ≡ has_items (as_form self) }
         ensures kept { result ≡ keeps_items self }
@@ -195,8 +198,8 @@ impl Form {
     }
 }
 
-/// What was put at a place so far: nothing, all of its value, or some of its children. A dynamic object, which is begun with a child
-/// for each key, holds its keys.
+/// What was put at a place so far: nothing, all of its value, or some of its children. A dynamic
+/// object, which is begun with a child for each key, holds its keys.
 #[derive(Drop)]
 pub enum Piece {
     Entered,
@@ -205,7 +208,8 @@ pub enum Piece {
     Object(Keys, Children),
 }
 
-/// A place in a slot. `stored` says that the builder isn't at it or below it, and that it will be completed later.
+/// A place in a slot. `stored` says that the builder isn't at it or below it, and that it will be
+/// completed later.
 #[derive(Drop)]
 pub struct Place {
     pub node: NodeId,
@@ -215,7 +219,8 @@ pub struct Place {
     pub piece: Piece,
 }
 
-/// An item of the list in a slot that has completed: its value, and its number among the list's children.
+/// An item of the list in a slot that has completed: its value, and its number among the list's
+/// children.
 #[derive(Drop)]
 pub struct Item {
     pub value: Value,
@@ -223,10 +228,11 @@ pub struct Item {
     pub number: u32,
 }
 
-/// A slot: free, with the free one that comes after it; kept for a place that is about to come; in use; in use by a list, or a
-/// pointer to a slice, whose last children are items that lie in these slots; or with an item that has completed, which keeps its
-/// slot until its list completes, starts anew or is released. In the list's piece an item isn't there, but has its room, so that the
-/// list needs no memory to complete.
+/// A slot: free, with the free one that comes after it; kept for a place that is about to come; in
+/// use; in use by a list, or a pointer to a slice, whose last children are items that lie in these
+/// slots; or with an item that has completed, which keeps its slot until its list completes, starts
+/// anew or is released. In the list's piece an item isn't there, but has its room, so that the list
+/// needs no memory to complete.
 #[derive(Drop)]
 pub enum Slot {
     Free(Option<SlotId>),

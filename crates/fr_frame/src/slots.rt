@@ -17,10 +17,11 @@ use fr_shape::OutOfMemory;
 use std::alloc::Global;
 use std::marker::Model;
 
-/// All slots of a builder. Those that are free are linked to one another, the one that was freed last first.
+/// All slots of a builder. Those that are free are linked to one another, the one that was freed
+/// last first.
 ///
-/// Contracts see the list of the slots, and in it each list with its items: an item that has completed keeps its slot, but is a child
-/// that is there with its value.
+/// Contracts see the list of the slots, and in it each list with its items: an item that has
+/// completed keeps its slot, but is a child that is there with its value.
 #[derive(Drop)]
 pub struct Slots {
     alloc: Global,
@@ -42,7 +43,8 @@ impl Model for Slots {
     ghost view = { λ slots. slots_seen slots.entries };
 }
 
-/// Puts something else into a slot that is kept for a place. Nothing is there that would have to be let go.
+/// Puts something else into a slot that is kept for a place. Nothing is there that would have to be
+/// let go.
 fn put(entries: &mut Arena<Slot>, id: SlotId, slot: Slot)
     requires reserved { slice_get entries.old id.0 ≡ Some Entry.Reserved }
     ensures now { entries.new ≡ slice_set entries.old id.0 slot }
@@ -50,7 +52,8 @@ fn put(entries: &mut Arena<Slot>, id: SlotId, slot: Slot)
     std::mem::forget(std::mem::replace(entries.get_mut(id.idx()), slot));
 }
 
-/// Keeps a free slot for a place that is about to come. Nothing is there that would have to be let go.
+/// Keeps a free slot for a place that is about to come. Nothing is there that would have to be let
+/// go.
 fn reserve(entries: &mut Arena<Slot>, id: SlotId)
     requires free { IsFreeAt entries.old id.0 }
     ensures now { entries.new ≡ slice_set entries.old id.0 Entry.Reserved }
@@ -92,8 +95,8 @@ impl Slots {
         self.alloc
     }
 
-    /// The place in a slot, if the slot is in use. In a list an item isn't told, which may have completed: what is told of a list is
-    /// how many children it has.
+    /// The place in a slot, if the slot is in use. In a list an item isn't told, which may have
+    /// completed: what is told of a list is how many children it has.
     pub fn place(&self, id: SlotId) -> Option<&Place>
         ensures place { option_map outlined (option_map node_of (option_copied result))
             ≡ option_map outlined (heap_of self.now id.0) }
@@ -124,7 +127,8 @@ impl Slots {
         put(&mut self.entries, id, Slot::Used(place));
     }
 
-    /// The place in a slot that is in use, for writing. A list has its items in its piece from then on.
+    /// The place in a slot that is in use, for writing. A list has its items in its piece from then
+    /// on.
     pub(crate) fn place_mut(&mut self, id: SlotId) -> &mut Place
         requires { IsInUse self.old id.0 }
         ensures* writes_back { sem 𝓛 (Lends the_row place.the_row self.entry result
@@ -171,8 +175,8 @@ impl Slots {
         Ok(SlotId::of(idx))
     }
 
-    /// A slot that is free: the one that was freed last, else one behind the others. It is kept for the place that whoever asks puts
-    /// into it.
+    /// A slot that is free: the one that was freed last, else one behind the others. It is kept for
+    /// the place that whoever asks puts into it.
     pub(crate) fn vacant(&mut self) -> Result<SlotId, OutOfMemory>
         ensures reserved { IfOk result (λ id. IsReserved self.new id.0) }
         ensures vacant { IfOk result (λ id. heap_of self.old id.0 ≡ None) }

@@ -47,8 +47,9 @@ impl SlotId {
         slots.child_slot(self, i as usize)
     }
 
-    /// Lets a place that is whole, or begun with each child there, be whole with its value. It stays as it was where there is no
-    /// memory for making it. What a set or a map leaves out of its value, as it is there twice, is released.
+    /// Lets a place that is whole, or begun with each child there, be whole with its value. It
+    /// stays as it was where there is no memory for making it. What a set or a map leaves out of
+    /// its value, as it is there twice, is released.
     pub fn make_whole(self, slots: &mut Slots, ledger: &mut Ledger) -> Result<(), OutOfMemory>
         requires complete { IfInUse slots.old self.0 (λ at. IsSome (value_of at.body)) }
         requires room { IfInUse slots.old self.0 (λ at. Room (body_occurs at.body) ledger.old) }

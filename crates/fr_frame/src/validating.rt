@@ -1,5 +1,5 @@
-//! Running the validators of a place whose children are all there. What a plan says of its fields is read without a table, and
-//! holds for every table that it is a plan of.
+//! Running the validators of a place whose children are all there. What a plan says of its fields
+//! is read without a table, and holds for every table that it is a plan of.
 ghost use Rattle.std.specs.Prelude.{◌≡◌, ◌<◌, length, slice_get, None, IfErr, IsSome, OnOk};
 ghost use Rattle.std.specs.Option.{option_copied, option_map};
 ghost use Rattle.fr_shape.specs.Checked.{IsChecked};
@@ -53,7 +53,8 @@ fn test_value<H: Hooks>(
     run_validators(alloc, hooks, validators, value, told.field)
 }
 
-/// Runs the validators of the fields of a struct, or of the variant that is selected, all of which are there.
+/// Runs the validators of the fields of a struct, or of the variant that is selected, all of which
+/// are there.
 fn test_values<H: Hooks>(
     alloc: Global,
     plan: &TypePlanCore,
@@ -83,8 +84,8 @@ fn test_values<H: Hooks>(
     Ok(())
 }
 
-/// Runs the validators of the fields of a place. Only a begun struct or variant has any. Where no field has any, no child is looked
-/// at.
+/// Runs the validators of the fields of a place. Only a begun struct or variant has any. Where no
+/// field has any, no child is looked at.
 pub(crate) fn test_valid<H: Hooks>(
     alloc: Global,
     plan: &TypePlanCore,

@@ -13,9 +13,9 @@ use fr_shape::{OutOfMemory, Value, compare};
 use std::alloc::Global;
 use std::cmp::Ordering;
 
-/// Finds a value among those of a list that grows at its end, and holds their numbers alone. They stand in runs,
-/// each sorted by the order of its values; what comes goes into one run with the shorter ones before it, so that
-/// there are few runs, and each number is seldom sorted anew.
+/// Finds a value among those of a list that grows at its end, and holds their numbers alone. They
+/// stand in runs, each sorted by the order of its values; what comes goes into one run with the
+/// shorter ones before it, so that there are few runs, and each number is seldom sorted anew.
 #[derive(Drop)]
 pub(crate) struct ValueIndex {
     runs: Vec<Vec<u32>>,
@@ -58,7 +58,8 @@ impl ValueIndex {
         None
     }
 
-    /// Adds the number of the last value; it has those of all the others. Without memory it stays as it was.
+    /// Adds the number of the last value; it has those of all the others. Without memory it stays
+    /// as it was.
     pub(crate) fn add(&mut self, values: &[Value]) -> Result<(), OutOfMemory>
         requires more { 0 < length values.now }
         requires indexed { Indexes self.old (take (length values.now - 1) values.now) }
@@ -87,7 +88,8 @@ impl ValueIndex {
         }
     }
 
-    /// The runs from this one on go into a new one: none of them is longer than all behind it and the new number.
+    /// The runs from this one on go into a new one: none of them is longer than all behind it and
+    /// the new number.
     fn first_absorbed(&self) -> usize
         ensures { result ≤ length (runs_of self.now) }
     {

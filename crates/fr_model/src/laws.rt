@@ -17,9 +17,10 @@ ghost use Rattle.fr_model.specs.ListExamples.{ArrayExamples, ListExamples, Slice
 ghost use Rattle.fr_model.specs.PathLaws.{ChangingKeepsThePath, EnteringAddsAStep, EnteringAddsItsStep, FinishingKeepsThePath, KeptIsAdmitted, LeavingDropsAStep, PathIsAsDeep};
 ghost use Rattle.fr_model.specs.WellExamples.{WellExamples};
 
-/// For every field script of fitting values over a table that is plain for the root, whatever the hooks mean, the run of the
-/// commands gives a value exactly where the journal completes, and the same one. At the start, and after each fitting call
-/// of a field script that is admitted, what stands at each place of the tree is what the journal holds of it.
+/// For every field script of fitting values over a table that is plain for the root, whatever the
+/// hooks mean, the run of the commands gives a value exactly where the journal completes, and the
+/// same one. At the start, and after each fitting call of a field script that is admitted, what
+/// stands at each place of the tree is what the journal holds of it.
 pub fn law_agree()
     ensures agree { MachineAgrees }
     ensures start { StartIsRelated }
@@ -32,8 +33,8 @@ pub fn law_covering()
     ensures ways { WaysAgree }
 {}
 
-/// Where a place off the way makes a value and becomes whole with it, the tree still makes what it made, what fails in it still
-/// fails, and the end of deferred mode is what it was.
+/// Where a place off the way makes a value and becomes whole with it, the tree still makes what it
+/// made, what fails in it still fails, and the end of deferred mode is what it was.
 pub fn law_closing()
     ensures completion { ClosingKeepsCompletion }
     ensures failures { ClosingKeepsFailures }
@@ -41,8 +42,9 @@ pub fn law_closing()
     ensures failures_off { ClosingKeepsFailuresOff }
 {}
 
-/// In strict mode a place completes unless it lacks something, and at the end of deferred mode unless it or a place beneath it
-/// fails. Over a checked table, what completes of a tree that suits its shape fits that shape and keeps its tokens.
+/// In strict mode a place completes unless it lacks something, and at the end of deferred mode
+/// unless it or a place beneath it fails. Over a checked table, what completes of a tree that suits
+/// its shape fits that shape and keeps its tokens.
 pub fn law_completes()
     ensures or_lacks { CompletesOrLacks }
     ensures or_fails { CompletesOrFails }
@@ -50,9 +52,10 @@ pub fn law_completes()
     ensures tokens { CompletingKeepsTokens }
 {}
 
-/// In a state that is in order, setting a field to its default is entering it, setting it to that and leaving it, made as one call.
-/// In any state it is refused just where no field can be named, there is no such field, or the field has no default: with the
-/// refusal of the first of these that is so.
+/// In a state that is in order, setting a field to its default is entering it, setting it to that
+/// and leaving it, made as one call. In any state it is refused just where no field can be named,
+/// there is no such field, or the field has no default: with the refusal of the first of these that
+/// is so.
 pub fn law_default()
     ensures default { DefaultIsThreeCalls }
 {}
@@ -78,11 +81,13 @@ pub fn law_examples()
     ensures well { WellExamples }
 {}
 
-/// What fails at the end of deferred mode is half done and lies off the way, and a place that lacks something by itself fails, its
-/// children being whole or holes. Each failure is that of a place off the way to which its path leads, which lacks its kind, and has
-/// only children that complete or are holes; of a tree that lies off the way as a whole, each is that of a place in it. That end is
-/// refused exactly where something fails, or the place at which the builder works lacks something. Once every place off the way is
-/// whole or a hole, only that place is left to be finished.
+/// What fails at the end of deferred mode is half done and lies off the way, and a place that lacks
+/// something by itself fails, its children being whole or holes. Each failure is that of a place
+/// off the way to which its path leads, which lacks its kind, and has only children that complete
+/// or are holes; of a tree that lies off the way as a whole, each is that of a place in it. That
+/// end is refused exactly where something fails, or the place at which the builder works lacks
+/// something. Once every place off the way is whole or a hole, only that place is left to be
+/// finished.
 pub fn law_failing()
     ensures lie { FailuresLieThere }
     ensures lacking { LackingFails }
@@ -94,8 +99,9 @@ pub fn law_failing()
     ensures done { FinishOfDone }
 {}
 
-/// Items of which no two are the same make a set of just these, and entries with distinct keys a map of just these; nothing is
-/// left out. Among whole places a value has its like exactly where it has one among their values.
+/// Items of which no two are the same make a set of just these, and entries with distinct keys a
+/// map of just these; nothing is left out. Among whole places a value has its like exactly where it
+/// has one among their values.
 pub fn law_gathering()
     ensures items { DistinctItemsStay }
     ensures items_out { NoItemIsLeftOut }
@@ -104,17 +110,18 @@ pub fn law_gathering()
     ensures same { SameIsThere }
 {}
 
-/// What the end of deferred mode notes, and when it can't end, is what the three rules on places say; and no two of these notes
-/// cover each other.
+/// What the end of deferred mode notes, and when it can't end, is what the three rules on places
+/// say; and no two of these notes cover each other.
 pub fn law_finishing()
     ensures stuck { StuckOrNoted }
     ensures noted { NotesWhatIsDue }
     ensures apart { NotesLieApart }
 {}
 
-/// The path of the place at which a builder works depends only on the places above it, and has a step for each place on the way:
-/// entering a child adds a step, which each way on that is admitted tells, going up takes the last one away, and the end of deferred
-/// mode keeps the path. What the commands keep of an option, of a side or of what a pointer points to is admitted so.
+/// The path of the place at which a builder works depends only on the places above it, and has a
+/// step for each place on the way: entering a child adds a step, which each way on that is admitted
+/// tells, going up takes the last one away, and the end of deferred mode keeps the path. What the
+/// commands keep of an option, of a side or of what a pointer points to is admitted so.
 pub fn law_paths()
     ensures change { ChangingKeepsThePath }
     ensures enter { EnteringAddsAStep }
@@ -125,16 +132,17 @@ pub fn law_paths()
     ensures deep { PathIsAsDeep }
 {}
 
-/// Over a checked table, in a state that is in order: the tokens that the builder held and a command brought are those
-/// that it then holds (none after a refusal) and those that the command dropped; and so it is of `build`.
+/// Over a checked table, in a state that is in order: the tokens that the builder held and a
+/// command brought are those that it then holds (none after a refusal) and those that the command
+/// dropped; and so it is of `build`.
 pub fn law_removed()
     ensures step { StepKeepsTokens }
     ensures build { BuildKeepsTokens }
 {}
 
-/// A builder begins in a well state, whatever its table and its root. Over a checked table an admitted command keeps its
-/// state in order, if the command is fitting, and well, if it is fresh besides: what lies around the cursor rests, and no token
-/// stands twice.
+/// A builder begins in a well state, whatever its table and its root. Over a checked table an
+/// admitted command keeps its state in order, if the command is fitting, and well, if it is fresh
+/// besides: what lies around the cursor rests, and no token stands twice.
 pub fn law_well()
     ensures start { StartIsWell }
     ensures in_order { StepKeepsOrder }

@@ -1,4 +1,5 @@
-//! What the builder means: its commands, and the definitions and laws that all contracts above cite.
+//! What the builder means: its commands, and the definitions and laws that all contracts above
+//! cite.
 #![tactic(auto)]
 
 mod command;

@@ -1,4 +1,5 @@
-//! What the place above the one at which the builder works takes as that ends: whether it is a set or a dynamic value.
+//! What the place above the one at which the builder works takes as that ends: whether it is a set
+//! or a dynamic value.
 ghost use Rattle.std.specs.Prelude.{◌≡◌, false};
 ghost use Rattle.fr_model.specs.Collections.{is_set};
 ghost use Rattle.fr_model.specs.DynamicPlaces.{is_begun_dynamic, is_dynamic_form};
@@ -19,7 +20,8 @@ fn is_dynamic(form: Form) -> bool
 }
 
 impl<'t> Work<'t> {
-    /// What was put at the place above the one at which the builder works: whether it is a set or a dynamic value can be told by it.
+    /// What was put at the place above the one at which the builder works: whether it is a set or a
+    /// dynamic value can be told by it.
     fn piece_above(&self) -> &Piece
         requires below { is_root self.now.state.cursor ≡ false }
         ensures set { is_set (own_tree (body_of result.now)) ≡ is_set_item self.now.state }

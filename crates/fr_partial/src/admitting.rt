@@ -77,7 +77,8 @@ pub fn nth_opening(
     Ok(Opening { form, count })
 }
 
-/// As what an enum is opened around field `i` of the variant that is selected, or why that may not be entered.
+/// As what an enum is opened around field `i` of the variant that is selected, or why that may not
+/// be entered.
 fn variant_opening(
     described: &EnumDef,
     variant: Option<u32>,

@@ -60,8 +60,8 @@ impl<'t> Work<'t> {
 }
 
 impl<'t, H: Hooks> Partial<'t, H> {
-    /// Begins an array whose elements aren't there yet. One that is begun stays as it is. A whole one, one of too many elements or
-    /// anything else is refused, and never out of memory.
+    /// Begins an array whose elements aren't there yet. One that is begun stays as it is. A whole
+    /// one, one of too many elements or anything else is refused, and never out of memory.
     #[inline(never)]
     pub fn init_array(self, ledger: &mut Ledger) -> Result<Partial<'t, H>, ReflectError>
         requires room { Room (holds self) ledger.old }

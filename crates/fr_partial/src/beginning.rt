@@ -21,8 +21,8 @@ use fr_frame::{Form, Piece};
 use fr_plan::TypePlanCore;
 use fr_shape::{Def, Ledger, OutOfMemory, ShapeId, ShapeTable, Value};
 
-/// What of a place is kept where it is begun: all, as it is begun so already; its value alone, which becomes that of its content;
-/// or nothing.
+/// What of a place is kept where it is begun: all, as it is begun so already; its value alone,
+/// which becomes that of its content; or nothing.
 #[derive(Clone, Copy)]
 pub enum Beginning {
     AsItIs,
@@ -102,8 +102,8 @@ pub fn beginning_of_some(
     }
 }
 
-/// Begins the place on top so. One that starts anew has so many children, none of them there, and all that was put there or is
-/// stored beneath it is released.
+/// Begins the place on top so. One that starts anew has so many children, none of them there, and
+/// all that was put there or is stored beneath it is released.
 pub fn begin_so(
     plan: &TypePlanCore,
     frames: &mut Frames,
@@ -129,7 +129,8 @@ pub fn begin_so(
     }
 }
 
-/// Begins the place on top, an enum, as this variant: one that is begun so stays as it is, and any other starts anew.
+/// Begins the place on top, an enum, as this variant: one that is begun so stays as it is, and any
+/// other starts anew.
 pub fn begin_variant(
     plan: &TypePlanCore,
     frames: &mut Frames,

@@ -19,7 +19,8 @@ use fr_model::{law_completes, law_well};
 use fr_shape::{Hooks, Invariant, Ledger};
 
 impl<'t> Work<'t> {
-    /// Why there is nothing to be built yet, if so: deferred mode isn't over, or the builder isn't at the root.
+    /// Why there is nothing to be built yet, if so: deferred mode isn't over, or the builder isn't
+    /// at the root.
     pub fn build_refusal(&self) -> Option<Invariant>
         ensures refusal { result ≡ build_refusal self.now.state }
     {

@@ -39,7 +39,8 @@ impl Built {
         value
     }
 
-    /// How many calls of the builder succeeded before `build`, up to 4294967295, where the number stays.
+    /// How many calls of the builder succeeded before `build`, up to 4294967295, where the number
+    /// stays.
     pub fn calls(&self) -> u32
         ensures calls { result ≡ self.now.calls }
     {

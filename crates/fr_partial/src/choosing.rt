@@ -110,8 +110,8 @@ pub fn nth_variant(table: &ShapeTable, shape: ShapeId, index: usize) -> Option<u
 }
 
 impl<'t> Work<'t> {
-    /// The number of the first field that is declared under this name, in a struct or in the variant that is selected, at the place of
-    /// this shape at which the builder works.
+    /// The number of the first field that is declared under this name, in a struct or in the
+    /// variant that is selected, at the place of this shape at which the builder works.
     pub fn field_named(&self, shape: ShapeId, variant: Option<u32>, name: &str) -> Option<usize>
         requires { shape.0 ≡ shape_at self.now }
         ensures { result
@@ -126,7 +126,8 @@ impl<'t> Work<'t> {
         }
     }
 
-    /// The variant that goes by this name and isn't marked `other`, of the enum of this shape at which the builder works.
+    /// The variant that goes by this name and isn't marked `other`, of the enum of this shape at
+    /// which the builder works.
     pub fn variant_named(&self, shape: ShapeId, name: &str) -> Option<u32>
         requires { shape.0 ≡ shape_at self.now }
         ensures { result
@@ -138,7 +139,8 @@ impl<'t> Work<'t> {
         plan.variant_named(table, shape, name)
     }
 
-    /// The first variant that has this discriminant, of the enum of this shape at which the builder works.
+    /// The first variant that has this discriminant, of the enum of this shape at which the builder
+    /// works.
     pub fn variant_told_by(&self, shape: ShapeId, discriminant: i64) -> Option<u32>
         requires { shape.0 ≡ shape_at self.now }
         ensures { result ≡ variant_told_by discriminant

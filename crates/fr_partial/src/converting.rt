@@ -20,8 +20,9 @@ use fr_shape::{
 };
 use std::alloc::Global;
 
-/// What a dynamic place of shape `place` makes of a value of shape `given`. Where it takes none such, that is the refusal, and never
-/// out of memory. The value holds no token where it is taken; where it isn't, its tokens are released.
+/// What a dynamic place of shape `place` makes of a value of shape `given`. Where it takes none
+/// such, that is the refusal, and never out of memory. The value holds no token where it is taken;
+/// where it isn't, its tokens are released.
 pub(crate) fn converted(
     alloc: Global,
     table: &ShapeTable,

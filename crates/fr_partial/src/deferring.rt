@@ -33,8 +33,9 @@ pub fn defer(parts: &mut Parts) -> Result<(), ReflectErrorKind>
     Ok(())
 }
 
-/// Completes all that was left, the longest path first, then step by step; then the place at which the builder works, which stays begun
-/// where it is; and goes back to strict mode. Where that can't be, all is released.
+/// Completes all that was left, the longest path first, then step by step; then the place at which
+/// the builder works, which stays begun where it is; and goes back to strict mode. Where that can't
+/// be, all is released.
 pub fn finish<H: Hooks>(
     parts: &mut Parts,
     hooks: &H,

@@ -1,4 +1,5 @@
-//! A dynamic place that is begun as an array or as an object: it keeps the parts that it has, or starts anew.
+//! A dynamic place that is begun as an array or as an object: it keeps the parts that it has, or
+//! starts anew.
 ghost use Rattle.std.specs.Prelude.{◌≡◌, IsOk, OnOk, false, is_some, true, unwrap_or};
 ghost use Rattle.fr_shape.specs.Look.{def_of};
 ghost use Rattle.fr_shape.specs.Plannable.{is_dynamic};
@@ -101,8 +102,9 @@ fn beginning_as(parts: Parts, piece: &Piece) -> Beginning
     }
 }
 
-/// Begins the dynamic place on top with such parts: those that it has stay as they are. Where it has none such, all that was put there
-/// and all that is stored beneath it is released. Only a whole value takes memory for its parts.
+/// Begins the dynamic place on top with such parts: those that it has stay as they are. Where it
+/// has none such, all that was put there and all that is stored beneath it is released. Only a
+/// whole value takes memory for its parts.
 pub fn begin_parts(
     plan: &TypePlanCore,
     frames: &mut Frames,

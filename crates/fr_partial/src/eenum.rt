@@ -41,9 +41,10 @@ impl<'t> Work<'t> {
 }
 
 impl<'t, H: Hooks> Partial<'t, H> {
-    /// Begins the enum as its variant of this number, counted from 0. One that is begun as that variant stays as it is, and any
-    /// other starts anew, with none of the variant's fields there. Where there is no such variant, or it can't be selected, that is
-    /// the refusal, and never out of memory.
+    /// Begins the enum as its variant of this number, counted from 0. One that is begun as that
+    /// variant stays as it is, and any other starts anew, with none of the variant's fields there.
+    /// Where there is no such variant, or it can't be selected, that is the refusal, and never out
+    /// of memory.
     #[inline(never)]
     pub fn select_nth_variant(
         self,

@@ -53,7 +53,8 @@ pub fn leave(parts: &mut Parts) -> Result<(), ReflectErrorKind>
     }
 }
 
-/// Completes the place on top by the rules of strict mode. Where that can't be, what was put is still there.
+/// Completes the place on top by the rules of strict mode. Where that can't be, what was put is
+/// still there.
 fn complete_strictly<H: Hooks>(
     plan: &TypePlanCore,
     hooks: &H,
@@ -74,8 +75,8 @@ fn complete_strictly<H: Hooks>(
     top.fill_and_require_fields(&mut frames.slots, frames.table, plan, hooks)
 }
 
-/// Completes all that was left beneath the place on top, and then that, by the rules of the end of deferred mode. Where that can't
-/// be, what was put is still there, but for what is released.
+/// Completes all that was left beneath the place on top, and then that, by the rules of the end of
+/// deferred mode. Where that can't be, what was put is still there, but for what is released.
 fn complete_wholly<H: Hooks>(
     plan: &TypePlanCore,
     hooks: &H,
@@ -129,7 +130,8 @@ fn complete_top<H: Hooks>(
     }
 }
 
-/// Hands over the value that the place on top holds. Where there is no memory, what was put at the place may be released.
+/// Hands over the value that the place on top holds. Where there is no memory, what was put at the
+/// place may be released.
 #[inline(always)]
 fn hand_over(
     plan: &TypePlanCore,
@@ -154,8 +156,9 @@ fn hand_over(
     }
 }
 
-/// Completes the place on top by these rules, all that was left beneath it before where they are those of deferred mode, and hands its
-/// value over. Where that can't be, what was put is still there, but for what is released.
+/// Completes the place on top by these rules, all that was left beneath it before where they are
+/// those of deferred mode, and hands its value over. Where that can't be, what was put is still
+/// there, but for what is released.
 fn complete_here<H: Hooks>(
     plan: &TypePlanCore,
     hooks: &H,
@@ -192,7 +195,8 @@ fn go_back(path: &mut Path, taker: Taker)
     }
 }
 
-/// Completes the place at which the builder works, and hands its value over: where it goes up, so does the builder.
+/// Completes the place at which the builder works, and hands its value over: where it goes up, so
+/// does the builder.
 #[inline(always)]
 pub fn complete<H: Hooks>(
     parts: &mut Parts,

@@ -104,8 +104,8 @@ fn leave_whole(
     }
 }
 
-/// Puts a value without tokens at child `i` of the place on top, which may be entered, in the stead of all that was put there and is
-/// stored beneath it. The place stays on top.
+/// Puts a value without tokens at child `i` of the place on top, which may be entered, in the stead
+/// of all that was put there and is stored beneath it. The place stays on top.
 pub fn put_in_child(
     plan: &TypePlanCore,
     frames: &mut Frames,

@@ -1,5 +1,5 @@
-//! `begin_field` and `begin_nth_field`: on to a field or element of the place at which the builder works; and
-//! `set_nth_field_to_default`.
+//! `begin_field` and `begin_nth_field`: on to a field or element of the place at which the builder
+//! works; and `set_nth_field_to_default`.
 ghost use Rattle.fr_shape.specs.Released.{Room};
 ghost use Rattle.fr_model.specs.Commands.{Call};
 ghost use Rattle.fr_partial.specs.Builder.{holds, IsCall};
@@ -60,9 +60,9 @@ impl<'t> Work<'t> {
 }
 
 impl<'t, H: Hooks> Partial<'t, H> {
-    /// Enters the first field that is declared under this name, of a struct or of the variant that is selected. One that holds
-    /// something already keeps it. Where no field has the name, or the place has no such fields, that is the refusal, and never out
-    /// of memory.
+    /// Enters the first field that is declared under this name, of a struct or of the variant that
+    /// is selected. One that holds something already keeps it. Where no field has the name, or the
+    /// place has no such fields, that is the refusal, and never out of memory.
     pub fn begin_field(
         self,
         field_name: &str,
@@ -76,8 +76,8 @@ impl<'t, H: Hooks> Partial<'t, H> {
         self.run(decided, ledger)
     }
 
-    /// Enters the field or element of this number, counted from 0. One that holds something already keeps it. Where it
-    /// can't be entered, that is the refusal, and never out of memory.
+    /// Enters the field or element of this number, counted from 0. One that holds something already
+    /// keeps it. Where it can't be entered, that is the refusal, and never out of memory.
     pub fn begin_nth_field(
         self,
         idx: usize,
@@ -91,10 +91,11 @@ impl<'t, H: Hooks> Partial<'t, H> {
         self.run(decided, ledger)
     }
 
-    /// Sets the field of this number, counted from 0, of a struct or of the variant that is selected, to its default: a copy of its own
-    /// template where it is marked with one, else of its shape's default. What was put at the field is released, and the builder stays
-    /// where it is; it is one call. Where the field has no default, or there is no such field, that is the refusal, and never out of
-    /// memory.
+    /// Sets the field of this number, counted from 0, of a struct or of the variant that is
+    /// selected, to its default: a copy of its own template where it is marked with one, else of
+    /// its shape's default. What was put at the field is released, and the builder stays where it
+    /// is; it is one call. Where the field has no default, or there is no such field, that is the
+    /// refusal, and never out of memory.
     #[inline(never)]
     pub fn set_nth_field_to_default(
         self,

@@ -78,7 +78,8 @@ fn child_node(plan: &TypePlanCore, node: NodeId, form: Form, i: usize) -> NodeId
     }
 }
 
-/// Goes on to a child of the place on top. Where there is no memory, all that was put is still there.
+/// Goes on to a child of the place on top. Where there is no memory, all that was put is still
+/// there.
 #[inline(always)]
 pub fn enter(
     plan: &TypePlanCore,
@@ -130,8 +131,8 @@ pub fn enter(
     }
 }
 
-/// Goes on to a child of the place at which the builder works. Where there is no memory, all that was put is still there, and so
-/// is the path.
+/// Goes on to a child of the place at which the builder works. Where there is no memory, all that
+/// was put is still there, and so is the path.
 #[inline(always)]
 pub fn go(parts: &mut Parts, way: Way, ledger: &mut Ledger) -> Result<(), ReflectErrorKind>
     requires sound { IsSound parts.old }

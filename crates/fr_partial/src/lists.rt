@@ -1,4 +1,5 @@
-//! `init_list`, `init_list_with_capacity` and `begin_list_item`: a list, a dynamic array or a slice behind a pointer, item by item.
+//! `init_list`, `init_list_with_capacity` and `begin_list_item`: a list, a dynamic array or a slice
+//! behind a pointer, item by item.
 ghost use Rattle.std.specs.Prelude.{◌≡◌, ◌≢◌, IfSome, true, IfOk};
 ghost use Rattle.std.specs.Result.{result_err};
 ghost use Rattle.fr_shape.specs.declared.error.ReflectErrorKind.{ReflectErrorKind as Kind};
@@ -176,9 +177,10 @@ impl<'t> Work<'t> {
 }
 
 impl<'t, H: Hooks> Partial<'t, H> {
-    /// Begins a list: a whole one keeps its items, in front of those that come. A list that is begun, and a pointer to a slice that
-    /// is, stays as it is. A dynamic value becomes an array: one that is an array already keeps its elements, and any other starts anew.
-    /// Anything else is refused, and never out of memory.
+    /// Begins a list: a whole one keeps its items, in front of those that come. A list that is
+    /// begun, and a pointer to a slice that is, stays as it is. A dynamic value becomes an array:
+    /// one that is an array already keeps its elements, and any other starts anew. Anything else is
+    /// refused, and never out of memory.
     #[inline(never)]
     pub fn init_list(self, ledger: &mut Ledger) -> Result<Partial<'t, H>, ReflectError>
         requires room { Room (holds self) ledger.old }
@@ -206,8 +208,9 @@ impl<'t, H: Hooks> Partial<'t, H> {
         self.init_list(ledger)
     }
 
-    /// Enters a new item behind the others, of a list or a dynamic array that is begun or of an open pointer to a slice. Where the place
-    /// takes no items, that is the refusal, and never out of memory.
+    /// Enters a new item behind the others, of a list or a dynamic array that is begun or of an
+    /// open pointer to a slice. Where the place takes no items, that is the refusal, and never out
+    /// of memory.
     pub fn begin_list_item(self, ledger: &mut Ledger) -> Result<Partial<'t, H>, ReflectError>
         requires room { Room (holds self) ledger.old }
         ensures call { IsCall (H.means self.entry.hooks) self.entry Call.BeginListItem result

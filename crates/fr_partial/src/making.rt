@@ -16,8 +16,8 @@ use crate::staying::stay;
 use crate::work::Parts;
 use fr_shape::{Hooks, Ledger, OutOfMemory, ReflectErrorKind};
 
-/// Makes a move that some call comes to. Where it is refused, or there is no memory, what isn't released is still there, and so is the
-/// path.
+/// Makes a move that some call comes to. Where it is refused, or there is no memory, what isn't
+/// released is still there, and so is the path.
 #[inline(always)]
 pub fn make<H: Hooks>(
     parts: &mut Parts,

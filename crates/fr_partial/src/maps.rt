@@ -73,7 +73,8 @@ fn lacks_last(children: &Children) -> bool
     }
 }
 
-/// As what a begun map is entered at one more key, and how many children it has, or why none can be begun.
+/// As what a begun map is entered at one more key, and how many children it has, or why none can be
+/// begun.
 #[tactic(auto, using(crate::proofs::LookLaws::begun_items))]
 #[inline]
 fn key_opening(piece: &Piece) -> Result<Opening, Operation>
@@ -94,7 +95,8 @@ fn key_opening(piece: &Piece) -> Result<Opening, Operation>
     }
 }
 
-/// As what a begun map is entered at the value that its last entry lacks, and the number of that child, or why it can't be begun.
+/// As what a begun map is entered at the value that its last entry lacks, and the number of that
+/// child, or why it can't be begun.
 #[inline]
 fn value_opening(piece: &Piece) -> Result<Opening, Operation>
     ensures items { IfOk result (λ opening.
@@ -160,9 +162,9 @@ impl<'t> Work<'t> {
 }
 
 impl<'t, H: Hooks> Partial<'t, H> {
-    /// Begins a map: a whole one keeps its entries, in front of those that come. A map that is begun stays as it is. A dynamic value
-    /// becomes an object: one that is an object already keeps its entries, and any other starts anew. Anything else is refused, and
-    /// never out of memory.
+    /// Begins a map: a whole one keeps its entries, in front of those that come. A map that is
+    /// begun stays as it is. A dynamic value becomes an object: one that is an object already keeps
+    /// its entries, and any other starts anew. Anything else is refused, and never out of memory.
     #[inline(never)]
     pub fn init_map(self, ledger: &mut Ledger) -> Result<Partial<'t, H>, ReflectError>
         requires room { Room (holds self) ledger.old }
@@ -174,8 +176,9 @@ impl<'t, H: Hooks> Partial<'t, H> {
         self.run(decided, ledger)
     }
 
-    /// Enters the key of a new entry, behind the others, of a map that is begun. Where the last entry has no value yet, or the place
-    /// isn't such a map, that is the refusal, and never out of memory.
+    /// Enters the key of a new entry, behind the others, of a map that is begun. Where the last
+    /// entry has no value yet, or the place isn't such a map, that is the refusal, and never out of
+    /// memory.
     pub fn begin_key(self, ledger: &mut Ledger) -> Result<Partial<'t, H>, ReflectError>
         requires room { Room (holds self) ledger.old }
         ensures call { IsCall (H.means self.entry.hooks) self.entry Call.BeginKey result
@@ -185,8 +188,8 @@ impl<'t, H: Hooks> Partial<'t, H> {
         self.run(decided, ledger)
     }
 
-    /// Enters the value of the last entry of a map that is begun, where that entry has none yet. Anywhere else it is refused, and never
-    /// out of memory.
+    /// Enters the value of the last entry of a map that is begun, where that entry has none yet.
+    /// Anywhere else it is refused, and never out of memory.
     pub fn begin_value(self, ledger: &mut Ledger) -> Result<Partial<'t, H>, ReflectError>
         requires room { Room (holds self) ledger.old }
         ensures call { IsCall (H.means self.entry.hooks) self.entry Call.BeginValue result

@@ -98,14 +98,17 @@ impl<'t> Work<'t> {
 }
 
 impl<'t, H: Hooks> Partial<'t, H> {
-    /// Leaves the place for the one above. In strict mode it is completed, and its value written there: only copies of templates, what an
-    /// option, a result or a pointer holds, and what a set, a map or a dynamic value gathers, need memory, and what is lacking is found
-    /// before any is made. In deferred mode it is left as it is, to be entered again or completed by `finish_deferred`; it has to lie
-    /// deeper than the place at which deferred mode began. An item of a set is completed in either mode, and in deferred mode with all
-    /// that lies beneath it: its value comes to the set, which leaves it out where it has one that is the same. An element or an entry of a
-    /// dynamic value is completed so too. At either, in deferred mode, it may be out of memory before it has met the first place that
-    /// fails. At an open pointer to a slice the builder stays instead: the pointer becomes whole in strict mode, and in deferred mode it is
-    /// closed.
+    /// Leaves the place for the one above. In strict mode it is completed, and its value written
+    /// there: only copies of templates, what an option, a result or a pointer holds, and what a
+    /// set, a map or a dynamic value gathers, need memory, and what is lacking is found before any
+    /// is made. In deferred mode it is left as it is, to be entered again or completed by
+    /// `finish_deferred`; it has to lie deeper than the place at which deferred mode began. An item
+    /// of a set is completed in either mode, and in deferred mode with all that lies beneath it:
+    /// its value comes to the set, which leaves it out where it has one that is the same. An
+    /// element or an entry of a dynamic value is completed so too. At either, in deferred mode, it
+    /// may be out of memory before it has met the first place that fails. At an open pointer to a
+    /// slice the builder stays instead: the pointer becomes whole in strict mode, and in deferred
+    /// mode it is closed.
     pub fn end(self, ledger: &mut Ledger) -> Result<Partial<'t, H>, ReflectError>
         requires room { Room (holds self) ledger.old }
         ensures call { IsCall (H.means self.entry.hooks) self.entry Call.End result
@@ -117,8 +120,8 @@ impl<'t, H: Hooks> Partial<'t, H> {
         self.run(decided, ledger)
     }
 
-    /// From now on places that are left stay as they are, to be entered again or completed by `finish_deferred`. Refused in
-    /// deferred mode. Takes no memory.
+    /// From now on places that are left stay as they are, to be entered again or completed by
+    /// `finish_deferred`. Refused in deferred mode. Takes no memory.
     pub fn begin_deferred(self, ledger: &mut Ledger) -> Result<Partial<'t, H>, ReflectError>
         requires room { Room (holds self) ledger.old }
         ensures call { IsCall (H.means self.entry.hooks) self.entry Call.BeginDeferred result
@@ -142,9 +145,10 @@ impl<'t, H: Hooks> Partial<'t, H> {
         Partial { hooks, work }
     }
 
-    /// Completes all that was left, the longest path first, then step by step; then the place at which the builder works, which
-    /// stays begun where it is; and goes back to strict mode. The first place that fails gives the refusal; memory may be wanting before
-    /// it is met. In strict mode it is refused, and never out of memory.
+    /// Completes all that was left, the longest path first, then step by step; then the place at
+    /// which the builder works, which stays begun where it is; and goes back to strict mode. The
+    /// first place that fails gives the refusal; memory may be wanting before it is met. In strict
+    /// mode it is refused, and never out of memory.
     #[inline(never)]
     pub fn finish_deferred(self, ledger: &mut Ledger) -> Result<Partial<'t, H>, ReflectError>
         requires room { Room (holds self) ledger.old }
@@ -155,9 +159,10 @@ impl<'t, H: Hooks> Partial<'t, H> {
         self.run(decided, ledger)
     }
 
-    /// Completes the root and hands its value over. Only copies of templates, what an option, a result or a pointer holds, and what a set,
-    /// a map or a dynamic value gathers, need memory, and what is lacking is found before any is made. Refused in deferred mode, and then
-    /// below the root.
+    /// Completes the root and hands its value over. Only copies of templates, what an option, a
+    /// result or a pointer holds, and what a set, a map or a dynamic value gathers, need memory,
+    /// and what is lacking is found before any is made. Refused in deferred mode, and then below
+    /// the root.
     pub fn build(self, ledger: &mut Ledger) -> Result<Built, ReflectError>
         requires room { Room (holds self) ledger.old }
         ensures build { IsBuild (H.means self.entry.hooks) self.entry result ledger.old ledger.new }

@@ -13,9 +13,10 @@ use fr_path::PathStep;
 use fr_shape::{OutOfMemory, Text, Value};
 use std::alloc::Global;
 
-/// A child to go on to, and as what the place is begun for it: a field or an element, entered as it is; a new item behind the
-/// others; the key of a new entry of a map; the value that its last entry lacks; the entry of a key of a dynamic object; the content,
-/// a side or what is pointed to, of a place that comes to be begun so.
+/// A child to go on to, and as what the place is begun for it: a field or an element, entered as it
+/// is; a new item behind the others; the key of a new entry of a map; the value that its last entry
+/// lacks; the entry of a key of a dynamic object; the content, a side or what is pointed to, of a
+/// place that comes to be begun so.
 #[derive(Clone, Copy)]
 pub enum Way<'k> {
     Child(usize, Opening),
@@ -26,9 +27,10 @@ pub enum Way<'k> {
     Content(Form, Beginning),
 }
 
-/// What comes of the place at which the builder works, which stays there: a value takes its place; a value without tokens takes the
-/// place of a child; it is begun as its definition tells; as a variant of an enum; with such parts of a dynamic value; as a pointer to
-/// a slice that is open for items, or closed.
+/// What comes of the place at which the builder works, which stays there: a value takes its place;
+/// a value without tokens takes the place of a child; it is begun as its definition tells; as a
+/// variant of an enum; with such parts of a dynamic value; as a pointer to a slice that is open for
+/// items, or closed.
 #[derive(Drop)]
 pub enum Change {
     Put(Value),
@@ -40,15 +42,16 @@ pub enum Change {
     CloseSlice,
 }
 
-/// The rules by which a place completes: those of strict mode, or those of the end of deferred mode, for all beneath it too.
+/// The rules by which a place completes: those of strict mode, or those of the end of deferred
+/// mode, for all beneath it too.
 #[derive(Clone, Copy)]
 pub enum Rules {
     Strict,
     Deferred,
 }
 
-/// Where the value of a completed place goes: into the place above, as its child's; to the set above, which leaves it out where it has
-/// one that is the same; or it stays where it is.
+/// Where the value of a completed place goes: into the place above, as its child's; to the set
+/// above, which leaves it out where it has one that is the same; or it stays where it is.
 #[derive(Clone, Copy)]
 pub enum Taker {
     Above,
@@ -74,7 +77,8 @@ pub enum Move<'k> {
 }
 
 impl<'k> Way<'k> {
-    /// The step to the child. A number that doesn't fit into 32 bits is out of memory; else only the entry of a key takes memory.
+    /// The step to the child. A number that doesn't fit into 32 bits is out of memory; else only
+    /// the entry of a key takes memory.
     pub fn step(self, alloc: Global) -> Result<PathStep, OutOfMemory>
         ensures step { IfOk result (λ step. step ≡ step_told self.entry) }
         ensures small { OnOk result (number_told self.entry < 2 ^ 32) }

@@ -42,8 +42,9 @@ impl<'t> Work<'t> {
 }
 
 impl<'t, H: Hooks> Partial<'t, H> {
-    /// Enters the entry of this key of a dynamic value that is begun as an object: the one that it has, as it was left, or a new one
-    /// behind the others. Anywhere else it is refused, and never out of memory.
+    /// Enters the entry of this key of a dynamic value that is begun as an object: the one that it
+    /// has, as it was left, or a new one behind the others. Anywhere else it is refused, and never
+    /// out of memory.
     pub fn begin_object_entry(
         self,
         key: &str,

@@ -27,8 +27,8 @@ fn is_begun(piece: &Piece) -> bool
     }
 }
 
-/// Begins the place on top as its definition tells, with so many children; of a whole one they have their parts of its value. One
-/// that is begun stays as it is, and takes no memory.
+/// Begins the place on top as its definition tells, with so many children; of a whole one they have
+/// their parts of its value. One that is begun stays as it is, and takes no memory.
 pub fn open_here(
     plan: &TypePlanCore,
     frames: &mut Frames,

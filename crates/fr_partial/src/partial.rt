@@ -17,8 +17,9 @@ use fr_model::law_removed;
 use fr_shape::{Hooks, Ledger, ReflectErrorKind};
 use std::marker::Model;
 
-/// A builder of one value of a shape of `table`. Each consuming call spends it and returns it again, or is refused;
-/// a refusal has released every token that it held. It has no `Drop`: `build` or `abandon` ends it.
+/// A builder of one value of a shape of `table`. Each consuming call spends it and returns it
+/// again, or is refused; a refusal has released every token that it held. It has no `Drop`: `build`
+/// or `abandon` ends it.
 pub struct Partial<'t, H> {
     pub(crate) hooks: &'t H,
     pub(crate) work: Work<'t>,
@@ -40,9 +41,9 @@ impl<'t, H> Model for Partial<'t, H> {
 }
 
 impl<'t, H: Hooks> Partial<'t, H> {
-    /// Does nothing: its contract is what is true of every builder, whoever made it. With it the laws of fr_model apply
-    /// to a builder that one was handed: its state is well but for its tokens. That these are distinct follows from the
-    /// caller's own premises, by `law_well`.
+    /// Does nothing: its contract is what is true of every builder, whoever made it. With it the
+    /// laws of fr_model apply to a builder that one was handed: its state is well but for its
+    /// tokens. That these are distinct follows from the caller's own premises, by `law_well`.
     pub fn law_in_order(&self)
         ensures numbered { IsNumbered self.now.shapes }
         ensures checked { IsChecked self.now.shapes }
@@ -53,7 +54,8 @@ impl<'t, H: Hooks> Partial<'t, H> {
         self.work.law_sound();
     }
 
-    /// Does what was decided of a call. Where it is refused, or there is no memory, all is released.
+    /// Does what was decided of a call. Where it is refused, or there is no memory, all is
+    /// released.
     #[inline(always)]
     pub(crate) fn run(
         self,

@@ -11,8 +11,8 @@ use fr_frame::Piece;
 use fr_plan::{TypePlanCore, law_plan_lookups};
 use fr_shape::ShapeId;
 
-/// The shape of the place on top of the stack, as the plan has it, and what was put there, in which a child that is stored isn't
-/// told, but of a map whether the last one is there.
+/// The shape of the place on top of the stack, as the plan has it, and what was put there, in which
+/// a child that is stored isn't told, but of a map whether the last one is there.
 pub fn place_here<'a>(plan: &TypePlanCore, frames: &'a Frames) -> (ShapeId, &'a Piece)
     requires { IsAtWork plan.now frames.now }
     ensures shape { result.0.0 ≡ top_shape frames.now }

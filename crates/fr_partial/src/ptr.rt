@@ -164,10 +164,11 @@ impl<'t> Work<'t> {
 }
 
 impl<'t, H: Hooks> Partial<'t, H> {
-    /// Enters what a pointer points to, a `str` only where the pointer is known to own it. A pointer that is begun is entered again
-    /// as it is in deferred mode; any other starts anew. At a pointer to a slice, which has to own it too, the builder stays, and the
-    /// pointer is open for items; in deferred mode one that is begun keeps those that it has. Where it can't be begun, that is the
-    /// refusal, and never out of memory.
+    /// Enters what a pointer points to, a `str` only where the pointer is known to own it. A
+    /// pointer that is begun is entered again as it is in deferred mode; any other starts anew. At
+    /// a pointer to a slice, which has to own it too, the builder stays, and the pointer is open
+    /// for items; in deferred mode one that is begun keeps those that it has. Where it can't be
+    /// begun, that is the refusal, and never out of memory.
     #[inline(never)]
     pub fn begin_smart_ptr(self, ledger: &mut Ledger) -> Result<Partial<'t, H>, ReflectError>
         requires room { Room (holds self) ledger.old }
@@ -178,8 +179,9 @@ impl<'t, H: Hooks> Partial<'t, H> {
         self.run(decided, ledger)
     }
 
-    /// Sets a pointer that is known as a shared reference to a slice to no items, in the stead of all that was put at the place and
-    /// beneath it. Any other place is refused, and never out of memory.
+    /// Sets a pointer that is known as a shared reference to a slice to no items, in the stead of
+    /// all that was put at the place and beneath it. Any other place is refused, and never out of
+    /// memory.
     #[inline(never)]
     pub fn set_empty_shared_slice(self, ledger: &mut Ledger) -> Result<Partial<'t, H>, ReflectError>
         requires room { Room (holds self) ledger.old }

@@ -64,7 +64,8 @@ impl<'t, H: Hooks> Partial<'t, H> {
         self.work.root()
     }
 
-    /// An error of this kind at the place at which it works, for a caller who refuses something there.
+    /// An error of this kind at the place at which it works, for a caller who refuses something
+    /// there.
     pub fn err(&self, kind: ReflectErrorKind) -> Result<ReflectError, OutOfMemory>
         ensures kind { IfOk result (λ error. error.kind ≡ kind) }
         ensures path { IfOk result (λ error. error.path ≡ path_of self.now.state) }

@@ -47,8 +47,9 @@ impl<'t> Work<'t> {
 }
 
 impl<'t, H: Hooks> Partial<'t, H> {
-    /// Enters the ok side of a result. One that is begun on that side is entered again as it is in deferred mode; any other, on
-    /// the other side too, starts anew. Where the place is no result, that is the refusal, and never out of memory.
+    /// Enters the ok side of a result. One that is begun on that side is entered again as it is in
+    /// deferred mode; any other, on the other side too, starts anew. Where the place is no result,
+    /// that is the refusal, and never out of memory.
     #[inline(never)]
     pub fn begin_ok(self, ledger: &mut Ledger) -> Result<Partial<'t, H>, ReflectError>
         requires room { Room (holds self) ledger.old }

@@ -75,8 +75,8 @@ fn dynamic(made: Dyn) -> Value
 }
 
 impl<'t> Work<'t> {
-    /// A value takes the place, or what a dynamic place makes of it. Where it is refused, or there is no memory to convert it, its tokens
-    /// are released.
+    /// A value takes the place, or what a dynamic place makes of it. Where it is refused, or there
+    /// is no memory to convert it, its tokens are released.
     fn set_shape_move<'k>(
         &self,
         value: Shaped,
@@ -125,10 +125,11 @@ impl<'t> Work<'t> {
 }
 
 impl<'t, H: Hooks> Partial<'t, H> {
-    /// Puts a value of the place's own shape there, or at a `str` an owned text, in the stead of all that was put at the place and
-    /// beneath it. A dynamic place takes values of other shapes besides, as dynamic ones: truths, characters, numbers of up to 64
-    /// bits, texts and, where its shape says so, lists of bytes; a character and a list are copied, which takes memory. Any other value
-    /// is refused, and never out of memory.
+    /// Puts a value of the place's own shape there, or at a `str` an owned text, in the stead of
+    /// all that was put at the place and beneath it. A dynamic place takes values of other shapes
+    /// besides, as dynamic ones: truths, characters, numbers of up to 64 bits, texts and, where its
+    /// shape says so, lists of bytes; a character and a list are copied, which takes memory. Any
+    /// other value is refused, and never out of memory.
     pub fn set_shape(
         self,
         value: Shaped,
@@ -145,8 +146,9 @@ impl<'t, H: Hooks> Partial<'t, H> {
         self.run(decided, ledger)
     }
 
-    /// Puts a copy of the default of the place's shape there, in the stead of all that was put at the place and beneath
-    /// it. Where there is no default, that is the refusal, and never out of memory.
+    /// Puts a copy of the default of the place's shape there, in the stead of all that was put at
+    /// the place and beneath it. Where there is no default, that is the refusal, and never out of
+    /// memory.
     pub fn set_default(self, ledger: &mut Ledger) -> Result<Partial<'t, H>, ReflectError>
         requires room { Room (holds self) ledger.old }
         ensures call { IsCall (H.means self.entry.hooks) self.entry Call.SetDefault result

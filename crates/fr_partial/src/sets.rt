@@ -67,7 +67,8 @@ fn init_set_refusal(table: &ShapeTable, shape: ShapeId, piece: &Piece) -> Option
     }
 }
 
-/// As what a set is begun that takes one more item, and how many it has, or why the place takes none.
+/// As what a set is begun that takes one more item, and how many it has, or why the place takes
+/// none.
 #[tactic(auto, using(crate::proofs::LookLaws::begun_items))]
 #[inline]
 fn set_item_opening(table: &ShapeTable, shape: ShapeId, piece: &Piece) -> Result<Opening, Operation>
@@ -122,8 +123,8 @@ impl<'t> Work<'t> {
 }
 
 impl<'t, H: Hooks> Partial<'t, H> {
-    /// Begins a set: a whole one keeps its items, in front of those that come. A set that is begun stays as it is. Anything else is
-    /// refused, and never out of memory.
+    /// Begins a set: a whole one keeps its items, in front of those that come. A set that is begun
+    /// stays as it is. Anything else is refused, and never out of memory.
     #[inline(never)]
     pub fn init_set(self, ledger: &mut Ledger) -> Result<Partial<'t, H>, ReflectError>
         requires room { Room (holds self) ledger.old }
@@ -135,8 +136,8 @@ impl<'t, H: Hooks> Partial<'t, H> {
         self.run(decided, ledger)
     }
 
-    /// Enters a new item behind the others of a set that is begun. It comes to the set as it ends, if that doesn't have it yet. Anywhere
-    /// else it is refused, and never out of memory.
+    /// Enters a new item behind the others of a set that is begun. It comes to the set as it ends,
+    /// if that doesn't have it yet. Anywhere else it is refused, and never out of memory.
     pub fn begin_set_item(self, ledger: &mut Ledger) -> Result<Partial<'t, H>, ReflectError>
         requires room { Room (holds self) ledger.old }
         ensures call { IsCall (H.means self.entry.hooks) self.entry Call.BeginSetItem result

@@ -25,7 +25,8 @@ pub fn is_open_slice(piece: &Piece) -> bool
     matches!(piece, Piece::Begun(Form::Slice, _))
 }
 
-/// Whether a pointer to a slice keeps its items where it is opened: in deferred mode one that is begun, open or closed.
+/// Whether a pointer to a slice keeps its items where it is opened: in deferred mode one that is
+/// begun, open or closed.
 fn keeps_items(mode: Mode, piece: &Piece) -> bool
     ensures { result ≡ is_some (kept_slice (mode_of mode) (own_tree (body_of piece.now))) }
 {
@@ -35,7 +36,8 @@ fn keeps_items(mode: Mode, piece: &Piece) -> bool
     }
 }
 
-/// Opens the pointer on top for items: in deferred mode one that is begun so keeps those that it has, and any other starts anew.
+/// Opens the pointer on top for items: in deferred mode one that is begun so keeps those that it
+/// has, and any other starts anew.
 pub fn begin_slice(
     plan: &TypePlanCore,
     frames: &mut Frames,
@@ -57,7 +59,8 @@ pub fn begin_slice(
     }
 }
 
-/// Closes the open pointer to a slice on top for items; those that it has stay as they are. Takes no memory.
+/// Closes the open pointer to a slice on top for items; those that it has stay as they are. Takes
+/// no memory.
 pub fn close_slice(plan: &TypePlanCore, frames: &mut Frames)
     requires at_work { IsAtWork plan.now frames.old }
     requires open_slice { is_open_slice (top_tree frames.old) ≡ true }

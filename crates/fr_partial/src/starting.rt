@@ -63,8 +63,9 @@ fn first_place(
 }
 
 impl<'t, H: Hooks> Partial<'t, H> {
-    /// A builder of a value of this shape, at which nothing was put yet. It makes the plan of the shape for itself. It is
-    /// refused with the first shape in build order that can't be planned, and then where the shape itself is unsized.
+    /// A builder of a value of this shape, at which nothing was put yet. It makes the plan of the
+    /// shape for itself. It is refused with the first shape in build order that can't be planned,
+    /// and then where the shape itself is unsized.
     pub fn alloc_shape(
         alloc: Global,
         table: &'t ShapeTable,
@@ -111,8 +112,9 @@ impl<'t, H: Hooks> Partial<'t, H> {
         Partial::alloc_shape(alloc, table, id, hooks)
     }
 
-    /// A builder of a value of the plan's root, at which nothing was put yet. The plan can serve any number of builders.
-    /// The refusals are those of `alloc_shape`; of a plan that is there only the unsized root is left.
+    /// A builder of a value of the plan's root, at which nothing was put yet. The plan can serve
+    /// any number of builders. The refusals are those of `alloc_shape`; of a plan that is there
+    /// only the unsized root is left.
     pub fn alloc_with_plan(
         alloc: Global,
         table: &'t ShapeTable,

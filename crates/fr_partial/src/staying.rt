@@ -31,7 +31,8 @@ fn change_top(
     ledger: &mut Ledger,
 ) -> Result<(), OutOfMemory>
     requires at_work { IsAtWork plan.now frames.old }
-    requires may { MayStay frames.old.table.now (top_shape frames.old) (top_tree frames.old) change }
+    requires may { MayStay frames.old.table.now (top_shape frames.old)
+        (top_tree frames.old) change }
     requires room { Room (λ t. held_in frames.old t + carried_by change t) ledger.old }
     ensures changed { OnOk result (Changed plan.now
         (changed frames.old.table.now (top_shape frames.old) (mode_of frames.old.mode)

@@ -1,4 +1,5 @@
-//! What a builder works with, and its moves as a whole: what is decided is made, or all is released.
+//! What a builder works with, and its moves as a whole: what is decided is made, or all is
+//! released.
 ghost use Rattle.std.specs.Prelude.{◌≡◌, ◌+◌, false, true, IfErr, IsErr, length};
 ghost use Rattle.fr_shape.specs.Checked.{IsChecked};
 ghost use Rattle.fr_shape.specs.Numbered.{IsNumbered};
@@ -41,7 +42,8 @@ pub struct Frames<'t> {
     pub root: ShapeId,
     /// All these places, and what was put at them.
     pub slots: Slots,
-    /// The slots of the open ones, the root's first and that of the place at which the builder works last.
+    /// The slots of the open ones, the root's first and that of the place at which the builder
+    /// works last.
     pub stack: Stack,
     /// The slots of those that were left half done.
     pub store: FrameStore,
@@ -60,7 +62,8 @@ pub struct Parts<'t> {
     pub calls: u32,
 }
 
-/// The same on the heap, so that a call moves no more than where it is. Contracts see the table, the root's shape and the state.
+/// The same on the heap, so that a call moves no more than where it is. Contracts see the table,
+/// the root's shape and the state.
 #[derive(Drop)]
 pub struct Work<'t> {
     pub(crate) parts: Box<Parts<'t>>,
@@ -160,8 +163,8 @@ impl<'t> Work<'t> {
         self.parts.frames.mode
     }
 
-    /// The table, the shape of the place at which the builder works, and what was put there, in which a child that is stored isn't
-    /// told, but of a map whether the last one is there.
+    /// The table, the shape of the place at which the builder works, and what was put there, in
+    /// which a child that is stored isn't told, but of a map whether the last one is there.
     #[inline]
     pub fn place(&self) -> (&ShapeTable, ShapeId, &Piece)
         ensures seen { Sees self.now result.0.now result.1 (own_tree (body_of result.2.now)) }
@@ -206,7 +209,8 @@ impl<'t> Work<'t> {
         ReflectError { kind, path }
     }
 
-    /// Makes a move that some call comes to. Where it is refused, or there is no memory, all is released.
+    /// Makes a move that some call comes to. Where it is refused, or there is no memory, all is
+    /// released.
     #[inline(always)]
     pub fn make<H: Hooks>(
         mut self,

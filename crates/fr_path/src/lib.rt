@@ -1,7 +1,7 @@
 //! Paths from a root to a place: their steps, the order in which places are walked, and their text.
 //!
-//! A path is seen by contracts as the list of its steps. Its text names fields as long as the shapes on the way
-//! are known.
+//! A path is seen by contracts as the list of its steps. Its text names fields as long as the
+//! shapes on the way are known.
 #![tactic(auto)]
 
 mod laws;

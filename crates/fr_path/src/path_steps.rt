@@ -14,7 +14,8 @@ use std::cmp::Ordering;
 pub enum PathStep {
     /// To the field of this number, of a struct or of an enum's variant.
     Field(u32),
-    /// To the element or item of this number: of an array, a list or a dynamic array, or of a slice, from a pointer to it.
+    /// To the element or item of this number: of an array, a list or a dynamic array, or of a
+    /// slice, from a pointer to it.
     Index(u32),
     /// To what a pointer points to.
     Deref,

@@ -8,7 +8,8 @@ use fr_shape::{FieldRef, OutOfMemory, ShapeId, ShapeTable};
 use std::alloc::{AllocError, Global};
 use std::fmt::Write;
 
-// Writes a field step: the declared name where the place is known to be a struct that has the field, else its number.
+// Writes a field step: the declared name where the place is known to be a struct that has the
+// field, else its number.
 fn write_field(
     text: &mut String,
     table: &ShapeTable,

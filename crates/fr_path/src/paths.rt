@@ -99,9 +99,10 @@ impl Path {
 
     /// The path in words, from a root of the shape `root`.
     ///
-    /// A field is told by its declared name as long as the shapes on the way are known, and then by its number. A shape
-    /// is lost after a variant's field, a proxy, a field that isn't there, and a step that no value of the shape before
-    /// it can have; an array has elements where it can be entered, as one of 1 to 4,096 elements can.
+    /// A field is told by its declared name as long as the shapes on the way are known, and then by
+    /// its number. A shape is lost after a variant's field, a proxy, a field that isn't there, and
+    /// a step that no value of the shape before it can have; an array has elements where it can be
+    /// entered, as one of 1 to 4,096 elements can.
     pub fn format_with_shape(
         &self,
         alloc: Global,

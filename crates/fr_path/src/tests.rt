@@ -1,5 +1,5 @@
-//! The text of paths over one table of shapes, and the order of the walk. The helpers leave out what finds no
-//! memory, and the tests then fail.
+//! The text of paths over one table of shapes, and the order of the walk. The helpers leave out
+//! what finds no memory, and the tests then fail.
 ghost use Rattle.std.specs.Prelude.{◌≤◌};
 
 use crate::Path;
@@ -68,8 +68,8 @@ fn add_pointer(
     add_plain(shapes, alloc, Def::Pointer(pointer));
 }
 
-/// The shapes 0 to 4: the struct of `id` and `xs`, u8, a list of options, an option of the struct, an enum whose
-/// variant has one field, a struct again.
+/// The shapes 0 to 4: the struct of `id` and `xs`, u8, a list of options, an option of the struct,
+/// an enum whose variant has one field, a struct again.
 fn add_products(shapes: &mut Items<Shape>, alloc: Global) {
     let described = StructDef {
         kind: StructKind::Struct,
@@ -99,8 +99,9 @@ fn add_products(shapes: &mut Items<Shape>, alloc: Global) {
     add_plain(shapes, alloc, Def::Enum(choice));
 }
 
-/// The shapes 5 to 14: an array, a result, a map, a set, a box, a boxed slice, the slice, a dynamic value, a pointer
-/// that can't be built, and a pointer of no known kind to the slice. Each leads to the struct.
+/// The shapes 5 to 14: an array, a result, a map, a set, a box, a boxed slice, the slice, a dynamic
+/// value, a pointer that can't be built, and a pointer of no known kind to the slice. Each leads to
+/// the struct.
 fn add_containers(shapes: &mut Items<Shape>, alloc: Global) {
     add_plain(shapes, alloc, Def::Array(ShapeId(0), 8));
     add_plain(shapes, alloc, Def::Result(ShapeId(0), ShapeId(3)));
@@ -114,8 +115,8 @@ fn add_containers(shapes: &mut Items<Shape>, alloc: Global) {
     add_pointer(shapes, alloc, None, 11, true);
 }
 
-/// The shapes 15 to 18: an opaque shape whose builder is the struct and that wraps a u8, and around the struct a
-/// wrapper that converts, an option that converts, and a wrapper that doesn't.
+/// The shapes 15 to 18: an opaque shape whose builder is the struct and that wraps a u8, and around
+/// the struct a wrapper that converts, an option that converts, and a wrapper that doesn't.
 fn add_conversions(shapes: &mut Items<Shape>, alloc: Global) {
     let (convert, to) = (Some(HookId(0)), Some(ShapeId(0)));
     add(shapes, alloc, Def::Opaque, convert, Some(ShapeId(1)), to);
@@ -124,8 +125,8 @@ fn add_conversions(shapes: &mut Items<Shape>, alloc: Global) {
     add(shapes, alloc, Def::Other, None, to, None);
 }
 
-/// The shapes 19 to 22: arrays of the struct with no element, with one, with as many as can be entered, and with one
-/// more.
+/// The shapes 19 to 22: arrays of the struct with no element, with one, with as many as can be
+/// entered, and with one more.
 fn add_arrays(shapes: &mut Items<Shape>, alloc: Global) {
     for count in [0, 1, 4096, 4097] {
         add_plain(shapes, alloc, Def::Array(ShapeId(0), count));

@@ -1,4 +1,5 @@
-//! The walk that builds the nodes of a shape and of all that it is made of. `depth` bounds how far down it goes.
+//! The walk that builds the nodes of a shape and of all that it is made of. `depth` bounds how far
+//! down it goes.
 ghost use Rattle.std.specs.Prelude.{Some, None, slice_get, option_to_list, length};
 ghost use Rattle.fr_plan.specs.Build.{build, build_new, each_built, field_built, fields_built, children_built, fields_from, variant_fields_from, none_yet};
 ghost use Rattle.fr_plan.specs.Results.{Gives, GivesAll, GivesMore};
@@ -233,7 +234,8 @@ fn build_fields(
     Ok(())
 }
 
-/// Builds a field: the sources of its proxies, its shape, and, where it has proxies, a node of its own.
+/// Builds a field: the sources of its proxies, its shape, and, where it has proxies, a node of its
+/// own.
 #[cycle(building)]
 #[tactic(auto, unfolding(crate::specs::Build::field_built))]
 fn build_field(

@@ -1,4 +1,5 @@
-//! The children of a node by the kind of the node that it stands for, and the child of a shape that is converted from it.
+//! The children of a node by the kind of the node that it stands for, and the child of a shape that
+//! is converted from it.
 ghost use Rattle.std.specs.Prelude.{◌≡◌};
 ghost use Rattle.std.specs.Option.{option_copied};
 ghost use Rattle.fr_plan.specs.Lookups.{node_found, child_if, has_items, is_set, is_map, is_option, is_result, is_pointer, struct_field, enum_variant_field, list_item, set_item, map_key, map_value, option_inner, result_ok, result_err, pointer_pointee, inner, result_sides, by_id};
@@ -156,7 +157,8 @@ impl TypePlanCore {
         field_idx: usize,
     ) -> Option<NodeId>
         ensures child { result
-            ≡ by_id self.now (λ parent. enum_variant_field self.now parent variant_idx field_idx) parent_id }
+            ≡ by_id self.now (λ parent. enum_variant_field self.now parent variant_idx field_idx)
+            parent_id }
     {
         self.enum_variant_field(self.find(parent_id)?, variant_idx, field_idx)
     }

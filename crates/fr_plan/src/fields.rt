@@ -80,7 +80,8 @@ fn field_plan(
 ) -> Result<FieldPlan, OutOfMemory>
     requires meant { field_at table.now meant ≡ Some field.now }
     ensures told { (nodes : List Node) → type_node ≡ nth_node nodes meant.index
-        → IfOk result (IsFieldPlan table.now lists.new nodes (record { meant = meant; field = field.now })) }
+        → IfOk result (IsFieldPlan table.now lists.new nodes
+        (record { meant = meant; field = field.now })) }
     ensures grown { ListsGrow lists.old lists.new }
 {
     let validators = validators_of(alloc, table, field, lists)?;
@@ -95,7 +96,8 @@ fn field_plan(
     })
 }
 
-/// The plans of the fields of a struct or of a variant, put behind the others. `nodes` are those of the fields.
+/// The plans of the fields of a struct or of a variant, put behind the others. `nodes` are those of
+/// the fields.
 pub(crate) fn field_plans(
     alloc: Global,
     table: &ShapeTable,

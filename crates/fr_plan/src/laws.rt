@@ -5,34 +5,36 @@ ghost use Rattle.fr_plan.specs.PlanLaws.{PlansAreComplete};
 ghost use Rattle.fr_plan.specs.RefusalLaws.{RefusesFirst, PlansPlannable};
 ghost use Rattle.fr_plan.specs.SizeLaws.{PlansAreSmall, PlainPlansAreSmall};
 
-/// What is planned over a checked table is whole: each back reference leads to its shape's own node, and nodes are linked
-/// as the table says.
+/// What is planned over a checked table is whole: each back reference leads to its shape's own
+/// node, and nodes are linked as the table says.
 pub fn law_plan_complete()
     ensures complete { PlansAreComplete }
 {}
 
-/// A plan is refused exactly where a shape that its root reaches can't be planned, with the first refusal in the order in
-/// which nodes are built.
+/// A plan is refused exactly where a shape that its root reaches can't be planned, with the first
+/// refusal in the order in which nodes are built.
 pub fn law_first_refusal()
     ensures first { RefusesFirst }
     ensures plannable { PlansPlannable }
 {}
 
-/// For every path of child numbers from the root of a plan over a checked table, the node that it leads to has the shape
-/// that the table gives for it, and there is none exactly where the table gives none.
+/// For every path of child numbers from the root of a plan over a checked table, the node that it
+/// leads to has the shape that the table gives for it, and there is none exactly where the table
+/// gives none.
 pub fn law_plan_paths()
     ensures agree { PathsAgree }
 {}
 
-/// Over a checked table a plan has at most as many nodes as reachable shapes, their references, and their fields with proxies
-/// together.
+/// Over a checked table a plan has at most as many nodes as reachable shapes, their references, and
+/// their fields with proxies together.
 pub fn law_plan_size()
     ensures small { PlansAreSmall }
     ensures plain { PlainPlansAreSmall }
 {}
 
-/// Over a checked table each node of a plan stands for one of the same shape that doesn't refer back, and each lookup gives a
-/// node of the shape that the table has there, and none exactly where the table has none.
+/// Over a checked table each node of a plan stands for one of the same shape that doesn't refer
+/// back, and each lookup gives a node of the shape that the table has there, and none exactly where
+/// the table has none.
 pub fn law_plan_lookups()
     ensures resolve { BackReferencesResolve }
     ensures agree { LookupsAgree }

@@ -8,7 +8,8 @@ use fr_rules::{LookupPool, PrecomputedValidator};
 use fr_shape::OutOfMemory;
 use std::alloc::Global;
 
-/// The fields, variants and validators of all nodes, and the pool of all lookups of fields. They only grow.
+/// The fields, variants and validators of all nodes, and the pool of all lookups of fields. They
+/// only grow.
 #[derive(Drop)]
 pub struct PlanLists {
     pub fields: Arena<FieldPlan>,

@@ -71,7 +71,8 @@ impl TypePlanCore {
         }
     }
 
-    /// The node that `node` stands for: the own node of its shape where it refers back, else itself.
+    /// The node that `node` stands for: the own node of its shape where it refers back, else
+    /// itself.
     pub fn resolve_backref<'a>(&'a self, node: &'a TypePlanNode) -> &'a TypePlanNode
         ensures resolved { result.now ≡ resolved self.now node.now }
     {

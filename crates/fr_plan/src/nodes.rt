@@ -29,8 +29,8 @@ impl NodeId {
     }
 }
 
-/// What a plan says of one shape. A shape that is met inside itself, or in a field with proxies, has further nodes that
-/// refer back to its own.
+/// What a plan says of one shape. A shape that is met inside itself, or in a field with proxies,
+/// has further nodes that refer back to its own.
 #[derive(Drop)]
 pub struct TypePlanNode {
     pub shape: ShapeId,
@@ -40,14 +40,16 @@ pub struct TypePlanNode {
     pub proxies: ProxyNodes,
 }
 
-/// The nodes of the shapes that stand in for one: the one for all formats, and those for one format each, by its name.
+/// The nodes of the shapes that stand in for one: the one for all formats, and those for one format
+/// each, by its name.
 #[derive(Drop)]
 pub struct ProxyNodes {
     pub generic: Option<NodeId>,
     pub format_specific: SmallVec<(Text, NodeId), 2>,
 }
 
-/// What a shape is, with the plans of its fields and variants. `BackRef` refers to the own node of its shape.
+/// What a shape is, with the plans of its fields and variants. `BackRef` refers to the own node of
+/// its shape.
 #[derive(Drop)]
 pub enum TypePlanNodeKind {
     Scalar,

@@ -1,9 +1,11 @@
-//! What is kept of each node while a plan is built: the outline from which the node is told afterwards.
+//! What is kept of each node while a plan is built: the outline from which the node is told
+//! afterwards.
 use crate::nodes::NodeId;
 use fr_arena::Arena;
 use fr_shape::{FieldRef, Items, ShapeId};
 
-/// Whose node it is: a shape's own, one that refers back to the shape's own, or one that does so for a field with proxies.
+/// Whose node it is: a shape's own, one that refers back to the shape's own, or one that does so
+/// for a field with proxies.
 #[derive(Clone, Copy)]
 pub enum Role {
     Own,
@@ -11,8 +13,8 @@ pub enum Role {
     FieldProxy(FieldRef),
 }
 
-/// A node's shape and role, and the nodes that were built for it: those of its proxies' sources, and those of its children.
-/// `converts` says that the shape is converted from its child.
+/// A node's shape and role, and the nodes that were built for it: those of its proxies' sources,
+/// and those of its children. `converts` says that the shape is converted from its child.
 #[derive(Drop)]
 pub struct Outline {
     pub shape: ShapeId,

@@ -1,4 +1,5 @@
-//! The plans of structs and enums. Their fields and variants lie in lists of the whole plan, and are told by ranges.
+//! The plans of structs and enums. Their fields and variants lie in lists of the whole plan, and
+//! are told by ranges.
 ghost use Rattle.std.specs.Prelude.{◌≡◌, not};
 ghost use Rattle.fr_plan.specs.FillQuestions.{is_defaultable};
 
@@ -28,8 +29,8 @@ pub struct StructPlan {
     pub deny_unknown_fields: bool,
 }
 
-/// A field of a struct or of an enum's variant. `type_node` is the node of its shape, or, where the field has proxies, a
-/// node of its own that refers back to it.
+/// A field of a struct or of an enum's variant. `type_node` is the node of its shape, or, where the
+/// field has proxies, a node of its own that refers back to it.
 #[derive(Drop)]
 pub struct FieldPlan {
     pub field: FieldRef,
@@ -42,7 +43,8 @@ pub struct FieldPlan {
 }
 
 impl FieldPlan {
-    /// Whether a hole takes a default. There may be none to take, where the field is marked but its shape has none.
+    /// Whether a hole takes a default. There may be none to take, where the field is marked but its
+    /// shape has none.
     pub fn has_default(&self) -> bool
         ensures default { result ≡ is_defaultable self.now.fill_rule }
     {
@@ -57,8 +59,8 @@ impl FieldPlan {
     }
 }
 
-/// An enum: its variants in order, and how they are found by name. The variant that takes unknown names is the first marked
-/// `other`.
+/// An enum: its variants in order, and how they are found by name. The variant that takes unknown
+/// names is the first marked `other`.
 #[derive(Drop)]
 pub struct EnumPlan {
     pub variants: VariantRange,

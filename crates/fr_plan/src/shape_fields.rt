@@ -1,5 +1,5 @@
-//! What is kept of a plan's shapes: how fields are found by the names that they are declared under and variants by theirs or by
-//! discriminant, and whether any field has a validator.
+//! What is kept of a plan's shapes: how fields are found by the names that they are declared under
+//! and variants by theirs or by discriminant, and whether any field has a validator.
 ghost use Rattle.std.specs.Prelude.{◌≡◌, [], IfNone, IfOk, IfSome, IsSomeAnd, slice_get};
 ghost use Rattle.std.specs.List.{list_any, range_with_len};
 ghost use Rattle.std.specs.Option.{option_copied};
@@ -17,15 +17,17 @@ use fr_arena::Arena;
 use fr_shape::{Def, Field, Items, OutOfMemory, ShapeId, ShapeTable, VariantDef};
 use std::alloc::Global;
 
-/// What is kept of the fields of a struct or of a variant: their numbers, sorted by the names that they are declared under
-/// and among fields of one name by number, and whether any of them has a validator.
+/// What is kept of the fields of a struct or of a variant: their numbers, sorted by the names that
+/// they are declared under and among fields of one name by number, and whether any of them has a
+/// validator.
 #[derive(Drop)]
 pub struct FieldSummary {
     pub by_name: Items<u32>,
     pub has_validators: bool,
 }
 
-/// What is kept of a struct's own fields, of the fields of each variant of an enum, and of the variants themselves.
+/// What is kept of a struct's own fields, of the fields of each variant of an enum, and of the
+/// variants themselves.
 #[derive(Drop)]
 pub struct ShapeFields {
     pub own: FieldSummary,
@@ -118,7 +120,8 @@ pub(crate) fn numbers_below(alloc: Global, end: usize) -> Result<Vec<u32>, OutOf
     Ok(numbers)
 }
 
-/// The numbers of these fields, sorted by name. The sort is stable, so the first field of a name stays before the others.
+/// The numbers of these fields, sorted by name. The sort is stable, so the first field of a name
+/// stays before the others.
 fn numbers_by_name(alloc: Global, fields: &[Field]) -> Result<Items<u32>, OutOfMemory>
     ensures { IfOk result (AreByName fields.now) }
 {
@@ -227,7 +230,8 @@ fn summary_at(
     }
 }
 
-/// The number of the first of these fields that is declared under this name, where their numbers are sorted by name.
+/// The number of the first of these fields that is declared under this name, where their numbers
+/// are sorted by name.
 fn first_declared(fields: &[Field], by_name: &[u32], name: &str) -> Option<u32>
     ensures { AreByName fields.now by_name.now → result ≡ first_declared name.now 0 fields.now }
 {

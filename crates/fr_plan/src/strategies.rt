@@ -1,4 +1,5 @@
-//! How a deserializer goes about a shape, told from its definition and from the nodes of its children.
+//! How a deserializer goes about a shape, told from its definition and from the nodes of its
+//! children.
 ghost use Rattle.std.specs.Prelude.{◌≡◌, IfOk};
 ghost use Rattle.fr_shape.specs.Look.{def_of};
 ghost use Rattle.fr_plan.specs.Nodes.{has_pointee, is_transparent, is_converted, is_built_from, struct_strategy, is_byte, strategy_by_kind, own_strategy, strategy_of};
@@ -168,7 +169,8 @@ pub(crate) fn strategy_of(
     table: &ShapeTable,
     outline: &Outline,
 ) -> Result<DeserStrategy, OutOfMemory>
-    ensures { IfOk result (λ strategy. strategy ≡ strategy_of table.now outline.now outline.now.role) }
+    ensures { IfOk result (λ strategy. strategy
+        ≡ strategy_of table.now outline.now outline.now.role) }
 {
     let back_reference = DeserStrategy::BackRef {
         target: outline.shape,

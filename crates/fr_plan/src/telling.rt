@@ -97,7 +97,8 @@ fn kind_of(
     }
 }
 
-/// The nodes of these proxies, of which `nodes` has that of the proxy for all formats first, where there is one.
+/// The nodes of these proxies, of which `nodes` has that of the proxy for all formats first, where
+/// there is one.
 fn proxy_nodes(
     alloc: Global,
     proxy: &Option<ProxyDef>,

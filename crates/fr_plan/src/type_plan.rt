@@ -27,7 +27,8 @@ use fr_shape::{OutOfMemory, PlanError, ShapeId, ShapeTable};
 use std::alloc::Global;
 use std::marker::Model;
 
-/// The plan of a type: the nodes of its shape and of all that this is made of, in the order in which they are built.
+/// The plan of a type: the nodes of its shape and of all that this is made of, in the order in
+/// which they are built.
 #[derive(Drop)]
 pub struct TypePlanCore {
     pub(crate) nodes: Arena<TypePlanNode>,
@@ -155,10 +156,11 @@ impl TypePlanCore {
         &self.lists.lookups
     }
 
-    /// The number of the first field that is declared under this name, of a struct or of an enum's variant of this number.
+    /// The number of the first field that is declared under this name, of a struct or of an enum's
+    /// variant of this number.
     ///
-    /// The names stand in the table from which the plan was made. It compares them O(log n) times among n fields. A field
-    /// isn't found here by the name that it goes by instead.
+    /// The names stand in the table from which the plan was made. It compares them O(log n) times
+    /// among n fields. A field isn't found here by the name that it goes by instead.
     pub fn declared_field(
         &self,
         table: &ShapeTable,
@@ -173,9 +175,11 @@ impl TypePlanCore {
         find_declared(table, &self.shape_fields, shape, variant, name)
     }
 
-    /// The number of the first variant of an enum that goes by this name and isn't marked `other`; none of another shape.
+    /// The number of the first variant of an enum that goes by this name and isn't marked `other`;
+    /// none of another shape.
     ///
-    /// The names stand in the table from which the plan was made. It compares them O(log n) times among n variants.
+    /// The names stand in the table from which the plan was made. It compares them O(log n) times
+    /// among n variants.
     pub fn variant_named(&self, table: &ShapeTable, shape: ShapeId, name: &str) -> Option<u32>
         ensures first { (root : Id) → IsChecked table.now → IsIn table.now root.0
             → IsPlanOf table.now root self.now → Reached table.now root.0 shape.0
@@ -184,9 +188,11 @@ impl TypePlanCore {
         find_named(table, &self.shape_fields, shape, name)
     }
 
-    /// The number of the first variant of an enum that has this discriminant; none of another shape.
+    /// The number of the first variant of an enum that has this discriminant; none of another
+    /// shape.
     ///
-    /// The discriminants stand in the table from which the plan was made. It compares them O(log n) times among n variants.
+    /// The discriminants stand in the table from which the plan was made. It compares them O(log n)
+    /// times among n variants.
     pub fn variant_told_by(
         &self,
         table: &ShapeTable,
@@ -200,8 +206,8 @@ impl TypePlanCore {
         find_told_by(table, &self.shape_fields, shape, discriminant)
     }
 
-    /// Whether a field of the struct, or of the enum's variant of this number, has a validator. It takes the same time
-    /// however many there are.
+    /// Whether a field of the struct, or of the enum's variant of this number, has a validator. It
+    /// takes the same time however many there are.
     pub fn has_validators(&self, shape: ShapeId, variant: Option<u32>) -> bool
         ensures some { (table : Table) (root : Id) → IsChecked table → IsIn table root.0
             → IsPlanOf table root self.now → Reached table root.0 shape.0
@@ -220,7 +226,8 @@ impl TypePlanCore {
 
 /// The walk before it starts: no node is there, and no shape was met.
 fn start(alloc: Global, shapes: usize) -> Result<Walk, OutOfMemory>
-    ensures { IfOk result (λ walk. walk ≡ record { nodes = []; marks = replicate shapes TheMark.Unseen }) }
+    ensures { IfOk result (λ walk. walk
+        ≡ record { nodes = []; marks = replicate shapes TheMark.Unseen }) }
 {
     let mut marks = Arena::new(alloc);
     for _shape in 0..shapes {

@@ -11,8 +11,9 @@ use fr_shape::{Items, OutOfMemory, VariantDef};
 use std::alloc::Global;
 use std::cmp::Ordering;
 
-/// What is kept of an enum's variants: their numbers, sorted by the names by which they are found, and sorted by discriminant.
-/// Those without a name or discriminant to be found by stand first, and among others of one the first variant.
+/// What is kept of an enum's variants: their numbers, sorted by the names by which they are found,
+/// and sorted by discriminant. Those without a name or discriminant to be found by stand first, and
+/// among others of one the first variant.
 #[derive(Drop)]
 pub struct VariantNumbers {
     pub by_name: Items<u32>,
@@ -87,7 +88,8 @@ pub(crate) fn variant_numbers(
     })
 }
 
-/// The number of the first of these variants that is found by this name, where their numbers are sorted by name.
+/// The number of the first of these variants that is found by this name, where their numbers are
+/// sorted by name.
 pub(crate) fn first_named(variants: &[VariantDef], by_name: &[u32], name: &str) -> Option<u32>
     ensures { AreByFoundName variants.now by_name.now
         → result ≡ variant_named name.now variants.now }
@@ -106,7 +108,8 @@ pub(crate) fn first_named(variants: &[VariantDef], by_name: &[u32], name: &str) 
     None
 }
 
-/// The number of the first of these variants that has the discriminant, where their numbers are sorted by discriminant.
+/// The number of the first of these variants that has the discriminant, where their numbers are
+/// sorted by discriminant.
 pub(crate) fn first_told_by(
     variants: &[VariantDef],
     by_discriminant: &[u32],

@@ -27,7 +27,8 @@ pub(crate) fn struct_plan(
     lists: &mut PlanLists,
 ) -> Result<StructPlan, OutOfMemory>
     requires described { def_of table.now id.0 ≡ TheDef.Struct described.now }
-    ensures told { IfOk result (IsStructPlan table.now lists.new id nodes.now shape.now described.now) }
+    ensures told { IfOk result
+        (IsStructPlan table.now lists.new id nodes.now shape.now described.now) }
     ensures grown { ListsGrow lists.old lists.new }
 {
     let of = Container {
@@ -74,7 +75,8 @@ fn variant_plan(
     })
 }
 
-/// The plans of all variants, put behind the others. `nodes` are those of the fields of all variants.
+/// The plans of all variants, put behind the others. `nodes` are those of the fields of all
+/// variants.
 fn variant_plans(
     alloc: Global,
     table: &ShapeTable,

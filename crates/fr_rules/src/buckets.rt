@@ -12,7 +12,8 @@ use std::alloc::Global;
 /// The run of a lookup's entries whose names have one prefix.
 #[derive(Drop)]
 pub struct PrefixBucket {
-    /// The first bytes of the names as one number, the first byte lowest; a byte that a name lacks counts as 0.
+    /// The first bytes of the names as one number, the first byte lowest; a byte that a name lacks
+    /// counts as 0.
     pub prefix: u64,
     /// The place of the run's first entry among the lookup's entries, counted from 0.
     pub start: u32,

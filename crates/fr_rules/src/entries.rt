@@ -6,7 +6,8 @@ use fr_shape::{Field, Items, OutOfMemory, Text};
 use smallvec::SmallVec;
 use std::alloc::Global;
 
-/// The most entries that a lookup holds itself and looks through one by one. One of more entries is searched by halves.
+/// The most entries that a lookup holds itself and looks through one by one. One of more entries is
+/// searched by halves.
 pub const LOOKUP_THRESHOLD: usize = 8;
 
 /// A name by which a field is found.

@@ -31,11 +31,11 @@ pub enum FieldLookup {
     },
 }
 
-/// The lookup of these fields by their effective names and aliases. Only one of more than `LOOKUP_THRESHOLD` entries
-/// puts anything into the pool.
+/// The lookup of these fields by their effective names and aliases. Only one of more than
+/// `LOOKUP_THRESHOLD` entries puts anything into the pool.
 ///
-/// Where a field's number or the pool would outgrow 32 bits it returns `OutOfMemory` too. After that error the pool may
-/// have entries that no lookup names.
+/// Where a field's number or the pool would outgrow 32 bits it returns `OutOfMemory` too. After
+/// that error the pool may have entries that no lookup names.
 pub fn build_field_lookup(
     alloc: Global,
     fields: &Items<Field>,

@@ -29,8 +29,8 @@ pub enum FieldDefault {
 }
 
 impl FieldDefault {
-    /// The template that is meant. There is none where the field is marked with none of its own or the shape has no
-    /// default, or where there is no such field or shape.
+    /// The template that is meant. There is none where the field is marked with none of its own or
+    /// the shape has no default, or where there is no such field or shape.
     pub fn template<'a>(self, table: &'a ShapeTable) -> Option<&'a Template>
         ensures meant { option_copied result ≡ template_meant table.now self }
     {
@@ -55,8 +55,8 @@ pub enum DeferredFill {
     Missing,
 }
 
-/// The rule of a field's hole in strict mode. A field that is marked as taking its shape's default is never required,
-/// though its shape may have none.
+/// The rule of a field's hole in strict mode. A field that is marked as taking its shape's default
+/// is never required, though its shape may have none.
 pub fn determine_fill_rule(table: &ShapeTable, field: FieldRef) -> FillRule
     requires there { IsSome (field_at table.now field) }
     ensures rule { IfSome (field_at table.now field) (λ found. result

@@ -1,5 +1,5 @@
-//! What plans and the builder take from the descriptions of shapes: lookups of fields and variants by their names, what
-//! fills the holes of structs, and the tests of fields' values.
+//! What plans and the builder take from the descriptions of shapes: lookups of fields and variants
+//! by their names, what fills the holes of structs, and the tests of fields' values.
 #![tactic(auto)]
 
 mod buckets;

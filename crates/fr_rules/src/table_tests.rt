@@ -1,5 +1,5 @@
-//! Values and tables of shapes, by worked cases: what fits, tables that break a rule, many items, each call that
-//! allocates with ample memory, and hooks.
+//! Values and tables of shapes, by worked cases: what fits, tables that break a rule, many items,
+//! each call that allocates with ample memory, and hooks.
 mod building;
 mod calls;
 mod fits_rows;

@@ -1,4 +1,5 @@
-//! Lookups of each form, with ample memory. The helpers leave out what finds no memory, and the tests then fail.
+//! Lookups of each form, with ample memory. The helpers leave out what finds no memory, and the
+//! tests then fail.
 ghost use Rattle.fr_rules.specs.FieldLookups.{IsOfPool};
 
 use crate::*;
@@ -128,7 +129,8 @@ fn check_names(
     }
 }
 
-/// A lookup of these names has prefixes of this length, and finds them also after another was built.
+/// A lookup of these names has prefixes of this length, and finds them also after another was
+/// built.
 fn check_long(rt: &impl Abort, alloc: Global, names: &[&str], absent: &[&str], want: usize) {
     let mut pool = LookupPool::new(alloc);
     let fields = fields(alloc, names);

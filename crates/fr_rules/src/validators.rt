@@ -41,11 +41,11 @@ pub enum ValidatorKind {
 }
 
 impl PrecomputedValidator {
-    /// Tests the value of `field`. Only a value that fails takes memory, for what is said of it, and where there is none
-    /// the error is `OutOfMemory`.
+    /// Tests the value of `field`. Only a value that fails takes memory, for what is said of it,
+    /// and where there is none the error is `OutOfMemory`.
     ///
-    /// The value should fit the scalar kind. One that is no number is in all bounds, and one that is no text is read as
-    /// the empty text.
+    /// The value should fit the scalar kind. One that is no number is in all bounds, and one that
+    /// is no text is read as the empty text.
     pub fn run<H: Hooks>(
         &self,
         alloc: Global,

@@ -8,7 +8,8 @@ use fr_shape::{EnumDef, Items, OutOfMemory, Text, VariantDef};
 use smallvec::SmallVec;
 use std::alloc::Global;
 
-/// Finds the variants of an enum by their names. Each name stands beside the number of its variant, counted from 0.
+/// Finds the variants of an enum by their names. Each name stands beside the number of its variant,
+/// counted from 0.
 #[derive(Drop)]
 pub enum VariantLookup {
     /// Up to `LOOKUP_THRESHOLD` names, in the variants' order.
@@ -19,8 +20,8 @@ pub enum VariantLookup {
 
 /// The lookup of an enum's variants by their effective names, without those marked `other`.
 ///
-/// The names of a checked table's variants are distinct. Where a variant's number would outgrow 32 bits it returns
-/// `OutOfMemory` too.
+/// The names of a checked table's variants are distinct. Where a variant's number would outgrow 32
+/// bits it returns `OutOfMemory` too.
 pub fn build_variant_lookup(alloc: Global, e: &EnumDef) -> Result<VariantLookup, OutOfMemory>
     requires distinct { HaveDistinctNames e.now.variants }
     ensures lookup { IfOk result (λ lookup. IsVariantLookupOf lookup e.now.variants) }
@@ -91,8 +92,8 @@ fn first_sorted(name: &str, entries: &[(Text, u32)]) -> Option<usize>
 impl VariantLookup {
     /// The number of the variant of this whole name, which isn't marked `other`.
     ///
-    /// A lookup that no enum has, built by hand, gives the number beside the first such name. Only where names of the
-    /// sorted form aren't sorted is nothing said of the result.
+    /// A lookup that no enum has, built by hand, gives the number beside the first such name. Only
+    /// where names of the sorted form aren't sorted is nothing said of the result.
     pub fn find(&self, name: &str) -> Option<usize>
         ensures first { IsInOrder self.now
             → result ≡ first_numbered name.now (entries_in self.now) }

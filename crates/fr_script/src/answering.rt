@@ -4,7 +4,8 @@ use fr_doc::DocFault;
 use fr_partial::Built;
 use fr_shape::Items;
 
-/// A fault of the document, or what its script came to with the tokens that were released, ascending.
+/// A fault of the document, or what its script came to with the tokens that were released,
+/// ascending.
 #[derive(Drop)]
 pub enum Answer {
     Fault(DocFault),

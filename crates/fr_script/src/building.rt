@@ -22,8 +22,9 @@ use fr_shape::{Hooks, Ledger, PlanError, ReflectErrorKind, ShapeId, ShapeTable, 
 use std::alloc::Global;
 use std::collections::VecDeque;
 
-/// The command that was refused, counted from 0, or the script's length where `build` was refused; why; and the path of
-/// the place at which the builder worked before. A root without a plan is refused before the first command.
+/// The command that was refused, counted from 0, or the script's length where `build` was refused;
+/// why; and the path of the place at which the builder worked before. A root without a plan is
+/// refused before the first command.
 #[derive(Drop)]
 pub struct ScriptError {
     pub number: u32,
@@ -31,8 +32,8 @@ pub struct ScriptError {
     pub path: Path,
 }
 
-/// Runs the commands of a script on a new builder, one call a command, and builds. An error has released every token
-/// of the script, those of commands that were not run among them.
+/// Runs the commands of a script on a new builder, one call a command, and builds. An error has
+/// released every token of the script, those of commands that were not run among them.
 pub fn build_script<H: Hooks>(
     alloc: Global,
     table: &ShapeTable,

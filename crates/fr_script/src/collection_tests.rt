@@ -1,10 +1,12 @@
-//! Maps and sets in documents: they are begun, take entries and items, leave out what is there twice, and are left half done and gone
-//! on with. The last two tables are the original's own tests of them, under the names that they have there.
+//! Maps and sets in documents: they are begun, take entries and items, leave out what is there
+//! twice, and are left half done and gone on with. The last two tables are the original's own tests
+//! of them, under the names that they have there.
 use crate::tests::{check, check_each};
 use std::test::Fail;
 
-/// The shapes u32, String, Res (opaque), Item (a number and a Res) with a set of them and a map from them to Res, Names (a map from
-/// String to u32), Nums (a set of u32), Inner (two numbers), maps and sets of these, a set of lists, and structs of them, before the root.
+/// The shapes u32, String, Res (opaque), Item (a number and a Res) with a set of them and a map
+/// from them to Res, Names (a map from String to u32), Nums (a set of u32), Inner (two numbers),
+/// maps and sets of these, a set of lists, and structs of them, before the root.
 const SHAPES: &str = r#"{"shapes":[
     {"name":"u32","def":"u32"},
     {"name":"String","def":"String"},
@@ -541,8 +543,8 @@ fn maps_and_sets_are_left_half_done(rt: HostRuntime) -> Result<(), Fail> {
     check_each(&rt, SHAPES, &LEFT)
 }
 
-/// The shapes String, Res (opaque), RuleValue (a text), Key (a name and a Res), Rules (a map of these) and Container, which is
-/// the root.
+/// The shapes String, Res (opaque), RuleValue (a text), Key (a name and a Res), Rules (a map of
+/// these) and Container, which is the root.
 const RULES: &str = r#"{"shapes":[
     {"name":"String","def":"String"},
     {"name":"Res","def":"opaque"},

@@ -3,8 +3,9 @@ use crate::tests::{check, check_each};
 use std::alloc::Global;
 use std::test::Fail;
 
-/// The shapes u32, String, Inner (x and b), ArcInner, str, BoxStr, R (a result), Res2 (two of them), OptInner, Res (opaque), OptRes,
-/// Sides (a result of two Res), Fixed (a pointer that isn't made from what it points to) and RefStr, before the root.
+/// The shapes u32, String, Inner (x and b), ArcInner, str, BoxStr, R (a result), Res2 (two of
+/// them), OptInner, Res (opaque), OptRes, Sides (a result of two Res), Fixed (a pointer that isn't
+/// made from what it points to) and RefStr, before the root.
 const HOLDERS: &str = r#"{"shapes":[
     {"name":"u32","def":"u32"},
     {"name":"String","def":"String"},
@@ -218,8 +219,8 @@ fn contents_are_refused_at_other_places(rt: HostRuntime) -> Result<(), Fail> {
     check_each(&rt, HOLDERS, &REFUSED)
 }
 
-/// The shapes Res, Link (an option of a Box, none by default), Box (a pointer to a Step) and Step (a result of a Link or a Res), with
-/// a Link as the root, up to the commands.
+/// The shapes Res, Link (an option of a Box, none by default), Box (a pointer to a Step) and Step
+/// (a result of a Link or a Res), with a Link as the root, up to the commands.
 const LINKS: &str = r#"{"shapes":[
     {"name":"Res","def":"opaque"},
     {"name":"Link","def":{"option":2},"preset":null},
@@ -282,8 +283,8 @@ fn contents_nest_as_deep_as_a_script_may_begin(rt: HostRuntime) -> Result<(), Fa
     check(&rt, "forgotten", forgotten.as_bytes(), 0, dropped)
 }
 
-/// Tasks in a list, as examples/tasks.json has them: half of a task is left behind pointers and options, gone on with, and the state
-/// of the first is switched.
+/// Tasks in a list, as examples/tasks.json has them: half of a task is left behind pointers and
+/// options, gone on with, and the state of the first is switched.
 const TASKS: &str = r#"{"shapes":[
     {"name":"String","def":"String"},
     {"name":"u16","def":"u16"},

@@ -1,4 +1,5 @@
-//! Deferred mode in documents: places are left half done, entered again, overwritten and completed at the end.
+//! Deferred mode in documents: places are left half done, entered again, overwritten and completed
+//! at the end.
 use crate::tests::{check, check_each};
 use std::test::Fail;
 
@@ -122,8 +123,8 @@ const OVERWRITTEN: [(&str, &str, u8, &str); 3] = [
     ),
 ];
 
-/// The shapes u32, Nums (a list with a default), Empty (a struct without fields, with a default), HasList and HasEmpty, before the
-/// root.
+/// The shapes u32, Nums (a list with a default), Empty (a struct without fields, with a default),
+/// HasList and HasEmpty, before the root.
 const DEFAULTS: &str = r#"{"shapes":[
     {"name":"u32","def":"u32"},
     {"name":"Nums","def":{"list":0},"preset":{"l":[]}},
@@ -156,7 +157,8 @@ const FILLED_AT_THE_END: [(&str, &str, u8, &str); 3] = [
     ),
 ];
 
-/// The shapes u32 (with the default 0), Dd (a field that is marked with 5) and Ss (two fields, with a default), before the root.
+/// The shapes u32 (with the default 0), Dd (a field that is marked with 5) and Ss (two fields, with
+/// a default), before the root.
 const MARKED: &str = r#"{"shapes":[
     {"name":"u32","def":"u32","preset":0},
     {"name":"Dd","def":{"struct":[{"name":"a","shape":0,"default":{"custom":5}}]}},
@@ -246,7 +248,8 @@ fn elements_come_backwards_in_deferred_mode(rt: HostRuntime) -> Result<(), Fail>
     check(&rt, "descending", document.as_bytes(), 0, want.as_str())
 }
 
-/// The settings of a program, as examples/settings.json has them: the lines of its groups come in turn.
+/// The settings of a program, as examples/settings.json has them: the lines of its groups come in
+/// turn.
 const SETTINGS: &str = r#"{"shapes":[
     {"name":"u16","def":"u16"},
     {"name":"String","def":"String"},

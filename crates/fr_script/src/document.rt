@@ -37,8 +37,9 @@ pub fn read_document(alloc: Global, word: Word, bytes: &[u8]) -> Result<Document
     Ok(document)
 }
 
-/// The same with the tree that it was read from, for whoever lets the tree go at the end of a run. Before the run that costs more: what
-/// was freed in many small parts is joined as soon as a large part is asked for.
+/// The same with the tree that it was read from, for whoever lets the tree go at the end of a run.
+/// Before the run that costs more: what was freed in many small parts is joined as soon as a large
+/// part is asked for.
 #[tactic(auto, unfolding(crate::specs::Documents::document_of))]
 pub(crate) fn read_with_tree(
     alloc: Global,
@@ -98,7 +99,8 @@ fn read_form(alloc: Global, word: Word, json: &Json) -> Result<Document, ReadErr
     })
 }
 
-/// Reads the shapes one after another, up to the first whose form is broken or that the word doesn't take.
+/// Reads the shapes one after another, up to the first whose form is broken or that the word
+/// doesn't take.
 #[tactic(auto, unfolding(crate::specs::Documents::shapes_for))]
 fn read_shapes(alloc: Global, word: Word, json: &Json) -> Result<Items<Shape>, ReadError>
     ensures { Gives (shapes_for word (data_of json.now)) result }
@@ -173,7 +175,8 @@ fn test_rules(table: &ShapeTable) -> Result<(), DocFault>
     }
 }
 
-/// Tests that the script is valid over a new ledger of the document's tokens. Such a ledger has no mark yet.
+/// Tests that the script is valid over a new ledger of the document's tokens. Such a ledger has no
+/// mark yet.
 #[tactic(auto, unfolding(crate::specs::Documents::script_passes))]
 fn test_script(alloc: Global, document: &Document) -> Result<(), ReadError>
     requires few { length document.now.script < 2 ^ 32 }

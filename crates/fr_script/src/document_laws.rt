@@ -11,8 +11,8 @@ ghost use Rattle.fr_script.specs.Reports.{outcome_of, status_of};
 
 use fr_plan::law_first_refusal;
 
-/// The first command that isn't valid: where there is none the script may be handed to the builder, and else it may up
-/// to that command.
+/// The first command that isn't valid: where there is none the script may be handed to the builder,
+/// and else it may up to that command.
 pub fn law_valid_scripts()
     ensures valid { (table : Table) (ledger : List ℕ) (script : List Call)
         → first_invalid table ledger [] 0 script ≡ None → IsValid table script ledger }

@@ -1,4 +1,5 @@
-//! A document that is read, the test of its script, and the calls that answer it, with ample memory.
+//! A document that is read, the test of its script, and the calls that answer it, with ample
+//! memory.
 ghost use Rattle.fr_script.specs.DocumentFacts.{IsBuildable};
 ghost use Rattle.fr_script.specs.Reading.{document_view};
 

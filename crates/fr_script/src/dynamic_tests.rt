@@ -1,9 +1,10 @@
-//! Dynamic values in documents: values of other shapes that they take, and arrays and objects that they are begun as.
+//! Dynamic values in documents: values of other shapes that they take, and arrays and objects that
+//! they are begun as.
 use crate::tests::{check, check_each};
 use std::test::Fail;
 
-/// The shapes u32, String, Any (dynamic) and Blob (dynamic, and takes bytes), the other scalars, a shape or two of each other
-/// definition, and places with dynamic values in them, before the root.
+/// The shapes u32, String, Any (dynamic) and Blob (dynamic, and takes bytes), the other scalars, a
+/// shape or two of each other definition, and places with dynamic values in them, before the root.
 pub(crate) const SHAPES: &str = r#"{"shapes":[
     {"name":"u32","def":"u32"},
     {"name":"String","def":"String"},

@@ -1,4 +1,5 @@
-//! Documents of types and calls: reads them, builds the value that they ask for, and reports what comes of it.
+//! Documents of types and calls: reads them, builds the value that they ask for, and reports what
+//! comes of it.
 #![tactic(auto)]
 
 mod answering;

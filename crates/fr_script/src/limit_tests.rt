@@ -1,4 +1,5 @@
-//! Each limit of a document, at the largest size that it admits and at one past it, each as a whole run.
+//! Each limit of a document, at the largest size that it admits and at one past it, each as a whole
+//! run.
 use crate::running::run;
 use crate::tests::check;
 use fr_doc::{MemSink, MemSource};
@@ -30,8 +31,8 @@ pub(crate) fn joined(
     Ok(text)
 }
 
-/// Runs the document with `count` parts, which ends with this status and line, and then the one with a part more, which
-/// is at fault.
+/// Runs the document with `count` parts, which ends with this status and line, and then the one
+/// with a part more, which is at fault.
 fn check_limit(
     rt: &(impl Abort + AllocGlobal),
     (front, part, back): (&str, &str, &str),

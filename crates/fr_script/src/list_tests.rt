@@ -1,13 +1,14 @@
-//! Lists, arrays and pointers to slices in documents: they are begun, take items or elements one behind the other, and are left half
-//! done and gone on with.
+//! Lists, arrays and pointers to slices in documents: they are begun, take items or elements one
+//! behind the other, and are left half done and gone on with.
 use crate::content_tests::repeated;
 use crate::tests::{check, check_each};
 use std::alloc::Global;
 use std::test::Fail;
 
-/// The shapes u32, Nums and Items (lists of u32 and of Res, which is opaque), A3 and A5000 (arrays of so many), the slices Sl and ResSl,
-/// pointers to these (ArcSlice, BoxRes, RefRes, LooseSlice) and to others (RefU32, RefAny), Pair (a list and a pointer to a slice) and
-/// Pairs, before the root.
+/// The shapes u32, Nums and Items (lists of u32 and of Res, which is opaque), A3 and A5000 (arrays
+/// of so many), the slices Sl and ResSl, pointers to these (ArcSlice, BoxRes, RefRes, LooseSlice)
+/// and to others (RefU32, RefAny), Pair (a list and a pointer to a slice) and Pairs, before the
+/// root.
 const LISTS: &str = r#"{"shapes":[
     {"name":"u32","def":"u32"},
     {"name":"Nums","def":{"list":0}},
@@ -406,8 +407,9 @@ fn lists_and_items_are_refused_at_other_places(rt: HostRuntime) -> Result<(), Fa
     check_each(&rt, LISTS, &REFUSED)
 }
 
-/// The shapes String (empty by default), u16, Names (a list of texts, empty by default), Server (host; port, 80 by default; aliases; and
-/// weight), Servers (a list of them) and Config (name and servers), before the root.
+/// The shapes String (empty by default), u16, Names (a list of texts, empty by default), Server
+/// (host; port, 80 by default; aliases; and weight), Servers (a list of them) and Config (name and
+/// servers), before the root.
 const CONFIG: &str = r#"{"shapes":[
     {"name":"String","def":"String","preset":""},
     {"name":"u16","def":"u16"},

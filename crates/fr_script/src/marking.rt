@@ -8,8 +8,8 @@ ghost use Rattle.fr_script.specs.Marks.{marked, marked_by, Marks};
 use fr_model::Command;
 use fr_shape::{Items, ShapeTable, Value, fits};
 
-/// Marks the tokens that a command brings. False where it isn't valid: its value's shape isn't in the table,
-/// the value doesn't fit it, or a token can't be marked.
+/// Marks the tokens that a command brings. False where it isn't valid: its value's shape isn't in
+/// the table, the value doesn't fit it, or a token can't be marked.
 pub fn mark_command(table: &ShapeTable, command: &Command, marks: &mut [bool]) -> bool
     ensures { Marks (marked_by table.now (call_of command.now) marks.old) result marks.new }
 {

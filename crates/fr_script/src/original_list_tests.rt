@@ -1,9 +1,10 @@
-//! The original's own tests of lists, arrays and slices, under the names that they have there, as documents.
+//! The original's own tests of lists, arrays and slices, under the names that they have there, as
+//! documents.
 use crate::tests::check_each;
 use std::test::Fail;
 
-/// The shapes i32, String, u8, u32, lists of these (Ints, Strings, Bytes), IntLists, Aged (name and age), AgedList, Held (a list of
-/// i32), a map, the unit shape and a list of it, before the root.
+/// The shapes i32, String, u8, u32, lists of these (Ints, Strings, Bytes), IntLists, Aged (name and
+/// age), AgedList, Held (a list of i32), a map, the unit shape and a list of it, before the root.
 const LISTS: &str = r#"{"shapes":[
     {"name":"i32","def":"i32"},
     {"name":"String","def":"String"},
@@ -110,8 +111,8 @@ const LISTS_BUILT: [(&str, &str, u8, &str); 10] = [
     ),
 ];
 
-/// The shapes u32, u8, String, i32, Noisy (opaque), arrays of these, Rows (three Rows of two i32), WithArrays and NestedArrays (a name
-/// and an array), before the root.
+/// The shapes u32, u8, String, i32, Noisy (opaque), arrays of these, Rows (three Rows of two i32),
+/// WithArrays and NestedArrays (a name and an array), before the root.
 const ARRAYS: &str = r#"{"shapes":[
     {"name":"u32","def":"u32"},
     {"name":"u8","def":"u8"},
@@ -245,8 +246,8 @@ const ARRAYS_BUILT: [(&str, &str, u8, &str); 12] = [
     ),
 ];
 
-/// The shapes String, u32, u64, i32, OptString, Person (name, age and email), Nested (id, person and tags) and Copyable (x and y), with
-/// slices of these and pointers to them, before the root.
+/// The shapes String, u32, u64, i32, OptString, Person (name, age and email), Nested (id, person
+/// and tags) and Copyable (x and y), with slices of these and pointers to them, before the root.
 const SLICES: &str = r#"{"shapes":[
     {"name":"String","def":"String"},
     {"name":"u32","def":"u32"},

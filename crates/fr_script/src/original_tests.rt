@@ -1,8 +1,10 @@
-//! The original's own tests of options, results, pointers and enums, under the names that they have there, as documents.
+//! The original's own tests of options, results, pointers and enums, under the names that they have
+//! there, as documents.
 use crate::tests::check_each;
 use std::test::Fail;
 
-/// The shapes u32, String, options of either and of an option, and structs of options, before the root.
+/// The shapes u32, String, options of either and of an option, and structs of options, before the
+/// root.
 const OPTIONS: &str = r#"{"shapes":[
     {"name":"u32","def":"u32"},
     {"name":"String","def":"String"},
@@ -129,8 +131,8 @@ const RESULTS_BUILT: [(&str, &str, u8, &str); 6] = [
     ),
 ];
 
-/// The shapes i32, String, u8, str, Inner (a struct of an i32), pointers to these, structs of Inner and of a pointer to one, and a
-/// pointer to a struct of two fields, before the root.
+/// The shapes i32, String, u8, str, Inner (a struct of an i32), pointers to these, structs of Inner
+/// and of a pointer to one, and a pointer to a struct of two fields, before the root.
 const POINTERS: &str = r#"{"shapes":[
     {"name":"i32","def":"i32"},
     {"name":"String","def":"String"},

@@ -3,8 +3,8 @@ use fr_doc::DocFault;
 use fr_plan::TypePlanCore;
 use fr_shape::{AllocError, ShapeTable};
 
-/// A fault of the document; the plan of its root, with the table that names the shapes of its nodes; or the first shape
-/// that can't be planned.
+/// A fault of the document; the plan of its root, with the table that names the shapes of its
+/// nodes; or the first shape that can't be planned.
 #[derive(Drop)]
 pub enum PlanAnswer {
     Fault(DocFault),

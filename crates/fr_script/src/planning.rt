@@ -16,8 +16,8 @@ use fr_plan::TypePlanCore;
 use fr_shape::{OutOfMemory, PlanError};
 use std::alloc::Global;
 
-/// Reads a document and plans its root. The answer is the document's first fault; or its own table, with the plan of its root; or the
-/// first shape that can't be planned, and why.
+/// Reads a document and plans its root. The answer is the document's first fault; or its own table,
+/// with the plan of its root; or the first shape that can't be planned, and why.
 pub fn plan_document(alloc: Global, bytes: &[u8]) -> Result<PlanAnswer, OutOfMemory>
     ensures answer { IfOk result (IsPlanAnswer (document_of TheWord.Plan bytes.now)) }
     ensures outcome { IfOk result (λ answer.

@@ -3,8 +3,8 @@ use crate::limit_tests::joined;
 use crate::tests::{check, check_each};
 use std::test::Fail;
 
-/// The shapes u32, Nums (a list with a default), Empty (a struct without fields, with a default), HasList and HasEmpty,
-/// before the root.
+/// The shapes u32, Nums (a list with a default), Empty (a struct without fields, with a default),
+/// HasList and HasEmpty, before the root.
 const DEFAULTS: &str = r#"{"shapes":[
     {"name":"u32","def":"u32"},
     {"name":"Nums","def":{"list":0},"preset":{"l":[]}},
@@ -95,8 +95,8 @@ const ARRAYS_BUILT: [(&str, &str, u8, &str); 8] = [
     ),
 ];
 
-/// The shapes u32 (with the default 0), Dd (a field that is marked with 5) and Ss (two fields, with a default), before the
-/// root.
+/// The shapes u32 (with the default 0), Dd (a field that is marked with 5) and Ss (two fields, with
+/// a default), before the root.
 const MARKED: &str = r#"{"shapes":[
     {"name":"u32","def":"u32","preset":0},
     {"name":"Dd","def":{"struct":[{"name":"a","shape":0,"default":{"custom":5}}]}},
@@ -148,7 +148,8 @@ const MARKS_TAKEN: [(&str, &str, u8, &str); 7] = [
     ),
 ];
 
-/// The shapes Odd (which stands for nothing), Res, Bad (of both), str and Opt (an option of a Res), before the root.
+/// The shapes Odd (which stands for nothing), Res, Bad (of both), str and Opt (an option of a Res),
+/// before the root.
 const UNPLANNED: &str = r#"{"shapes":[
     {"name":"Odd","def":"other"},
     {"name":"Res","def":"opaque"},
@@ -178,7 +179,8 @@ const WITHOUT_BUILDER: [(&str, &str, u8, &str); 3] = [
     ),
 ];
 
-/// The shapes u32, Kind (an enum), Count (a map), Link (a pointer to a Kind) and All (a struct of these), before the root.
+/// The shapes u32, Kind (an enum), Count (a map), Link (a pointer to a Kind) and All (a struct of
+/// these), before the root.
 const WHOLES: &str = r#"{"shapes":[
     {"name":"u32","def":"u32"},
     {"name":"Kind","def":{"enum":{"repr":"U8","variants":[

@@ -18,15 +18,17 @@ use std::alloc::Global;
 
 const USAGE: &str = "usage: build | plan | gen N\n";
 
-/// Does what the words ask: `build` reads a document to its end and reports what it comes to, `plan` reads one and reports
-/// the plan of its root.
+/// Does what the words ask: `build` reads a document to its end and reports what it comes to,
+/// `plan` reads one and reports the plan of its root.
 ///
-/// The status is 0 for a value or a plan, 1 where there is none, 2 for a faulty document, 3 for other words, 4 where the
-/// source failed, 5 where the sink failed, and 6 where it is out of memory.
+/// The status is 0 for a value or a plan, 1 where there is none, 2 for a faulty document, 3 for
+/// other words, 4 where the source failed, 5 where the sink failed, and 6 where it is out of
+/// memory.
 pub fn run<S: Source, K: Sink>(alloc: Global, words: &[String], source: &mut S, sink: &mut K) -> u8
     ensures range { result ≤ 6 }
 
-    // One of the words, where the source tells what it has left: the outcome of all those bytes is reported.
+    // One of the words, where the source tells what it has left: the outcome of all those bytes is
+    // reported.
     ensures reported { (word : TheWord) → asked words.now ≡ Some word → result ≤ 3
         → IfSome (S.left source.old) (λ bytes.
         Tells word bytes result (K.taken sink.old) (K.taken sink.new)) }

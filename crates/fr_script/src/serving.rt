@@ -88,8 +88,8 @@ fn is_want_of_memory(kind: &ReflectErrorKind) -> bool
 
 /// The status and the whole report on a document.
 ///
-/// The tree that the document was read from is let go after them. Any earlier that costs more: what is freed in many small parts is
-/// joined as soon as a large part is asked for or freed.
+/// The tree that the document was read from is let go after them. Any earlier that costs more: what
+/// is freed in many small parts is joined as soon as a large part is asked for or freed.
 #[derive(Drop)]
 pub struct Response {
     pub status: u8,

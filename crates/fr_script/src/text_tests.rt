@@ -3,9 +3,10 @@ use crate::tests::check;
 use std::process::Abort;
 use std::test::Fail;
 
-/// The shapes 0 u32, 1 String, 2 opaque, 3 an enum, 4 undefined, 5 a pointer, 6 an array of three, 7 an option, 8 a struct of
-/// an array and a u32, 9 a shape that can't be planned, 10 one without a size, 11 an array that can't be
-/// entered, 12 a struct whose field is marked to take a default that there isn't.
+/// The shapes 0 u32, 1 String, 2 opaque, 3 an enum, 4 undefined, 5 a pointer, 6 an array of three,
+/// 7 an option, 8 a struct of an array and a u32, 9 a shape that can't be planned, 10 one without a
+/// size, 11 an array that can't be entered, 12 a struct whose field is marked to take a default
+/// that there isn't.
 const SHAPES: &str = r#"{"shapes":[
     {"name":"u32","def":"u32"},
     {"name":"String","def":"String"},

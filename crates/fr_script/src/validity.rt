@@ -20,9 +20,9 @@ pub enum ScriptFault {
     OutOfMemory,
 }
 
-/// Tests that the value of each command fits its shape, and that each token in it is one of the ledger's, was
-/// never released and comes once. Takes time linear in the ledger and the script, but for the tests that no two
-/// items of a set and no two keys of a map are the same.
+/// Tests that the value of each command fits its shape, and that each token in it is one of the
+/// ledger's, was never released and comes once. Takes time linear in the ledger and the script, but
+/// for the tests that no two items of a set and no two keys of a map are the same.
 pub fn is_valid_script(
     alloc: Global,
     table: &ShapeTable,
@@ -44,7 +44,8 @@ pub fn is_valid_script(
     }
 }
 
-/// The first command that isn't valid where the marked tokens may not be brought. Marks what the others bring.
+/// The first command that isn't valid where the marked tokens may not be brought. Marks what the
+/// others bring.
 pub fn find_invalid(table: &ShapeTable, script: &Script, marks: &mut [bool]) -> Option<u32>
     requires few { length script.now < 2 ^ 32 }
     ensures { result ≡ first_unmarked table.now marks.old 0 (calls_of script.now) }

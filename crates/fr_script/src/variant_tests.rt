@@ -1,8 +1,10 @@
-//! Enums in documents: variants are selected, switched and gone on with; and fields that are set to their defaults.
+//! Enums in documents: variants are selected, switched and gone on with; and fields that are set to
+//! their defaults.
 use crate::tests::check_each;
 use std::test::Fail;
 
-/// The shapes u32, Res (opaque) and FooBar (an enum of Foo, which has no fields, and of Bar), before the root.
+/// The shapes u32, Res (opaque) and FooBar (an enum of Foo, which has no fields, and of Bar),
+/// before the root.
 const FOO_BAR: &str = r#"{"shapes":[
     {"name":"u32","def":"u32"},
     {"name":"Res","def":"opaque"},
@@ -97,7 +99,8 @@ const SELECTED: [(&str, &str, u8, &str); 11] = [
     ),
 ];
 
-/// The shapes u32, Level (an enum of four variants) and Loose (one without a layout of its own), before the root.
+/// The shapes u32, Level (an enum of four variants) and Loose (one without a layout of its own),
+/// before the root.
 const LEVELS: &str = r#"{"shapes":[
     {"name":"u32","def":"u32"},
     {"name":"Level","def":{"enum":{"repr":"I8","variants":[
@@ -185,8 +188,9 @@ const TOLD: [(&str, &str, u8, &str); 11] = [
     ),
 ];
 
-/// The shapes u32 and Wide, which has more variants than are searched one by one: one goes by another name, one takes unknown names, and
-/// two have the discriminants of others before them. The root is Wide.
+/// The shapes u32 and Wide, which has more variants than are searched one by one: one goes by
+/// another name, one takes unknown names, and two have the discriminants of others before them. The
+/// root is Wide.
 const WIDE: &str = r#"{"shapes":[
     {"name":"u32","def":"u32"},
     {"name":"Wide","def":{"enum":{"repr":"U8","variants":[
@@ -293,8 +297,8 @@ const AMONG_MANY: [(&str, &str, u8, &str); 13] = [
     ),
 ];
 
-/// The shapes u32 (with the default 0), Res, Conf (of two marked fields, one whose shape has a default, and a Res) and Mode (an
-/// enum whose variant has a marked field), before the root.
+/// The shapes u32 (with the default 0), Res, Conf (of two marked fields, one whose shape has a
+/// default, and a Res) and Mode (an enum whose variant has a marked field), before the root.
 const DEFAULTS: &str = r#"{"shapes":[
     {"name":"u32","def":"u32","preset":0},
     {"name":"Res","def":"opaque"},

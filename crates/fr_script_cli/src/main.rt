@@ -1,4 +1,5 @@
-//! The program over `fr_script`: reads standard input, writes standard output, and ends with the status of the run.
+//! The program over `fr_script`: reads standard input, writes standard output, and ends with the
+//! status of the run.
 #![tactic(auto)]
 
 use fr_script::{ReaderSource, WriterSink, run};
@@ -20,7 +21,8 @@ fn main(rt: HostRuntime) -> ExitCode {
     ExitCode::from(run(rt.alloc(), words.as_slice(), &mut source, &mut sink))
 }
 
-/// The words after the program's name. Where the system gives none, or one that is no text, there are none.
+/// The words after the program's name. Where the system gives none, or one that is no text, there
+/// are none.
 fn words_of(rt: &(impl Env + AllocGlobal)) -> Result<Vec<String>, AllocError> {
     let mut words = Vec::new(rt.alloc());
     let args = match env::args(rt) {

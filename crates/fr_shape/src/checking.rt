@@ -21,18 +21,17 @@ pub struct TableFault {
 }
 
 impl ShapeTable {
-    /// Tests the nine rules of a checked table. The fault is the smallest rule that is broken, at its first entry.
+    /// Tests the nine rules of a checked table. The fault is the smallest rule that is broken, at
+    /// its first entry.
     ///
-    /// 1. Each `ShapeId` is below the number of shapes.
-    /// 2. No two shapes have the same name.
-    /// 3. All that an entry names is sized, but for what a pointer points to.
-    /// 4. No two variants of an enum have the same effective name.
-    /// 5. `Min` and `Max` stand on integers, lengths and tests of texts on texts, and `Custom` on anything.
-    /// 6. Each preset and each default of a field's own fits its shape and holds no token.
-    /// 7. `convert` stands on a scalar or an `Other` with `inner`, on an option whose `inner` is its content, and on an
-    ///    opaque or undefined shape with `builder`; `builder` stands on an opaque or undefined shape.
-    /// 8. Each `HookId` is below 65,536.
-    /// 9. The preset of an option is `None`.
+    /// 1. Each `ShapeId` is below the number of shapes. 2. No two shapes have the same name. 3. All
+    /// that an entry names is sized, but for what a pointer points to. 4. No two variants of an
+    /// enum have the same effective name. 5. `Min` and `Max` stand on integers, lengths and tests
+    /// of texts on texts, and `Custom` on anything. 6. Each preset and each default of a field's
+    /// own fits its shape and holds no token. 7. `convert` stands on a scalar or an `Other` with
+    /// `inner`, on an option whose `inner` is its content, and on an opaque or undefined shape with
+    /// `builder`; `builder` stands on an opaque or undefined shape. 8. Each `HookId` is below
+    /// 65,536. 9. The preset of an option is `None`.
     pub fn check(&self) -> Result<(), TableFault>
         requires few { length self.now < 2 ^ 32 }
         ensures ok { OnOk result (IsChecked self.now) }
@@ -52,7 +51,8 @@ impl ShapeTable {
     }
 }
 
-/// The number of the first entry that breaks the rule. Names are told apart by their order where there are many.
+/// The number of the first entry that breaks the rule. Names are told apart by their order where
+/// there are many.
 fn first_fault(table: &ShapeTable, rule: u8) -> Option<u32>
     requires few { length table.now < 2 ^ 32 }
     requires known { (1 ≤ rule) × (rule ≤ 9) }

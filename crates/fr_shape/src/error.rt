@@ -48,13 +48,15 @@ pub enum TrackerKind {
     Inner,
 }
 
-/// What a call of the builder is refused for. A refusal spends the builder, and with it each token that it held or that
-/// the call brought, which has then been released. `OutOfMemory` alone comes without a cause in the arguments.
+/// What a call of the builder is refused for. A refusal spends the builder, and with it each token
+/// that it held or that the call brought, which has then been released. `OutOfMemory` alone comes
+/// without a cause in the arguments.
 #[derive(Drop)]
 pub enum ReflectErrorKind {
     /// The type has no plan.
     Alloc(AllocError),
-    /// A variant, a content or a side was asked for at a place of shape `actual`, which is no enum, option or result.
+    /// A variant, a content or a side was asked for at a place of shape `actual`, which is no enum,
+    /// option or result.
     WasNotA {
         expected: Expected,
         actual: ShapeId,
@@ -90,12 +92,14 @@ pub enum ReflectErrorKind {
     DefaultAttrButNoDefaultImpl {
         shape: ShapeId,
     },
-    /// The value of this field doesn't pass one of its validators; the message tells what it would have to be.
+    /// The value of this field doesn't pass one of its validators; the message tells what it would
+    /// have to be.
     ValidationFailed {
         field: FieldRef,
         message: Text,
     },
-    /// The hook of a proxy refused to convert, with this message (an empty one where it takes no such source).
+    /// The hook of a proxy refused to convert, with this message (an empty one where it takes no
+    /// such source).
     CustomDeserializationError {
         message: Text,
         src_shape: ShapeId,
@@ -111,7 +115,8 @@ pub enum ReflectErrorKind {
     ParseFailed {
         shape: ShapeId,
     },
-    /// The call doesn't suit the builder's mode or depth, or the built value doesn't pass the invariant of its shape.
+    /// The call doesn't suit the builder's mode or depth, or the built value doesn't pass the
+    /// invariant of its shape.
     InvariantViolation {
         invariant: Invariant,
     },
@@ -139,7 +144,8 @@ pub enum InitCall {
     Set,
 }
 
-/// Why a value of another shape was not converted: the conversion takes no such source, or it failed with this message.
+/// Why a value of another shape was not converted: the conversion takes no such source, or it
+/// failed with this message.
 #[derive(Drop)]
 pub enum TryFromFault {
     UnsupportedSourceType,
@@ -158,15 +164,16 @@ pub enum Invariant {
     TypeInvariant,
 }
 
-/// Why a place can't say whether a field of it is set: it has no field of that number, or no fields at all.
+/// Why a place can't say whether a field of it is set: it has no field of that number, or no fields
+/// at all.
 #[derive(Clone, Copy, PartialEq, Eq)]
 pub enum Reason {
     NoSuchField,
     NotAProduct,
 }
 
-/// An operation that a place of the given shape doesn't allow. Most names say what was asked for or where, as
-/// `FieldOfSlice`, or what there isn't, as `NoDefault`; `text` says it in words.
+/// An operation that a place of the given shape doesn't allow. Most names say what was asked for or
+/// where, as `FieldOfSlice`, or what there isn't, as `NoDefault`; `text` says it in words.
 #[derive(Clone, Copy, PartialEq, Eq)]
 pub enum Operation {
     FieldIndexOutOfBounds,

@@ -32,8 +32,8 @@ impl From<OutOfMemory> for HookFault {
     }
 }
 
-/// The hooks that a table names by number. Each call returns what `means` says of its arguments, or that no memory was
-/// left.
+/// The hooks that a table names by number. Each call returns what `means` says of its arguments, or
+/// that no memory was left.
 pub trait Hooks {
     // What each hook means.
     ghost means: { Self → Meanings };
@@ -42,9 +42,9 @@ pub trait Hooks {
     fn check(&self, h: HookId, value: &Value) -> bool
         ensures meaning { result ≡ (means self.now).check h.0 (view value.now) };
 
-    /// Makes a value of `target` from a value of another shape. It has to account for each token of `value`: a token
-    /// that doesn't stand in the result is released once, and after a fault, `OutOfMemory` too, every token of `value`
-    /// is. No other count of the ledger may change.
+    /// Makes a value of `target` from a value of another shape. It has to account for each token of
+    /// `value`: a token that doesn't stand in the result is released once, and after a fault,
+    /// `OutOfMemory` too, every token of `value` is. No other count of the ledger may change.
     fn convert(
         &self,
         alloc: Global,

@@ -15,8 +15,8 @@ pub fn law_no_hooks()
     ensures meaning { (hooks : NoHooks) → ⟦<NoHooks as Hooks>⟧.means hooks ≡ no_hooks }
 {}
 
-/// Where tokens that are held at most once are conserved, each is kept or released once, never both; no other count
-/// changes, and no other token is there afterwards.
+/// Where tokens that are held at most once are conserved, each is kept or released once, never
+/// both; no other count changes, and no other token is there afterwards.
 pub fn law_conserved()
     ensures kept_or_released { ConservingKeepsOrReleases }
 {}

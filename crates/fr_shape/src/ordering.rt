@@ -70,7 +70,8 @@ fn compare_dynamic_forms(a: &Dyn, b: &Dyn) -> Ordering
     dynamic_rank(a).cmp(&dynamic_rank(b))
 }
 
-/// Which of two values stands first. Any two tokens are equal; sets and maps are compared in their order.
+/// Which of two values stands first. Any two tokens are equal; sets and maps are compared in their
+/// order.
 #[cycle(ordering)]
 pub fn compare(a: &Value, b: &Value) -> Ordering
     ensures order { result ≡ compare (view a.now) (view b.now) }

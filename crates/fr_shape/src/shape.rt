@@ -35,9 +35,11 @@ pub struct Shape {
     pub def: Def,
     /// The template of its default. A shape has a default exactly where this is given.
     pub preset: Option<Template>,
-    /// Whether each field that deferred mode leaves unset takes the default of the field's shape, if there is one.
+    /// Whether each field that deferred mode leaves unset takes the default of the field's shape,
+    /// if there is one.
     pub default_attr: bool,
-    /// The shape that it wraps. An `Other` stands for what it wraps; a scalar or an option may be converted from it.
+    /// The shape that it wraps. An `Other` stands for what it wraps; a scalar or an option may be
+    /// converted from it.
     pub inner: Option<ShapeId>,
     /// The shape that an opaque or undefined shape is converted from.
     pub builder: Option<ShapeId>,
@@ -53,7 +55,8 @@ pub struct Shape {
     pub format_proxies: Items<FormatProxy>,
     /// The hook that a value has to pass once it is whole.
     pub invariant: Option<HookId>,
-    /// Whether it has metadata beside what it wraps. Such an `Other` is planned without a conversion or a proxy.
+    /// Whether it has metadata beside what it wraps. Such an `Other` is planned without a
+    /// conversion or a proxy.
     pub metadata: bool,
     /// Whether a format is to refuse names that no field has.
     pub deny_unknown: bool,
@@ -166,7 +169,8 @@ pub struct StructDef {
     pub fields: Items<Field>,
 }
 
-/// How a struct or a variant is written: with named fields, as a bare tuple, as a named tuple, or without fields.
+/// How a struct or a variant is written: with named fields, as a bare tuple, as a named tuple, or
+/// without fields.
 #[derive(Clone, Copy, PartialEq, Eq)]
 pub enum StructKind {
     Struct,
@@ -183,8 +187,8 @@ pub struct EnumDef {
     pub variants: Items<VariantDef>,
 }
 
-/// The type in which an enum keeps its discriminant. The first two are Rust's own choice, `RustNPO` with the null pointer
-/// standing for the empty variant.
+/// The type in which an enum keeps its discriminant. The first two are Rust's own choice, `RustNPO`
+/// with the null pointer standing for the empty variant.
 #[derive(Clone, Copy, PartialEq, Eq)]
 pub enum EnumRepr {
     Rust,
@@ -243,11 +247,13 @@ pub struct Field {
     pub shape: ShapeId,
     /// Where its default comes from. A field with one is marked.
     pub default: Option<DefaultSource>,
-    /// Whether a format is to leave it out. In strict mode, left unset, it takes the default of its shape, if there is one.
+    /// Whether a format is to leave it out. In strict mode, left unset, it takes the default of its
+    /// shape, if there is one.
     pub skip: bool,
     /// Whether a format is to write its fields among those of its container.
     pub flatten: bool,
-    /// A stand-in from which a value is converted, for each format that has none of its own; it goes before its shape's.
+    /// A stand-in from which a value is converted, for each format that has none of its own; it
+    /// goes before its shape's.
     pub proxy: Option<ProxyDef>,
     /// Stand-ins for single formats; they go before its shape's.
     pub format_proxies: Items<FormatProxy>,
@@ -311,14 +317,14 @@ pub struct FormatProxy {
     pub proxy: ProxyDef,
 }
 
-/// A test of a field's value. In a checked table `Min` and `Max` stand on integers alone, and those between them and
-/// `Custom` on texts alone. A test that has nothing to compare passes.
+/// A test of a field's value. In a checked table `Min` and `Max` stand on integers alone, and those
+/// between them and `Custom` on texts alone. A test that has nothing to compare passes.
 #[derive(Drop)]
 pub enum ValidatorDef {
     /// The hook's test.
     Custom(HookId),
-    /// At least this. Compared are i8 to i64 and u8 to u64; every value of another kind passes (i128, isize, u128 and
-    /// usize). A u64 above the largest i64 passes.
+    /// At least this. Compared are i8 to i64 and u8 to u64; every value of another kind passes
+    /// (i128, isize, u128 and usize). A u64 above the largest i64 passes.
     Min(i64),
     /// At most this, of the same kinds as `Min`. A u64 above the largest i64 fails.
     Max(i64),

@@ -5,8 +5,9 @@ ghost use Rattle.fr_shape.specs.View.{view};
 use crate::Value;
 use std::marker::Model;
 
-/// A value that is copied wherever its default is taken. Contracts see what it shows, so two tables that say the same
-/// are seen as the same table, wherever their values lie. In a checked table it fits its shape and holds no token.
+/// A value that is copied wherever its default is taken. Contracts see what it shows, so two tables
+/// that say the same are seen as the same table, wherever their values lie. In a checked table it
+/// fits its shape and holds no token.
 #[derive(Drop)]
 pub struct Template {
     value: Value,

@@ -1,8 +1,8 @@
 //! Values, whatever their shape. Which of them fit a shape is said by the definition of "fits".
 use crate::{Items, Text};
 
-/// A value of some shape. `Unit` fits no shape: it is a placeholder. A `Token` stands for a value that the
-/// library can't see into, and that has to be released once.
+/// A value of some shape. `Unit` fits no shape: it is a placeholder. A `Token` stands for a value
+/// that the library can't see into, and that has to be released once.
 #[derive(Drop)]
 pub enum Value {
     Unit,

@@ -23,7 +23,8 @@ use fr_plan::TypePlanCore;
 use fr_shape::{Hooks, Ledger, OutOfMemory, ReflectErrorKind, ShapeTable};
 
 impl FrameStore {
-    /// The turns of all places of a walk over what lies beneath the place on top of the stack. Each is taken out of the store.
+    /// The turns of all places of a walk over what lies beneath the place on top of the stack. Each
+    /// is taken out of the store.
     fn take_turns_beneath<H: Hooks>(
         &mut self,
         slots: &mut Slots,
@@ -64,10 +65,11 @@ impl FrameStore {
         Ok(())
     }
 
-    /// Completes all places that lie strictly beneath the one on top of the stack, the longest path first, then step by step, and
-    /// nothing else: the place on top stays as it is, with its children there, or not there. What a set or a map has twice is
-    /// released. The first place that fails gives the refusal. It takes as much time as there are children beneath the top, and the
-    /// memory of a list of those in slots.
+    /// Completes all places that lie strictly beneath the one on top of the stack, the longest path
+    /// first, then step by step, and nothing else: the place on top stays as it is, with its
+    /// children there, or not there. What a set or a map has twice is released. The first place
+    /// that fails gives the refusal. It takes as much time as there are children beneath the top,
+    /// and the memory of a list of those in slots.
     pub fn complete_beneath<H: Hooks>(
         &mut self,
         slots: &mut Slots,

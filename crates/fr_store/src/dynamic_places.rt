@@ -1,4 +1,5 @@
-//! Dynamic values at the place at which a builder works: an array or an object that is begun, and entries of an object.
+//! Dynamic values at the place at which a builder works: an array or an object that is begun, and
+//! entries of an object.
 ghost use Rattle.std.specs.Prelude.{◌≡◌, ◌∷◌, ◌++◌, [], ◌<◌, length, true, OnErr, OnOk};
 ghost use Rattle.fr_shape.specs.Look.{def_of};
 ghost use Rattle.fr_shape.specs.Released.{Room, RoseBy};
@@ -57,8 +58,8 @@ impl Stack {
         }
     }
 
-    /// Begins the place on top anew, as a dynamic array without elements: all that was put there and all that is stored beneath it is
-    /// released. Takes no memory.
+    /// Begins the place on top anew, as a dynamic array without elements: all that was put there
+    /// and all that is stored beneath it is released. Takes no memory.
     pub fn restart_array(
         &self,
         slots: &mut Slots,
@@ -85,8 +86,8 @@ impl Stack {
         place.restart_array(slots, ledger);
     }
 
-    /// Begins the place on top anew, as a dynamic object without entries: all that was put there and all that is stored beneath it is
-    /// released. Takes no memory.
+    /// Begins the place on top anew, as a dynamic object without entries: all that was put there
+    /// and all that is stored beneath it is released. Takes no memory.
     pub fn restart_object(
         &self,
         slots: &mut Slots,
@@ -113,8 +114,9 @@ impl Stack {
         place.restart_object(slots, ledger);
     }
 
-    /// Enters the entry of a key of the dynamic object on top, its value then being on top: the one that is there as it is, or a new
-    /// one behind the others. An object with 4,294,967,296 entries takes no more.
+    /// Enters the entry of a key of the dynamic object on top, its value then being on top: the one
+    /// that is there as it is, or a new one behind the others. An object with 4,294,967,296 entries
+    /// takes no more.
     pub fn enter_entry(
         &mut self,
         slots: &mut Slots,

@@ -19,9 +19,10 @@ use fr_plan::TypePlanCore;
 use fr_shape::{Ledger, OutOfMemory};
 
 impl Stack {
-    /// The value of the place on top goes into the place above, where the builder then works; what else is stored stays so. Only a begun
-    /// option, result or pointer, also one to a slice, takes memory: a box for what it holds; and a set, a map or a dynamic value, which is
-    /// put together anew: what is there twice is released. Where there is none, what was put there is released.
+    /// The value of the place on top goes into the place above, where the builder then works; what
+    /// else is stored stays so. Only a begun option, result or pointer, also one to a slice, takes
+    /// memory: a box for what it holds; and a set, a map or a dynamic value, which is put together
+    /// anew: what is there twice is released. Where there is none, what was put there is released.
     #[inline(always)]
     pub fn end(
         &mut self,
@@ -52,8 +53,9 @@ impl Stack {
         place.hand_up(slots, ledger)
     }
 
-    /// The item on top, of a set, ends: its value goes behind the items that the set has, unless it is one of them already, and
-    /// the builder works at the set. What is there already is released. Where there is no memory, what was put there is released.
+    /// The item on top, of a set, ends: its value goes behind the items that the set has, unless it
+    /// is one of them already, and the builder works at the set. What is there already is released.
+    /// Where there is no memory, what was put there is released.
     pub fn end_item(
         &mut self,
         slots: &mut Slots,
@@ -87,8 +89,8 @@ impl Stack {
         item.end_item(slots, ledger)
     }
 
-    /// Deferred mode: the place on top, which is no item of a set and no part of a dynamic value, is stored as it is, and the
-    /// builder works at the place above.
+    /// Deferred mode: the place on top, which is no item of a set and no part of a dynamic value,
+    /// is stored as it is, and the builder works at the place above.
     pub fn leave(
         &mut self,
         slots: &mut Slots,

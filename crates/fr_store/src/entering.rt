@@ -20,9 +20,10 @@ use fr_plan::{NodeId, TypePlanCore};
 use fr_shape::{OutOfMemory, ShapeTable};
 
 impl Stack {
-    /// Begins the place on top, so that its children can be entered: an entered one has none of so many children yet, of a
-    /// whole one each has its part of the value, those of a list or a set being its items and those of a map its keys and values in
-    /// turn, a begun one stays as it is. A map that holds a value is begun over its entries.
+    /// Begins the place on top, so that its children can be entered: an entered one has none of so
+    /// many children yet, of a whole one each has its part of the value, those of a list or a set
+    /// being its items and those of a map its keys and values in turn, a begun one stays as it is.
+    /// A map that holds a value is begun over its entries.
     pub fn begin(
         &self,
         slots: &mut Slots,
@@ -49,7 +50,8 @@ impl Stack {
         }
     }
 
-    /// Begins the option on top, which is a whole `Some`, in place: its content stays as it is, and can be entered.
+    /// Begins the option on top, which is a whole `Some`, in place: its content stays as it is, and
+    /// can be entered.
     pub fn open_some(&self, slots: &mut Slots, plan: &TypePlanCore) -> Result<(), OutOfMemory>
         requires is_open { IsOpen plan.now slots.old self.now }
         requires holds_some { AtTop slots.old self.now (λ at. HoldsSome at.body) }
@@ -68,8 +70,9 @@ impl Stack {
         }
     }
 
-    /// Enters child `i` of the place on top, which is begun: the child is on top then. One that holds something keeps it, and one
-    /// that was stored is taken out of the store as it is. Of a map only a child that isn't there is entered.
+    /// Enters child `i` of the place on top, which is begun: the child is on top then. One that
+    /// holds something keeps it, and one that was stored is taken out of the store as it is. Of a
+    /// map only a child that isn't there is entered.
     #[inline(always)]
     pub fn enter(
         &mut self,

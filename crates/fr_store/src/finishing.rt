@@ -20,9 +20,10 @@ use fr_model::{law_closing, law_completes, law_failing};
 use fr_plan::{TypePlanCore, law_plan_lookups};
 use fr_shape::{Hooks, Ledger, OutOfMemory, ReflectErrorKind, ShapeTable};
 
-/// The turn of a stored place that has no child in a slot: it is completed, and its value goes into the place above. What a set or a
-/// map has twice is released. Where there is no memory for the box that a begun option, result or pointer takes, also one to a
-/// slice, or for putting a set, a map or a dynamic value together, what was put at the place is released.
+/// The turn of a stored place that has no child in a slot: it is completed, and its value goes into
+/// the place above. What a set or a map has twice is released. Where there is no memory for the box
+/// that a begun option, result or pointer takes, also one to a slice, or for putting a set, a map
+/// or a dynamic value together, what was put at the place is released.
 pub(crate) fn turn<H: Hooks>(
     slots: &mut Slots,
     stack: &Stack,
@@ -94,8 +95,9 @@ fn take_turns<H: Hooks>(
     Ok(())
 }
 
-/// Whether a place becomes whole where the builder works, by what was put at it: it was only entered, or is a closed pointer to a
-/// slice. A dynamic value that is begun stays so, as a list does.
+/// Whether a place becomes whole where the builder works, by what was put at it: it was only
+/// entered, or is a closed pointer to a slice. A dynamic value that is begun stays so, as a list
+/// does.
 fn becomes_whole_by(piece: &Piece) -> bool
     ensures { result ≡ becomes_whole (body_of piece.now) }
 {
@@ -131,8 +133,8 @@ fn becomes_whole(slots: &Slots, place: SlotId) -> bool
     }
 }
 
-/// Completes the place on top of the stack, nothing being stored. It stays begun where it is; one that was only entered becomes
-/// whole, and so does a closed pointer to a slice.
+/// Completes the place on top of the stack, nothing being stored. It stays begun where it is; one
+/// that was only entered becomes whole, and so does a closed pointer to a slice.
 fn complete_top<H: Hooks>(
     slots: &mut Slots,
     stack: &Stack,
@@ -172,8 +174,8 @@ fn complete_top<H: Hooks>(
 }
 
 impl FrameStore {
-    /// Completes every stored place, and then the place on top of the stack. Where it can't be, each token is still there or was
-    /// released.
+    /// Completes every stored place, and then the place on top of the stack. Where it can't be,
+    /// each token is still there or was released.
     fn complete_all<H: Hooks>(
         &mut self,
         slots: &mut Slots,
@@ -215,10 +217,11 @@ impl FrameStore {
         }
     }
 
-    /// Completes every stored place, the longest path first, then step by step, and then the place on top of the stack, which stays
-    /// begun where it is, but a closed pointer to a slice. What a set or a map has twice is released. The first place that fails gives
-    /// the refusal; all is released then. Only templates, boxes for what options, results and pointers hold, and sets, maps and
-    /// dynamic values that are put together want memory.
+    /// Completes every stored place, the longest path first, then step by step, and then the place
+    /// on top of the stack, which stays begun where it is, but a closed pointer to a slice. What a
+    /// set or a map has twice is released. The first place that fails gives the refusal; all is
+    /// released then. Only templates, boxes for what options, results and pointers hold, and sets,
+    /// maps and dynamic values that are put together want memory.
     pub fn finish<H: Hooks>(
         &mut self,
         slots: &mut Slots,

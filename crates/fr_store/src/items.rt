@@ -1,5 +1,5 @@
-//! Items of the place at which a builder works, a list, a set, a pointer to a slice or a dynamic array: one more, no more, and all of
-//! them as one value. And keys of a map: one more entry.
+//! Items of the place at which a builder works, a list, a set, a pointer to a slice or a dynamic
+//! array: one more, no more, and all of them as one value. And keys of a map: one more entry.
 ghost use Rattle.std.specs.Prelude.{◌≡◌, ◌∷◌, ◌++◌, [], ◌<◌, length, true, false, IsOk, IsSome, OnErr, OnOk, Some};
 ghost use Rattle.fr_shape.specs.Look.{def_of};
 ghost use Rattle.fr_shape.specs.Released.{Conserved, Room};
@@ -22,8 +22,9 @@ use fr_plan::{NodeId, TypePlanCore};
 use fr_shape::{Ledger, OutOfMemory, ShapeTable};
 
 impl Stack {
-    /// Enters a new item of the place on top, a list, a set, an open pointer to a slice or a dynamic array, behind its other children:
-    /// the item is on top then. A place with 4,294,967,296 items takes no more.
+    /// Enters a new item of the place on top, a list, a set, an open pointer to a slice or a
+    /// dynamic array, behind its other children: the item is on top then. A place with
+    /// 4,294,967,296 items takes no more.
     #[inline(always)]
     pub fn add_item(
         &mut self,
@@ -67,8 +68,8 @@ impl Stack {
         }
     }
 
-    /// Enters the key of a new entry of the map on top, behind its other entries: the key is on top then, and the entry's value isn't
-    /// there yet. A map with 2,147,483,648 entries takes no more.
+    /// Enters the key of a new entry of the map on top, behind its other entries: the key is on top
+    /// then, and the entry's value isn't there yet. A map with 2,147,483,648 entries takes no more.
     pub fn add_key(
         &mut self,
         slots: &mut Slots,
@@ -108,7 +109,8 @@ impl Stack {
         }
     }
 
-    /// Closes the open pointer to a slice on top, or opens a closed one, with the items that it has. Takes no memory.
+    /// Closes the open pointer to a slice on top, or opens a closed one, with the items that it
+    /// has. Takes no memory.
     pub fn reform(&self, slots: &mut Slots, plan: &TypePlanCore, form: Form)
         requires is_open { IsOpen plan.now slots.old self.now }
         requires slice { IsBegunSlice (tree_here slots.old self.now) }
@@ -126,9 +128,9 @@ impl Stack {
         }
     }
 
-    /// Strict mode: the place on top, whose value is there, becomes whole with it where it is; what a set or a map has twice is
-    /// released. It stays as it was where there is no memory for the box that this takes, or for putting a set, a map or a dynamic value
-    /// together.
+    /// Strict mode: the place on top, whose value is there, becomes whole with it where it is; what
+    /// a set or a map has twice is released. It stays as it was where there is no memory for the
+    /// box that this takes, or for putting a set, a map or a dynamic value together.
     pub fn make_whole(
         &self,
         slots: &mut Slots,

@@ -1,4 +1,5 @@
-//! The places at which a builder works: the stack of their slots, and the moves from one place to the next.
+//! The places at which a builder works: the stack of their slots, and the moves from one place to
+//! the next.
 #![tactic(auto)]
 
 mod beneath;

@@ -22,8 +22,9 @@ fn count_entries(count: usize) -> usize
     count / 2
 }
 
-/// The number of the child that comes as the `i`-th where one goes from the last to the first in the order of their steps: of a map,
-/// whose keys and values take turns, all values come before all keys then.
+/// The number of the child that comes as the `i`-th where one goes from the last to the first in
+/// the order of their steps: of a map, whose keys and values take turns, all values come before all
+/// keys then.
 fn child_from_last(of_map: bool, count: usize, i: usize) -> usize
     requires { i < count }
     ensures { result ≡ from_last of_map count i }
@@ -39,7 +40,8 @@ fn child_from_last(of_map: bool, count: usize, i: usize) -> usize
     }
 }
 
-/// Whether a place is begun as a map, by what was put at it. An object, whose entries have their values alone as children, is none.
+/// Whether a place is begun as a map, by what was put at it. An object, whose entries have their
+/// values alone as children, is none.
 fn is_map_piece(piece: &Piece) -> bool
     ensures { result ≡ is_map_body (body_of piece.now) }
 {
@@ -74,8 +76,8 @@ fn is_map(slots: &Slots, place: SlotId) -> bool
     }
 }
 
-/// Writes down the slots of a place's children, as far as they are in slots, behind the others: from the last to the first in the
-/// order of their steps.
+/// Writes down the slots of a place's children, as far as they are in slots, behind the others:
+/// from the last to the first in the order of their steps.
 fn add_children(slots: &Slots, place: SlotId, queue: &mut Vec<u32>) -> Result<(), OutOfMemory>
     ensures added { OnOk result (queue.new.items ≡ queue.old.items
         ++ slotted (is_map_found (heap_of slots.now place.0))
@@ -93,8 +95,9 @@ fn add_children(slots: &Slots, place: SlotId, queue: &mut Vec<u32>) -> Result<()
     Ok(())
 }
 
-/// The slots of all places that lie strictly beneath the one on top of the stack, in the order of the walk. Of what lies elsewhere
-/// it looks at nothing, and it looks once at each child of what lies beneath.
+/// The slots of all places that lie strictly beneath the one on top of the stack, in the order of
+/// the walk. Of what lies elsewhere it looks at nothing, and it looks once at each child of what
+/// lies beneath.
 pub(crate) fn walk_beneath(
     slots: &Slots,
     stack: &Stack,

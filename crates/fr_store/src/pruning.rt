@@ -42,8 +42,8 @@ pub(crate) fn slot_of_child(slots: &Slots, place: SlotId, i: usize) -> Option<Sl
 }
 
 impl FrameStore {
-    /// Releases all places that are stored strictly beneath this one, and frees their slots. Takes no memory, and looks at no
-    /// child where nothing is stored.
+    /// Releases all places that are stored strictly beneath this one, and frees their slots. Takes
+    /// no memory, and looks at no child where nothing is stored.
     pub fn prune(&mut self, slots: &mut Slots, place: SlotId, ledger: &mut Ledger)
         requires rooted { IsRooted (heap_of slots.old) place.0 }
         requires kept { IsKept self.old slots.old }

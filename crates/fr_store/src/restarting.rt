@@ -15,8 +15,9 @@ use fr_plan::TypePlanCore;
 use fr_shape::{Ledger, OutOfMemory};
 
 impl Stack {
-    /// Begins the place on top anew, with so many children, none of them there yet: all that was put there and all that is stored
-    /// beneath it is released. Where there is no memory for the children, some of it may be released.
+    /// Begins the place on top anew, with so many children, none of them there yet: all that was
+    /// put there and all that is stored beneath it is released. Where there is no memory for the
+    /// children, some of it may be released.
     pub fn restart(
         &self,
         slots: &mut Slots,

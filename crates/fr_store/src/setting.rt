@@ -13,8 +13,8 @@ use fr_plan::TypePlanCore;
 use fr_shape::{Ledger, Value};
 
 impl Stack {
-    /// Puts a value at the place on top, in the stead of all that was put there and of all that is stored beneath it, whose tokens
-    /// are released. Takes no memory.
+    /// Puts a value at the place on top, in the stead of all that was put there and of all that is
+    /// stored beneath it, whose tokens are released. Takes no memory.
     #[inline(always)]
     pub fn set(
         &self,

@@ -13,10 +13,12 @@ use crate::turning::{StoredPlace, key, noted};
 use fr_frame::{SlotId, Slots};
 use fr_plan::TypePlanCore;
 
-/// How far apart the keys of the children of neighbouring slots are. What comes after the last of them needs one bit more than they.
+/// How far apart the keys of the children of neighbouring slots are. What comes after the last of
+/// them needs one bit more than they.
 const WIDTH: u128 = 4294967296;
 
-/// Writes down the slots of the places whose keys are from `from` on and less than `to`, behind the first `count` slots.
+/// Writes down the slots of the places whose keys are from `from` on and less than `to`, behind the
+/// first `count` slots.
 fn add_between(
     places: &[StoredPlace],
     from: u128,
@@ -58,8 +60,9 @@ fn key_at(slots: &Slots, on_stack: &[SlotId], i: usize, last: u128) -> u128
     key(&noted(slots, on_stack[i])) as u128
 }
 
-/// The slots of all stored places: the shortest path first, and among paths of one length step by step from the last to the first.
-/// Open places aren't among them, but their children come where theirs do: `at` is how many slots come before the next open place.
+/// The slots of all stored places: the shortest path first, and among paths of one length step by
+/// step from the last to the first. Open places aren't among them, but their children come where
+/// theirs do: `at` is how many slots come before the next open place.
 pub(crate) fn spread(
     places: &[StoredPlace],
     slots: &Slots,

@@ -7,7 +7,8 @@ use fr_shape::OutOfMemory;
 use std::alloc::Global;
 use std::marker::Model;
 
-/// The slots of the places that are open, the root's first. Contracts see the list of their numbers.
+/// The slots of the places that are open, the root's first. Contracts see the list of their
+/// numbers.
 #[derive(Drop)]
 pub struct Stack {
     places: Vec<SlotId>,

@@ -1,4 +1,5 @@
-//! The places that were left half done, to be entered again or completed at the end of deferred mode.
+//! The places that were left half done, to be entered again or completed at the end of deferred
+//! mode.
 ghost use Rattle.std.specs.Prelude.{◌≡◌, ◌≢◌, ◌↔◌, ℕ, ◌<◌, [], ◌∷◌, ◌++◌, length, slice_get, true, false, IfSome, IsNone, IsTrue, OnErr, OnOk, Some};
 ghost use Rattle.std.specs.List.{Contains};
 ghost use Rattle.fr_frame.specs.Changes.{IsInUse, SameTokens, Shows};
@@ -16,8 +17,9 @@ use fr_shape::OutOfMemory;
 use std::alloc::Global;
 use std::marker::Model;
 
-/// The places that are stored. `positions` has, under the number of each one's slot, where it stands in `places`, so that a place is
-/// taken out without a search. Contracts see the list of the slots' numbers.
+/// The places that are stored. `positions` has, under the number of each one's slot, where it
+/// stands in `places`, so that a place is taken out without a search. Contracts see the list of the
+/// slots' numbers.
 #[derive(Drop)]
 pub struct FrameStore {
     alloc: Global,
@@ -119,7 +121,8 @@ impl FrameStore {
         }
     }
 
-    /// Takes all places out: the numbers of their slots come in the order of the walk. Takes no memory.
+    /// Takes all places out: the numbers of their slots come in the order of the walk. Takes no
+    /// memory.
     pub(crate) fn take_walk(
         &mut self,
         slots: &Slots,

@@ -10,8 +10,9 @@ ghost use Rattle.fr_store.specs.Places.{key_of, order_as, order_at, order_in, Be
 
 use fr_frame::{Form, FrameOwner, Piece, SlotId, Slots};
 
-/// A place that is stored, by its slot. For the walk alone there is beside it the number of the slot of the place above, which child
-/// of that it is, and where it comes among the children there: a map's keys come before its values.
+/// A place that is stored, by its slot. For the walk alone there is beside it the number of the
+/// slot of the place above, which child of that it is, and where it comes among the children there:
+/// a map's keys come before its values.
 #[derive(Clone, Copy)]
 pub(crate) struct StoredPlace {
     pub slot: SlotId,
@@ -98,7 +99,8 @@ pub(crate) fn note_all(slots: &Slots, places: &mut [StoredPlace])
     }
 }
 
-/// By what stored places are sorted: those of one place above are together, the last child of the walk first.
+/// By what stored places are sorted: those of one place above are together, the last child of the
+/// walk first.
 pub(crate) fn key(place: &StoredPlace) -> u64
     ensures { result ≡ key_of place.now }
 {

@@ -13,9 +13,10 @@ use crate::turning::{StoredPlace, note_all, sort};
 use fr_frame::Slots;
 use fr_plan::TypePlanCore;
 
-/// The numbers of the slots of stored places in the order of the walk: the longest path first, then step by step. They are written
-/// where there is room for one each. Takes no memory, in time that grows as their number does (and that of the places on the
-/// stack), with its logarithm; no path is climbed, and no child is looked at that isn't stored.
+/// The numbers of the slots of stored places in the order of the walk: the longest path first, then
+/// step by step. They are written where there is room for one each. Takes no memory, in time that
+/// grows as their number does (and that of the places on the stack), with its logarithm; no path is
+/// climbed, and no child is looked at that isn't stored.
 pub(crate) fn order_walk(
     places: &mut [StoredPlace],
     order: &mut Vec<u32>,

@@ -1,5 +1,5 @@
-//! Each call with ample memory, a whole build, and where the token is after each refusal. The helpers want answers
-//! that are Ok and end the test otherwise.
+//! Each call with ample memory, a whole build, and where the token is after each refusal. The
+//! helpers want answers that are Ok and end the test otherwise.
 ghost use Rattle.std.specs.Prelude.{◌≡◌, ℕ, [], length, true, IfSome};
 ghost use Rattle.fr_shape.specs.Checked.{IsChecked};
 ghost use Rattle.fr_shape.specs.Fits.{fits};
@@ -124,8 +124,8 @@ fn describe_branches(alloc: Global) -> Option<Branches>
     Some(Branches { pair, structure })
 }
 
-/// Shape 0 is u32 with the default 5, shape 1 is opaque, shape 2 an option with a default, shape 3 an array of two
-/// numbers, and shape 4 the struct.
+/// Shape 0 is u32 with the default 5, shape 1 is opaque, shape 2 an option with a default, shape 3
+/// an array of two numbers, and shape 4 the struct.
 fn table(alloc: Global) -> Option<ShapeTable>
     ensures count { IfSome result (λ table. length table ≡ 5) }
     ensures served { IfSome result (λ table. IsServed table) }

@@ -1,4 +1,5 @@
-//! The tests of public calls, each crate's as a user's crate makes them: the builder, plans, slots, forms and devices.
+//! The tests of public calls, each crate's as a user's crate makes them: the builder, plans, slots,
+//! forms and devices.
 #![tactic(auto)]
 
 #[cfg(test)]

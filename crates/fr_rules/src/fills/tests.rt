@@ -102,9 +102,9 @@ fn containers(alloc: Global) -> Result<(Def, Def), OutOfMemory> {
     ))
 }
 
-/// The shapes 0 to 5: u8 and bool, of which only the first has a default; an option, a struct without fields, the unit
-/// shape and a list, each with one. Then four containers: a struct that has nothing, one with a default, one whose
-/// fields default, and an enum with a default.
+/// The shapes 0 to 5: u8 and bool, of which only the first has a default; an option, a struct
+/// without fields, the unit shape and a list, each with one. Then four containers: a struct that
+/// has nothing, one with a default, one whose fields default, and an enum with a default.
 fn table(alloc: Global) -> Result<ShapeTable, OutOfMemory> {
     let mut shapes = Items::new(alloc);
     let byte = Def::Scalar(ScalarKind::U8);
@@ -191,8 +191,8 @@ fn strict(table: &ShapeTable, field: FieldRef) -> Option<FillRule> {
     Some(determine_fill_rule(table, field))
 }
 
-/// Each field takes the default of the wanted shape. None is the first field's own template, and says of any other that
-/// it is required.
+/// Each field takes the default of the wanted shape. None is the first field's own template, and
+/// says of any other that it is required.
 fn check_strict(
     rt: &impl Abort,
     table: &ShapeTable,

@@ -1,4 +1,5 @@
-//! Each call that allocates, with ample memory, a text of each kind of refusal, and the hooks that do nothing.
+//! Each call that allocates, with ample memory, a text of each kind of refusal, and the hooks that
+//! do nothing.
 use super::building::*;
 use fr_shape::*;
 use std::alloc::Global;

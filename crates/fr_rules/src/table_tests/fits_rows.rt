@@ -4,8 +4,8 @@ use fr_shape::*;
 use std::alloc::Global;
 use std::process::Abort;
 
-/// The shapes 0 to 13: the scalars, what holds a text or a token, and three wrappers, of which one leads to u8, one
-/// ends and one comes round.
+/// The shapes 0 to 13: the scalars, what holds a text or a token, and three wrappers, of which one
+/// leads to u8, one ends and one comes round.
 fn add_plain(alloc: Global, shapes: &mut Items<Shape>) -> Result<(), OutOfMemory> {
     let defs = [
         (Def::Scalar(ScalarKind::Bool), None),
@@ -31,7 +31,8 @@ fn add_plain(alloc: Global, shapes: &mut Items<Shape>) -> Result<(), OutOfMemory
     Ok(())
 }
 
-/// The shapes 14 to 23: a struct of u8 and bool, an enum with and without a u8, and each other kind over u8.
+/// The shapes 14 to 23: a struct of u8 and bool, an enum with and without a u8, and each other kind
+/// over u8.
 fn add_composed(alloc: Global, shapes: &mut Items<Shape>) -> Result<(), OutOfMemory> {
     let pair = StructDef {
         kind: StructKind::Tuple,
@@ -129,7 +130,8 @@ fn numbers_fit(rt: HostRuntime) {
     }
 }
 
-/// Of the plain values each fits the shapes of its own kind, and no other; the placeholder fits none.
+/// Of the plain values each fits the shapes of its own kind, and no other; the placeholder fits
+/// none.
 #[test]
 fn plain_values_fit(rt: HostRuntime) {
     let alloc = rt.alloc();

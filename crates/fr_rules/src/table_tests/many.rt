@@ -1,4 +1,5 @@
-//! Sets, maps, objects, enums and tables of many items in a scattered order, each item once or one of them twice.
+//! Sets, maps, objects, enums and tables of many items in a scattered order, each item once or one
+//! of them twice.
 use super::building::*;
 use fr_shape::*;
 use std::alloc::Global;

@@ -1,4 +1,5 @@
-//! Values that pass and values that fail, with what is said of them. What finds no memory ends the test.
+//! Values that pass and values that fail, with what is said of them. What finds no memory ends the
+//! test.
 ghost use Rattle.std.specs.Prelude.{false};
 ghost use Rattle.fr_shape.specs.Hooks.{no_hooks};
 

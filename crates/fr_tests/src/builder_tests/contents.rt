@@ -66,8 +66,8 @@ fn describe_around(alloc: Global) -> Option<Around>
     })
 }
 
-/// Shape 0 is u32 with the default 0, shape 1 is opaque, shape 2 an option of pointers to itself, shape 3 the pointer, and shape 4 a
-/// result of a number or such an option.
+/// Shape 0 is u32 with the default 0, shape 1 is opaque, shape 2 an option of pointers to itself,
+/// shape 3 the pointer, and shape 4 a result of a number or such an option.
 fn table(alloc: Global) -> Option<ShapeTable>
     ensures count { IfSome result (λ table. length table ≡ 5) }
     ensures served { IfSome result (λ table. IsServed table) }

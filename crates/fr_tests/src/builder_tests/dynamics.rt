@@ -64,7 +64,8 @@ fn describe_free(alloc: Global) -> Option<Free>
     Some(Free { wide, narrow })
 }
 
-/// Shape 0 is u8, shape 1 char, shape 2 a list of bytes, shape 3 a dynamic shape that takes such a list, and shape 4 one that doesn't.
+/// Shape 0 is u8, shape 1 char, shape 2 a list of bytes, shape 3 a dynamic shape that takes such a
+/// list, and shape 4 one that doesn't.
 fn table(alloc: Global) -> Option<ShapeTable>
     ensures count { IfSome result (λ table. length table ≡ 5) }
     ensures served { IfSome result (λ table. IsServed table) }
@@ -242,7 +243,8 @@ fn an_entry_is_entered_again(rt: HostRuntime) {
     assert!(rt; second.as_str() == "b" && text.as_str() == "é");
 }
 
-/// An array in an object is completed as it ends, in deferred mode too; and what isn't an array any more starts anew.
+/// An array in an object is completed as it ends, in deferred mode too; and what isn't an array any
+/// more starts anew.
 #[test]
 fn a_part_is_completed_in_deferred_mode(rt: HostRuntime) {
     let table = checked(&rt, rt.alloc());

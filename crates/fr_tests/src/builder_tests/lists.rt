@@ -97,7 +97,8 @@ fn a_list_takes_100_000_items_in_deferred_mode(rt: HostRuntime) {
     check_items(&rt, partial, 100_000, &mut ledger);
 }
 
-/// A list that is begun again keeps the items that have completed, and those that come are behind them.
+/// A list that is begun again keeps the items that have completed, and those that come are behind
+/// them.
 #[test]
 fn a_list_begun_again_has_its_items(rt: HostRuntime) {
     let table = checked(&rt, rt.alloc());

@@ -1,5 +1,6 @@
-//! What a plan tells of a type: its fields and variants by name, the nodes of its parts and proxies, and where it refers back. The
-//! tables are read from documents, and the type is the second of each.
+//! What a plan tells of a type: its fields and variants by name, the nodes of its parts and
+//! proxies, and where it refers back. The tables are read from documents, and the type is the
+//! second of each.
 ghost use Rattle.std.specs.Prelude.{◌<◌, length};
 ghost use Rattle.fr_shape.specs.Checked.{IsChecked};
 ghost use Rattle.fr_frame.specs.Completing.{IsPlanFor};
@@ -268,7 +269,8 @@ fn a_struct_that_holds_itself_refers_back_once(rt: HostRuntime) -> Result<(), Fa
     Ok(())
 }
 
-/// A shape with proxies for all formats and for two, and a field of another with one for a format alone.
+/// A shape with proxies for all formats and for two, and a field of another with one for a format
+/// alone.
 const PROXIES: &str = r#"[
     {"name":"u32","def":"u32"},
     {"name":"Proxied","def":{"struct":[

@@ -71,7 +71,8 @@ fn numbers(alloc: Global) -> Option<Shape>
     two(alloc, "Numbers", a, b)
 }
 
-/// The structs: a cell of an opaque and a number, a pair of cells, and two numbers with defaults of their own.
+/// The structs: a cell of an opaque and a number, a pair of cells, and two numbers with defaults of
+/// their own.
 #[derive(Drop)]
 struct Structs {
     cell: Shape,
@@ -116,7 +117,8 @@ pub(super) fn describe_plain(alloc: Global) -> Option<Plain>
     Some(Plain { number, opaque })
 }
 
-/// Shape 0 is u32 with the default 0, shape 1 is opaque, shape 2 the cell, shape 3 the pair, and shape 4 the two numbers.
+/// Shape 0 is u32 with the default 0, shape 1 is opaque, shape 2 the cell, shape 3 the pair, and
+/// shape 4 the two numbers.
 fn table(alloc: Global) -> Option<ShapeTable>
     ensures count { IfSome result (λ table. length table ≡ 5) }
     ensures served { IfSome result (λ table. IsServed table) }
@@ -280,7 +282,8 @@ fn refuses_to_build_at_an_open_place(rt: HostRuntime) {
     check_path(&rt, rt.alloc(), &error.path, &table, 3, "p");
 }
 
-/// The field has a default, but it was entered, and then its own shape's default isn't taken either.
+/// The field has a default, but it was entered, and then its own shape's default isn't taken
+/// either.
 #[test]
 fn refuses_to_end_at_a_place_without_a_value(rt: HostRuntime) {
     let table = checked(&rt, rt.alloc());

@@ -1,5 +1,5 @@
-//! Plans of large tables: a chain of shapes each of which holds the one before, a struct of many fields, and enums each of which holds
-//! the one before in all its variants.
+//! Plans of large tables: a chain of shapes each of which holds the one before, a struct of many
+//! fields, and enums each of which holds the one before in all its variants.
 use fr_plan::TypePlanCore;
 use fr_shape::{
     Def, EnumDef, EnumRepr, Field, Items, ScalarKind, Shape, ShapeId, ShapeTable, StructDef,

@@ -1,5 +1,6 @@
-//! Which slot a place is entered into: one that was freed serves again, and an item that has completed keeps its own until its list
-//! holds another value. No token is in the slots of these tests, so each release has its room in the ledger.
+//! Which slot a place is entered into: one that was freed serves again, and an item that has
+//! completed keeps its own until its list holds another value. No token is in the slots of these
+//! tests, so each release has its room in the ledger.
 ghost use Rattle.std.specs.Prelude.{◌≡◌, ◌<◌, ℕ, true, false, length, IsSome, Some};
 ghost use Rattle.fr_shape.specs.Tokens.{occurs};
 ghost use Rattle.fr_shape.specs.View.{view};

@@ -114,7 +114,8 @@ fn is_empty(table: &ShapeTable, plan: &TypePlanCore, node: NodeId) -> bool
     }
 }
 
-/// What running the validators of a struct ends in whose field, which is at most 5, is there with this value.
+/// What running the validators of a struct ends in whose field, which is at most 5, is there with
+/// this value.
 fn validated(rt: &impl Abort, alloc: Global, value: u128) -> Result<(), ReflectErrorKind> {
     let table = limited_table(rt, alloc);
     let Ok(plan) = plan_of(alloc, &table) else {
@@ -198,7 +199,8 @@ fn choice_table(rt: &impl Abort, alloc: Global) -> ShapeTable {
     ShapeTable::new(alloc, shapes)
 }
 
-/// What running the validators of a variant ends in whose field, which is at most 5, is there with this value.
+/// What running the validators of a variant ends in whose field, which is at most 5, is there with
+/// this value.
 fn validated_variant(rt: &impl Abort, alloc: Global, value: u128) -> Result<(), ReflectErrorKind> {
     let table = choice_table(rt, alloc);
     let Ok(plan) = plan_of(alloc, &table) else {

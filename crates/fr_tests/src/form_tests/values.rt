@@ -9,7 +9,8 @@ use std::alloc::{AllocGlobal, Global};
 use std::process::Abort;
 use std::test::Fail;
 
-/// The text in which a value is printed that a text stands for; empty where the text stands for none.
+/// The text in which a value is printed that a text stands for; empty where the text stands for
+/// none.
 fn reprinted(alloc: Global, text: &str) -> Result<String, Fail> {
     let json = Json::from_str(alloc, text)?;
     let Ok(found) = value_of(alloc, &json) else {
