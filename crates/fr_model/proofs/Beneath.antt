@@ -1,9 +1,6 @@
 -- A journal as one child of a place sees it, with places counted from that child on.
-use Rattle.std.proofs.Common.{◌≡◌, ℕ, zero, suc, ◌-◌, ◌≤◌, true, false, ◌==◌, if◌then◌else◌, [], ◌∷◌, ◌++◌, Option, refl, ◌∙◌, ap, ap₂, arith}
-use Rattle.fr_shape.specs.Look.{Table, def_of}
-use Rattle.fr_shape.specs.Val.{Val, Vals}
-use Rattle.fr_model.specs.Places.{Place, Column, child_count, child_shape, part, part_at, one_more, product_of, each_child, fill_at}
-use Rattle.fr_model.specs.Journal.{entered_at, wrote_at, Journal, beside, standing, Held, in_parts, written, just_entered, untouched, after_write, at_least_entered, after_entry, held, longest, entered_value, by_held, by_parts, child_makes, completes_within}
+use Rattle.std.proofs.Common.{◌≡◌, ◌-◌, ◌≤◌, ◌==◌, if◌then◌else◌, ◌∷◌, ◌++◌}
+use Rattle.fr_model.proofs.Common.{ℕ, zero, suc, true, false, [], Option, refl, ◌∙◌, ap, ap₂, arith, Table, def_of, Val, Vals, Place, Column, child_shape, part, part_at, one_more, product_of, each_child, fill_at, entered_at, wrote_at, Journal, beside, standing, Held, in_parts, written, just_entered, untouched, after_write, at_least_entered, after_entry, held, longest, entered_value, by_held, by_parts, child_makes, completes_within}
 
 -- the notes that bear on child i: those at it or beneath it, and what was written above it
 abbrev pub down : ℕ → Journal → Journal
@@ -24,21 +21,20 @@ held_down i (entered_at [] ∷ notes) here = held_down i notes here
 held_down i (entered_at (j ∷ place) ∷ notes) here =
     elim (j == i) as (λ b. after_entry (if b then standing place here else beside) (held notes (i ∷ here))
     ≡ held (if b then entered_at place ∷ down i notes else down i notes) here) [
-      | true ↦ ap (after_entry (standing place here)) (held_down i notes here)
+      | true ↦ ap (after_entry _) (held_down i notes here)
       | false ↦ held_down i notes here
     ]
 held_down i (wrote_at [] v ∷ notes) here = refl
 held_down i (wrote_at (j ∷ place) v ∷ notes) here =
     elim (j == i) as (λ b. after_write v (if b then standing place here else beside) (held notes (i ∷ here))
     ≡ held (if b then wrote_at place v ∷ down i notes else down i notes) here) [
-      | true ↦ ap (after_write v (standing place here)) (held_down i notes here)
+      | true ↦ ap (after_write v _) (held_down i notes here)
       | false ↦ held_down i notes here
     ]
 
 -- completing
 
-pub each_same : (f g : ℕ → Option Val) (count i : ℕ) → ((k : ℕ) → f k ≡ g k)
-    → each_child f count i ≡ each_child g count i
+pub each_same : (f g : ℕ → Option Val) (count i : ℕ) → ((k : ℕ) → f k ≡ g k) → each_child f count i ≡ each_child g count i
 each_same f g zero i same = refl
 each_same f g (suc count) i same = ap₂ one_more (same i) (each_same f g count (suc i) same)
 
@@ -53,10 +49,8 @@ pub completes_down : (column : Column) (table : Table) (steps : ℕ) (notes : Jo
 completes_down column table zero notes s i here = refl
 completes_down column table (suc steps) notes s i here =
     ap₂ (λ (h : Held) (parts : Option Val). by_held h parts (entered_value column table s)) (held_down i notes here)
-    (ap (λ (values : Option Vals). by_parts (def_of table s) (product_of values))
-    (each_same (child_value column table steps notes s (i ∷ here)) (child_value column table steps (down i notes) s here)
-    (child_count table s) 0
-    (λ k. ap₂ (λ (h : Held) (own : Option Val). child_makes h (fill_at column table s k) own)
+    (ap (λ (values : Option Vals). by_parts (def_of table s) (product_of values)) (each_same _ _
+    _ 0 (λ k. ap₂ (λ (h : Held) (own : Option Val). child_makes h (fill_at column table s k) own)
     (held_down i notes (here ++ k ∷ [])) (completes_down column table steps notes (child_shape table s k) i (here ++ k ∷ [])))))
 
 pub completes_along : (column : Column) (table : Table) (steps : ℕ) (notes : Journal) (s : ℕ) (here : Place)

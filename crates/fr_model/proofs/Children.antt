@@ -1,23 +1,7 @@
 -- Which children may be entered, by the machine and by the journal.
-use Rattle.std.proofs.Common.{◌≡◌, ℕ, suc, ◌+◌, ◌<◌, ◌≤◌, le-ltb, lt-ltb, ltb-true, leb-true, Bool, true, false, ◌&&◌, if◌then◌else◌, List, [], ◌∷◌, length, nat_lt, nat_le, Option, Some, None, refl, ap, arith}
-use Rattle.std.specs.Str.{bytes_eq}
-use Rattle.fr_shape.specs.declared.shape.Def.{Def}
-use Rattle.fr_shape.specs.declared.shape.ShapeId.{ShapeId}
-use Rattle.fr_shape.specs.declared.shape.StructDef.{StructDef}
-use Rattle.fr_shape.specs.declared.shape.EnumDef.{EnumDef}
-use Rattle.fr_shape.specs.declared.shape.Field.{Field}
-use Rattle.fr_shape.specs.declared.error.Operation.{Operation}
-use Rattle.fr_shape.specs.Look.{Table, def_of}
-use Rattle.fr_shape.specs.Val.{Val}
-use Rattle.fr_shape.specs.Named.{first_declared, field_named}
-use Rattle.fr_model.specs.Places.{array_limit, count_children}
-use Rattle.fr_model.specs.Journal.{Journal, Held, held, is_written, may_enter_children}
-use Rattle.fr_model.specs.Tree.{Form, as_variant, selected, Tree, hole, entered, whole, begun, count_trees, Mode}
-use Rattle.fr_model.specs.Step.{field_refusal, named_refusal}
-use Rattle.fr_model.specs.Variants.{variant_fields, field_found}
-use Rattle.fr_model.specs.Well.{IsFullAs, Suits, AtCursor}
-use Rattle.fr_model.proofs.Agreement.{IsWhole, by_value, by_entry, Agrees}
-use Rattle.fr_model.proofs.Opening.{IsOpen, Enterable, a_field, an_element, a_variant_field}
+use Rattle.std.proofs.Common.{◌≡◌, ◌+◌, ◌<◌, ◌≤◌, ◌&&◌, if◌then◌else◌, ◌∷◌}
+use Rattle.fr_model.proofs.Common.{ℕ, suc, le-ltb, lt-ltb, ltb-true, leb-true, Bool, true, false, List, [], length, nat_lt, nat_le, Option, Some, None, refl, ap, arith, Def, ShapeId, StructDef, EnumDef, Field, Operation, Table, def_of, Val, first_declared, field_named, array_limit, count_children, Journal, Held, held, is_written, may_enter_children, Tracker, as_fields, selected, Tree, hole, entered, whole, begun, count_trees, Mode, field_refusal, named_refusal, variant_fields, field_found, IsFullAs, Suits, AtCursor}
+use Rattle.fr_model.proofs.Basis.{IsWhole, by_value, by_entry, Agrees, IsOpen, Enterable, a_field, an_element, a_variant_field}
 
 -- of an array, the journal holds a value exactly where the tree has one
 
@@ -31,7 +15,7 @@ SeesWhole _ t h = Unit {0}
 
 pub sees_whole : (mode : Mode) (table : Table) (s : ℕ) (t : Tree) (notes : Journal) → AtCursor mode t → Agrees table s notes t
     → SeesWhole (def_of table s) t (held notes [])
-sees_whole mode table s t notes at agrees = go (def_of table s) refl
+sees_whole mode table s t notes at agrees = go _ refl
   where
     array_whole : (item : ShapeId) (n : ℕ) (v : Val) → def_of table s ≡ Def.Array item n
         → IsWhole table s v (held notes []) → is_written (held notes []) ≡ true
@@ -43,7 +27,7 @@ sees_whole mode table s t notes at agrees = go (def_of table s) refl
     array item n hole is at agrees = absurd at
     array item n entered is at agrees = ap is_written agrees
     array item n (whole v) is at agrees = array_whole item n v is agrees
-    array item n (begun form ts) is at agrees = ap is_written agrees.0
+    array item n (begun tracker ts) is at agrees = ap is_written agrees.0
 
     go : (def : Def) → def_of table s ≡ def → SeesWhole def t (held notes [])
     go (Def.Array item n) is = array item n t is at agrees
@@ -79,36 +63,27 @@ nothing_below i = le-ltb i 0 (omega arith)
 
 struct_case : (struct : StructDef) (i : ℕ) (t : Tree) (b : Bool) → nat_lt i (length struct.fields) ≡ b
     → ChildCase (Def.Struct struct) i t
-struct_case struct i t true e =
-    a_child (field_of struct refl (ltb-true i (length struct.fields) e)) (rw e refl) (λ h sees. rw e refl)
+struct_case struct i t true e = a_child (field_of struct refl (ltb-true i (length struct.fields) e)) (rw e refl) (λ h sees. rw e refl)
 struct_case struct i t false e = no_child Operation.FieldIndexOutOfBounds (rw e refl) (λ h sees. rw e refl)
 
 array_case : (item : ShapeId) (n i : ℕ) (t : Tree) (below small : Bool) → nat_lt i n ≡ below → nat_le n array_limit ≡ small
     → ChildCase (Def.Array item n) i t
 array_case item n i t false small e f = no_child Operation.ArrayIndexOutOfBounds (rw e refl) (λ h sees. rw e refl)
 array_case item n i t true false e f = no_child Operation.ArrayTooLarge (rw (e, f) refl) (λ h sees. rw (e, f) refl)
-array_case item n i (whole v) true true e f =
-    no_child Operation.ElementOfWholeArray (rw (e, f) refl) (λ h sees. rw (e, f, sees) refl)
-array_case item n i hole true true e f =
-    a_child (element_of item n refl (ltb-true i n e) (leb-true n array_limit f) tt) (rw (e, f) refl) (λ h sees. rw (e, f, sees) refl)
-array_case item n i entered true true e f =
-    a_child (element_of item n refl (ltb-true i n e) (leb-true n array_limit f) tt) (rw (e, f) refl) (λ h sees. rw (e, f, sees) refl)
-array_case item n i (begun form ts) true true e f =
+array_case item n i (whole v) true true e f = no_child Operation.ElementOfWholeArray (rw (e, f) refl) (λ h sees. rw (e, f, sees) refl)
+array_case item n i _ true true e f =
     a_child (element_of item n refl (ltb-true i n e) (leb-true n array_limit f) tt) (rw (e, f) refl) (λ h sees. rw (e, f, sees) refl)
 
 variant_case : (enumeration : EnumDef) (i : ℕ) (t : Tree) (chosen : Option ℕ) → selected t ≡ chosen
     → ChildCase (Def.Enum enumeration) i t
-variant_case enumeration i t None is =
-    no_child Operation.FieldOfUnselectedVariant (rw is refl) (λ h sees. rw (nothing_below i) refl)
-variant_case enumeration i t (Some k) is = go (nat_lt i (length (variant_fields (Def.Enum enumeration) k))) refl
+variant_case enumeration i t None is = no_child Operation.FieldOfUnselectedVariant (rw is refl) (λ h sees. rw (nothing_below i) refl)
+variant_case enumeration i t (Some k) is = go _ refl
   where
     go : (b : Bool) → nat_lt i (length (variant_fields (Def.Enum enumeration) k)) ≡ b → ChildCase (Def.Enum enumeration) i t
     go true e =
-        a_variant_child k
-        (variant_field_of k enumeration refl is (ltb-true i (length (variant_fields (Def.Enum enumeration) k)) e))
+        a_variant_child k (variant_field_of k enumeration refl is (ltb-true i (length (variant_fields (Def.Enum enumeration) k)) e))
         (rw (is, e) refl) is
-    go false e =
-        no_child Operation.VariantFieldIndexOutOfBounds (rw (is, e) refl) (λ h sees. rw (nothing_below i) refl)
+    go false e = no_child Operation.VariantFieldIndexOutOfBounds (rw (is, e) refl) (λ h sees. rw (nothing_below i) refl)
 
 pub child_case : (def : Def) (i : ℕ) (t : Tree) → ChildCase def i t
 child_case (Def.Struct struct) i t = struct_case struct i t (nat_lt i (length struct.fields)) refl
@@ -123,16 +98,13 @@ child_case _ i t = no_child Operation.FieldOfOther refl (λ h sees. rw (nothing_
 found_below : (name : List ℕ) (i k : ℕ) (fields : List Field) → first_declared name i fields ≡ Some k
     → (i ≤ k) × (k < i + length fields)
 found_below name i k [] e = cc
-found_below name i k (field ∷ fields) e =
-    go (bytes_eq field.name name) e (λ later. found_below name (suc i) k fields later)
+found_below name i k (field ∷ fields) e = go _ e (λ later. found_below name (suc i) k fields later)
   where
     go : (b : Bool) → (if b then Some i else first_declared name (suc i) fields) ≡ Some k
         → (first_declared name (suc i) fields ≡ Some k → (suc i ≤ k) × (k < suc i + length fields))
         → (i ≤ k) × (k < i + suc (length fields))
     go true e rest = let same : i ≡ k = cc in (omega arith, omega arith)
-    go false e rest =
-        let later : (suc i ≤ k) × (k < suc i + length fields) = rest e in
-        (omega (arith, later.0), omega (arith, later.1))
+    go false e rest = let later = rest e in (omega (arith, later.0), omega (arith, later.1))
 
 -- a variant is selected only at an enum
 abbrev pub OnlyOfEnum : Def → Tree → Type 0
@@ -140,26 +112,26 @@ OnlyOfEnum (Def.Enum enumeration) t = Unit {0}
 OnlyOfEnum _ t = selected t ≡ None
 
 pub only_of_enum : (table : Table) (s : ℕ) (t : Tree) → Suits table s t → OnlyOfEnum (def_of table s) t
-only_of_enum table s hole suits = go (def_of table s)
+only_of_enum table s hole suits = go _
   where
     go : (def : Def) → OnlyOfEnum def hole
     go (Def.Enum enumeration) = tt
     go _ = refl
-only_of_enum table s entered suits = go (def_of table s)
+only_of_enum table s entered suits = go _
   where
     go : (def : Def) → OnlyOfEnum def entered
     go (Def.Enum enumeration) = tt
     go _ = refl
-only_of_enum table s (whole v) suits = go (def_of table s)
+only_of_enum table s (whole v) suits = go _
   where
     go : (def : Def) → OnlyOfEnum def (whole v)
     go (Def.Enum enumeration) = tt
     go _ = refl
-only_of_enum table s (begun form ts) suits = go (def_of table s) form suits.0.0
+only_of_enum table s (begun tracker ts) suits = go (def_of table s) tracker suits.0.0
   where
-    go : (def : Def) (form : Form) → IsFullAs def form (count_trees ts) → OnlyOfEnum def (begun form ts)
-    go (Def.Enum enumeration) form full_as = tt
-    go _ (as_variant k) full_as = absurd full_as
+    go : (def : Def) (tracker : Tracker) → IsFullAs def tracker (count_trees ts) → OnlyOfEnum def (begun tracker ts)
+    go (Def.Enum enumeration) tracker full_as = tt
+    go _ (as_fields (Some k)) full_as = absurd full_as
     go _ _ full_as = refl
 
 -- a field that the journal may enter too, one of a variant, which the journal doesn't know, or none
@@ -170,32 +142,30 @@ pub data NamedCase (name : List ℕ) (def : Def) (t : Tree) : Type 0 where
       → selected t ≡ Some k → NamedCase name def t
   no_such_name : named_refusal def t ≡ None → field_found name def (selected t) ≡ None → field_named name def ≡ None
       → NamedCase name def t
-  no_names : (operation : Operation) → named_refusal def t ≡ Some operation → field_named name def ≡ None
-      → NamedCase name def t
+  no_names : (operation : Operation) → named_refusal def t ≡ Some operation → field_named name def ≡ None → NamedCase name def t
 
 named_in_variant : (name : List ℕ) (enumeration : EnumDef) (t : Tree) (chosen : Option ℕ) → selected t ≡ chosen
     → NamedCase name (Def.Enum enumeration) t
 named_in_variant name enumeration t None is = no_names Operation.NamedFieldOfUnselectedVariant (rw is refl) refl
-named_in_variant name enumeration t (Some k) is = go (first_declared name 0 (variant_fields (Def.Enum enumeration) k)) refl
+named_in_variant name enumeration t (Some k) is = go _ refl
   where
     go : (found : Option ℕ) → first_declared name 0 (variant_fields (Def.Enum enumeration) k) ≡ found
         → NamedCase name (Def.Enum enumeration) t
     go (Some i) e =
-        let there : (0 ≤ i) × (i < 0 + length (variant_fields (Def.Enum enumeration) k))
-        = found_below name 0 i (variant_fields (Def.Enum enumeration) k) e in
+        let there = found_below name 0 i _ e in
         a_variant_named i k (variant_field_of k enumeration refl is (omega (arith, there.1))) (rw is refl) (rw is e) is
     go None e = no_such_name (rw is refl) (rw is e) refl
 
 pub named_case : (name : List ℕ) (def : Def) (t : Tree) → OnlyOfEnum def t → NamedCase name def t
-named_case name (Def.Struct struct) t only = go (first_declared name 0 struct.fields) refl
+named_case name (Def.Struct struct) t only = go _ refl
   where
     go : (found : Option ℕ) → first_declared name 0 struct.fields ≡ found → NamedCase name (Def.Struct struct) t
     go (Some i) e =
-        let there : (0 ≤ i) × (i < 0 + length struct.fields) = found_below name 0 i struct.fields e in
+        let there = found_below name 0 i struct.fields e in
         a_named i (field_of struct refl (omega (arith, there.1))) refl (rw only e) e
         (λ h. rw (lt-ltb i (length struct.fields) (omega (arith, there.1))) refl)
     go None e = no_such_name refl (rw only e) e
-named_case name (Def.Enum enumeration) t only = named_in_variant name enumeration t (selected t) refl
+named_case name (Def.Enum enumeration) t only = named_in_variant name enumeration t _ refl
 named_case name Def.Undefined t only = no_names Operation.NamedFieldOfUndefined refl refl
 named_case name (Def.Scalar kind) t only = no_names Operation.NamedFieldOfPrimitive refl refl
 named_case name Def.Str t only = no_names Operation.NamedFieldOfPrimitive refl refl

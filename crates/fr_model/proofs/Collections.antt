@@ -1,54 +1,24 @@
 -- Sets and maps: what is begun suits its shape, and so it is with one more key.
-use Rattle.std.proofs.Common.{◌≡◌, ℕ, zero, suc, Bool, true, false, ◌&&◌, if◌then◌else◌, [], ◌∷◌, Some, None, refl, sym, subst, arith}
-use Rattle.fr_shape.specs.declared.shape.Def.{Def}
-use Rattle.fr_shape.specs.declared.shape.ShapeId.{ShapeId}
-use Rattle.fr_shape.specs.declared.error.Operation.{Operation}
-use Rattle.fr_shape.specs.Fits.{fits, all_fit, entries_fit}
-use Rattle.fr_shape.specs.Look.{Table, def_of}
-use Rattle.fr_shape.specs.Plannable.{is_dynamic}
-use Rattle.fr_shape.specs.Same.{none_twice, keys}
-use Rattle.fr_shape.specs.Val.{Val, Vals, Entries, unit, set_of, map_of, no_vals, first, no_entries, entry}
-use Rattle.fr_model.specs.Collections.{unless_map, unless_set, is_map, is_hole, ends_in_hole, lacks_value, key_refusal, value_refusal, with_key, last_of}
-use Rattle.fr_model.specs.Places.{count_entries, is_key, in_turn}
-use Rattle.fr_model.specs.Entering.{opened}
-use Rattle.fr_model.specs.Step.{at_shape, init_map_refusal, init_set_refusal}
-use Rattle.fr_model.specs.Tree.{as_set, as_map, Tree, hole, entered, whole, begun, Trees, no_trees, branch, and_last, child_as, count_trees, count_below, wholes, fresh, tree_occurs, Mode}
-use Rattle.fr_model.specs.Well.{HasEntries, IsTouched, AreEntries, Suits, IsOff, AllOff, AtCursor, OffBut}
+use Rattle.std.proofs.Common.{◌≡◌, if◌then◌else◌, ◌∷◌}
+use Rattle.fr_model.proofs.Common.{ℕ, zero, suc, Bool, true, false, [], Some, None, refl, sym, subst, arith, Def, ShapeId, Operation, fits, entries_fit, Table, def_of, is_dynamic, none_twice, keys, Val, Entries, unit, set_of, map_of, no_entries, entry, unless_map, unless_set, is_map, is_hole, ends_in_hole, lacks_value, key_refusal, value_refusal, with_key, last_of, count_entries, is_key, in_turn, opened, at_shape, init_map_refusal, init_set_refusal, as_items, ItemsKind, as_entries, EntriesKind, Tree, hole, entered, whole, begun, Trees, no_trees, branch, and_last, child_as, count_trees, count_below, wholes, fresh, tree_occurs, Mode, HasEntries, IsTouched, AreEntries, Suits, IsOff, AllOff, AtCursor, OffBut}
 use Rattle.fr_model.proofs.Becoming.{Placed}
-use Rattle.fr_model.proofs.Items.{last_suits, last_leads, last_holds, wholes_touched}
-use Rattle.fr_model.proofs.Opening.{Enterable, a_value, enter_touched, fresh_suits, fresh_at_cursor, hole_off, wholes_off}
-use Rattle.fr_model.proofs.Resting.{count_last}
-use Rattle.fr_model.proofs.Structs.{SuitFrom, settled_set, settled_map}
-use Rattle.fr_model.proofs.Templates.{both_true}
-use Rattle.fr_model.proofs.Tokens.{fresh_holds}
+use Rattle.fr_model.proofs.Items.{items_suit, last_suits, last_leads, last_holds, wholes_touched}
+use Rattle.fr_model.proofs.Basis.{Enterable, a_value, enter_touched, fresh_suits, fresh_at_cursor, hole_off, wholes_off, count_last, SuitFrom, settled_as, both_true, fresh_holds}
 
 -- A set is begun
-
-set_suits : (table : Table) (s : ℕ) (item : ShapeId) → def_of table s ≡ Def.Set item → (i : ℕ) (vs : Vals)
-    → all_fit table item.0 vs ≡ true → SuitFrom table s as_set i (wholes vs)
-set_suits table s item is i no_vals fit = tt
-set_suits table s item is i (first v vs) fit =
-    let both : (fits table item.0 v ≡ true) × (all_fit table item.0 vs ≡ true)
-    = both_true (fits table item.0 v) (all_fit table item.0 vs) fit in
-    let shape : child_as table s as_set i ≡ item.0 = rw is refl in
-    (rw shape both.0, set_suits table s item is (suc i) vs both.1)
 
 whole_set : (mode : Mode) (table : Table) (s : ℕ) (item : ShapeId) (v : Val) → def_of table s ≡ Def.Set item
     → fits table s v ≡ true → Placed mode table s [] (opened (Def.Set item) (whole v))
 whole_set mode table s item (set_of vs) is fit =
-    let both : (all_fit table item.0 vs ≡ true) × (none_twice vs ≡ true)
-    = both_true (all_fit table item.0 vs) (none_twice vs) (rw (settled_set table s item is) at fit) in
-    record {
-      suits = ((rw is tt, tt), set_suits table s item is 0 vs both.0, wholes_touched vs);
-      leads = wholes_off mode vs;
-    }
+    let both = both_true _ _ (rw (settled_as table s is refl) at fit) in
+    record { suits = ((rw is tt, tt), items_suit table s (as_items ItemsKind.Set) item.0 (λ i. rw is refl) 0 vs both.0, wholes_touched vs); leads = wholes_off mode vs }
 whole_set mode table s item unit is fit = cc
-whole_set mode table s item _ is fit = let none = rw (settled_set table s item is) at fit in cc
+whole_set mode table s item _ is fit = let none = rw (settled_as table s is refl) at fit in cc
 
 pub set_opens : (mode : Mode) (table : Table) (s : ℕ) (t : Tree) → init_set_refusal s (def_of table s) t ≡ None
     → Placed mode table s [] t → Placed mode table s [] (opened (def_of table s) t)
 set_opens mode table s hole e there = absurd there.leads
-set_opens mode table s entered e there = go (def_of table s) refl e
+set_opens mode table s entered e there = go _ refl e
   where
     go : (def : Def) → def_of table s ≡ def → at_shape s (unless_set Operation.InitSetOfOther def) ≡ None
         → Placed mode table s [] (opened (def_of table s) entered)
@@ -56,15 +26,14 @@ set_opens mode table s entered e there = go (def_of table s) refl e
         subst (λ (def : Def). Placed mode table s [] (opened def entered)) (sym is)
         (record { suits = ((rw is tt, tt), tt, tt); leads = tt })
     go _ is e = cc
-set_opens mode table s (whole v) e there = go (def_of table s) refl e
+set_opens mode table s (whole v) e there = go _ refl e
   where
     go : (def : Def) → def_of table s ≡ def → at_shape s (unless_set Operation.InitSetOfOther def) ≡ None
         → Placed mode table s [] (opened (def_of table s) (whole v))
     go (Def.Set item) is e =
-        subst (λ (def : Def). Placed mode table s [] (opened def (whole v))) (sym is)
-        (whole_set mode table s item v is there.suits)
+        subst (λ (def : Def). Placed mode table s [] (opened def (whole v))) (sym is) (whole_set mode table s item v is there.suits)
     go _ is e = cc
-set_opens mode table s (begun form ts) e there = there
+set_opens mode table s (begun tracker ts) e there = there
 
 -- A map is begun
 
@@ -74,15 +43,13 @@ not_key (suc zero) e = cc
 not_key (suc (suc i)) e = not_key i e
 
 turns_suit : (table : Table) (s : ℕ) (key item : ShapeId) → def_of table s ≡ Def.Map key item → (base i : ℕ) → is_key i ≡ true
-    → (es : Entries) → entries_fit table key.0 item.0 es ≡ true → SuitFrom table s (as_map base) i (wholes (in_turn es))
+    → (es : Entries) → entries_fit table key.0 item.0 es ≡ true → SuitFrom table s (as_entries (EntriesKind.Map base)) i (wholes (in_turn es))
 turns_suit table s key item is base i even no_entries fit = tt
 turns_suit table s key item is base i even (entry k v es) fit =
-    let first : ((fits table key.0 k && fits table item.0 v) ≡ true) × (entries_fit table key.0 item.0 es ≡ true)
-    = both_true (fits table key.0 k && fits table item.0 v) (entries_fit table key.0 item.0 es) fit in
-    let both : (fits table key.0 k ≡ true) × (fits table item.0 v ≡ true)
-    = both_true (fits table key.0 k) (fits table item.0 v) first.0 in
-    let of_key : child_as table s (as_map base) i ≡ key.0 = rw (is, even) refl in
-    let of_value : child_as table s (as_map base) (suc i) ≡ item.0 = rw (is, not_key i even) refl in
+    let first = both_true _ _ fit in
+    let both = both_true _ _ first.0 in
+    let of_key : child_as table s (as_entries (EntriesKind.Map base)) i ≡ key.0 = rw (is, even) refl in
+    let of_value : child_as table s (as_entries (EntriesKind.Map base)) (suc i) ≡ item.0 = rw (is, not_key i even) refl in
     (rw of_key both.0, (rw of_value both.1, turns_suit table s key item is base (suc (suc i)) even es first.1))
 
 turns_count : (es : Entries) → is_key (count_trees (wholes (in_turn es))) ≡ true
@@ -90,63 +57,55 @@ turns_count no_entries = refl
 turns_count (entry k v es) = turns_count es
 
 turns_are : (es : Entries) → AreEntries (wholes (in_turn es))
-turns_are no_entries = tt
-turns_are (entry k v no_entries) = tt
 turns_are (entry k v (entry l w es)) = (tt, tt, turns_are (entry l w es))
+turns_are _ = tt
 
 whole_map : (mode : Mode) (table : Table) (s : ℕ) (key item : ShapeId) (v : Val) → def_of table s ≡ Def.Map key item
     → fits table s v ≡ true → Placed mode table s [] (opened (Def.Map key item) (whole v))
 whole_map mode table s key item (map_of es) is fit =
-    let both : (entries_fit table key.0 item.0 es ≡ true) × (none_twice (keys es) ≡ true)
-    = both_true (entries_fit table key.0 item.0 es) (none_twice (keys es)) (rw (settled_map table s key item is) at fit) in
+    let both = both_true (entries_fit table key.0 item.0 es) (none_twice (keys es)) (rw (settled_as table s is refl) at fit) in
     record {
       suits = ((rw is (turns_count es), tt), turns_suit table s key item is (count_entries es) 0 refl es both.0, turns_are es);
       leads = wholes_off mode (in_turn es);
     }
 whole_map mode table s key item unit is fit = cc
-whole_map mode table s key item _ is fit = let none = rw (settled_map table s key item is) at fit in cc
+whole_map mode table s key item _ is fit = let none = rw (settled_as table s is refl) at fit in cc
 
 pub map_opens : (mode : Mode) (table : Table) (s : ℕ) (t : Tree) → is_dynamic (def_of table s) ≡ false
-    → init_map_refusal s (def_of table s) t ≡ None → Placed mode table s [] t
-    → Placed mode table s [] (opened (def_of table s) t)
+    → init_map_refusal s (def_of table s) t ≡ None → Placed mode table s [] t → Placed mode table s [] (opened (def_of table s) t)
 map_opens mode table s hole other e there = absurd there.leads
-map_opens mode table s entered other e there = go (def_of table s) refl other e
+map_opens mode table s entered other e there = go _ refl other e
   where
-    go : (def : Def) → def_of table s ≡ def → is_dynamic def ≡ false
-        → at_shape s (unless_map Operation.InitMapOfOther def) ≡ None
+    go : (def : Def) → def_of table s ≡ def → is_dynamic def ≡ false → at_shape s (unless_map Operation.InitMapOfOther def) ≡ None
         → Placed mode table s [] (opened (def_of table s) entered)
     go (Def.Map key item) is other e =
         subst (λ (def : Def). Placed mode table s [] (opened def entered)) (sym is)
         (record { suits = ((rw is refl, tt), tt, tt); leads = tt })
     go _ is other e = cc
-map_opens mode table s (whole v) other e there = go (def_of table s) refl other e
+map_opens mode table s (whole v) other e there = go _ refl other e
   where
-    go : (def : Def) → def_of table s ≡ def → is_dynamic def ≡ false
-        → at_shape s (unless_map Operation.InitMapOfOther def) ≡ None
+    go : (def : Def) → def_of table s ≡ def → is_dynamic def ≡ false → at_shape s (unless_map Operation.InitMapOfOther def) ≡ None
         → Placed mode table s [] (opened (def_of table s) (whole v))
     go (Def.Map key item) is other e =
         subst (λ (def : Def). Placed mode table s [] (opened def (whole v))) (sym is)
         (whole_map mode table s key item v is there.suits)
     go _ is other e = cc
-map_opens mode table s (begun form ts) other e there = there
+map_opens mode table s (begun tracker ts) other e there = there
 
 -- A key is added
 
 pub record IsMap (t : Tree) (lacking : Bool) : Type 0 where
   pub base : ℕ
   pub children : Trees
-  pub is : t ≡ begun (as_map base) children
+  pub is : t ≡ begun (as_entries (EntriesKind.Map base)) children
   pub ends : ends_in_hole children ≡ lacking
 
 map_is : (t : Tree) (lacking : Bool) → is_map t ≡ true → lacks_value t ≡ lacking → IsMap t lacking
-map_is (begun (as_map base) ts) lacking e f = record { base = base; children = ts; is = refl; ends = f }
-map_is (begun _ ts) lacking e f = cc
-map_is hole lacking e f = cc
-map_is entered lacking e f = cc
-map_is (whole v) lacking e f = cc
+map_is (begun (as_entries (EntriesKind.Map base)) ts) lacking e f = record { base = base; children = ts; is = refl; ends = f }
+map_is _ lacking e f = cc
 
 pub takes_a_key : (t : Tree) → key_refusal t ≡ None → IsMap t false
-takes_a_key t e = go (is_map t) (lacks_value t) refl refl e
+takes_a_key t e = go (is_map t) _ refl refl e
   where
     go : (b lacking : Bool) → is_map t ≡ b → lacks_value t ≡ lacking
         → (if b then (if lacking then Some Operation.KeyBeforeValue else None) else Some Operation.KeyBeforeInitMap) ≡ None
@@ -156,7 +115,7 @@ takes_a_key t e = go (is_map t) (lacks_value t) refl refl e
     go false lacking is ends e = cc
 
 pub takes_a_value : (t : Tree) → value_refusal t ≡ None → IsMap t true
-takes_a_value t e = go (is_map t) (lacks_value t) refl refl e
+takes_a_value t e = go (is_map t) _ refl refl e
   where
     go : (b lacking : Bool) → is_map t ≡ b → lacks_value t ≡ lacking
         → (if b then (if lacking then None else Some Operation.ValueBeforeKey) else Some Operation.ValueBeforeKey) ≡ None
@@ -165,15 +124,13 @@ takes_a_value t e = go (is_map t) (lacks_value t) refl refl e
     go true false is ends e = cc
     go false lacking is ends e = cc
 
-more_entries : (def : Def) (n : ℕ) → HasEntries def n → HasEntries def (suc (suc n))
-more_entries (Def.Map key item) n has = has
-more_entries _ n has = absurd has
+more_entries : (def : Def) (base n : ℕ) → HasEntries def (EntriesKind.Map base) n → HasEntries def (EntriesKind.Map base) (suc (suc n))
+more_entries (Def.Map key item) base n has = has
+more_entries _ base n has = absurd has
 
 no_hole : (t : Tree) → is_hole t ≡ false → IsTouched t
 no_hole hole e = cc
-no_hole entered e = tt
-no_hole (whole v) e = tt
-no_hole (begun form ts) e = tt
+no_hole _ e = tt
 
 entries_more : (ts : Trees) (key : Tree) → IsTouched key → ends_in_hole ts ≡ false → AreEntries ts
     → AreEntries (and_last (and_last ts key) hole)
@@ -195,22 +152,18 @@ off_last mode (suc i) Below (branch t ts) last here off = (off.0, off_last mode 
 
 -- the map with one more key, to which the cursor may go
 pub key_placed : (mode : Mode) (table : Table) (s base : ℕ) (ts : Trees) → ends_in_hole ts ≡ false
-    → Placed mode table s [] (begun (as_map base) ts) → Placed mode table s (count_trees ts ∷ []) (with_key table s (begun (as_map base) ts))
+    → Placed mode table s [] (begun (as_entries (EntriesKind.Map base)) ts) → Placed mode table s (count_trees ts ∷ []) (with_key table s (begun (as_entries (EntriesKind.Map base)) ts))
 key_placed mode table s base ts ends there =
-    let shape : ℕ = child_as table s (as_map base) (count_trees ts) in
-    let key : Tree = fresh (def_of table shape) in
-    let once : count_trees (and_last ts key) ≡ suc (count_trees ts) = count_last ts key in
-    let twice : count_trees (and_last (and_last ts key) hole) ≡ suc (count_trees (and_last ts key))
-    = count_last (and_last ts key) hole in
-    let counted : suc (suc (count_trees ts)) ≡ count_trees (and_last (and_last ts key) hole) = omega arith in
+    let shape = child_as table s (as_entries (EntriesKind.Map base)) (count_trees ts) in
+    let key = fresh _ in
+    let once = count_last ts key in
+    let twice = count_last (and_last ts key) hole in
+    let counted : suc (suc (count_trees ts)) ≡ count_trees _ = omega arith in
     record {
       suits = (
-        (
-          subst (HasEntries (def_of table s)) counted (more_entries (def_of table s) (count_trees ts) there.suits.0.0),
-          tt,
-        ),
-        last_suits table s (as_map base) (suc (count_trees ts)) 0 (and_last ts key) hole (omega arith)
-            (last_suits table s (as_map base) (count_trees ts) 0 ts key (omega arith) there.suits.1 (fresh_suits table shape)) tt,
+        (subst (HasEntries _ _) counted (more_entries (def_of table s) base (count_trees ts) there.suits.0.0), tt),
+        last_suits table s (as_entries (EntriesKind.Map base)) (suc (count_trees ts)) 0 (and_last ts key) hole (omega arith)
+            (last_suits table s (as_entries (EntriesKind.Map base)) (count_trees ts) 0 ts key (omega arith) there.suits.1 (fresh_suits table shape)) tt,
         entries_more ts key (enter_touched (def_of table shape) hole) ends there.suits.2,
       );
       leads = off_last mode (count_trees ts) (λ child. AtCursor mode child) (and_last ts key) hole (hole_off mode)
@@ -218,10 +171,10 @@ key_placed mode table s base ts ends there =
     }
 
 pub key_holds : (table : Table) (s base : ℕ) (ts : Trees) (token : ℕ)
-    → tree_occurs (with_key table s (begun (as_map base) ts)) token ≡ tree_occurs (begun (as_map base) ts) token
+    → tree_occurs (with_key table s (begun (as_entries (EntriesKind.Map base)) ts)) token ≡ tree_occurs (begun (as_entries (EntriesKind.Map base)) ts) token
 key_holds table s base ts token =
-    let shape : ℕ = child_as table s (as_map base) (count_trees ts) in
-    let key : Tree = fresh (def_of table shape) in
+    let shape = child_as table s (as_entries (EntriesKind.Map base)) (count_trees ts) in
+    let key = fresh (def_of table shape) in
     let last = last_holds (and_last ts key) hole token in
     let before = last_holds ts key token in
     let none = fresh_holds (def_of table shape) token in
@@ -237,9 +190,9 @@ pub value_enterable : (table : Table) (s : ℕ) (t : Tree) → IsMap t true → 
     → Enterable table s (last_of (count_below t)) t
 value_enterable table s t here suits =
     subst (λ (u : Tree). Enterable table s (last_of (count_below u)) u) (sym here.is)
-    (go (def_of table s) refl (subst (λ (u : Tree). Suits table s u) here.is suits).0.0)
+    (go _ refl (subst (λ (u : Tree). Suits table s u) here.is suits).0.0)
   where
-    go : (def : Def) → def_of table s ≡ def → HasEntries def (count_trees here.children)
-        → Enterable table s (last_of (count_trees here.children)) (begun (as_map here.base) here.children)
+    go : (def : Def) → def_of table s ≡ def → HasEntries def (EntriesKind.Map here.base) (count_trees here.children)
+        → Enterable table s (last_of (count_trees here.children)) (begun (as_entries (EntriesKind.Map here.base)) here.children)
     go (Def.Map key item) is has = a_value key item is here.base here.children refl (last_there here.children here.ends) here.ends
     go _ is has = absurd has

@@ -1,16 +1,6 @@
 -- What a dynamic place makes of a value of another shape: a plain value, and one that held no token.
-use Rattle.std.specs.Prelude.{encode_utf8}
-use Rattle.std.proofs.Common.{◌≡◌, ℕ, Bool, true, false, if◌then◌else◌, List, Option, Some, None, Ok, Err, refl, arith}
-use Rattle.std.specs.Option.{option_map}
-use Rattle.fr_shape.specs.declared.error.Operation.{Operation}
-use Rattle.fr_shape.specs.declared.shape.Def.{Def}
-use Rattle.fr_shape.specs.declared.shape.ScalarKind.{ScalarKind}
-use Rattle.fr_shape.specs.Fits.{keys_once}
-use Rattle.fr_shape.specs.Look.{Table, def_of}
-use Rattle.fr_shape.specs.Tokens.{occurs, vals_occur}
-use Rattle.fr_shape.specs.Val.{Val, Vals, bool, char, int, nat, text, list_of, no_vals, first}
-use Rattle.fr_shape.specs.Val.{Dynamic, dyn_bool, dyn_int, dyn_nat, dyn_text, dyn_bytes}
-use Rattle.fr_model.specs.Converting.{or_not_dynamic, from_bool, from_char, from_int, from_nat, from_text, byte_before, bytes_of, from_bytes, from_scalar, is_byte, takes_bytes, converted}
+use Rattle.std.proofs.Common.{◌≡◌, if◌then◌else◌}
+use Rattle.fr_model.proofs.Common.{encode_utf8, ℕ, Bool, true, false, List, Option, Some, None, Ok, Err, refl, arith, option_map, Operation, Def, ScalarKind, keys_once, Table, occurs, vals_occur, Val, Vals, bool, char, int, nat, text, list_of, no_vals, first, Dynamic, dyn_bool, dyn_int, dyn_nat, dyn_text, dyn_bytes, or_not_dynamic, from_bool, from_char, from_int, from_nat, from_text, byte_before, bytes_of, from_bytes, from_scalar, converted}
 
 -- no object in the dynamic value has a key twice, and the value of which it was made holds no token
 pub record IsTaken (v : Val) (d : Dynamic) : Type 0 where
@@ -44,7 +34,7 @@ of_text _ d e = cc
 
 bytes_hold : (vs : Vals) (bytes : List ℕ) (t : ℕ) → bytes_of vs ≡ Some bytes → vals_occur vs t ≡ 0
 bytes_hold no_vals bytes t e = refl
-bytes_hold (first (nat n) vs) bytes t e = go (bytes_of vs) e (λ rest is. bytes_hold vs rest t is)
+bytes_hold (first (nat n) vs) bytes t e = go _ e (λ rest is. bytes_hold vs rest t is)
   where
     go : (found : Option (List ℕ)) → byte_before (nat n) found ≡ Some bytes
         → ((rest : List ℕ) → found ≡ Some rest → vals_occur vs t ≡ 0) → vals_occur (first (nat n) vs) t ≡ 0
@@ -53,10 +43,9 @@ bytes_hold (first (nat n) vs) bytes t e = go (bytes_of vs) e (λ rest is. bytes_
 bytes_hold (first _ vs) bytes t e = cc
 
 of_list : (v : Val) (d : Dynamic) → or_not_dynamic (from_bytes v) ≡ Ok d → IsTaken v d
-of_list (list_of vs) d e = go (bytes_of vs) refl e
+of_list (list_of vs) d e = go _ refl e
   where
-    go : (found : Option (List ℕ)) → bytes_of vs ≡ found → or_not_dynamic (option_map dyn_bytes found) ≡ Ok d
-        → IsTaken (list_of vs) d
+    go : (found : Option (List ℕ)) → bytes_of vs ≡ found → or_not_dynamic (option_map dyn_bytes found) ≡ Ok d → IsTaken (list_of vs) d
     go (Some bytes) is e =
         let same : dyn_bytes bytes ≡ d = cc in rw (← same) (record { once = refl; holds = λ t. bytes_hold vs bytes t is })
     go None is e = cc
@@ -65,11 +54,6 @@ of_list _ d e = cc
 of_scalar : (kind : ScalarKind) (v : Val) (d : Dynamic) → from_scalar kind v ≡ Ok d → IsTaken v d
 of_scalar ScalarKind.Bool v d e = of_bool v d e
 of_scalar ScalarKind.Char v d e = of_char v d e
-of_scalar ScalarKind.I8 v d e = of_int v d e
-of_scalar ScalarKind.I16 v d e = of_int v d e
-of_scalar ScalarKind.I32 v d e = of_int v d e
-of_scalar ScalarKind.I64 v d e = of_int v d e
-of_scalar ScalarKind.ISize v d e = of_int v d e
 of_scalar ScalarKind.U8 v d e = of_nat v d e
 of_scalar ScalarKind.U16 v d e = of_nat v d e
 of_scalar ScalarKind.U32 v d e = of_nat v d e
@@ -79,15 +63,14 @@ of_scalar ScalarKind.String v d e = of_text v d e
 of_scalar ScalarKind.I128 v d e = cc
 of_scalar ScalarKind.U128 v d e = cc
 of_scalar ScalarKind.CowStr v d e = cc
+of_scalar _ v d e = of_int v d e
 
-pub converted_is : (table : Table) (s : ℕ) (def : Def) (v : Val) (d : Dynamic) → converted table s def v ≡ Ok d
-    → IsTaken v d
+pub converted_is : (table : Table) (s : ℕ) (def : Def) (v : Val) (d : Dynamic) → converted table s def v ≡ Ok d → IsTaken v d
 converted_is table s (Def.Scalar kind) v d e = of_scalar kind v d e
 converted_is table s Def.Str v d e = of_text v d e
-converted_is table s (Def.List t) v d e = go (takes_bytes table s) (is_byte (def_of table t.0)) e
+converted_is table s (Def.List t) v d e = go _ _ e
   where
-    go : (takes byte : Bool)
-        → (if takes then (if byte then or_not_dynamic (from_bytes v) else Err Operation.NotDynamic)
+    go : (takes byte : Bool) → (if takes then (if byte then or_not_dynamic (from_bytes v) else Err Operation.NotDynamic)
         else Err Operation.NotDynamic) ≡ Ok d → IsTaken v d
     go true true e = of_list v d e
     go true false e = cc

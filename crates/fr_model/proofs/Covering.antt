@@ -1,20 +1,13 @@
 -- The scan of a journal gives what the rules say.
-use Rattle.std.proofs.Common.{◌≡◌, ℕ, ◌==◌, eq-eqb, eqb-true, Bool, true, false, ◌||◌, if◌then◌else◌, [], ◌∷◌, ◌++◌, Option, Some, None, refl, sym, ◌∙◌, ap, arith}
-use Rattle.std.specs.List.{list_any}
-use Rattle.std.specs.Option.{option_map_or}
-use Rattle.fr_shape.specs.Val.{Val}
-use Rattle.fr_model.specs.Places.{Place, part_at}
-use Rattle.fr_model.specs.Journal.{Note, entered_at, wrote_at, Journal, Standing, covers, beneath, beside, standing, Held, in_parts, written, just_entered, untouched, after_write, at_least_entered, after_entry, held}
-use Rattle.fr_model.specs.Covering.{way_down, goes_on, is_entry_at, is_beneath, part_given, covering_part, since_covered, held_by_rules}
+use Rattle.std.proofs.Common.{◌≡◌, ◌==◌, ◌||◌, if◌then◌else◌, ◌∷◌, ◌++◌}
+use Rattle.fr_model.proofs.Common.{ℕ, eq-eqb, eqb-true, Bool, true, false, [], Option, Some, None, refl, sym, ◌∙◌, ap, arith, list_any, option_map_or, Val, Place, Note, entered_at, wrote_at, Journal, Standing, covers, beneath, beside, standing, Held, in_parts, written, just_entered, untouched, after_write, at_least_entered, after_entry, held, way_down, goes_on, is_entry_at, is_beneath, part_given, covering_part, since_covered, held_by_rules}
 
 -- how a noted place lies, in both forms
 data Lies (noted here : Place) : Type 0 where
   it_covers : (way : Place) → standing noted here ≡ covers way → way_down noted here ≡ Some way
       → goes_on (way_down here noted) ≡ false → Lies noted here
-  it_is_beneath : standing noted here ≡ beneath → way_down noted here ≡ None → goes_on (way_down here noted) ≡ true
-      → Lies noted here
-  it_is_beside : standing noted here ≡ beside → way_down noted here ≡ None → goes_on (way_down here noted) ≡ false
-      → Lies noted here
+  it_is_beneath : standing noted here ≡ beneath → way_down noted here ≡ None → goes_on (way_down here noted) ≡ true → Lies noted here
+  it_is_beside : standing noted here ≡ beside → way_down noted here ≡ None → goes_on (way_down here noted) ≡ false → Lies noted here
 
 swapped : (i j : ℕ) (b : Bool) → (i == j) ≡ b → (j == i) ≡ b
 swapped i j true e = eq-eqb j i (sym (eqb-true i j e))
@@ -45,8 +38,7 @@ covered_now : (note : Note) (notes : Journal) (here : Place) (v : Val) → part_
 covered_now note notes here v given = rw given refl
 
 not_covered_now : (note : Note) (notes : Journal) (here : Place) (below entry : Bool) → part_given note here ≡ None
-    → is_beneath here note ≡ below → is_entry_at here note ≡ entry
-    → held_by_rules (note ∷ notes) here
+    → is_beneath here note ≡ below → is_entry_at here note ≡ entry → held_by_rules (note ∷ notes) here
     ≡ ruled (below || list_any (is_beneath here) (since_covered notes here)) (covering_part notes here)
     (entry || list_any (is_entry_at here) notes)
 not_covered_now note notes here below entry given is_below is_entry = rw (given, is_below, is_entry) refl
@@ -61,8 +53,7 @@ entered_now false None false = refl
 wrote_agrees : (noted : Place) (v : Val) (notes : Journal) (here : Place) → held notes here ≡ held_by_rules notes here
     → Lies noted here → held (wrote_at noted v ∷ notes) here ≡ held_by_rules (wrote_at noted v ∷ notes) here
 wrote_agrees noted v notes here before (it_covers way is down up) =
-    ap (λ (lie : Standing). after_write v lie (held notes here)) is
-    ∙ sym (covered_now (wrote_at noted v) notes here (part_at v way) (rw down refl))
+    ap (λ (lie : Standing). after_write v lie (held notes here)) is ∙ sym (covered_now (wrote_at noted v) notes here _ (rw down refl))
 wrote_agrees noted v notes here before (it_is_beneath is down up) =
     ap (λ (lie : Standing). after_write v lie (held notes here)) is
     ∙ sym (not_covered_now (wrote_at noted v) notes here true false (rw down refl) up refl)
@@ -73,9 +64,7 @@ wrote_agrees noted v notes here before (it_is_beside is down up) =
 entry_agrees : (noted : Place) (notes : Journal) (here : Place) → held notes here ≡ held_by_rules notes here
     → Lies noted here → held (entered_at noted ∷ notes) here ≡ held_by_rules (entered_at noted ∷ notes) here
 entry_agrees noted notes here before (it_covers [] is down up) =
-    ap (λ (lie : Standing). after_entry lie (held notes here)) is
-    ∙ ap at_least_entered before
-    ∙ entered_now (list_any (is_beneath here) (since_covered notes here)) (covering_part notes here) (list_any (is_entry_at here) notes)
+    ap (λ (lie : Standing). after_entry lie (held notes here)) is ∙ ap at_least_entered before ∙ entered_now _ _ _
     ∙ sym (not_covered_now (entered_at noted) notes here false true refl up (rw down refl))
 entry_agrees noted notes here before (it_covers (i ∷ way) is down up) =
     ap (λ (lie : Standing). after_entry lie (held notes here)) is
@@ -99,11 +88,10 @@ way_leads [] here way e = cc
 way_leads (i ∷ above) [] way e = cc
 way_leads (i ∷ above) (j ∷ here) way e = go (i == j) refl (λ h. way_leads above here way h)
   where
-    go : (b : Bool) → (i == j) ≡ b → (way_down above here ≡ Some way → here ≡ above ++ way)
-        → (j ∷ here) ≡ (i ∷ (above ++ way))
+    go : (b : Bool) → (i == j) ≡ b → (way_down above here ≡ Some way → here ≡ above ++ way) → (j ∷ here) ≡ (i ∷ (above ++ way))
     go true same rest =
-        let below : here ≡ above ++ way = rest (rw same at e) in
-        let first : i ≡ j = eqb-true i j same in
+        let below = rest (rw same at e) in
+        let first = eqb-true i j same in
         cc
     go false apart rest = let none : None ≡ Some way = rw apart at e in cc
 

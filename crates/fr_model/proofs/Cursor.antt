@@ -1,19 +1,6 @@
 -- The place to which a cursor leads, and a tree that is changed there.
-use Rattle.std.proofs.Common.{◌≡◌, ℕ, zero, suc, ◌<◌, ◌≤◌, true, [], ◌∷◌, ◌++◌, append-nil, length, length-append, Some, refl, sym, subst, arith}
-use Rattle.fr_shape.specs.Checked.{IsChecked}
-use Rattle.fr_shape.specs.Hooks.{Meanings}
-use Rattle.fr_shape.specs.Look.{Table, def_of}
-use Rattle.fr_shape.specs.Val.{Val}
-use Rattle.fr_shape.specs.Fits.{fits}
-use Rattle.fr_model.specs.Places.{Place, Column, up, child_count, child_shape, shape_at}
-use Rattle.fr_model.specs.Tree.{as_struct, as_array, Tree, hole, entered, whole, begun, Trees, no_trees, branch, tree_nth, change_nth, tree_at, change_at, shape_in, child_as, count_trees, tree_occurs, Mode, strict, deferred, State, cursor_shape, cursor_tree, one_more_call, initial}
-use Rattle.fr_model.specs.Dropping.{dropped_by_completing}
-use Rattle.fr_model.specs.Complete.{complete}
-use Rattle.fr_model.specs.Entering.{Way, enter_child, enters}
-use Rattle.fr_model.specs.Step.{puts, puts_and_leaves, leaves}
-use Rattle.fr_model.specs.Journal.{Journal}
-use Rattle.fr_model.specs.Relation.{HasParts}
-use Rattle.fr_model.specs.Well.{IsBegunAs, IsTouched, Suits, AllOff, AtCursor, OffBut, Leads, BeganAbove, IsInOrder}
+use Rattle.std.proofs.Common.{◌≡◌, ◌<◌, ◌≤◌, ◌∷◌, ◌++◌}
+use Rattle.fr_model.proofs.Common.{ℕ, zero, suc, true, [], append-nil, length, length-append, Some, refl, sym, subst, arith, None, IsChecked, Meanings, Table, def_of, Val, fits, Place, Column, up, shape_at, as_fields, as_elements, Tree, hole, whole, begun, Trees, no_trees, branch, tree_nth, change_nth, tree_at, change_at, shape_in, child_as, tree_occurs, Mode, strict, deferred, State, cursor_shape, cursor_tree, one_more_call, initial, dropped_by_completing, complete, Way, enter_child, enters, puts, puts_and_leaves, leaves, Journal, HasParts, IsBegunAs, IsTouched, Suits, AllOff, AtCursor, OffBut, Leads, BeganAbove, IsInOrder}
 use Rattle.fr_model.proofs.Agreement.{Agrees, agree_nth, begun_count, leads_within, leads_child}
 use Rattle.fr_model.proofs.Beneath.{down}
 use Rattle.fr_model.proofs.Completing.{Made, completing_makes}
@@ -25,34 +12,31 @@ use Rattle.fr_model.proofs.Opening.{Enterable, Entry, entry, fresh_suits, fresh_
 
 pub at_cursor : (mode : Mode) (here : Place) (t : Tree) → Leads mode here t → AtCursor mode (tree_at here t)
 at_cursor mode [] t leads = leads
-at_cursor mode (i ∷ here) (begun form ts) leads =
-    at_cursor mode here (tree_nth i ts)
-    (leads_child mode i (λ child. Leads mode here child) ts leads)
+at_cursor mode (i ∷ here) (begun tracker ts) leads =
+    at_cursor mode here _ (leads_child mode i (λ child. Leads mode here child) ts leads)
 at_cursor mode (i ∷ here) _ leads = absurd leads
 
 pub suits_at : (mode : Mode) (table : Table) (s : ℕ) (here : Place) (t : Tree) → Leads mode here t → Suits table s t
     → Suits table (shape_in table s here t) (tree_at here t)
 suits_at mode table s [] t leads suits = suits
-suits_at mode table s (i ∷ here) (begun form ts) leads suits =
-    suits_at mode table (child_as table s form i) here (tree_nth i ts)
-    (leads_child mode i (λ child. Leads mode here child) ts leads)
-    (suit_nth table s form i 0 ts i (omega arith) suits.1)
+suits_at mode table s (i ∷ here) (begun tracker ts) leads suits =
+    suits_at mode table _ here _
+    (leads_child mode i (λ child. Leads mode here child) ts leads) (suit_nth table s tracker i 0 ts i (omega arith) suits.1)
 suits_at mode table s (i ∷ here) _ leads suits = absurd leads
 
 -- the places above the cursor's have parts to which the journal writes
 abbrev pub PartsAlong : Place → Tree → Type 0
 PartsAlong [] t = Unit {0}
-PartsAlong (i ∷ here) (begun form ts) = HasParts form × PartsAlong here (tree_nth i ts)
+PartsAlong (i ∷ here) (begun tracker ts) = HasParts tracker × PartsAlong here (tree_nth i ts)
 PartsAlong (i ∷ here) _ = ⊥
 
 pub parts_along : (mode : Mode) (table : Table) (s : ℕ) (here : Place) (t : Tree) (notes : Journal) → Leads mode here t
     → Agrees table s notes t → PartsAlong here t
 parts_along mode table s [] t notes leads agrees = tt
-parts_along mode table s (i ∷ here) (begun form ts) notes leads agrees = (
+parts_along mode table s (i ∷ here) (begun tracker ts) notes leads agrees = (
   agrees.2,
-  parts_along mode table (child_as table s form i) here (tree_nth i ts) (down i notes)
-      (leads_child mode i (λ child. Leads mode here child) ts leads)
-      (agree_nth table s form i 0 ts i notes (omega arith) (leads_within mode i (λ child. Leads mode here child) ts leads)
+  parts_along mode table _ here _ (down i notes) (leads_child mode i (λ child. Leads mode here child) ts leads)
+      (agree_nth table s tracker i 0 ts i notes (omega arith) (leads_within mode i (λ child. Leads mode here child) ts leads)
       agrees.1),
 )
 parts_along mode table s (i ∷ here) _ notes leads agrees = absurd leads
@@ -60,10 +44,8 @@ parts_along mode table s (i ∷ here) _ notes leads agrees = absurd leads
 pub same_shape : (table : Table) (s : ℕ) (here : Place) (t : Tree) → PartsAlong here t
     → shape_at table s here ≡ shape_in table s here t
 same_shape table s [] t along = refl
-same_shape table s (i ∷ here) (begun as_struct ts) along =
-    same_shape table (child_shape table s i) here (tree_nth i ts) along.1
-same_shape table s (i ∷ here) (begun as_array ts) along =
-    same_shape table (child_shape table s i) here (tree_nth i ts) along.1
+same_shape table s (i ∷ here) (begun (as_fields None) ts) along = same_shape table _ here _ along.1
+same_shape table s (i ∷ here) (begun as_elements ts) along = same_shape table _ here _ along.1
 same_shape table s (i ∷ here) (begun _ ts) along = absurd along.0
 same_shape table s (i ∷ here) _ along = absurd along
 
@@ -71,20 +53,18 @@ same_shape table s (i ∷ here) _ along = absurd along
 pub plain_at : (mode : Mode) (table : Table) (s : ℕ) (here : Place) (t : Tree) → PartsAlong here t → Leads mode here t
     → Suits table s t → AllPlain table s → AllPlain table (shape_in table s here t)
 plain_at mode table s [] t along leads suits plain = plain
-plain_at mode table s (i ∷ here) (begun form ts) along leads suits plain =
-    let count : count_trees ts ≡ child_count table s
-    = begun_count (def_of table s) form (count_trees ts) along.0 suits.0 in
-    let within : i < count_trees ts = leads_within mode i (λ child. Leads mode here child) ts leads in
-    plain_at mode table (child_as table s form i) here (tree_nth i ts) along.1
-    (leads_child mode i (λ child. Leads mode here child) ts leads)
-    (suit_nth table s form i 0 ts i (omega arith) suits.1) (plain_child table s form i along.0 (omega arith) plain)
+plain_at mode table s (i ∷ here) (begun tracker ts) along leads suits plain =
+    let count = begun_count _ tracker _ along.0 suits.0 in
+    let within = leads_within mode i (λ child. Leads mode here child) ts leads in
+    plain_at mode table (child_as table s tracker i) here _ along.1 (leads_child mode i (λ child. Leads mode here child) ts leads)
+    (suit_nth table s tracker i 0 ts i (omega arith) suits.1) (plain_child table s tracker i along.0 (omega arith) plain)
 plain_at mode table s (i ∷ here) _ along leads suits plain = absurd leads
 
 -- a place to which the cursor leads is no hole
 pub leads_touched : (mode : Mode) (here : Place) (t : Tree) → Leads mode here t → IsTouched t
 leads_touched mode [] hole leads = absurd leads
 leads_touched mode [] _ leads = tt
-leads_touched mode (i ∷ here) (begun form ts) leads = tt
+leads_touched mode (i ∷ here) (begun tracker ts) leads = tt
 leads_touched mode (i ∷ here) _ leads = absurd leads
 
 -- a change there
@@ -93,40 +73,35 @@ leads_touched mode (i ∷ here) _ leads = absurd leads
 changed_touched : (mode : Mode) (here : Place) (t : Tree) (change : Tree → Tree) → Leads mode here t
     → IsTouched (change (tree_at here t)) → IsTouched (change_at here change t)
 changed_touched mode [] t change leads touched = touched
-changed_touched mode (i ∷ here) (begun form ts) change leads touched = tt
+changed_touched mode (i ∷ here) (begun tracker ts) change leads touched = tt
 changed_touched mode (i ∷ here) _ change leads touched = absurd leads
 
 pub suits_changed : (mode : Mode) (table : Table) (s : ℕ) (here : Place) (t : Tree) (change : Tree → Tree) → Leads mode here t
     → Suits table s t → IsTouched (change (tree_at here t))
     → Suits table (shape_in table s here t) (change (tree_at here t)) → Suits table s (change_at here change t)
 suits_changed mode table s [] t change leads suits touched changed = changed
-suits_changed mode table s (i ∷ here) (begun form ts) change leads suits touched changed = (
-  subst (λ (n : ℕ). IsBegunAs (def_of table s) form n)
-      (sym (count_change i (λ child. change_at here change child) ts)) suits.0,
-  suit_change table s form i 0 ts i (λ child. change_at here change child) (omega arith) suits.1
-      (λ child. suits_changed mode table (child_as table s form i) here (tree_nth i ts) change
-      (leads_child mode i (λ c. Leads mode here c) ts leads) child touched changed),
-  rightly_changed table s form ts i (λ child. change_at here change child)
-      (changed_touched mode here (tree_nth i ts) change (leads_child mode i (λ c. Leads mode here c) ts leads) touched)
-      suits.2,
+suits_changed mode table s (i ∷ here) (begun tracker ts) change leads suits touched changed = (
+  subst (λ (n : ℕ). IsBegunAs (def_of table s) tracker n) (sym (count_change i (λ child. change_at here change child) ts)) suits.0,
+  suit_change table s tracker i 0 ts i (λ child. change_at here change child) (omega arith) suits.1
+      (λ child. suits_changed mode table _ here _ change (leads_child mode i (λ c. Leads mode here c) ts leads) child touched changed),
+  rightly_changed table s tracker ts i (λ child. change_at here change child)
+      (changed_touched mode here _ change (leads_child mode i (λ c. Leads mode here c) ts leads) touched) suits.2,
 )
 suits_changed mode table s (i ∷ here) _ change leads suits touched changed = absurd leads
 
 pub off_change : (mode : Mode) (i : ℕ) (Below After : Tree → Type 0) (change : Tree → Tree) (ts : Trees)
-    → (Below (tree_nth i ts) → After (change (tree_nth i ts))) → OffBut mode i Below ts
-    → OffBut mode i After (change_nth i change ts)
+    → (Below (tree_nth i ts) → After (change (tree_nth i ts))) → OffBut mode i Below ts → OffBut mode i After (change_nth i change ts)
 off_change mode i Below After change no_trees step off = absurd off
 off_change mode zero Below After change (branch t ts) step off = (step off.0, off.1)
-off_change mode (suc i) Below After change (branch t ts) step off =
-    (off.0, off_change mode i Below After change ts step off.1)
+off_change mode (suc i) Below After change (branch t ts) step off = (off.0, off_change mode i Below After change ts step off.1)
 
 -- the cursor goes on from there
 pub leads_on : (mode : Mode) (here way : Place) (t : Tree) (change : Tree → Tree) → Leads mode here t
     → Leads mode way (change (tree_at here t)) → Leads mode (here ++ way) (change_at here change t)
 leads_on mode [] way t change leads on = on
-leads_on mode (i ∷ here) way (begun form ts) change leads on =
-    off_change mode i (λ child. Leads mode here child) (λ child. Leads mode (here ++ way) child)
-    (λ child. change_at here change child) ts (λ child. leads_on mode here way (tree_nth i ts) change child on) leads
+leads_on mode (i ∷ here) way (begun tracker ts) change leads on =
+    off_change mode i (λ child. Leads mode here child) (λ child. Leads mode _ child)
+    (λ child. change_at here change child) ts (λ child. leads_on mode here way _ change child on) leads
 leads_on mode (i ∷ here) way _ change leads on = absurd leads
 
 whole_among : (mode : Mode) (i : ℕ) (Below : Tree → Type 0) (v : Val) (ts : Trees) → OffBut mode i Below ts
@@ -139,12 +114,11 @@ whole_among mode (suc i) Below v (branch t ts) off = (off.0, whole_among mode i 
 pub leads_up : (mode : Mode) (here : Place) (t : Tree) (v : Val) → Leads mode here t
     → Leads mode (up here) (change_at here (λ old. whole v) t)
 leads_up mode [] t v leads = tt
-leads_up mode (i ∷ []) (begun form ts) v leads = whole_among mode i (λ child. Leads mode [] child) v ts leads
+leads_up mode (i ∷ []) (begun tracker ts) v leads = whole_among mode i (λ child. Leads mode [] child) v ts leads
 leads_up mode (i ∷ []) _ v leads = absurd leads
-leads_up mode (i ∷ j ∷ here) (begun form ts) v leads =
-    off_change mode i (λ child. Leads mode (j ∷ here) child) (λ child. Leads mode (up (j ∷ here)) child)
-    (λ child. change_at (j ∷ here) (λ old. whole v) child) ts
-    (λ child. leads_up mode (j ∷ here) (tree_nth i ts) v child) leads
+leads_up mode (i ∷ j ∷ here) (begun tracker ts) v leads =
+    off_change mode i (λ child. Leads mode (j ∷ here) child) (λ child. Leads mode _ child)
+    (λ child. change_at (j ∷ here) (λ old. whole v) child) ts (λ child. leads_up mode (j ∷ here) _ v child) leads
 leads_up mode (i ∷ j ∷ here) _ v leads = absurd leads
 
 off_same : (mode : Mode) (i : ℕ) (Below After : Tree → Type 0) (ts : Trees)
@@ -154,24 +128,21 @@ off_same mode zero Below After (branch t ts) step off = (step off.0, off.1)
 off_same mode (suc i) Below After (branch t ts) step off = (off.0, off_same mode i Below After ts step off.1)
 
 -- in deferred mode the cursor goes up from a place that is left as it is
-pub leads_left : (start : ℕ) (here : Place) (t : Tree) → Leads (deferred start) here t
-    → Leads (deferred start) (up here) t
+pub leads_left : (start : ℕ) (here : Place) (t : Tree) → Leads (deferred start) here t → Leads (deferred start) (up here) t
 leads_left start [] t leads = leads
-leads_left start (i ∷ []) (begun form ts) leads = all_deferred start ts
+leads_left start (i ∷ []) (begun tracker ts) leads = all_deferred start ts
 leads_left start (i ∷ []) _ leads = absurd leads
-leads_left start (i ∷ j ∷ here) (begun form ts) leads =
+leads_left start (i ∷ j ∷ here) (begun tracker ts) leads =
     off_same (deferred start) i (λ child. Leads (deferred start) (j ∷ here) child)
-    (λ child. Leads (deferred start) (up (j ∷ here)) child) ts
-    (λ child. leads_left start (j ∷ here) (tree_nth i ts) child) leads
+    (λ child. Leads (deferred start) _ child) ts (λ child. leads_left start (j ∷ here) _ child) leads
 leads_left start (i ∷ j ∷ here) _ leads = absurd leads
 
 -- deferred mode begins
 
 strict_all : (start : ℕ) (t : Tree) → AtCursor strict t → AtCursor (deferred start) t
 strict_all start hole at = absurd at
-strict_all start entered at = tt
-strict_all start (whole v) at = tt
-strict_all start (begun form ts) at = all_deferred start ts
+strict_all start (begun tracker ts) at = all_deferred start ts
+strict_all start _ at = tt
 
 off_deferred : (start i : ℕ) (Below After : Tree → Type 0) (ts : Trees)
     → (Below (tree_nth i ts) → After (tree_nth i ts)) → OffBut strict i Below ts → OffBut (deferred start) i After ts
@@ -181,9 +152,9 @@ off_deferred start (suc i) Below After (branch t ts) step off = (tt, off_deferre
 
 pub leads_deferred : (start : ℕ) (here : Place) (t : Tree) → Leads strict here t → Leads (deferred start) here t
 leads_deferred start [] t leads = strict_all start t leads
-leads_deferred start (i ∷ here) (begun form ts) leads =
+leads_deferred start (i ∷ here) (begun tracker ts) leads =
     off_deferred start i (λ child. Leads strict here child) (λ child. Leads (deferred start) here child) ts
-    (λ child. leads_deferred start here (tree_nth i ts) child) leads
+    (λ child. leads_deferred start here _ child) leads
 leads_deferred start (i ∷ here) _ leads = absurd leads
 
 -- where deferred mode began
@@ -204,29 +175,21 @@ began_strict (deferred start) here is = cc
 -- states in order
 
 pub start_in_order : (table : Table) (root : ℕ) → IsInOrder table root (initial table root)
-start_in_order table root = record {
-  suits = fresh_suits table root;
-  leads = fresh_at_cursor strict (def_of table root);
-  began = tt;
-}
+start_in_order table root = record { suits = fresh_suits table root; leads = fresh_at_cursor strict _; began = tt }
 
 pub entry_at : (table : Table) (root : ℕ) (state : State) (i : ℕ)
     → Enterable table (cursor_shape table root state) i (cursor_tree state) → IsInOrder table root state
     → Entry state.mode table (cursor_shape table root state) i (cursor_tree state)
     (enter_child table (cursor_shape table root state) i (cursor_tree state))
 entry_at table root state i enterable order =
-    entry state.mode table (cursor_shape table root state) i (cursor_tree state) enterable
-    (at_cursor state.mode state.cursor state.tree order.leads)
+    entry state.mode table _ i _ enterable (at_cursor state.mode state.cursor state.tree order.leads)
     (suits_at state.mode table root state.cursor state.tree order.leads order.suits)
 
 -- the place at the cursor becomes another that suits its shape and may be the cursor's
 pub changed_in_order : (table : Table) (root : ℕ) (state : State) (change : Tree → Tree)
     → Suits table (cursor_shape table root state) (change (cursor_tree state)) → AtCursor state.mode (change (cursor_tree state))
     → IsInOrder table root state
-    → IsInOrder table root (record state {
-      tree = change_at state.cursor change state.tree;
-      calls = one_more_call state.calls;
-    })
+    → IsInOrder table root (record state { tree = change_at state.cursor change state.tree; calls = one_more_call state.calls })
 changed_in_order table root state change suits at order = record {
   suits = suits_changed state.mode table root state.cursor state.tree change order.leads order.suits
       (leads_touched state.mode [] (change (cursor_tree state)) at) suits;
@@ -255,12 +218,10 @@ pub begun_in_order : (table : Table) (root : ℕ) (state : State) (i : ℕ)
     → Enterable table (cursor_shape table root state) i (cursor_tree state) → IsInOrder table root state
     → IsInOrder table root (enters table (cursor_shape table root state) state (Way.Child i))
 begun_in_order table root state i enterable order =
-    let child = entry_at table root state i enterable order in
-    moved_in_order table root state i (enter_child table (cursor_shape table root state) i) child.suits child.leads order
+    let child = entry_at table root state i enterable order in moved_in_order table root state i _ child.suits child.leads order
 
 pub put_in_order : (table : Table) (root : ℕ) (state : State) (v : Val)
-    → fits table (cursor_shape table root state) v ≡ true → IsInOrder table root state
-    → IsInOrder table root (puts state v)
+    → fits table (cursor_shape table root state) v ≡ true → IsInOrder table root state → IsInOrder table root (puts state v)
 put_in_order table root state v fit order = changed_in_order table root state (λ old. whole v) fit tt order
 
 -- what the place at the cursor makes
@@ -274,8 +235,7 @@ made_at column hooks table root state v checked e order =
     (suits_at state.mode table root state.cursor state.tree order.leads order.suits) e
 
 pub ended_in_order : (column : Column) (hooks : Meanings) (table : Table) (root : ℕ) (state : State) (v : Val)
-    → IsChecked table → state.mode ≡ strict
-    → complete column hooks table (cursor_shape table root state) (cursor_tree state) ≡ Some v
+    → IsChecked table → state.mode ≡ strict → complete column hooks table (cursor_shape table root state) (cursor_tree state) ≡ Some v
     → IsInOrder table root state → IsInOrder table root (puts_and_leaves state v)
 ended_in_order column hooks table root state v checked is_strict e order =
     let made = made_at column hooks table root state v checked e order in
@@ -294,8 +254,7 @@ left_in_order table root start state is deeper order = record {
   began = began_up state.mode is;
 }
   where
-    of_mode : (mode : Mode) → mode ≡ deferred start → Leads mode state.cursor state.tree
-        → Leads mode (up state.cursor) state.tree
+    of_mode : (mode : Mode) → mode ≡ deferred start → Leads mode state.cursor state.tree → Leads mode (up state.cursor) state.tree
     of_mode strict is leads = cc
     of_mode (deferred from) is leads = leads_left from state.cursor state.tree leads
 

@@ -1,12 +1,6 @@
 -- Items of which no two are the same, and entries with distinct keys, make a set and a map of just these.
-use Rattle.std.proofs.Common.{◌≡◌, ℕ, ◌+◌, Bool, true, false, not, ◌&&◌, ◌||◌, if◌then◌else◌, true≢false, refl, sym, ap, ◌∙◌}
-use Rattle.fr_shape.specs.Same.{same, is_among, none_twice, keys}
-use Rattle.fr_shape.specs.Tokens.{occurs}
-use Rattle.fr_shape.specs.Val.{Val, Vals, Entries, no_vals, first, no_entries, entry}
-use Rattle.fr_model.specs.Collections.{has_same}
-use Rattle.fr_model.specs.Gathering.{is_there, and_last_val, items_in, items_left_out, with_entry_in, entry_leaves_out, entries_in, entries_left_out}
-use Rattle.fr_model.specs.Places.{in_turn}
-use Rattle.fr_model.specs.Tree.{wholes}
+use Rattle.std.proofs.Common.{◌≡◌, ◌+◌, ◌&&◌, ◌||◌, if◌then◌else◌}
+use Rattle.fr_model.proofs.Common.{ℕ, Bool, true, false, not, true≢false, refl, sym, ap, ◌∙◌, same, is_among, none_twice, keys, occurs, Val, Vals, Entries, no_vals, first, no_entries, entry, has_same, is_there, and_last_val, items_in, items_left_out, with_entry_in, entry_leaves_out, entries_in, entries_left_out, in_turn, wholes}
 
 both_true : (a b : Bool) → a && b ≡ true → (a ≡ true) × (b ≡ true)
 both_true true b e = (refl, e)
@@ -43,7 +37,7 @@ not_among u (first w us) v vs e = not_among u us v vs (neither (same u w) (is_am
 new_behind : (us : Vals) (v : Val) (vs : Vals) → none_twice (joined us (first v vs)) ≡ true → is_there v us ≡ false
 new_behind no_vals v vs apart = refl
 new_behind (first u us) v vs apart =
-    let parts = both_true (not (is_among u (joined us (first v vs)))) (none_twice (joined us (first v vs))) apart in
+    let parts = both_true _ _ apart in
     let here = not_among u us v vs (not_true (is_among u (joined us (first v vs))) parts.0) in
     let others = new_behind us v vs parts.1 in
     λ j. here j || others j
@@ -52,7 +46,7 @@ pub items_behind : (us vs : Vals) → none_twice (joined us vs) ≡ true → ite
 items_behind us no_vals apart = sym (joined_none us)
 items_behind us (first v vs) apart =
     ap (λ (b : Bool). items_in (if b then us else and_last_val us v) vs) (new_behind us v vs apart)
-    ∙ items_behind (and_last_val us v) vs (ap none_twice (pushed us v vs) ∙ apart) ∙ pushed us v vs
+    ∙ items_behind _ vs (ap none_twice (pushed us v vs) ∙ apart) ∙ pushed us v vs
 
 pub none_left_behind : (us vs : Vals) (t : ℕ) → none_twice (joined us vs) ≡ true → items_left_out us vs t ≡ 0
 none_left_behind us no_vals t apart = refl
@@ -60,7 +54,7 @@ none_left_behind us (first v vs) t apart =
     let new = new_behind us v vs apart in
     let here = ap (λ (b : Bool). if b then occurs v t else 0) new in
     let others = ap (λ (b : Bool). items_left_out (if b then us else and_last_val us v) vs t) new
-    ∙ none_left_behind (and_last_val us v) vs t (ap none_twice (pushed us v vs) ∙ apart) in
+    ∙ none_left_behind _ vs t (ap none_twice (pushed us v vs) ∙ apart) in
     λ j. here j + others j
 
 -- Entries
@@ -88,33 +82,29 @@ keys_joined (entry k v there) es = ap (first k) (keys_joined there es)
 
 new_key : (there : Entries) (k v : Val) (es : Entries) → none_twice (keys (joined_entries there (entry k v es))) ≡ true
     → is_there k (keys there) ≡ false
-new_key there k v es apart =
-    new_behind (keys there) k (keys es) (ap none_twice (sym (keys_joined there (entry k v es))) ∙ apart)
+new_key there k v es apart = new_behind (keys there) k (keys es) (ap none_twice (sym (keys_joined there _)) ∙ apart)
 
 -- an entry with a new key comes last, and leaves nothing out
 
 added : (there : Entries) (k v : Val) → is_there k (keys there) ≡ false → with_entry_in there k v ≡ and_last_entry there k v
 added no_entries k v new = refl
 added (entry l w there) k v new =
-    let parts = neither (same l k) (is_there k (keys there)) new in
+    let parts = neither (same l k) _ new in
     ap (λ (b : Bool). if b then entry l v there else entry l w (with_entry_in there k v)) parts.0
     ∙ ap (entry l w) (added there k v parts.1)
 
 leaves_none : (there : Entries) (k : Val) (t : ℕ) → is_there k (keys there) ≡ false → entry_leaves_out there k t ≡ 0
 leaves_none no_entries k t new = refl
 leaves_none (entry l w there) k t new =
-    let parts = neither (same l k) (is_there k (keys there)) new in
-    ap (λ (b : Bool). if b then occurs k t + occurs w t else entry_leaves_out there k t) parts.0
-    ∙ leaves_none there k t parts.1
+    let parts = neither (same l k) _ new in
+    ap (λ (b : Bool). if b then occurs k t + occurs w t else entry_leaves_out there k t) parts.0 ∙ leaves_none there k t parts.1
 
 pub entries_behind : (there es : Entries) → none_twice (keys (joined_entries there es)) ≡ true
     → entries_in there (in_turn es) ≡ joined_entries there es
 entries_behind there no_entries apart = sym (joined_no_entries there)
 entries_behind there (entry k v es) apart =
-    ap (λ (here : Entries). entries_in here (in_turn es)) (added there k v (new_key there k v es apart))
-    ∙ entries_behind (and_last_entry there k v) es
-    (ap (λ (all : Entries). none_twice (keys all)) (pushed_entry there k v es) ∙ apart)
-    ∙ pushed_entry there k v es
+    ap (λ (here : Entries). entries_in here (in_turn es)) (added there k v (new_key there k v es apart)) ∙ entries_behind _ es
+    (ap (λ (all : Entries). none_twice (keys all)) (pushed_entry there k v es) ∙ apart) ∙ pushed_entry there k v es
 
 pub no_entry_left_behind : (there es : Entries) (t : ℕ) → none_twice (keys (joined_entries there es)) ≡ true
     → entries_left_out there (in_turn es) t ≡ 0
@@ -122,8 +112,7 @@ no_entry_left_behind there no_entries t apart = refl
 no_entry_left_behind there (entry k v es) t apart =
     let here = leaves_none there k t (new_key there k v es apart) in
     let others = ap (λ (all : Entries). entries_left_out all (in_turn es) t) (added there k v (new_key there k v es apart))
-    ∙ no_entry_left_behind (and_last_entry there k v) es t
-    (ap (λ (all : Entries). none_twice (keys all)) (pushed_entry there k v es) ∙ apart) in
+    ∙ no_entry_left_behind _ es t (ap (λ (all : Entries). none_twice (keys all)) (pushed_entry there k v es) ∙ apart) in
     λ j. here j + others j
 
 -- among whole places a value has its like exactly where it has one among their values

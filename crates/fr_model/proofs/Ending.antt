@@ -1,30 +1,13 @@
 -- The cursor goes up: from a place that becomes whole with what it makes, and from an item that its set takes.
-use Rattle.std.proofs.Common.{◌≡◌, ℕ, zero, suc, ◌+◌, ◌<◌, Bool, true, false, if◌then◌else◌, [], ◌∷◌, length, Some, refl, sym, ap, subst, arith}
-use Rattle.fr_shape.specs.Checked.{IsChecked}
-use Rattle.fr_shape.specs.Fits.{fits}
-use Rattle.fr_shape.specs.Hooks.{Meanings}
-use Rattle.fr_shape.specs.Look.{Table}
-use Rattle.fr_shape.specs.Tokens.{occurs}
-use Rattle.fr_shape.specs.Val.{Val}
-use Rattle.fr_model.specs.Collections.{is_set, has_same, without_nth, and_item, with_ended_item, leaves_item_out, number_in}
-use Rattle.fr_model.specs.Complete.{complete}
-use Rattle.fr_model.specs.Dropping.{dropped_by_completing}
-use Rattle.fr_model.specs.Places.{Place, Column, is_root, up}
-use Rattle.fr_model.specs.Step.{puts_and_leaves, is_set_item, takes_item}
-use Rattle.fr_model.specs.Tree.{as_set, Tree, whole, begun, Trees, no_trees, branch, tree_nth, tree_at, change_at, and_last, shape_in, child_as, count_trees, tree_occurs, trees_occur, Mode, strict, deferred, State, cursor_shape, cursor_tree}
-use Rattle.fr_model.specs.Well.{AreTouched, IsTouched, Suits, AllOff, OffBut, Leads, BeganAbove, IsInOrder}
-use Rattle.fr_model.proofs.Agreement.{leads_child}
+use Rattle.std.proofs.Common.{◌≡◌, ◌+◌, ◌<◌, if◌then◌else◌, ◌∷◌}
+use Rattle.fr_model.proofs.Common.{ℕ, zero, suc, Bool, true, false, [], length, Some, refl, sym, ap, subst, arith, IsChecked, fits, Meanings, Table, occurs, Val, is_set, has_same, without_nth, and_item, with_ended_item, leaves_item_out, number_in, complete, dropped_by_completing, Place, Column, is_root, up, puts_and_leaves, is_set_item, takes_item, as_items, ItemsKind, Tree, whole, begun, Trees, no_trees, branch, tree_nth, tree_at, change_at, and_last, shape_in, child_as, count_trees, tree_occurs, trees_occur, Mode, strict, deferred, State, cursor_shape, cursor_tree, AreTouched, IsTouched, Suits, AllOff, OffBut, Leads, BeganAbove, IsInOrder}
+use Rattle.fr_model.proofs.Basis.{leads_child, Made, suits_at, suits_changed, off_change, leads_up, leads_left, leads_deferred, up_long, made_at, whole_off, SuitFrom, change_holds}
 use Rattle.fr_model.proofs.Collections.{all_last}
-use Rattle.fr_model.proofs.Completing.{Made}
-use Rattle.fr_model.proofs.Cursor.{suits_at, suits_changed, off_change, leads_up, leads_left, leads_deferred, up_long, made_at}
 use Rattle.fr_model.proofs.Items.{last_suits, last_touched, last_holds}
-use Rattle.fr_model.proofs.Opening.{whole_off}
-use Rattle.fr_model.proofs.Structs.{SuitFrom}
-use Rattle.fr_model.proofs.Tokens.{change_holds}
+use Rattle.fr_model.proofs.Resting.{either_way}
 
 -- deferred mode began above a place that is left
-pub began_up : (mode : Mode) (start : ℕ) (here : Place) → mode ≡ deferred start → start < length here
-    → BeganAbove mode (up here)
+pub began_up : (mode : Mode) (start : ℕ) (here : Place) → mode ≡ deferred start → start < length here → BeganAbove mode (up here)
 began_up strict start here is deeper = tt
 began_up (deferred from) start here is deeper = let same : from ≡ start = cc in omega (arith, deeper, up_long here)
 
@@ -55,32 +38,30 @@ leads_above (deferred start) here t leads = leads_left start here t leads
 
 pub record ItemAt (table : Table) (s : ℕ) (here : Place) (t : Tree) : Type 0 where
   pub children : Trees
-  pub is : tree_at (up here) t ≡ begun as_set children
+  pub is : tree_at (up here) t ≡ begun (as_items ItemsKind.Set) children
   pub item : tree_at here t ≡ tree_nth (number_in here) children
-  pub shape : shape_in table s here t ≡ child_as table (shape_in table s (up here) t) as_set (number_in here)
+  pub shape : shape_in table s here t ≡ child_as table (shape_in table s (up here) t) (as_items ItemsKind.Set) (number_in here)
 
 pub item_at : (mode : Mode) (table : Table) (s : ℕ) (here : Place) (t : Tree) → is_root here ≡ false
     → is_set (tree_at (up here) t) ≡ true → Leads mode here t → ItemAt table s here t
 item_at mode table s [] t root of_set leads = cc
-item_at mode table s (i ∷ []) (begun as_set ts) root of_set leads =
+item_at mode table s (i ∷ []) (begun (as_items ItemsKind.Set) ts) root of_set leads =
     record { children = ts; is = refl; item = refl; shape = refl }
 item_at mode table s (i ∷ []) (begun _ ts) root of_set leads = cc
 item_at mode table s (i ∷ []) _ root of_set leads = absurd leads
-item_at mode table s (i ∷ j ∷ here) (begun form ts) root of_set leads =
-    let below : ItemAt table (child_as table s form i) (j ∷ here) (tree_nth i ts)
-    = item_at mode table (child_as table s form i) (j ∷ here) (tree_nth i ts) refl of_set
-    (leads_child mode i (λ child. Leads mode (j ∷ here) child) ts leads) in
+item_at mode table s (i ∷ j ∷ here) (begun tracker ts) root of_set leads =
+    let below = item_at mode table _ (j ∷ here) _ refl of_set (leads_child mode i (λ child. Leads mode (j ∷ here) child) ts leads) in
     record { children = below.children; is = below.is; item = below.item; shape = below.shape }
 item_at mode table s (i ∷ j ∷ here) _ root of_set leads = absurd leads
 
 -- the set without it, and with its value
 
-next_suits : (table : Table) (s k : ℕ) (ts : Trees) → SuitFrom table s as_set (suc k) ts → SuitFrom table s as_set k ts
+next_suits : (table : Table) (s k : ℕ) (ts : Trees) → SuitFrom table s (as_items ItemsKind.Set) (suc k) ts → SuitFrom table s (as_items ItemsKind.Set) k ts
 next_suits table s k no_trees suit = tt
 next_suits table s k (branch t ts) suit = (suit.0, next_suits table s (suc k) ts suit.1)
 
-without_suits : (table : Table) (s i k : ℕ) (ts : Trees) → SuitFrom table s as_set k ts
-    → SuitFrom table s as_set k (without_nth i ts)
+without_suits : (table : Table) (s i k : ℕ) (ts : Trees) → SuitFrom table s (as_items ItemsKind.Set) k ts
+    → SuitFrom table s (as_items ItemsKind.Set) k (without_nth i ts)
 without_suits table s i k no_trees suit = tt
 without_suits table s zero k (branch t ts) suit = next_suits table s k ts suit.1
 without_suits table s (suc i) k (branch t ts) suit = (suit.0, without_suits table s i (suc k) ts suit.1)
@@ -90,8 +71,7 @@ without_touched i no_trees touched = tt
 without_touched zero (branch t ts) touched = touched.1
 without_touched (suc i) (branch t ts) touched = (touched.0, without_touched i ts touched.1)
 
-without_off : (mode : Mode) (i : ℕ) (Below : Tree → Type 0) (ts : Trees) → OffBut mode i Below ts
-    → AllOff mode (without_nth i ts)
+without_off : (mode : Mode) (i : ℕ) (Below : Tree → Type 0) (ts : Trees) → OffBut mode i Below ts → AllOff mode (without_nth i ts)
 without_off mode i Below no_trees off = absurd off
 without_off mode zero Below (branch t ts) off = off.1
 without_off mode (suc i) Below (branch t ts) off = (off.0, without_off mode i Below ts off.1)
@@ -102,32 +82,21 @@ without_holds i no_trees token = refl
 without_holds zero (branch t ts) token = omega arith
 without_holds (suc i) (branch t ts) token = let rest = without_holds i ts token in omega arith
 
-with_suits : (table : Table) (s : ℕ) (ts : Trees) (v : Val) → fits table (child_as table s as_set (count_trees ts)) v ≡ true
-    → SuitFrom table s as_set 0 ts → SuitFrom table s as_set 0 (and_item ts v)
-with_suits table s ts v fit suit = go (has_same v ts)
-  where
-    go : (b : Bool) → SuitFrom table s as_set 0 (if b then ts else and_last ts (whole v))
-    go true = suit
-    go false = last_suits table s as_set (count_trees ts) 0 ts (whole v) (omega arith) suit fit
+with_suits : (table : Table) (s : ℕ) (ts : Trees) (v : Val) → fits table (child_as table s (as_items ItemsKind.Set) (count_trees ts)) v ≡ true
+    → SuitFrom table s (as_items ItemsKind.Set) 0 ts → SuitFrom table s (as_items ItemsKind.Set) 0 (and_item ts v)
+with_suits table s ts v fit suit =
+    either_way (SuitFrom table s (as_items ItemsKind.Set) 0) ts v suit
+    (last_suits table s (as_items ItemsKind.Set) (count_trees ts) 0 ts (whole v) (omega arith) suit fit)
 
 with_touched : (ts : Trees) (v : Val) → AreTouched ts → AreTouched (and_item ts v)
-with_touched ts v touched = go (has_same v ts)
-  where
-    go : (b : Bool) → AreTouched (if b then ts else and_last ts (whole v))
-    go true = touched
-    go false = last_touched ts (whole v) touched tt
+with_touched ts v touched = either_way AreTouched ts v touched (last_touched ts (whole v) touched tt)
 
 with_off : (mode : Mode) (ts : Trees) (v : Val) → AllOff mode ts → AllOff mode (and_item ts v)
-with_off mode ts v off = go (has_same v ts)
-  where
-    go : (b : Bool) → AllOff mode (if b then ts else and_last ts (whole v))
-    go true = off
-    go false = all_last mode ts (whole v) (whole_off mode v) off
+with_off mode ts v off = either_way (AllOff mode) ts v off (all_last mode ts (whole v) (whole_off mode v) off)
 
 with_holds : (ts : Trees) (v : Val) (token : ℕ)
-    → trees_occur (and_item ts v) token + (if has_same v ts then occurs v token else 0)
-    ≡ trees_occur ts token + occurs v token
-with_holds ts v token = go (has_same v ts)
+    → trees_occur (and_item ts v) token + (if has_same v ts then occurs v token else 0) ≡ trees_occur ts token + occurs v token
+with_holds ts v token = go _
   where
     go : (b : Bool) → trees_occur (if b then ts else and_last ts (whole v)) token + (if b then occurs v token else 0)
         ≡ trees_occur ts token + occurs v token
@@ -138,13 +107,13 @@ with_holds ts v token = go (has_same v ts)
 leads_took : (mode : Mode) (here : Place) (t : Tree) (v : Val) → is_root here ≡ false → Leads mode here t
     → Leads mode (up here) (change_at (up here) (with_ended_item (number_in here) v) t)
 leads_took mode [] t v root leads = cc
-leads_took mode (i ∷ []) (begun form ts) v root leads =
-    with_off mode (without_nth i ts) v (without_off mode i (λ child. Leads mode [] child) ts leads)
+leads_took mode (i ∷ []) (begun tracker ts) v root leads =
+    with_off mode _ v (without_off mode i (λ child. Leads mode [] child) ts leads)
 leads_took mode (i ∷ []) _ v root leads = absurd leads
-leads_took mode (i ∷ j ∷ here) (begun form ts) v root leads =
-    off_change mode i (λ child. Leads mode (j ∷ here) child) (λ child. Leads mode (up (j ∷ here)) child)
-    (λ child. change_at (up (j ∷ here)) (with_ended_item (number_in (j ∷ here)) v) child) ts
-    (λ child. leads_took mode (j ∷ here) (tree_nth i ts) v refl child) leads
+leads_took mode (i ∷ j ∷ here) (begun tracker ts) v root leads =
+    off_change mode i (λ child. Leads mode (j ∷ here) child) (λ child. Leads mode _ child)
+    (λ child. change_at _ (with_ended_item (number_in (j ∷ here)) v) child) ts
+    (λ child. leads_took mode (j ∷ here) _ v refl child) leads
 leads_took mode (i ∷ j ∷ here) _ v root leads = absurd leads
 
 pub took_in_order : (column : Column) (hooks : Meanings) (table : Table) (root : ℕ) (state : State) (v : Val)
@@ -180,26 +149,20 @@ took_in_order column hooks table root state v checked below of_set began e order
         (λ k. tree_occurs (cursor_tree state) k) v
     made = made_at column hooks table root state v checked e order
 
-    there : Suits table set_shape (begun as_set at.children)
+    there : Suits table set_shape (begun (as_items ItemsKind.Set) at.children)
     there =
         subst (λ (u : Tree). Suits table set_shape u) at.is
         (suits_at (loosened state.mode) table root (up state.cursor) state.tree above order.suits)
 
 -- and the set holds its value in its place, or leaves it out
 pub took_holds : (table : Table) (root : ℕ) (state : State) (v : Val) (token : ℕ) → is_root state.cursor ≡ false
-    → is_set_item state ≡ true → Leads state.mode state.cursor state.tree
-    → tree_occurs (takes_item state v).tree token
+    → is_set_item state ≡ true → Leads state.mode state.cursor state.tree → tree_occurs (takes_item state v).tree token
     + (if leaves_item_out (number_in state.cursor) v (tree_at (up state.cursor) state.tree) then occurs v token else 0)
-    + tree_occurs (cursor_tree state) token
-    ≡ tree_occurs state.tree token + occurs v token
+    + tree_occurs (cursor_tree state) token ≡ tree_occurs state.tree token + occurs v token
 took_holds table root state v token below of_set leads =
-    let there : tree_occurs (takes_item state v).tree token + tree_occurs set token
-    ≡ tree_occurs state.tree token + tree_occurs (with_ended_item i v set) token
-    = change_holds (loosened state.mode) (up state.cursor) state.tree (with_ended_item i v) token
-    (leads_above state.mode state.cursor state.tree leads) in
+    let there = change_holds _ _ state.tree (with_ended_item i v) token (leads_above state.mode state.cursor state.tree leads) in
     let changed : tree_occurs (with_ended_item i v set) token + (if leaves_item_out i v set then occurs v token else 0)
-    + tree_occurs (cursor_tree state) token
-    ≡ tree_occurs set token + occurs v token = subst
+    + tree_occurs (cursor_tree state) token ≡ tree_occurs set token + occurs v token = subst
     (λ (u : Tree). tree_occurs (with_ended_item i v u) token + (if leaves_item_out i v u then occurs v token else 0)
     + tree_occurs (cursor_tree state) token ≡ tree_occurs u token + occurs v token) (sym at.is) of_children in
     omega arith

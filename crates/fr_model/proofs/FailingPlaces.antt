@@ -1,22 +1,7 @@
 -- Which places fail at the end of deferred mode, and what that end is where every place off the way is whole or a hole.
-use Rattle.std.proofs.Common.{◌≡◌, ℕ, zero, suc, ◌+◌, ◌<◌, List, [], ◌∷◌, ◌++◌, append-nil, append_assoc, Option, Some, None, refl, ◌∙◌, ap, ap₂, subst, arith}
-use Rattle.std.specs.List.{Contains}
-use Rattle.std.specs.Option.{option_map}
-use Rattle.std.proofs.lemmas.List.Elements.{Contains-append_left, Contains-append_right}
-use Rattle.fr_shape.specs.declared.error.ReflectErrorKind.{ReflectErrorKind}
-use Rattle.fr_shape.specs.Hooks.{Meanings}
-use Rattle.fr_shape.specs.Look.{Table}
-use Rattle.fr_path.specs.declared.path_steps.PathStep.{PathStep}
-use Rattle.fr_model.specs.Failing.{own_lack, lack_of_begun, Failure, failure_at, or_itself, failures, failures_among}
-use Rattle.fr_model.specs.FailingLaws.{IsHalfDone, LackingFails, NothingFailsOfDone, FinishOfDone}
-use Rattle.fr_model.specs.Finish.{closed, one_more_tree, closed_all, closed_but, finished_here, finished, failures_but, failures_off}
-use Rattle.fr_model.specs.Finishing.{IsOffTheWay}
-use Rattle.fr_model.specs.Paths.{step_as, steps_in}
-use Rattle.fr_model.specs.Places.{Place}
-use Rattle.fr_model.specs.Relation.{HasPlace}
-use Rattle.fr_model.specs.Tree.{Form, strict, Tree, hole, entered, whole, begun, Trees, no_trees, branch, tree_nth, change_nth, tree_at, change_at, child_as, shape_in, count_trees}
-use Rattle.fr_model.specs.Well.{IsOff, AllOff, AtCursor, OffBut, Leads}
-use Rattle.fr_model.proofs.Agreement.{leads_child}
+use Rattle.std.proofs.Common.{◌≡◌, ◌+◌, ◌<◌, ◌∷◌, ◌++◌}
+use Rattle.fr_model.proofs.Common.{ℕ, zero, suc, List, [], append-nil, append_assoc, Option, Some, None, refl, ◌∙◌, ap, ap₂, subst, arith, Contains, option_map, Contains-append_left, Contains-append_right, ReflectErrorKind, Meanings, Table, PathStep, own_lack, lack_of_begun, Failure, failure_at, or_itself, failures, failures_among, IsHalfDone, LackingFails, NothingFailsOfDone, FinishOfDone, closed, one_more_tree, closed_all, closed_but, finished, failures_but, failures_off, IsOffTheWay, step_as, steps_in, Place, HasPlace, Tracker, strict, Tree, hole, entered, begun, Trees, no_trees, branch, tree_nth, change_nth, tree_at, change_at, child_as, shape_in, count_trees, IsOff, AllOff, AtCursor, OffBut, Leads}
+use Rattle.fr_model.proofs.Basis.{leads_child}
 
 -- one of no failures, and of those of a place
 
@@ -31,97 +16,83 @@ keeps_beneath (first ∷ beneath) itself f has = has
 
 module _ (hooks : Meanings) (table : Table) where
   done_fails_not : (s : ℕ) (path : List PathStep) (t : Tree) → IsOff strict t → failures hooks table s path t ≡ []
-  done_fails_not s path hole off = refl
   done_fails_not s path entered off = absurd off
-  done_fails_not s path (whole v) off = refl
-  done_fails_not s path (begun form ts) off = absurd off
+  done_fails_not s path (begun tracker ts) off = absurd off
+  done_fails_not s path _ off = refl
 
-  all_done_fail_not : (s : ℕ) (form : Form) (k : ℕ) (path : List PathStep) (ts : Trees) → AllOff strict ts
-      → failures_among hooks table s form k path ts ≡ []
-  all_done_fail_not s form k path no_trees off = refl
-  all_done_fail_not s form k path (branch t ts) off =
+  all_done_fail_not : (s : ℕ) (tracker : Tracker) (k : ℕ) (path : List PathStep) (ts : Trees) → AllOff strict ts
+      → failures_among hooks table s tracker k path ts ≡ []
+  all_done_fail_not s tracker k path no_trees off = refl
+  all_done_fail_not s tracker k path (branch t ts) off =
       ap₂ (λ (some others : List Failure). some ++ others)
-      (done_fails_not (child_as table s form k) (path ++ step_as form k ∷ []) t off.0)
-      (all_done_fail_not s form (suc k) path ts off.1)
+      (done_fails_not (child_as table s tracker k) (path ++ step_as tracker k ∷ []) t off.0)
+      (all_done_fail_not s tracker (suc k) path ts off.1)
 
-  but_done_fail_not : (s : ℕ) (form : Form) (on_way : ℕ) (below : ℕ → List PathStep → Tree → List Failure)
+  but_done_fail_not : (s : ℕ) (tracker : Tracker) (on_way : ℕ) (below : ℕ → List PathStep → Tree → List Failure)
       (Below : Tree → Type 0) (k : ℕ) (path : List PathStep) (ts : Trees)
       → ((shape : ℕ) (to : List PathStep) (t : Tree) → Below t → below shape to t ≡ []) → OffBut strict on_way Below ts
-      → failures_but hooks table s form on_way below k path ts ≡ []
-  but_done_fail_not s form on_way below Below k path no_trees step off = absurd off
-  but_done_fail_not s form zero below Below k path (branch t ts) step off =
+      → failures_but hooks table s tracker on_way below k path ts ≡ []
+  but_done_fail_not s tracker on_way below Below k path no_trees step off = absurd off
+  but_done_fail_not s tracker zero below Below k path (branch t ts) step off =
+      ap₂ (λ (some others : List Failure). some ++ others) (step (child_as table s tracker k) (path ++ step_as tracker k ∷ []) t off.0)
+      (all_done_fail_not s tracker (suc k) path ts off.1)
+  but_done_fail_not s tracker (suc on_way) below Below k path (branch t ts) step off =
       ap₂ (λ (some others : List Failure). some ++ others)
-      (step (child_as table s form k) (path ++ step_as form k ∷ []) t off.0)
-      (all_done_fail_not s form (suc k) path ts off.1)
-  but_done_fail_not s form (suc on_way) below Below k path (branch t ts) step off =
-      ap₂ (λ (some others : List Failure). some ++ others)
-      (done_fails_not (child_as table s form k) (path ++ step_as form k ∷ []) t off.0)
-      (but_done_fail_not s form on_way below Below (suc k) path ts step off.1)
+      (done_fails_not (child_as table s tracker k) (path ++ step_as tracker k ∷ []) t off.0)
+      (but_done_fail_not s tracker on_way below Below (suc k) path ts step off.1)
 
 pub nothing_fails_of_done : NothingFailsOfDone
 nothing_fails_of_done hooks table s path cursor hole leads = refl
-nothing_fails_of_done hooks table s path cursor entered leads = refl
-nothing_fails_of_done hooks table s path cursor (whole v) leads = refl
-nothing_fails_of_done hooks table s path [] (begun form ts) leads = all_done_fail_not hooks table s form 0 path ts leads
-nothing_fails_of_done hooks table s path (i ∷ cursor) (begun form ts) leads =
-    but_done_fail_not hooks table s form i
+nothing_fails_of_done hooks table s path [] (begun tracker ts) leads = all_done_fail_not hooks table s tracker 0 path ts leads
+nothing_fails_of_done hooks table s path (i ∷ cursor) (begun tracker ts) leads =
+    but_done_fail_not hooks table s tracker i
     (λ (shape : ℕ) (to : List PathStep) (t : Tree). failures_off hooks table shape to cursor t)
     (λ child. Leads strict cursor child) 0 path ts
     (λ shape to t below. nothing_fails_of_done hooks table shape to cursor t below) leads
+nothing_fails_of_done hooks table s path cursor _ leads = refl
 
 -- A place that lacks something
 
 module _ (hooks : Meanings) (table : Table) where
   fails_itself : (s : ℕ) (path : List PathStep) (t : Tree) (kind : ReflectErrorKind) → IsHalfDone t → AtCursor strict t
       → own_lack hooks table s t ≡ Some kind → Contains (failures hooks table s path t) (record { path = path; kind = kind })
-  fails_itself s path hole kind half at lacks = absurd half
   fails_itself s path entered kind half at lacks = rw lacks (0, omega arith, refl)
-  fails_itself s path (whole v) kind half at lacks = absurd half
-  fails_itself s path (begun form ts) kind half at lacks =
-      rw (all_done_fail_not hooks table s form 0 path ts at, lacks) (0, omega arith, refl)
+  fails_itself s path (begun tracker ts) kind half at lacks =
+      rw (all_done_fail_not hooks table s tracker 0 path ts at, lacks) (0, omega arith, refl)
+  fails_itself s path _ kind half at lacks = absurd half
 
   -- one of the children from number k on fails
-  nth_fails : (s : ℕ) (form : Form) (further k : ℕ) (path : List PathStep) (ts : Trees) (i : ℕ) (f : Failure)
+  nth_fails : (s : ℕ) (tracker : Tracker) (further k : ℕ) (path : List PathStep) (ts : Trees) (i : ℕ) (f : Failure)
       → i ≡ k + further → further < count_trees ts
-      → Contains (failures hooks table (child_as table s form i) (path ++ step_as form i ∷ []) (tree_nth further ts)) f
-      → Contains (failures_among hooks table s form k path ts) f
-  nth_fails s form further k path no_trees i f is within has = absurd (omega arith)
-  nth_fails s form zero k path (branch t ts) i f is within has =
+      → Contains (failures hooks table (child_as table s tracker i) (path ++ step_as tracker i ∷ []) (tree_nth further ts)) f
+      → Contains (failures_among hooks table s tracker k path ts) f
+  nth_fails s tracker further k path no_trees i f is within has = absurd (omega arith)
+  nth_fails s tracker zero k path (branch t ts) i f is within has =
       let here : i ≡ k = omega arith in
-      Contains-append_left (failures hooks table (child_as table s form k) (path ++ step_as form k ∷ []) t)
-      (failures_among hooks table s form (suc k) path ts) f
-      (subst (λ (m : ℕ). Contains (failures hooks table (child_as table s form m) (path ++ step_as form m ∷ []) t) f) here has)
-  nth_fails s form (suc further) k path (branch t ts) i f is within has =
-      Contains-append_right (failures hooks table (child_as table s form k) (path ++ step_as form k ∷ []) t)
-      (failures_among hooks table s form (suc k) path ts) f
-      (nth_fails s form further (suc k) path ts i f (omega arith) (omega arith) has)
+      Contains-append_left _ _ f
+      (subst (λ (m : ℕ). Contains (failures hooks table (child_as table s tracker m) (path ++ step_as tracker m ∷ []) t) f) here has)
+  nth_fails s tracker (suc further) k path (branch t ts) i f is within has =
+      Contains-append_right _ _ f (nth_fails s tracker further (suc k) path ts i f (omega arith) (omega arith) has)
 
   -- and so it is where one of them is on the way, and what fails of it is known
-  nth_fails_but : (s : ℕ) (form : Form) (on_way : ℕ) (below : ℕ → List PathStep → Tree → List Failure) (further k : ℕ)
+  nth_fails_but : (s : ℕ) (tracker : Tracker) (on_way : ℕ) (below : ℕ → List PathStep → Tree → List Failure) (further k : ℕ)
       (path : List PathStep) (ts : Trees) (i : ℕ) (f : Failure) → i ≡ k + further → further < count_trees ts
-      → Contains (failures hooks table (child_as table s form i) (path ++ step_as form i ∷ []) (tree_nth further ts)) f
-      → (on_way ≡ further
-      → Contains (below (child_as table s form i) (path ++ step_as form i ∷ []) (tree_nth further ts)) f)
-      → Contains (failures_but hooks table s form on_way below k path ts) f
-  nth_fails_but s form on_way below further k path no_trees i f is within has on = absurd (omega arith)
-  nth_fails_but s form zero below zero k path (branch t ts) i f is within has on =
+      → Contains (failures hooks table (child_as table s tracker i) (path ++ step_as tracker i ∷ []) (tree_nth further ts)) f
+      → (on_way ≡ further → Contains (below (child_as table s tracker i) (path ++ step_as tracker i ∷ []) (tree_nth further ts)) f)
+      → Contains (failures_but hooks table s tracker on_way below k path ts) f
+  nth_fails_but s tracker on_way below further k path no_trees i f is within has on = absurd (omega arith)
+  nth_fails_but s tracker zero below zero k path (branch t ts) i f is within has on =
       let here : i ≡ k = omega arith in
-      Contains-append_left (below (child_as table s form k) (path ++ step_as form k ∷ []) t)
-      (failures_among hooks table s form (suc k) path ts) f
-      (subst (λ (m : ℕ). Contains (below (child_as table s form m) (path ++ step_as form m ∷ []) t) f) here (on refl))
-  nth_fails_but s form zero below (suc further) k path (branch t ts) i f is within has on =
-      Contains-append_right (below (child_as table s form k) (path ++ step_as form k ∷ []) t)
-      (failures_among hooks table s form (suc k) path ts) f
-      (nth_fails s form further (suc k) path ts i f (omega arith) (omega arith) has)
-  nth_fails_but s form (suc on_way) below zero k path (branch t ts) i f is within has on =
+      Contains-append_left _ _ f
+      (subst (λ (m : ℕ). Contains (below (child_as table s tracker m) (path ++ step_as tracker m ∷ []) t) f) here (on refl))
+  nth_fails_but s tracker zero below (suc further) k path (branch t ts) i f is within has on =
+      Contains-append_right _ _ f (nth_fails s tracker further (suc k) path ts i f (omega arith) (omega arith) has)
+  nth_fails_but s tracker (suc on_way) below zero k path (branch t ts) i f is within has on =
       let here : i ≡ k = omega arith in
-      Contains-append_left (failures hooks table (child_as table s form k) (path ++ step_as form k ∷ []) t)
-      (failures_but hooks table s form on_way below (suc k) path ts) f
-      (subst (λ (m : ℕ). Contains (failures hooks table (child_as table s form m) (path ++ step_as form m ∷ []) t) f) here has)
-  nth_fails_but s form (suc on_way) below (suc further) k path (branch t ts) i f is within has on =
-      Contains-append_right (failures hooks table (child_as table s form k) (path ++ step_as form k ∷ []) t)
-      (failures_but hooks table s form on_way below (suc k) path ts) f
-      (nth_fails_but s form on_way below further (suc k) path ts i f (omega arith) (omega arith) has
+      Contains-append_left _ _ f
+      (subst (λ (m : ℕ). Contains (failures hooks table (child_as table s tracker m) (path ++ step_as tracker m ∷ []) t) f) here has)
+  nth_fails_but s tracker (suc on_way) below (suc further) k path (branch t ts) i f is within has on =
+      Contains-append_right _ _ f (nth_fails_but s tracker on_way below further (suc k) path ts i f (omega arith) (omega arith) has
       (λ same. on (ap suc same)))
 
 -- the failure of a place that lacks this
@@ -129,12 +100,12 @@ abbrev failing : (path : List PathStep) (here : Place) (tree : Tree) (kind : Ref
 failing path here tree kind = record { path = path ++ steps_in here tree; kind = kind }
 
 -- a child's failure is that of its place in the parent
-in_parent : (path : List PathStep) (form : Form) (i : ℕ) (here : Place) (ts : Trees) (kind : ReflectErrorKind)
-    (fs : List Failure) → Contains fs (failing (path ++ step_as form i ∷ []) here (tree_nth i ts) kind)
-    → Contains fs (failing path (i ∷ here) (begun form ts) kind)
-in_parent path form i here ts kind fs has =
+in_parent : (path : List PathStep) (tracker : Tracker) (i : ℕ) (here : Place) (ts : Trees) (kind : ReflectErrorKind)
+    (fs : List Failure) → Contains fs (failing (path ++ step_as tracker i ∷ []) here (tree_nth i ts) kind)
+    → Contains fs (failing path (i ∷ here) (begun tracker ts) kind)
+in_parent path tracker i here ts kind fs has =
     subst (λ (to : List PathStep). Contains fs (record { path = to; kind = kind }))
-    (append_assoc path (step_as form i ∷ []) (steps_in here (tree_nth i ts))) has
+    (append_assoc path (step_as tracker i ∷ []) (steps_in here (tree_nth i ts))) has
 
 -- a place lacks something by itself, its children being whole or holes
 record Lacks (hooks : Meanings) (table : Table) (s : ℕ) (here : Place) (tree : Tree) (kind : ReflectErrorKind) : Type 0 where
@@ -143,10 +114,9 @@ record Lacks (hooks : Meanings) (table : Table) (s : ℕ) (here : Place) (tree :
   pub done : AtCursor strict (tree_at here tree)
   pub lacks : own_lack hooks table (shape_in table s here tree) (tree_at here tree) ≡ Some kind
 
-lacks_beneath : (hooks : Meanings) (table : Table) (s i : ℕ) (here : Place) (form : Form) (ts : Trees) (kind : ReflectErrorKind)
-    → Lacks hooks table s (i ∷ here) (begun form ts) kind
-    → Lacks hooks table (child_as table s form i) here (tree_nth i ts) kind
-lacks_beneath hooks table s i here form ts kind those =
+lacks_beneath : (hooks : Meanings) (table : Table) (s i : ℕ) (here : Place) (tracker : Tracker) (ts : Trees) (kind : ReflectErrorKind)
+    → Lacks hooks table s (i ∷ here) (begun tracker ts) kind → Lacks hooks table (child_as table s tracker i) here (tree_nth i ts) kind
+lacks_beneath hooks table s i here tracker ts kind those =
     record { place = those.place.1; half = those.half; done = those.done; lacks = those.lacks }
 
 module _ (hooks : Meanings) (table : Table) (kind : ReflectErrorKind) where
@@ -154,62 +124,54 @@ module _ (hooks : Meanings) (table : Table) (kind : ReflectErrorKind) where
       → Contains (failures hooks table s path tree) (failing path here tree kind)
   fails_beneath s path [] tree those =
       rw (append-nil path) (fails_itself hooks table s path tree kind those.half those.done those.lacks)
-  fails_beneath s path (i ∷ here) (begun form ts) those =
-      keeps_beneath (failures_among hooks table s form 0 path ts) (failure_at path (lack_of_begun hooks table s form ts))
-      (failing path (i ∷ here) (begun form ts) kind)
-      (nth_fails hooks table s form i 0 path ts i (failing path (i ∷ here) (begun form ts) kind) (omega arith) those.place.0
-      (in_parent path form i here ts kind
-      (failures hooks table (child_as table s form i) (path ++ step_as form i ∷ []) (tree_nth i ts))
-      (fails_beneath (child_as table s form i) (path ++ step_as form i ∷ []) here (tree_nth i ts)
-      (lacks_beneath hooks table s i here form ts kind those))))
+  fails_beneath s path (i ∷ here) (begun tracker ts) those =
+      keeps_beneath (failures_among hooks table s tracker 0 path ts) (failure_at path (lack_of_begun hooks table s tracker ts))
+      (failing path (i ∷ here) (begun tracker ts) kind)
+      (nth_fails hooks table s tracker i 0 path ts i (failing path (i ∷ here) (begun tracker ts) kind) (omega arith) those.place.0
+      (in_parent path tracker i here ts kind
+      (failures hooks table (child_as table s tracker i) (path ++ step_as tracker i ∷ []) (tree_nth i ts))
+      (fails_beneath (child_as table s tracker i) (path ++ step_as tracker i ∷ []) here (tree_nth i ts)
+      (lacks_beneath hooks table s i here tracker ts kind those))))
   fails_beneath s path (i ∷ here) _ those = absurd those.place
 
-  child_fails : (s : ℕ) (path : List PathStep) (i : ℕ) (here : Place) (form : Form) (ts : Trees)
-      → Lacks hooks table s (i ∷ here) (begun form ts) kind
-      → Contains (failures hooks table (child_as table s form i) (path ++ step_as form i ∷ []) (tree_nth i ts))
-      (failing path (i ∷ here) (begun form ts) kind)
-  child_fails s path i here form ts those =
-      in_parent path form i here ts kind
-      (failures hooks table (child_as table s form i) (path ++ step_as form i ∷ []) (tree_nth i ts))
-      (fails_beneath (child_as table s form i) (path ++ step_as form i ∷ []) here (tree_nth i ts)
-      (lacks_beneath hooks table s i here form ts kind those))
+  child_fails : (s : ℕ) (path : List PathStep) (i : ℕ) (here : Place) (tracker : Tracker) (ts : Trees)
+      → Lacks hooks table s (i ∷ here) (begun tracker ts) kind
+      → Contains (failures hooks table (child_as table s tracker i) (path ++ step_as tracker i ∷ []) (tree_nth i ts))
+      (failing path (i ∷ here) (begun tracker ts) kind)
+  child_fails s path i here tracker ts those =
+      in_parent path tracker i here ts kind _
+      (fails_beneath (child_as table s tracker i) (path ++ step_as tracker i ∷ []) here (tree_nth i ts)
+      (lacks_beneath hooks table s i here tracker ts kind those))
 
   lacks_off : (s : ℕ) (path : List PathStep) (cursor here : Place) (tree : Tree) → IsOffTheWay cursor here
-      → Lacks hooks table s here tree kind
-      → Contains (failures_off hooks table s path cursor tree) (failing path here tree kind)
+      → Lacks hooks table s here tree kind → Contains (failures_off hooks table s path cursor tree) (failing path here tree kind)
   lacks_off s path cursor [] tree off those = absurd (off cursor refl)
-  lacks_off s path [] (i ∷ here) (begun form ts) off those =
-      nth_fails hooks table s form i 0 path ts i (failing path (i ∷ here) (begun form ts) kind) (omega arith) those.place.0
-      (child_fails s path i here form ts those)
-  lacks_off s path (c ∷ cursor) (i ∷ here) (begun form ts) off those =
-      nth_fails_but hooks table s form c
+  lacks_off s path [] (i ∷ here) (begun tracker ts) off those =
+      nth_fails hooks table s tracker i 0 path ts i _ (omega arith) those.place.0 (child_fails s path i here tracker ts those)
+  lacks_off s path (c ∷ cursor) (i ∷ here) (begun tracker ts) off those =
+      nth_fails_but hooks table s tracker c
       (λ (shape : ℕ) (to : List PathStep) (t : Tree). failures_off hooks table shape to cursor t) i 0 path ts i
-      (failing path (i ∷ here) (begun form ts) kind) (omega arith) those.place.0 (child_fails s path i here form ts those)
-      (λ same. in_parent path form i here ts kind
-      (failures_off hooks table (child_as table s form i) (path ++ step_as form i ∷ []) cursor (tree_nth i ts))
-      (lacks_off (child_as table s form i) (path ++ step_as form i ∷ []) cursor here (tree_nth i ts)
-      (λ way e. off way (ap₂ (λ (k : ℕ) (rest : Place). k ∷ rest) same e))
-      (lacks_beneath hooks table s i here form ts kind those)))
+      _ (omega arith) those.place.0 (child_fails s path i here tracker ts those) (λ same. in_parent path tracker i here ts kind _
+      (lacks_off (child_as table s tracker i) _ cursor here _ (λ way e. off way (ap₂ (λ (k : ℕ) (rest : Place). k ∷ rest) same e))
+      (lacks_beneath hooks table s i here tracker ts kind those)))
   lacks_off s path cursor (i ∷ here) _ off those = absurd those.place
 
 pub lacking_fails : LackingFails
 lacking_fails hooks table s path mode cursor here tree kind leads place off half done lacks =
-    lacks_off hooks table kind s path cursor here tree off
-    (record { place = place; half = half; done = done; lacks = lacks })
+    lacks_off hooks table kind s path cursor here tree off (record { place = place; half = half; done = done; lacks = lacks })
 
 -- The end, where only the place at the cursor is left
 
 module _ (hooks : Meanings) (table : Table) where
   done_closes : (s : ℕ) (t : Tree) → IsOff strict t → closed hooks table s t ≡ Some t
-  done_closes s hole off = refl
   done_closes s entered off = absurd off
-  done_closes s (whole v) off = refl
-  done_closes s (begun form ts) off = absurd off
+  done_closes s (begun tracker ts) off = absurd off
+  done_closes s _ off = refl
 
-  all_done_close : (s : ℕ) (form : Form) (k : ℕ) (ts : Trees) → AllOff strict ts → closed_all hooks table s form k ts ≡ Some ts
-  all_done_close s form k no_trees off = refl
-  all_done_close s form k (branch t ts) off =
-      ap₂ one_more_tree (done_closes (child_as table s form k) t off.0) (all_done_close s form (suc k) ts off.1)
+  all_done_close : (s : ℕ) (tracker : Tracker) (k : ℕ) (ts : Trees) → AllOff strict ts → closed_all hooks table s tracker k ts ≡ Some ts
+  all_done_close s tracker k no_trees off = refl
+  all_done_close s tracker k (branch t ts) off =
+      ap₂ one_more_tree (done_closes (child_as table s tracker k) t off.0) (all_done_close s tracker (suc k) ts off.1)
 
   one_before : (t : Tree) (on_way : ℕ) (ts : Trees) (o : Option Tree)
       → one_more_tree (Some t) (option_map (λ (u : Tree). change_nth on_way (λ old. u) ts) o)
@@ -222,21 +184,17 @@ module _ (hooks : Meanings) (table : Table) where
   those_after t ts (Some u) = refl
   those_after t ts None = refl
 
-  but_done_close : (s : ℕ) (form : Form) (on_way : ℕ) (becomes : ℕ → Tree → Option Tree) (Below : Tree → Type 0) (k : ℕ)
-      (ts : Trees) (i : ℕ) → i ≡ k + on_way → OffBut strict on_way Below ts
-      → closed_but hooks table s form on_way becomes k ts
-      ≡ option_map (λ (u : Tree). change_nth on_way (λ old. u) ts) (becomes (child_as table s form i) (tree_nth on_way ts))
-  but_done_close s form on_way becomes Below k no_trees i is off = absurd off
-  but_done_close s form zero becomes Below k (branch t ts) i is off =
+  but_done_close : (s : ℕ) (tracker : Tracker) (on_way : ℕ) (becomes : ℕ → Tree → Option Tree) (Below : Tree → Type 0) (k : ℕ)
+      (ts : Trees) (i : ℕ) → i ≡ k + on_way → OffBut strict on_way Below ts → closed_but hooks table s tracker on_way becomes k ts
+      ≡ option_map (λ (u : Tree). change_nth on_way (λ old. u) ts) (becomes (child_as table s tracker i) (tree_nth on_way ts))
+  but_done_close s tracker on_way becomes Below k no_trees i is off = absurd off
+  but_done_close s tracker zero becomes Below k (branch t ts) i is off =
       let here : k ≡ i = omega arith in
-      ap (one_more_tree (becomes (child_as table s form k) t)) (all_done_close s form (suc k) ts off.1)
-      ∙ those_after t ts (becomes (child_as table s form k) t)
-      ∙ ap (λ (m : ℕ). option_map (λ (u : Tree). change_nth 0 (λ old. u) (branch t ts))
-      (becomes (child_as table s form m) t)) here
-  but_done_close s form (suc on_way) becomes Below k (branch t ts) i is off =
-      ap₂ one_more_tree (done_closes (child_as table s form k) t off.0)
-      (but_done_close s form on_way becomes Below (suc k) ts i (omega arith) off.1)
-      ∙ one_before t on_way ts (becomes (child_as table s form i) (tree_nth on_way ts))
+      ap (one_more_tree _) (all_done_close s tracker (suc k) ts off.1) ∙ those_after t ts _
+      ∙ ap (λ (m : ℕ). option_map (λ (u : Tree). change_nth 0 (λ old. u) (branch t ts)) (becomes (child_as table s tracker m) t)) here
+  but_done_close s tracker (suc on_way) becomes Below k (branch t ts) i is off =
+      ap₂ one_more_tree (done_closes (child_as table s tracker k) t off.0)
+      (but_done_close s tracker on_way becomes Below (suc k) ts i (omega arith) off.1) ∙ one_before t on_way ts _
 
 change_to : (i : ℕ) (change : Tree → Tree) (ts : Trees) → change_nth i (λ old. change (tree_nth i ts)) ts ≡ change_nth i change ts
 change_to i change no_trees = refl
@@ -244,27 +202,24 @@ change_to zero change (branch t ts) = refl
 change_to (suc i) change (branch t ts) = ap (branch t) (change_to i change ts)
 
 -- what is put at a place of a child is put at that place of the parent
-put_beneath : (form : Form) (ts : Trees) (i : ℕ) (place : Place) (o : Option Tree)
-    → option_map (begun form) (option_map (λ (u : Tree). change_nth i (λ old. u) ts)
+put_beneath : (tracker : Tracker) (ts : Trees) (i : ℕ) (place : Place) (o : Option Tree)
+    → option_map (begun tracker) (option_map (λ (u : Tree). change_nth i (λ old. u) ts)
     (option_map (λ (here : Tree). change_at place (λ old. here) (tree_nth i ts)) o))
-    ≡ option_map (λ (here : Tree). change_at (i ∷ place) (λ old. here) (begun form ts)) o
-put_beneath form ts i place (Some here) =
-    ap (λ (children : Trees). Some (begun form children)) (change_to i (λ child. change_at place (λ old. here) child) ts)
-put_beneath form ts i place None = refl
+    ≡ option_map (λ (here : Tree). change_at (i ∷ place) (λ old. here) (begun tracker ts)) o
+put_beneath tracker ts i place (Some here) =
+    ap (λ (children : Trees). Some (begun tracker children)) (change_to i (λ child. change_at place (λ old. here) child) ts)
+put_beneath tracker ts i place None = refl
 
 put_itself : (o : Option Tree) → o ≡ option_map (λ (here : Tree). here) o
 put_itself (Some here) = refl
 put_itself None = refl
 
 pub finish_of_done : FinishOfDone
-finish_of_done hooks table s [] tree leads = put_itself (finished_here hooks table s tree)
-finish_of_done hooks table s (i ∷ place) (begun form ts) leads =
-    ap (λ (children : Option Trees). option_map (begun form) children)
-    (but_done_close hooks table s form i (λ (shape : ℕ) (t : Tree). finished hooks table shape place t)
+finish_of_done hooks table s [] tree leads = put_itself _
+finish_of_done hooks table s (i ∷ place) (begun tracker ts) leads =
+    ap (λ (children : Option Trees). option_map (begun tracker) children)
+    (but_done_close hooks table s tracker i (λ (shape : ℕ) (t : Tree). finished hooks table shape place t)
     (λ child. Leads strict place child) 0 ts i (omega arith) leads
-    ∙ ap (λ (o : Option Tree). option_map (λ (u : Tree). change_nth i (λ old. u) ts) o)
-    (finish_of_done hooks table (child_as table s form i) place (tree_nth i ts)
-    (leads_child strict i (λ child. Leads strict place child) ts leads)))
-    ∙ put_beneath form ts i place
-    (finished_here hooks table (shape_in table (child_as table s form i) place (tree_nth i ts)) (tree_at place (tree_nth i ts)))
+    ∙ ap (λ (o : Option Tree). option_map (λ (u : Tree). change_nth i (λ old. u) ts) o) (finish_of_done hooks table _ place _
+    (leads_child strict i (λ child. Leads strict place child) ts leads))) ∙ put_beneath tracker ts i place _
 finish_of_done hooks table s (i ∷ place) _ leads = absurd leads

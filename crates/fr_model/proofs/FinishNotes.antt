@@ -1,12 +1,7 @@
 -- What the end of deferred mode notes is what is due, and it can't end exactly where something due isn't there.
-use Rattle.std.proofs.Common.{◌≡◌, ◌≢◌, ◌⊎◌, inl, inr, ⊎_elim, ℕ, zero, suc, ◌+◌, ◌<◌, ◌≤◌, Bool, true, false, ◌==◌, eqb-true, eq-eqb, if◌then◌else◌, [], ◌∷◌, ◌++◌, append_assoc, append-nil, get_or, Option, Some, None, refl, sym, ◌∙◌, ap, subst, arith}
-use Rattle.std.specs.List.{Contains}
-use Rattle.std.proofs.lemmas.List.Elements.{Contains-append_left, Contains-append_right, Contains-append_cases}
-use Rattle.fr_shape.specs.Look.{Table}
-use Rattle.fr_shape.specs.Val.{Val}
-use Rattle.fr_model.specs.Finishing.{IsAbove, IsLeft, IsHole, IsCursor, IsDue, StuckOrNoted, NotesWhatIsDue}
-use Rattle.fr_model.specs.Journal.{Note, wrote_at, Journal, Held, in_parts, written, just_entered, untouched, held, child_makes, completes, both_notes, each_notes, writing, closing_by, closing, closing_beside, closing_parts, closing_here_by, closing_here, finish_notes}
-use Rattle.fr_model.specs.Places.{Place, deferred_column, child_count, child_shape, shape_at, fill_at}
+use Rattle.std.proofs.Common.{◌≡◌, ◌≢◌, ◌⊎◌, ◌+◌, ◌<◌, ◌≤◌, ◌==◌, if◌then◌else◌, ◌∷◌, ◌++◌}
+use Rattle.fr_model.proofs.Common.{inl, inr, ⊎_elim, ℕ, zero, suc, Bool, true, false, eqb-true, eq-eqb, [], append_assoc, append-nil, get_or, Option, Some, None, refl, sym, ◌∙◌, ap, subst, arith, Contains, Contains-append_left, Contains-append_right, Contains-append_cases, Table, Val, IsAbove, IsLeft, IsHole, IsCursor, IsDue, StuckOrNoted, NotesWhatIsDue, Note, wrote_at, Journal, Held, in_parts, written, just_entered, untouched, held, child_makes, completes, both_notes, each_notes, writing, closing_by, closing, closing_here_by, closing_here, finish_notes, Place, deferred_column, child_count, child_shape, shape_at, fill_at}
+use Rattle.fr_model.proofs.Templates.{some_is}
 
 -- a note writes the value that is due at its place
 pub record IsNoteOf (Due : Place → Option Val → Type 0) (note : Note) : Type 0 where
@@ -32,16 +27,12 @@ means_same Due Other found to from means = record {
   is_stuck = λ here due. means.is_stuck here (from here None due);
   noted = λ added e note among.
       let there = means.noted added e note among in
-      record { here = there.here; value = there.value; writes = there.writes; due = to there.here (Some there.value) there.due };
+      record { here = there.here; value = there.value; writes = there.writes; due = to there.here _ there.due };
   is_noted = λ added e here value due. means.is_noted added e here value (from here (Some value) due);
 }
 
-some_is : {T : Type 0} (x y : T) → Some x ≡ Some y → x ≡ y
-some_is x y e = cc
-
 -- nothing is due
-means_nothing : (Due : Place → Option Val → Type 0) → ((here : Place) (value : Option Val) → Due here value → ⊥)
-    → Means Due (Some [])
+means_nothing : (Due : Place → Option Val → Type 0) → ((here : Place) (value : Option Val) → Due here value → ⊥) → Means Due (Some [])
 means_nothing Due never = record {
   stuck = λ e. cc;
   is_stuck = λ here due. absurd (never here None due);
@@ -70,7 +61,7 @@ means_writing there (Some v) = record {
   noted = λ added e note among. record {
     here = there;
     value = v;
-    writes = only note (subst (λ (some : Journal). Contains some note) (sym (some_is (wrote_at there v ∷ []) added e)) among);
+    writes = only note (subst (λ (some : Journal). Contains some note) (sym (some_is _ added e)) among);
     due = (refl, refl);
   };
   is_noted = λ added e here value due.
@@ -85,8 +76,7 @@ means_writing there (Some v) = record {
     only : (note : Note) → Contains (wrote_at there v ∷ []) note → note ≡ wrote_at there v
     only note among = only_at among.0 note among.1 among.2
 
-    it_is : (here : Place) (value : Val) → here ≡ there → Some value ≡ Some v
-        → Contains (wrote_at there v ∷ []) (wrote_at here value)
+    it_is : (here : Place) (value : Val) → here ≡ there → Some value ≡ Some v → Contains (wrote_at there v ∷ []) (wrote_at here value)
     it_is here value at same = let is : value ≡ v = cc in (zero, omega arith, cc)
 
 -- what is due by one or by the other
@@ -112,21 +102,17 @@ means_both Due Other (Some some) (Some others) one more = record {
   is_stuck = λ here due. ⊎_elim (λ d. let no = one.is_stuck here d in cc) (λ d. let no = more.is_stuck here d in cc) due;
   noted = λ added e note among.
       ⊎_elim (λ c. by_one note (one.noted some refl note c)) (λ c. by_more note (more.noted others refl note c))
-      (Contains-append_cases some others note
-      (subst (λ (all : Journal). Contains all note) (sym (some_is (some ++ others) added e)) among));
-  is_noted = λ added e here value due.
-      subst (λ (all : Journal). Contains all (wrote_at here value)) (some_is (some ++ others) added e)
-      (⊎_elim (λ d. Contains-append_left some others (wrote_at here value) (one.is_noted some refl here value d))
-      (λ d. Contains-append_right some others (wrote_at here value) (more.is_noted others refl here value d)) due);
+      (Contains-append_cases some others note (subst (λ (all : Journal). Contains all note) (sym (some_is _ added e)) among));
+  is_noted = λ added e here value due. subst (λ (all : Journal). Contains all (wrote_at here value)) (some_is (some ++ others) added e)
+      (⊎_elim (λ d. Contains-append_left some others _ (one.is_noted some refl here value d))
+      (λ d. Contains-append_right some others _ (more.is_noted others refl here value d)) due);
 }
   where
     by_one : (note : Note) → IsNoteOf Due note → IsNoteOf (Either Due Other) note
-    by_one note there =
-        record { here = there.here; value = there.value; writes = there.writes; due = inl there.due }
+    by_one note there = record { here = there.here; value = there.value; writes = there.writes; due = inl there.due }
 
     by_more : (note : Note) → IsNoteOf Other note → IsNoteOf (Either Due Other) note
-    by_more note there =
-        record { here = there.here; value = there.value; writes = there.writes; due = inr there.due }
+    by_more note there = record { here = there.here; value = there.value; writes = there.writes; due = inr there.due }
 
 -- what is due by one of so many, number i first
 abbrev Among : (ℕ → Place → Option Val → Type 0) → (count i : ℕ) → Place → Option Val → Type 0
@@ -135,11 +121,9 @@ Among Due count i here value = (k : ℕ) × (i ≤ k) × (k < i + count) × Due 
 means_each : (Due : ℕ → Place → Option Val → Type 0) (noted : ℕ → Option Journal) → ((k : ℕ) → Means (Due k) (noted k))
     → (count i : ℕ) → Means (Among Due count i) (each_notes noted count i)
 means_each Due noted each zero i =
-    means_nothing (Among Due zero i)
-    (λ here value due. let above = due.1 in let below = due.2 in omega arith)
+    means_nothing _ (λ here value due. let above = due.1 in let below = due.2 in omega arith)
 means_each Due noted each (suc count) i =
-    means_same (Either (Due i) (Among Due count (suc i))) (Among Due (suc count) i)
-    (both_notes (noted i) (each_notes noted count (suc i)))
+    means_same _ _ _
     (λ here value due. ⊎_elim (λ d. (i, omega arith, omega arith, d)) (λ d. later here value d) due) (λ here value due.
     first_or here value due.0 due.1 due.2 due.3)
     (means_both (Due i) (Among Due count (suc i)) (noted i) (each_notes noted count (suc i)) (each i)
@@ -169,15 +153,8 @@ pub record IsBeside (table : Table) (notes : Journal) (s : ℕ) (above : Place) 
 means_closing : (there : Place) (makes : Option Val) (h : Held)
     → Means (λ here value. (h ≢ untouched) × One there makes here value) (closing_by h (writing there makes))
 means_closing there makes untouched = means_nothing _ (λ here value due. due.0 refl)
-means_closing there makes just_entered =
-    means_same (One there makes) _ (writing there makes) (λ here value due. ((λ e. cc), due)) (λ here value due. due.1)
-    (means_writing there makes)
-means_closing there makes (written v) =
-    means_same (One there makes) _ (writing there makes) (λ here value due. ((λ e. cc), due)) (λ here value due. due.1)
-    (means_writing there makes)
-means_closing there makes in_parts =
-    means_same (One there makes) _ (writing there makes) (λ here value due. ((λ e. cc), due)) (λ here value due. due.1)
-    (means_writing there makes)
+means_closing there makes _ =
+    means_same _ _ _ (λ here value due. ((λ e. cc), due)) (λ here value due. due.1) (means_writing there makes)
 
 -- of the parts of a place that has any, or of itself
 abbrev ByHeld : Held → (Parts : Place → Option Val → Type 0) → Place → (itself : Option Val) → Place → Option Val → Type 0
@@ -189,7 +166,7 @@ means_by Parts above itself h parts means = go h
   where
     alone : (other : Held) → other ≢ in_parts → Means (ByHeld other Parts above itself) (writing above itself)
     alone other no_parts =
-        means_same (One above itself) _ (writing above itself) (λ here value due. inr (no_parts, due))
+        means_same _ _ _ (λ here value due. inr (no_parts, due))
         (λ here value due. ⊎_elim (λ p. absurd (no_parts p.0)) (λ own. own.1) due) (means_writing above itself)
 
     go : (h : Held) → Means (ByHeld h Parts above itself) (closing_here_by h parts (writing above itself))
@@ -201,13 +178,11 @@ means_by Parts above itself h parts means = go h
     go untouched = alone untouched (λ e. cc)
 
 module _ (table : Table) (notes : Journal) where
-  means_beside : (s : ℕ) (above : Place) (on_way j : ℕ)
-      → Means (IsBeside table notes s above on_way j)
+  means_beside : (s : ℕ) (above : Place) (on_way j : ℕ) → Means (IsBeside table notes s above on_way j)
       (if j == on_way then Some [] else closing table notes (child_shape table s j) (above ++ j ∷ []))
   means_beside s above on_way j = go (j == on_way) refl
     where
-      go : (b : Bool) → (j == on_way) ≡ b
-          → Means (IsBeside table notes s above on_way j)
+      go : (b : Bool) → (j == on_way) ≡ b → Means (IsBeside table notes s above on_way j)
           (if b then Some [] else closing table notes (child_shape table s j) (above ++ j ∷ []))
       go true e = means_nothing _ (λ here value due. due.apart (eqb-true j on_way e))
       go false e =
@@ -217,16 +192,13 @@ module _ (table : Table) (notes : Journal) where
             touched = due.0;
             child = due.1.0;
             makes = due.1.1;
-          })
-          (λ here value due. (due.touched, (due.child, due.makes)))
-          (means_closing (above ++ j ∷ [])
+          }) (λ here value due. (due.touched, (due.child, due.makes))) (means_closing (above ++ j ∷ [])
           (completes deferred_column table notes (child_shape table s j) (above ++ j ∷ [])) (held notes (above ++ j ∷ [])))
 
   -- of child j of the cursor's place `above` of shape s, which has parts
   abbrev pub PartOf : ℕ → Place → ℕ → Place → Option Val → Type 0
   PartOf s above j =
-      One (above ++ j ∷ [])
-      (child_makes (held notes (above ++ j ∷ [])) (fill_at deferred_column table s j)
+      One (above ++ j ∷ []) (child_makes (held notes (above ++ j ∷ [])) (fill_at deferred_column table s j)
       (completes deferred_column table notes (child_shape table s j) (above ++ j ∷ [])))
 
   -- of the cursor's place `above` of shape s, or of its parts
@@ -236,10 +208,7 @@ module _ (table : Table) (notes : Journal) where
       ⊎ ((held notes above ≢ in_parts) × One above (completes deferred_column table notes s above) here value)
 
   means_here : (s : ℕ) (above : Place) → Means (DueHere s above) (closing_here table notes s above)
-  means_here s above =
-      means_by (Among (PartOf s above) (child_count table s) 0) above (completes deferred_column table notes s above)
-      (held notes above) (closing_parts table notes s above)
-      (means_each (PartOf s above) _ (λ j. means_writing (above ++ j ∷ []) _) (child_count table s) 0)
+  means_here s above = means_by _ above _ _ _ (means_each _ _ (λ j. means_writing _ _) _ 0)
 
   -- from the place `above` of shape s on, the rest of the way leading to the cursor
   abbrev pub DueFrom : ℕ → (above rest : Place) → Place → Option Val → Type 0
@@ -251,10 +220,7 @@ module _ (table : Table) (notes : Journal) where
   means_finish : (rest : Place) (s : ℕ) (above : Place) → Means (DueFrom s above rest) (finish_notes table notes s above rest)
   means_finish [] s above = means_here s above
   means_finish (i ∷ rest) s above =
-      means_both (Among (IsBeside table notes s above i) (child_count table s) 0)
-      (DueFrom (child_shape table s i) (above ++ i ∷ []) rest) (closing_beside table notes s above i)
-      (finish_notes table notes (child_shape table s i) (above ++ i ∷ []) rest)
-      (means_each (IsBeside table notes s above i) _ (λ j. means_beside s above i j) (child_count table s) 0)
+      means_both _ _ _ _ (means_each _ _ (λ j. means_beside s above i j) _ 0)
       (means_finish rest (child_shape table s i) (above ++ i ∷ []))
 
 -- Place by place
@@ -262,7 +228,7 @@ module _ (table : Table) (notes : Journal) where
 shape_on : (table : Table) (s : ℕ) (above : Place) (i : ℕ)
     → shape_at table s (above ++ i ∷ []) ≡ child_shape table (shape_at table s above) i
 shape_on table s [] i = refl
-shape_on table s (j ∷ above) i = shape_on table (child_shape table s j) above i
+shape_on table s (j ∷ above) i = shape_on table _ above i
 
 -- two ways on from one place begin alike, and none leads back
 pub same_first : (above : Place) (i j : ℕ) (rest way : Place) → above ++ i ∷ rest ≡ above ++ j ∷ way → i ≡ j
@@ -281,9 +247,7 @@ hole_makes h fill own e = rw e refl
 
 pub touched_makes : (h : Held) (fill own : Option Val) → h ≢ untouched → child_makes h fill own ≡ own
 touched_makes untouched fill own touched = absurd (touched refl)
-touched_makes just_entered fill own touched = refl
-touched_makes (written v) fill own touched = refl
-touched_makes in_parts fill own touched = refl
+touched_makes _ fill own touched = refl
 
 data TouchedOr (h : Held) : Type 0 where
   is_untouched : h ≡ untouched → TouchedOr h
@@ -291,16 +255,13 @@ data TouchedOr (h : Held) : Type 0 where
 
 touched_or : (h : Held) → TouchedOr h
 touched_or untouched = is_untouched refl
-touched_or just_entered = is_touched (λ e. cc)
-touched_or (written v) = is_touched (λ e. cc)
-touched_or in_parts = is_touched (λ e. cc)
+touched_or _ = is_touched (λ e. cc)
 
 -- down a way, to the children beside it and to its end
 
 module _ (table : Table) (notes : Journal) (here : Place) (value : Option Val) where
   reach : (up : Place) (s : ℕ) (done : Place) (i : ℕ) (rest : Place) (j : ℕ) → j < child_count table (shape_at table s up)
-      → IsBeside table notes (shape_at table s up) (done ++ up) i j here value
-      → DueFrom table notes s done (up ++ i ∷ rest) here value
+      → IsBeside table notes (shape_at table s up) (done ++ up) i j here value → DueFrom table notes s done (up ++ i ∷ rest) here value
   reach [] s done i rest j there beside =
       inl (
         j,
@@ -317,7 +278,7 @@ module _ (table : Table) (notes : Journal) (here : Place) (value : Option Val) w
       → DueFrom table notes s done rest here value
   reach_end [] s done due = subst (λ (place : Place). DueHere table notes s place here value) (append-nil done) due
   reach_end (k ∷ rest) s done due =
-      inr (reach_end rest (child_shape table s k) (done ++ k ∷ [])
+      inr (reach_end rest _ _
       (subst (λ (place : Place). DueHere table notes (shape_at table (child_shape table s k) rest) place here value)
       (sym (append_assoc done (k ∷ []) rest)) due))
 
@@ -363,7 +324,7 @@ module _ (table : Table) (root : ℕ) (notes : Journal) (cursor : Place) where
         child = part.0;
         there = there;
         hole = ap (λ (place : Place). held notes place) part.0 ∙ e;
-        takes = part.1 ∙ hole_makes (held notes (cursor ++ j ∷ [])) _ _ e;
+        takes = part.1 ∙ hole_makes _ _ _ e;
       }))
       go (is_touched touched) = inl (record {
         above = cursor;
@@ -374,7 +335,7 @@ module _ (table : Table) (root : ℕ) (notes : Journal) (cursor : Place) where
         touched = subst (λ (place : Place). held notes place ≢ untouched) (sym part.0) touched;
         off = λ on leads. never_back cursor j on
             (leads ∙ ap (λ (place : Place). place ++ on) part.0 ∙ append_assoc cursor (j ∷ []) on);
-        makes = part.1 ∙ touched_makes (held notes (cursor ++ j ∷ [])) _ _ touched ∙ own_at cursor j here part.0;
+        makes = part.1 ∙ touched_makes _ _ _ touched ∙ own_at cursor j here part.0;
       })
 
   itself_due : (here : Place) (value : Option Val) → held notes cursor ≢ in_parts
@@ -382,16 +343,14 @@ module _ (table : Table) (root : ℕ) (notes : Journal) (cursor : Place) where
   itself_due here value no_parts own = inr (inr (record {
     whole = no_parts;
     same = own.0;
-    makes = own.1
-        ∙ ap (λ (place : Place). completes deferred_column table notes (shape_at table root place) place) (sym own.0);
+    makes = own.1 ∙ ap (λ (place : Place). completes deferred_column table notes (shape_at table root place) place) (sym own.0);
   }))
 
   from_due : (rest above : Place) (s : ℕ) (here : Place) (value : Option Val) → cursor ≡ above ++ rest
       → s ≡ shape_at table root above → DueFrom table notes s above rest here value → Due here value
   from_due [] above s here value way shape due =
       at_end (subst (λ (place : Place). DueHere table notes (shape_at table root place) place here value)
-      (sym (way ∙ append-nil above))
-      (subst (λ (m : ℕ). DueHere table notes m above here value) shape due))
+      (sym (way ∙ append-nil above)) (subst (λ (m : ℕ). DueHere table notes m above here value) shape due))
     where
       at_end : DueHere table notes (shape_at table root cursor) cursor here value → Due here value
       at_end due =
@@ -401,16 +360,14 @@ module _ (table : Table) (root : ℕ) (notes : Journal) (cursor : Place) where
       ⊎_elim (λ some. beside_due above i rest here value some.0 way
       (subst (λ (m : ℕ). some.0 < child_count table m) shape (let below = some.2 in omega arith))
       (subst (λ (m : ℕ). IsBeside table notes m above i some.0 here value) shape some.3))
-      (λ on. from_due rest (above ++ i ∷ []) (child_shape table s i) here value
-      (way ∙ sym (append_assoc above (i ∷ []) rest))
+      (λ on. from_due rest _ _ here value (way ∙ sym (append_assoc above (i ∷ []) rest))
       (ap (λ (m : ℕ). child_shape table m i) shape ∙ sym (shape_on table root above i)) on) due
 
   left_from : (here : Place) (value : Option Val) → IsLeft table root notes cursor here value
       → DueFrom table notes root [] cursor here value
   left_from here value left = ⊎_elim (λ above. strictly above) (λ same. at_cursor same.0 same.1) left.closes
     where
-      makes : value
-          ≡ completes deferred_column table notes (child_shape table (shape_at table root left.above) left.i)
+      makes : value ≡ completes deferred_column table notes (child_shape table (shape_at table root left.above) left.i)
           (left.above ++ left.i ∷ [])
       makes = left.makes ∙ sym (own_at left.above left.i here left.child)
 
@@ -421,8 +378,7 @@ module _ (table : Table) (root : ℕ) (notes : Journal) (cursor : Place) where
       strictly above =
           subst (λ (place : Place). DueFrom table notes root [] place here value) (sym above.way)
           (reach table notes here value left.above root [] above.step above.rest left.i left.there (record {
-            apart = λ same. left.off above.rest
-                (above.way ∙ ap (λ (k : ℕ). left.above ++ k ∷ above.rest) (sym same)
+            apart = λ same. left.off above.rest (above.way ∙ ap (λ (k : ℕ). left.above ++ k ∷ above.rest) (sym same)
                 ∙ sym (append_assoc left.above (left.i ∷ []) above.rest)
                 ∙ ap (λ (place : Place). place ++ above.rest) (sym left.child));
             touched = touched;
@@ -438,17 +394,15 @@ module _ (table : Table) (root : ℕ) (notes : Journal) (cursor : Place) where
             (
               left.i,
               omega arith,
-              from_zero left.i _
-                  (subst (λ (place : Place). left.i < child_count table (shape_at table root place)) same left.there),
+              from_zero left.i _ (subst (λ (place : Place). left.i < child_count table (shape_at table root place)) same left.there),
               subst (λ (place : Place). PartOf table notes (shape_at table root place) place left.i here value) same
-                  (left.child, makes ∙ sym (touched_makes (held notes (left.above ++ left.i ∷ [])) _ _ touched)),
+                  (left.child, makes ∙ sym (touched_makes _ _ _ touched)),
             ),
           ))
 
   due_from : (here : Place) (value : Option Val) → Due here value → DueFrom table notes root [] cursor here value
   due_from here value due =
-      ⊎_elim (λ left. left_from here value left)
-      (λ others. ⊎_elim (λ some. of_hole some) (λ own. of_itself own) others) due
+      ⊎_elim (λ left. left_from here value left) (λ others. ⊎_elim (λ some. of_hole some) (λ own. of_itself own) others) due
     where
       of_hole : IsHole table root notes cursor here value → DueFrom table notes root [] cursor here value
       of_hole some =
@@ -461,9 +415,7 @@ module _ (table : Table) (root : ℕ) (notes : Journal) (cursor : Place) where
               from_zero some.i _ some.there,
               (
                 some.child,
-                some.takes
-                    ∙ sym (hole_makes (held notes (cursor ++ some.i ∷ [])) _ _
-                    (ap (λ (place : Place). held notes place) (sym some.child) ∙ some.hole)),
+                some.takes ∙ sym (hole_makes _ _ _ (ap (λ (place : Place). held notes place) (sym some.child) ∙ some.hole)),
               ),
             ),
           ))
@@ -475,14 +427,13 @@ module _ (table : Table) (root : ℕ) (notes : Journal) (cursor : Place) where
             own.whole,
             (
               own.same,
-              own.makes
-                  ∙ ap (λ (place : Place). completes deferred_column table notes (shape_at table root place) place) own.same,
+              own.makes ∙ ap (λ (place : Place). completes deferred_column table notes (shape_at table root place) place) own.same,
             ),
           ))
 
   pub means_due : Means Due (finish_notes table notes root [] cursor)
   means_due =
-      means_same (DueFrom table notes root [] cursor) Due (finish_notes table notes root [] cursor)
+      means_same _ Due _
       (λ here value due. from_due cursor [] root here value refl refl due) (λ here value due. due_from here value due)
       (means_finish table notes cursor root [])
 
@@ -497,7 +448,6 @@ notes_what_is_due table root notes added cursor note e = (
   λ among.
       let there = (means_due table root notes cursor).noted added e note among in
       record { here = there.here; value = there.value; writes = there.writes; due = there.due },
-  λ due.
-      subst (λ (n : Note). Contains added n) (sym due.writes)
+  λ due. subst (λ (n : Note). Contains added n) (sym due.writes)
       ((means_due table root notes cursor).is_noted added e due.here due.value due.due),
 )

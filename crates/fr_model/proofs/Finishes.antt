@@ -1,27 +1,10 @@
 -- The end of deferred mode on the tree: what it makes suits its shape, keeps its tokens and is a tree of strict mode, the path
 -- stays, and it makes none exactly where there is something to refuse.
-use Rattle.std.proofs.Common.{◌≡◌, ℕ, zero, suc, ◌+◌, Bool, true, false, not, ◌||◌, is_none, is_some, if◌then◌else◌, List, [], ◌∷◌, ◌++◌, Option, Some, None, refl, sym, ◌∙◌, ap, ap₂, subst, arith}
-use Rattle.std.specs.Option.{option_map, option_or}
-use Rattle.fr_shape.specs.Checked.{IsChecked}
-use Rattle.fr_shape.specs.Fits.{count_vals}
-use Rattle.fr_shape.specs.Hooks.{Meanings}
-use Rattle.fr_shape.specs.Lists.{is_nil}
-use Rattle.fr_shape.specs.Look.{Table, def_of}
-use Rattle.fr_shape.specs.Val.{Vals, no_vals, first}
-use Rattle.fr_path.specs.declared.path_steps.PathStep.{PathStep}
-use Rattle.fr_model.specs.Places.{Place, deferred_column}
-use Rattle.fr_model.specs.Paths.{step_as, steps_in}
-use Rattle.fr_model.specs.Tree.{Form, as_struct, as_array, as_variant, as_some, as_ok, as_err, as_pointer, as_list, as_slice, as_closed_slice, as_set, as_map, as_dyn_array, as_dyn_object, Tree, hole, entered, whole, begun, Trees, no_trees, branch, tree_nth, tree_at, child_as, shape_in, wholes, count_trees, tree_occurs, trees_occur, Mode, strict}
-use Rattle.fr_model.specs.Complete.{complete, complete_all, value_as}
-use Rattle.fr_model.specs.Dropping.{dropped_by_completing, dropped_among, dropped_but, dropped_by_finishing}
-use Rattle.fr_model.specs.Failing.{own_lack, Failure, failures, failures_among, first_by_walk}
-use Rattle.fr_model.specs.Finish.{closed, one_more_tree, closed_all, closed_but, is_closed_slice, begun_with, finished_here, finished, failures_but, failures_off, kind_of}
-use Rattle.fr_model.specs.Gathering.{left_out}
-use Rattle.fr_model.specs.Well.{IsFullAs, IsBegunAs, IsTouched, IsContent, AreTouched, AreEntries, IsBegunRightly, Suits, IsOff, AllOff, AtCursor, OffBut, Leads}
-use Rattle.fr_model.proofs.Completing.{Made, completing_makes, Children, all_completing_make}
+use Rattle.std.proofs.Common.{◌≡◌, ◌+◌, ◌||◌, if◌then◌else◌, ◌∷◌, ◌++◌}
+use Rattle.fr_model.proofs.Common.{ℕ, zero, suc, Bool, true, false, not, is_none, is_some, List, [], Option, Some, None, refl, sym, ◌∙◌, ap, ap₂, subst, arith, option_map, option_or, IsChecked, count_vals, Meanings, is_nil, Table, def_of, Vals, no_vals, first, PathStep, Place, deferred_column, step_as, steps_in, Tracker, as_items, ItemsKind, Tree, hole, entered, whole, begun, Trees, no_trees, branch, tree_nth, tree_at, child_as, shape_in, wholes, count_trees, tree_occurs, trees_occur, Mode, strict, complete, complete_all, value_as, dropped_by_completing, dropped_among, dropped_but, dropped_by_finishing, own_lack, Failure, failures, failures_among, first_by_walk, closed, one_more_tree, closed_all, closed_but, is_closed_slice, begun_with, finished_here, finished, failures_but, failures_off, kind_of, left_out, IsFullAs, IsBegunAs, IsTouched, IsContent, AreTouched, AreEntries, IsBegunRightly, Suits, IsOff, AllOff, AtCursor, OffBut, Leads}
+use Rattle.fr_model.proofs.Basis.{completing_makes, Children, all_completing_make, right_kept, ChildrenFit, SuitFrom, sound_as, value_fits, value_holds, wholes_hold}
 use Rattle.fr_model.proofs.Failing.{none_mapped, joined_there, some_or, completes_or_fails, all_complete_or_fail, entered_lacks}
-use Rattle.fr_model.proofs.Structs.{ChildrenFit, SuitFrom, sound_as, value_fits, value_holds}
-use Rattle.fr_model.proofs.Tokens.{wholes_hold}
+use Rattle.fr_model.proofs.Templates.{some_is}
 
 -- what is made is made of something
 
@@ -41,10 +24,8 @@ pub record OneMoreTree (o : Option Tree) (os : Option Trees) (us : Trees) : Type
   pub tail_is : os ≡ Some tail
   pub same : us ≡ branch head tail
 
-pub one_more_tree_is : (o : Option Tree) (os : Option Trees) (us : Trees) → one_more_tree o os ≡ Some us
-    → OneMoreTree o os us
-one_more_tree_is (Some u) (Some rest) us e =
-    record { head = u; tail = rest; head_is = refl; tail_is = refl; same = cc }
+pub one_more_tree_is : (o : Option Tree) (os : Option Trees) (us : Trees) → one_more_tree o os ≡ Some us → OneMoreTree o os us
+one_more_tree_is (Some u) (Some rest) us e = record { head = u; tail = rest; head_is = refl; tail_is = refl; same = cc }
 one_more_tree_is (Some u) None us e = cc
 one_more_tree_is None os us e = cc
 
@@ -76,17 +57,17 @@ entries_there (branch k (branch v (branch n ts))) (branch l (branch w no_trees))
 entries_there no_trees (branch l us) each has = absurd each
 entries_there (branch k ts) no_trees each has = absurd each
 
-pub record AllKept (table : Table) (s : ℕ) (form : Form) (i : ℕ) (dropped : ℕ → ℕ) (ts us : Trees) : Type 0 where
-  pub suit : SuitFrom table s form i us
+pub record AllKept (table : Table) (s : ℕ) (tracker : Tracker) (i : ℕ) (dropped : ℕ → ℕ) (ts us : Trees) : Type 0 where
+  pub suit : SuitFrom table s tracker i us
   pub content : IsContent ts → IsContent us
   pub touched : AreTouched ts → AreTouched us
   pub there : EachThere ts us
   pub counted : count_trees us ≡ count_trees ts
   pub hold : (t : ℕ) → trees_occur us t + dropped t ≡ trees_occur ts t
 
-none_kept : (table : Table) (s : ℕ) (form : Form) (i : ℕ) (us : Trees)
-    → ◌≡◌ {A = Option Trees} (Some no_trees) (Some us) → AllKept table s form i (λ t. 0) no_trees us
-none_kept table s form i no_trees e = record {
+none_kept : (table : Table) (s : ℕ) (tracker : Tracker) (i : ℕ) (us : Trees)
+    → ◌≡◌ {A = Option Trees} (Some no_trees) (Some us) → AllKept table s tracker i (λ t. 0) no_trees us
+none_kept table s tracker i no_trees e = record {
   suit = tt;
   content = λ has. has;
   touched = λ has. has;
@@ -94,15 +75,15 @@ none_kept table s form i no_trees e = record {
   counted = refl;
   hold = λ t. refl;
 }
-none_kept table s form i (branch u us) e = cc
+none_kept table s tracker i (branch u us) e = cc
 
 -- a child and the ones after it
-more_kept : (table : Table) (s : ℕ) (form : Form) (i : ℕ) (by_child by_rest : ℕ → ℕ) (tree : Tree) (ts : Trees)
+more_kept : (table : Table) (s : ℕ) (tracker : Tracker) (i : ℕ) (by_child by_rest : ℕ → ℕ) (tree : Tree) (ts : Trees)
     (o : Option Tree) (os : Option Trees) (us : Trees)
-    → ((u : Tree) → o ≡ Some u → Kept table (child_as table s form i) by_child tree u)
-    → ((rest : Trees) → os ≡ Some rest → AllKept table s form (suc i) by_rest ts rest) → one_more_tree o os ≡ Some us
-    → AllKept table s form i (λ t. by_child t + by_rest t) (branch tree ts) us
-more_kept table s form i by_child by_rest tree ts o os us child others e =
+    → ((u : Tree) → o ≡ Some u → Kept table (child_as table s tracker i) by_child tree u)
+    → ((rest : Trees) → os ≡ Some rest → AllKept table s tracker (suc i) by_rest ts rest) → one_more_tree o os ≡ Some us
+    → AllKept table s tracker i (λ t. by_child t + by_rest t) (branch tree ts) us
+more_kept table s tracker i by_child by_rest tree ts o os us child others e =
     rw parts.same (record {
       suit = (here.suits, more.suit);
       content = here.touched;
@@ -115,54 +96,49 @@ more_kept table s form i by_child by_rest tree ts o os us child others e =
     parts : OneMoreTree o os us
     parts = one_more_tree_is o os us e
 
-    here : Kept table (child_as table s form i) by_child tree parts.head
+    here : Kept table (child_as table s tracker i) by_child tree parts.head
     here = child parts.head parts.head_is
 
-    more : AllKept table s form (suc i) by_rest ts parts.tail
+    more : AllKept table s tracker (suc i) by_rest ts parts.tail
     more = others parts.tail parts.tail_is
 
 closed_keeps : (hooks : Meanings) (table : Table) (s : ℕ) (tree u : Tree) → IsChecked table → Suits table s tree
-    → closed hooks table s tree ≡ Some u
-    → Kept table s (λ t. dropped_by_completing deferred_column hooks table s tree t) tree u
+    → closed hooks table s tree ≡ Some u → Kept table s (λ t. dropped_by_completing deferred_column hooks table s tree t) tree u
 closed_keeps hooks table s hole u checked suits e =
     let same : hole ≡ u = cc in rw (← same) (record { suits = tt; touched = λ there. there; hold = λ t. refl })
 closed_keeps hooks table s tree u checked suits e =
-    let to : Mapped whole (complete deferred_column hooks table s tree) u
-    = mapped_is whole (complete deferred_column hooks table s tree) u e in
-    let made : Made table s (λ t. dropped_by_completing deferred_column hooks table s tree t) (λ t. tree_occurs tree t) to.from
-    = completing_makes deferred_column hooks table tree s to.from checked suits to.is in
+    let to = mapped_is whole (complete deferred_column hooks table s tree) u e in
+    let made = completing_makes deferred_column hooks table tree s to.from checked suits to.is in
     rw to.same (record { suits = made.fit; touched = λ there. tt; hold = made.hold })
 
-closed_all_keep : (hooks : Meanings) (table : Table) (s : ℕ) (form : Form) (i : ℕ) (ts us : Trees) → IsChecked table
-    → SuitFrom table s form i ts → closed_all hooks table s form i ts ≡ Some us
-    → AllKept table s form i (λ t. dropped_among deferred_column hooks table s form i ts t) ts us
-closed_all_keep hooks table s form i no_trees us checked suit e = none_kept table s form i us e
-closed_all_keep hooks table s form i (branch t ts) us checked suit e =
-    more_kept table s form i (λ k. dropped_by_completing deferred_column hooks table (child_as table s form i) t k)
-    (λ k. dropped_among deferred_column hooks table s form (suc i) ts k) t ts
-    (closed hooks table (child_as table s form i) t) (closed_all hooks table s form (suc i) ts) us
-    (λ u. closed_keeps hooks table (child_as table s form i) t u checked suit.0)
-    (λ rest. closed_all_keep hooks table s form (suc i) ts rest checked suit.1) e
+closed_all_keep : (hooks : Meanings) (table : Table) (s : ℕ) (tracker : Tracker) (i : ℕ) (ts us : Trees) → IsChecked table
+    → SuitFrom table s tracker i ts → closed_all hooks table s tracker i ts ≡ Some us
+    → AllKept table s tracker i (λ t. dropped_among deferred_column hooks table s tracker i ts t) ts us
+closed_all_keep hooks table s tracker i no_trees us checked suit e = none_kept table s tracker i us e
+closed_all_keep hooks table s tracker i (branch t ts) us checked suit e =
+    more_kept table s tracker i (λ k. dropped_by_completing deferred_column hooks table (child_as table s tracker i) t k)
+    (λ k. dropped_among deferred_column hooks table s tracker (suc i) ts k) t ts
+    (closed hooks table (child_as table s tracker i) t) (closed_all hooks table s tracker (suc i) ts) us
+    (λ u. closed_keeps hooks table (child_as table s tracker i) t u checked suit.0)
+    (λ rest. closed_all_keep hooks table s tracker (suc i) ts rest checked suit.1) e
 
-closed_but_keep : (hooks : Meanings) (table : Table) (s : ℕ) (form : Form) (on_way : ℕ)
+closed_but_keep : (hooks : Meanings) (table : Table) (s : ℕ) (tracker : Tracker) (on_way : ℕ)
     (becomes : ℕ → Tree → Option Tree) (drops : ℕ → Tree → ℕ → ℕ) (i : ℕ) (ts us : Trees) → IsChecked table
-    → ((shape : ℕ) (t u : Tree) → Suits table shape t → becomes shape t ≡ Some u
-    → Kept table shape (λ k. drops shape t k) t u)
-    → SuitFrom table s form i ts → closed_but hooks table s form on_way becomes i ts ≡ Some us
-    → AllKept table s form i (λ t. dropped_but hooks table s form on_way drops i ts t) ts us
-closed_but_keep hooks table s form on_way becomes drops i no_trees us checked keeps suit e = none_kept table s form i us e
-closed_but_keep hooks table s form zero becomes drops i (branch t ts) us checked keeps suit e =
-    more_kept table s form i (λ k. drops (child_as table s form i) t k)
-    (λ k. dropped_among deferred_column hooks table s form (suc i) ts k) t ts (becomes (child_as table s form i) t)
-    (closed_all hooks table s form (suc i) ts) us
-    (λ u. keeps (child_as table s form i) t u suit.0)
-    (λ rest. closed_all_keep hooks table s form (suc i) ts rest checked suit.1) e
-closed_but_keep hooks table s form (suc on_way) becomes drops i (branch t ts) us checked keeps suit e =
-    more_kept table s form i (λ k. dropped_by_completing deferred_column hooks table (child_as table s form i) t k)
-    (λ k. dropped_but hooks table s form on_way drops (suc i) ts k) t ts (closed hooks table (child_as table s form i) t)
-    (closed_but hooks table s form on_way becomes (suc i) ts) us
-    (λ u. closed_keeps hooks table (child_as table s form i) t u checked suit.0)
-    (λ rest. closed_but_keep hooks table s form on_way becomes drops (suc i) ts rest checked keeps suit.1) e
+    → ((shape : ℕ) (t u : Tree) → Suits table shape t → becomes shape t ≡ Some u → Kept table shape (λ k. drops shape t k) t u)
+    → SuitFrom table s tracker i ts → closed_but hooks table s tracker on_way becomes i ts ≡ Some us
+    → AllKept table s tracker i (λ t. dropped_but hooks table s tracker on_way drops i ts t) ts us
+closed_but_keep hooks table s tracker on_way becomes drops i no_trees us checked keeps suit e = none_kept table s tracker i us e
+closed_but_keep hooks table s tracker zero becomes drops i (branch t ts) us checked keeps suit e =
+    more_kept table s tracker i (λ k. drops (child_as table s tracker i) t k)
+    (λ k. dropped_among deferred_column hooks table s tracker (suc i) ts k) t ts (becomes (child_as table s tracker i) t)
+    (closed_all hooks table s tracker (suc i) ts) us (λ u. keeps (child_as table s tracker i) t u suit.0)
+    (λ rest. closed_all_keep hooks table s tracker (suc i) ts rest checked suit.1) e
+closed_but_keep hooks table s tracker (suc on_way) becomes drops i (branch t ts) us checked keeps suit e =
+    more_kept table s tracker i (λ k. dropped_by_completing deferred_column hooks table (child_as table s tracker i) t k)
+    (λ k. dropped_but hooks table s tracker on_way drops (suc i) ts k) t ts (closed hooks table (child_as table s tracker i) t)
+    (closed_but hooks table s tracker on_way becomes (suc i) ts) us
+    (λ u. closed_keeps hooks table (child_as table s tracker i) t u checked suit.0)
+    (λ rest. closed_but_keep hooks table s tracker on_way becomes drops (suc i) ts rest checked keeps suit.1) e
 
 -- the begun place at the cursor, whose children are now whole
 
@@ -170,10 +146,10 @@ count_wholes : (vs : Vals) → count_trees (wholes vs) ≡ count_vals vs
 count_wholes no_vals = refl
 count_wholes (first v vs) = ap suc (count_wholes vs)
 
-fitting_suit : (table : Table) (s : ℕ) (form : Form) (i : ℕ) (vs : Vals) → ChildrenFit table s form i vs
-    → SuitFrom table s form i (wholes vs)
-fitting_suit table s form i no_vals fit = tt
-fitting_suit table s form i (first v vs) fit = (fit.0, fitting_suit table s form (suc i) vs fit.1)
+fitting_suit : (table : Table) (s : ℕ) (tracker : Tracker) (i : ℕ) (vs : Vals) → ChildrenFit table s tracker i vs
+    → SuitFrom table s tracker i (wholes vs)
+fitting_suit table s tracker i no_vals fit = tt
+fitting_suit table s tracker i (first v vs) fit = (fit.0, fitting_suit table s tracker (suc i) vs fit.1)
 
 content_wholes : (ts : Trees) (vs : Vals) → count_vals vs ≡ count_trees ts → IsContent ts → IsContent (wholes vs)
 content_wholes no_trees vs e has = absurd has
@@ -194,209 +170,158 @@ entries_wholes (branch key (branch value no_trees)) (first k (first v (first l v
 entries_wholes (branch key (branch value (branch next ts))) (first k (first v (first l vs))) e has =
     (tt, tt, entries_wholes (branch next ts) (first l vs) (omega arith) has.2)
 
-right_wholes : (table : Table) (s : ℕ) (form : Form) (ts : Trees) (vs : Vals) → count_vals vs ≡ count_trees ts
-    → IsBegunRightly table s form ts → IsBegunRightly table s form (wholes vs)
-right_wholes table s as_struct ts vs e rightly = tt
-right_wholes table s as_array ts vs e rightly = tt
-right_wholes table s (as_variant k) ts vs e rightly = rightly
-right_wholes table s as_some ts vs e rightly = content_wholes ts vs e rightly
-right_wholes table s as_ok ts vs e rightly = content_wholes ts vs e rightly
-right_wholes table s as_err ts vs e rightly = content_wholes ts vs e rightly
-right_wholes table s as_pointer ts vs e rightly = (content_wholes ts vs e rightly.0, rightly.1)
-right_wholes table s as_list ts vs e rightly = wholes_touched vs
-right_wholes table s as_set ts vs e rightly = wholes_touched vs
-right_wholes table s (as_map base) ts vs e rightly = entries_wholes ts vs e rightly
-right_wholes table s as_dyn_array ts vs e rightly = wholes_touched vs
-right_wholes table s (as_dyn_object keys) ts vs e rightly = (wholes_touched vs, rightly.1)
-right_wholes table s as_slice ts vs e rightly = (wholes_touched vs, rightly.1)
-right_wholes table s as_closed_slice ts vs e rightly = (wholes_touched vs, rightly.1)
+right_wholes : (table : Table) (s : ℕ) (tracker : Tracker) (ts : Trees) (vs : Vals) → count_vals vs ≡ count_trees ts
+    → IsBegunRightly table s tracker ts → IsBegunRightly table s tracker (wholes vs)
+right_wholes table s tracker ts vs e =
+    right_kept table s tracker ts _ (content_wholes ts vs e) (λ all. wholes_touched vs) (entries_wholes ts vs e)
 
 -- nothing is left out of a pointer to a slice
-slice_leaves_none : (form : Form) (vs : Vals) (t : ℕ) → is_closed_slice form ≡ true → left_out form vs t ≡ 0
-slice_leaves_none as_closed_slice vs t is = refl
+slice_leaves_none : (tracker : Tracker) (vs : Vals) (t : ℕ) → is_closed_slice tracker ≡ true → left_out tracker vs t ≡ 0
+slice_leaves_none (as_items ItemsKind.ClosedSlice) vs t is = refl
 slice_leaves_none _ vs t is = cc
 
-begun_keeps : (hooks : Meanings) (table : Table) (s : ℕ) (form : Form) (ts : Trees) (u : Tree) → IsChecked table
-    → Suits table s (begun form ts) → finished_here hooks table s (begun form ts) ≡ Some u
-    → Kept table s (λ t. dropped_among deferred_column hooks table s form 0 ts t) (begun form ts) u
-begun_keeps hooks table s form ts u checked suits e = rw to.same (go (is_closed_slice form) refl)
+begun_keeps : (hooks : Meanings) (table : Table) (s : ℕ) (tracker : Tracker) (ts : Trees) (u : Tree) → IsChecked table
+    → Suits table s (begun tracker ts) → finished_here hooks table s (begun tracker ts) ≡ Some u
+    → Kept table s (λ t. dropped_among deferred_column hooks table s tracker 0 ts t) (begun tracker ts) u
+begun_keeps hooks table s tracker ts u checked suits e = rw to.same (go (is_closed_slice tracker) refl)
   where
-    to : Mapped (begun_with form) (complete_all deferred_column hooks table s form 0 ts) u
-    to = mapped_is (begun_with form) (complete_all deferred_column hooks table s form 0 ts) u e
+    to : Mapped (begun_with tracker) (complete_all deferred_column hooks table s tracker 0 ts) u
+    to = mapped_is (begun_with tracker) (complete_all deferred_column hooks table s tracker 0 ts) u e
 
-    those : Children table s form 0 (count_trees ts) (λ t. dropped_among deferred_column hooks table s form 0 ts t)
+    those : Children table s tracker 0 (count_trees ts) (λ t. dropped_among deferred_column hooks table s tracker 0 ts t)
         (λ t. trees_occur ts t) to.from
-    those = all_completing_make deferred_column hooks table ts s form 0 to.from checked suits.1 to.is
+    those = all_completing_make deferred_column hooks table ts s tracker 0 to.from checked suits.1 to.is
 
-    full_as : IsFullAs (def_of table s) form (count_vals to.from)
-    full_as = subst (IsFullAs (def_of table s) form) (sym those.counted) suits.0.0
+    full_as : IsFullAs (def_of table s) tracker (count_vals to.from)
+    full_as = subst (IsFullAs (def_of table s) tracker) (sym those.counted) suits.0.0
 
-    go : (b : Bool) → is_closed_slice form ≡ b
-        → Kept table s (λ t. dropped_among deferred_column hooks table s form 0 ts t) (begun form ts)
-        (if b then whole (value_as form to.from) else begun form (wholes to.from))
+    go : (b : Bool) → is_closed_slice tracker ≡ b
+        → Kept table s (λ t. dropped_among deferred_column hooks table s tracker 0 ts t) (begun tracker ts)
+        (if b then whole (value_as tracker to.from) else begun tracker (wholes to.from))
     go true is = record {
-      suits = value_fits table s form to.from full_as (sound_as table s form ts suits.2) those.fit;
+      suits = value_fits table s tracker to.from full_as (sound_as table s tracker ts suits.2) those.fit;
       touched = λ there. tt;
       hold = λ t. omega (
         arith,
-        value_holds table s form to.from full_as those.fit t,
-        slice_leaves_none form to.from t is,
+        value_holds table s tracker to.from full_as those.fit t,
+        slice_leaves_none tracker to.from t is,
         those.hold t,
       );
     }
     go false is = record {
       suits = (
-        subst (IsBegunAs (def_of table s) form) (sym (count_wholes to.from ∙ those.counted)) suits.0,
-        fitting_suit table s form 0 to.from those.fit,
-        right_wholes table s form ts to.from those.counted suits.2,
+        subst (IsBegunAs (def_of table s) tracker) (sym (count_wholes to.from ∙ those.counted)) suits.0,
+        fitting_suit table s tracker 0 to.from those.fit,
+        right_wholes table s tracker ts to.from those.counted suits.2,
       );
       touched = λ there. tt;
       hold = λ t. omega (arith, wholes_hold to.from t, those.hold t);
     }
 
 here_keeps : (hooks : Meanings) (table : Table) (s : ℕ) (tree u : Tree) → IsChecked table → Suits table s tree
-    → finished_here hooks table s tree ≡ Some u
-    → Kept table s (λ t. dropped_by_finishing hooks table s [] tree t) tree u
+    → finished_here hooks table s tree ≡ Some u → Kept table s (λ t. dropped_by_finishing hooks table s [] tree t) tree u
 here_keeps hooks table s hole u checked suits e =
     let same : hole ≡ u = cc in rw (← same) (record { suits = tt; touched = λ there. there; hold = λ t. refl })
 here_keeps hooks table s entered u checked suits e = closed_keeps hooks table s entered u checked suits e
 here_keeps hooks table s (whole v) u checked suits e =
     let same : whole v ≡ u = cc in rw (← same) (record { suits = suits; touched = λ there. there; hold = λ t. omega arith })
-here_keeps hooks table s (begun form ts) u checked suits e = begun_keeps hooks table s form ts u checked suits e
-
-right_kept : (table : Table) (s : ℕ) (form : Form) (ts us : Trees) → (IsContent ts → IsContent us)
-    → (AreTouched ts → AreTouched us) → (AreEntries ts → AreEntries us) → IsBegunRightly table s form ts → IsBegunRightly table s form us
-right_kept table s as_struct ts us keeps all pairs rightly = tt
-right_kept table s as_array ts us keeps all pairs rightly = tt
-right_kept table s (as_variant k) ts us keeps all pairs rightly = rightly
-right_kept table s as_some ts us keeps all pairs rightly = keeps rightly
-right_kept table s as_ok ts us keeps all pairs rightly = keeps rightly
-right_kept table s as_err ts us keeps all pairs rightly = keeps rightly
-right_kept table s as_pointer ts us keeps all pairs rightly = (keeps rightly.0, rightly.1)
-right_kept table s as_list ts us keeps all pairs rightly = all rightly
-right_kept table s as_set ts us keeps all pairs rightly = all rightly
-right_kept table s (as_map base) ts us keeps all pairs rightly = pairs rightly
-right_kept table s as_dyn_array ts us keeps all pairs rightly = all rightly
-right_kept table s (as_dyn_object keys) ts us keeps all pairs rightly = (all rightly.0, rightly.1)
-right_kept table s as_slice ts us keeps all pairs rightly = (all rightly.0, rightly.1)
-right_kept table s as_closed_slice ts us keeps all pairs rightly = (all rightly.0, rightly.1)
+here_keeps hooks table s (begun tracker ts) u checked suits e = begun_keeps hooks table s tracker ts u checked suits e
 
 -- a begun place above the cursor
-above_keeps : (hooks : Meanings) (table : Table) (s : ℕ) (form : Form) (on_way : ℕ) (becomes : ℕ → Tree → Option Tree)
+above_keeps : (hooks : Meanings) (table : Table) (s : ℕ) (tracker : Tracker) (on_way : ℕ) (becomes : ℕ → Tree → Option Tree)
     (drops : ℕ → Tree → ℕ → ℕ) (ts : Trees) (next : Tree) → IsChecked table
-    → ((shape : ℕ) (t u : Tree) → Suits table shape t → becomes shape t ≡ Some u
-    → Kept table shape (λ k. drops shape t k) t u)
-    → Suits table s (begun form ts)
-    → option_map (begun form) (closed_but hooks table s form on_way becomes 0 ts) ≡ Some next
-    → Kept table s (λ t. dropped_but hooks table s form on_way drops 0 ts t) (begun form ts) next
-above_keeps hooks table s form on_way becomes drops ts next checked keeps suits e =
+    → ((shape : ℕ) (t u : Tree) → Suits table shape t → becomes shape t ≡ Some u → Kept table shape (λ k. drops shape t k) t u)
+    → Suits table s (begun tracker ts) → option_map (begun tracker) (closed_but hooks table s tracker on_way becomes 0 ts) ≡ Some next
+    → Kept table s (λ t. dropped_but hooks table s tracker on_way drops 0 ts t) (begun tracker ts) next
+above_keeps hooks table s tracker on_way becomes drops ts next checked keeps suits e =
     rw to.same (record {
       suits = (
-        subst (IsBegunAs (def_of table s) form) (sym those.counted) suits.0,
+        subst (IsBegunAs (def_of table s) tracker) (sym those.counted) suits.0,
         those.suit,
-        right_kept table s form ts to.from those.content those.touched
-            (entries_there ts to.from those.there) suits.2,
+        right_kept table s tracker ts to.from those.content those.touched (entries_there ts to.from those.there) suits.2,
       );
       touched = λ there. tt;
       hold = those.hold;
     })
   where
-    to : Mapped (begun form) (closed_but hooks table s form on_way becomes 0 ts) next
-    to = mapped_is (begun form) (closed_but hooks table s form on_way becomes 0 ts) next e
+    to : Mapped (begun tracker) (closed_but hooks table s tracker on_way becomes 0 ts) next
+    to = mapped_is (begun tracker) (closed_but hooks table s tracker on_way becomes 0 ts) next e
 
-    those : AllKept table s form 0 (λ t. dropped_but hooks table s form on_way drops 0 ts t) ts to.from
-    those = closed_but_keep hooks table s form on_way becomes drops 0 ts to.from checked keeps suits.1 to.is
+    those : AllKept table s tracker 0 (λ t. dropped_but hooks table s tracker on_way drops 0 ts t) ts to.from
+    those = closed_but_keep hooks table s tracker on_way becomes drops 0 ts to.from checked keeps suits.1 to.is
 
 -- over a checked table the tree at the end suits the shape, and holds each token as often as before, but for what is dropped
 pub finish_keeps : (hooks : Meanings) (table : Table) (s : ℕ) (cursor : Place) (tree next : Tree) → IsChecked table
     → Suits table s tree → finished hooks table s cursor tree ≡ Some next
     → Kept table s (λ t. dropped_by_finishing hooks table s cursor tree t) tree next
 finish_keeps hooks table s [] tree next checked suits e = here_keeps hooks table s tree next checked suits e
-finish_keeps hooks table s (i ∷ place) hole next checked suits e =
-    let same : hole ≡ next = cc in rw (← same) (record { suits = tt; touched = λ there. there; hold = λ t. refl })
-finish_keeps hooks table s (i ∷ place) entered next checked suits e =
-    let same : entered ≡ next = cc in rw (← same) (record { suits = suits; touched = λ there. there; hold = λ t. refl })
-finish_keeps hooks table s (i ∷ place) (whole v) next checked suits e =
-    let same : whole v ≡ next = cc in rw (← same) (record { suits = suits; touched = λ there. there; hold = λ t. omega arith })
-finish_keeps hooks table s (i ∷ place) (begun form ts) next checked suits e =
-    above_keeps hooks table s form i (λ (shape : ℕ) (t : Tree). finished hooks table shape place t)
+finish_keeps hooks table s (i ∷ place) (begun tracker ts) next checked suits e =
+    above_keeps hooks table s tracker i (λ (shape : ℕ) (t : Tree). finished hooks table shape place t)
     (λ (shape : ℕ) (t : Tree) (k : ℕ). dropped_by_finishing hooks table shape place t k) ts next checked
     (λ shape t u fits is. finish_keeps hooks table shape place t u checked fits is) suits e
+finish_keeps hooks table s (i ∷ place) tree next checked suits e =
+    rw (← some_is tree next e) (record { suits = suits; touched = λ there. there; hold = λ t. omega arith })
 
 -- The tree at the end is one of strict mode
 
-closed_off : (hooks : Meanings) (table : Table) (s : ℕ) (tree u : Tree) → closed hooks table s tree ≡ Some u
-    → IsOff strict u
+closed_off : (hooks : Meanings) (table : Table) (s : ℕ) (tree u : Tree) → closed hooks table s tree ≡ Some u → IsOff strict u
 closed_off hooks table s hole u e = let same : hole ≡ u = cc in rw (← same) tt
-closed_off hooks table s tree u e =
-    let to : Mapped whole (complete deferred_column hooks table s tree) u
-    = mapped_is whole (complete deferred_column hooks table s tree) u e in
-    rw to.same tt
+closed_off hooks table s tree u e = let to = mapped_is whole (complete deferred_column hooks table s tree) u e in rw to.same tt
 
-closed_all_off : (hooks : Meanings) (table : Table) (s : ℕ) (form : Form) (i : ℕ) (ts us : Trees)
-    → closed_all hooks table s form i ts ≡ Some us → AllOff strict us
-closed_all_off hooks table s form i no_trees us e = let same : no_trees ≡ us = cc in rw (← same) tt
-closed_all_off hooks table s form i (branch t ts) us e =
-    let parts : OneMoreTree (closed hooks table (child_as table s form i) t) (closed_all hooks table s form (suc i) ts) us
-    = one_more_tree_is (closed hooks table (child_as table s form i) t) (closed_all hooks table s form (suc i) ts) us e in
+closed_all_off : (hooks : Meanings) (table : Table) (s : ℕ) (tracker : Tracker) (i : ℕ) (ts us : Trees)
+    → closed_all hooks table s tracker i ts ≡ Some us → AllOff strict us
+closed_all_off hooks table s tracker i no_trees us e = let same : no_trees ≡ us = cc in rw (← same) tt
+closed_all_off hooks table s tracker i (branch t ts) us e =
+    let parts = one_more_tree_is _ _ us e in
     rw parts.same (
-      closed_off hooks table (child_as table s form i) t parts.head parts.head_is,
-      closed_all_off hooks table s form (suc i) ts parts.tail parts.tail_is,
+      closed_off hooks table _ t parts.head parts.head_is,
+      closed_all_off hooks table s tracker (suc i) ts parts.tail parts.tail_is,
     )
 
-closed_but_off : (hooks : Meanings) (table : Table) (s : ℕ) (form : Form) (on_way : ℕ)
+closed_but_off : (hooks : Meanings) (table : Table) (s : ℕ) (tracker : Tracker) (on_way : ℕ)
     (becomes : ℕ → Tree → Option Tree) (mode : Mode) (Below After : Tree → Type 0) (i : ℕ) (ts us : Trees)
     → ((shape : ℕ) (t u : Tree) → Below t → becomes shape t ≡ Some u → After u) → OffBut mode on_way Below ts
-    → closed_but hooks table s form on_way becomes i ts ≡ Some us → OffBut strict on_way After us
-closed_but_off hooks table s form on_way becomes mode Below After i no_trees us leads off e = absurd off
-closed_but_off hooks table s form zero becomes mode Below After i (branch t ts) us leads off e =
-    let parts : OneMoreTree (becomes (child_as table s form i) t) (closed_all hooks table s form (suc i) ts) us
-    = one_more_tree_is (becomes (child_as table s form i) t) (closed_all hooks table s form (suc i) ts) us e in
+    → closed_but hooks table s tracker on_way becomes i ts ≡ Some us → OffBut strict on_way After us
+closed_but_off hooks table s tracker on_way becomes mode Below After i no_trees us leads off e = absurd off
+closed_but_off hooks table s tracker zero becomes mode Below After i (branch t ts) us leads off e =
+    let parts = one_more_tree_is _ _ us e in
+    rw parts.same (leads _ t parts.head off.0 parts.head_is, closed_all_off hooks table s tracker (suc i) ts parts.tail parts.tail_is)
+closed_but_off hooks table s tracker (suc on_way) becomes mode Below After i (branch t ts) us leads off e =
+    let parts = one_more_tree_is _ _ us e in
     rw parts.same (
-      leads (child_as table s form i) t parts.head off.0 parts.head_is,
-      closed_all_off hooks table s form (suc i) ts parts.tail parts.tail_is,
-    )
-closed_but_off hooks table s form (suc on_way) becomes mode Below After i (branch t ts) us leads off e =
-    let parts : OneMoreTree (closed hooks table (child_as table s form i) t)
-    (closed_but hooks table s form on_way becomes (suc i) ts) us
-    = one_more_tree_is (closed hooks table (child_as table s form i) t)
-    (closed_but hooks table s form on_way becomes (suc i) ts) us e in
-    rw parts.same (
-      closed_off hooks table (child_as table s form i) t parts.head parts.head_is,
-      closed_but_off hooks table s form on_way becomes mode Below After (suc i) ts parts.tail leads off.1 parts.tail_is,
+      closed_off hooks table _ t parts.head parts.head_is,
+      closed_but_off hooks table s tracker on_way becomes mode Below After (suc i) ts parts.tail leads off.1 parts.tail_is,
     )
 
 wholes_off : (vs : Vals) → AllOff strict (wholes vs)
 wholes_off no_vals = tt
 wholes_off (first v vs) = (tt, wholes_off vs)
 
+-- what holds of the value that a begun place makes, and of that place with whole children, holds of what it becomes
+pub begun_with_is : (Is : Tree → Type 0) (tracker : Tracker) (vs : Vals) → Is (whole (value_as tracker vs))
+    → Is (begun tracker (wholes vs)) → Is (begun_with tracker vs)
+begun_with_is Is tracker vs made more = go (is_closed_slice tracker)
+  where
+    go : (b : Bool) → Is (if b then whole (value_as tracker vs) else begun tracker (wholes vs))
+    go true = made
+    go false = more
+
 here_leads : (hooks : Meanings) (table : Table) (s : ℕ) (mode : Mode) (tree u : Tree) → AtCursor mode tree
     → finished_here hooks table s tree ≡ Some u → AtCursor strict u
 here_leads hooks table s mode hole u at e = absurd at
-here_leads hooks table s mode entered u at e =
-    let to : Mapped whole (complete deferred_column hooks table s entered) u
-    = mapped_is whole (complete deferred_column hooks table s entered) u e in
-    rw to.same tt
+here_leads hooks table s mode entered u at e = let to = mapped_is whole _ u e in rw to.same tt
 here_leads hooks table s mode (whole v) u at e = let same : whole v ≡ u = cc in rw (← same) tt
-here_leads hooks table s mode (begun form ts) u at e =
-    let to : Mapped (begun_with form) (complete_all deferred_column hooks table s form 0 ts) u
-    = mapped_is (begun_with form) (complete_all deferred_column hooks table s form 0 ts) u e in
-    rw to.same (go (is_closed_slice form) to.from)
-  where
-    go : (b : Bool) (vs : Vals) → AtCursor strict (if b then whole (value_as form vs) else begun form (wholes vs))
-    go true vs = tt
-    go false vs = wholes_off vs
+here_leads hooks table s mode (begun tracker ts) u at e =
+    let to = mapped_is _ _ u e in rw to.same (begun_with_is (AtCursor strict) tracker to.from tt (wholes_off to.from))
 
 -- where the cursor leads to a place, in whichever mode, it leads to it in strict mode
 pub finish_leads : (hooks : Meanings) (table : Table) (s : ℕ) (mode : Mode) (cursor : Place) (tree next : Tree)
     → Leads mode cursor tree → finished hooks table s cursor tree ≡ Some next → Leads strict cursor next
 finish_leads hooks table s mode [] tree next leads e = here_leads hooks table s mode tree next leads e
-finish_leads hooks table s mode (i ∷ place) (begun form ts) next leads e =
-    let to : Mapped (begun form)
-    (closed_but hooks table s form i (λ (shape : ℕ) (t : Tree). finished hooks table shape place t) 0 ts) next
-    = mapped_is (begun form)
-    (closed_but hooks table s form i (λ (shape : ℕ) (t : Tree). finished hooks table shape place t) 0 ts) next e in
-    rw to.same (closed_but_off hooks table s form i (λ (shape : ℕ) (t : Tree). finished hooks table shape place t) mode
+finish_leads hooks table s mode (i ∷ place) (begun tracker ts) next leads e =
+    let to = mapped_is _
+    (closed_but hooks table s tracker i (λ (shape : ℕ) (t : Tree). finished hooks table shape place t) 0 ts) next e in
+    rw to.same (closed_but_off hooks table s tracker i (λ (shape : ℕ) (t : Tree). finished hooks table shape place t) mode
     (λ child. Leads mode place child) (λ child. Leads strict place child) 0 ts to.from
     (λ shape t u below is. finish_leads hooks table shape mode place t u below is) leads to.is)
 finish_leads hooks table s mode (i ∷ place) _ next leads e = absurd leads
@@ -404,38 +329,29 @@ finish_leads hooks table s mode (i ∷ place) _ next leads e = absurd leads
 -- The path stays
 
 -- what holds of a child on the way and what becomes of it, or of two holes, holds of the trees of this number
-on_way_is : (hooks : Meanings) (table : Table) (s : ℕ) (form : Form) (on_way : ℕ) (becomes : ℕ → Tree → Option Tree)
+on_way_is : (hooks : Meanings) (table : Table) (s : ℕ) (tracker : Tracker) (on_way : ℕ) (becomes : ℕ → Tree → Option Tree)
     (Both : Tree → Tree → Type 0) (i : ℕ) (ts us : Trees) → Both hole hole
     → ((shape : ℕ) (t u : Tree) → becomes shape t ≡ Some u → Both t u)
-    → closed_but hooks table s form on_way becomes i ts ≡ Some us → Both (tree_nth on_way ts) (tree_nth on_way us)
-on_way_is hooks table s form on_way becomes Both i no_trees us holes step e =
+    → closed_but hooks table s tracker on_way becomes i ts ≡ Some us → Both (tree_nth on_way ts) (tree_nth on_way us)
+on_way_is hooks table s tracker on_way becomes Both i no_trees us holes step e =
     let same : no_trees ≡ us = cc in rw (← same) holes
-on_way_is hooks table s form zero becomes Both i (branch t ts) us holes step e =
-    let parts : OneMoreTree (becomes (child_as table s form i) t) (closed_all hooks table s form (suc i) ts) us
-    = one_more_tree_is (becomes (child_as table s form i) t) (closed_all hooks table s form (suc i) ts) us e in
-    rw parts.same (step (child_as table s form i) t parts.head parts.head_is)
-on_way_is hooks table s form (suc on_way) becomes Both i (branch t ts) us holes step e =
-    let parts : OneMoreTree (closed hooks table (child_as table s form i) t)
-    (closed_but hooks table s form on_way becomes (suc i) ts) us
-    = one_more_tree_is (closed hooks table (child_as table s form i) t)
-    (closed_but hooks table s form on_way becomes (suc i) ts) us e in
-    rw parts.same (on_way_is hooks table s form on_way becomes Both (suc i) ts parts.tail holes step parts.tail_is)
+on_way_is hooks table s tracker zero becomes Both i (branch t ts) us holes step e =
+    let parts = one_more_tree_is _ _ us e in rw parts.same (step (child_as table s tracker i) t parts.head parts.head_is)
+on_way_is hooks table s tracker (suc on_way) becomes Both i (branch t ts) us holes step e =
+    let parts = one_more_tree_is _ _ us e in
+    rw parts.same (on_way_is hooks table s tracker on_way becomes Both (suc i) ts parts.tail holes step parts.tail_is)
 
 pub finish_keeps_path : (hooks : Meanings) (table : Table) (s : ℕ) (cursor : Place) (tree next : Tree)
     → finished hooks table s cursor tree ≡ Some next → steps_in cursor next ≡ steps_in cursor tree
 finish_keeps_path hooks table s [] tree next e = refl
-finish_keeps_path hooks table s (i ∷ place) hole next e = let same : hole ≡ next = cc in rw (← same) refl
-finish_keeps_path hooks table s (i ∷ place) entered next e = let same : entered ≡ next = cc in rw (← same) refl
-finish_keeps_path hooks table s (i ∷ place) (whole v) next e = let same : whole v ≡ next = cc in rw (← same) refl
-finish_keeps_path hooks table s (i ∷ place) (begun form ts) next e =
-    let to : Mapped (begun form)
-    (closed_but hooks table s form i (λ (shape : ℕ) (t : Tree). finished hooks table shape place t) 0 ts) next
-    = mapped_is (begun form)
-    (closed_but hooks table s form i (λ (shape : ℕ) (t : Tree). finished hooks table shape place t) 0 ts) next e in
-    rw to.same (ap (λ (steps : List PathStep). step_as form i ∷ steps)
-    (on_way_is hooks table s form i (λ (shape : ℕ) (t : Tree). finished hooks table shape place t)
+finish_keeps_path hooks table s (i ∷ place) (begun tracker ts) next e =
+    let to = mapped_is _
+    (closed_but hooks table s tracker i (λ (shape : ℕ) (t : Tree). finished hooks table shape place t) 0 ts) next e in
+    rw to.same (ap (λ (steps : List PathStep). step_as tracker i ∷ steps)
+    (on_way_is hooks table s tracker i (λ (shape : ℕ) (t : Tree). finished hooks table shape place t)
     (λ t u. steps_in place u ≡ steps_in place t) 0 ts to.from refl
     (λ shape t u is. finish_keeps_path hooks table shape place t u is) to.is))
+finish_keeps_path hooks table s (i ∷ place) tree next e = ap (steps_in (i ∷ place)) (sym (some_is tree next e))
 
 -- Something to refuse
 
@@ -464,76 +380,71 @@ or_within : (a b c : Bool) → (a || (b || c)) ≡ ((a || b) || c)
 or_within true b c = refl
 or_within false b c = refl
 
-closed_all_or_fail : (hooks : Meanings) (table : Table) (s : ℕ) (form : Form) (i : ℕ) (path : List PathStep) (ts : Trees)
-    → is_none (closed_all hooks table s form i ts) ≡ not (is_nil (failures_among hooks table s form i path ts))
-closed_all_or_fail hooks table s form i path no_trees = refl
-closed_all_or_fail hooks table s form i path (branch t ts) =
-    none_more_tree (closed hooks table (child_as table s form i) t) (closed_all hooks table s form (suc i) ts)
-    ∙ ap₂ (λ (a b : Bool). a || b)
-    (completes_or_fails hooks table (child_as table s form i) (path ++ step_as form i ∷ []) t)
-    (closed_all_or_fail hooks table s form (suc i) path ts)
-    ∙ sym (joined_there (failures hooks table (child_as table s form i) (path ++ step_as form i ∷ []) t)
-    (failures_among hooks table s form (suc i) path ts))
+closed_all_or_fail : (hooks : Meanings) (table : Table) (s : ℕ) (tracker : Tracker) (i : ℕ) (path : List PathStep) (ts : Trees)
+    → is_none (closed_all hooks table s tracker i ts) ≡ not (is_nil (failures_among hooks table s tracker i path ts))
+closed_all_or_fail hooks table s tracker i path no_trees = refl
+closed_all_or_fail hooks table s tracker i path (branch t ts) =
+    none_more_tree (closed hooks table (child_as table s tracker i) t) (closed_all hooks table s tracker (suc i) ts)
+    ∙ ap₂ (λ (a b : Bool). a || b) (completes_or_fails hooks table (child_as table s tracker i) (path ++ step_as tracker i ∷ []) t)
+    (closed_all_or_fail hooks table s tracker (suc i) path ts)
+    ∙ sym (joined_there (failures hooks table (child_as table s tracker i) (path ++ step_as tracker i ∷ []) t)
+    (failures_among hooks table s tracker (suc i) path ts))
 
 -- The children of a place above the cursor: child i, as many further on as `on_way`, lies on the way.
-closed_but_or_refused : (hooks : Meanings) (table : Table) (s : ℕ) (form : Form) (on_way : ℕ)
+closed_but_or_refused : (hooks : Meanings) (table : Table) (s : ℕ) (tracker : Tracker) (on_way : ℕ)
     (becomes : ℕ → Tree → Option Tree) (below : ℕ → List PathStep → Tree → List Failure) (lacking : ℕ → Tree → Bool)
     (mode : Mode) (Below : Tree → Type 0) (k : ℕ) (path : List PathStep) (ts : Trees) (i : ℕ) → i ≡ k + on_way
     → ((shape : ℕ) (to : List PathStep) (t : Tree) → Below t
-    → is_none (becomes shape t) ≡ (not (is_nil (below shape to t)) || lacking shape t))
-    → OffBut mode on_way Below ts
-    → is_none (closed_but hooks table s form on_way becomes k ts)
-    ≡ (not (is_nil (failures_but hooks table s form on_way below k path ts))
-    || lacking (child_as table s form i) (tree_nth on_way ts))
-closed_but_or_refused hooks table s form on_way becomes below lacking mode Below k path no_trees i is step off = absurd off
-closed_but_or_refused hooks table s form zero becomes below lacking mode Below k path (branch t ts) i is step off =
-    subst (λ (m : ℕ). is_none (closed_but hooks table s form zero becomes k (branch t ts))
-    ≡ (not (is_nil (failures_but hooks table s form zero below k path (branch t ts)))
-    || lacking (child_as table s form m) t)) here
-    (none_more_tree (becomes (child_as table s form k) t) (closed_all hooks table s form (suc k) ts)
-    ∙ ap₂ (λ (a b : Bool). a || b) (step (child_as table s form k) (path ++ step_as form k ∷ []) t off.0)
-    (closed_all_or_fail hooks table s form (suc k) path ts)
-    ∙ or_aside (not (is_nil (below (child_as table s form k) (path ++ step_as form k ∷ []) t)))
-    (lacking (child_as table s form k) t) (not (is_nil (failures_among hooks table s form (suc k) path ts)))
-    ∙ ap (λ (b : Bool). b || lacking (child_as table s form k) t)
-    (sym (joined_there (below (child_as table s form k) (path ++ step_as form k ∷ []) t)
-    (failures_among hooks table s form (suc k) path ts))))
+    → is_none (becomes shape t) ≡ (not (is_nil (below shape to t)) || lacking shape t)) → OffBut mode on_way Below ts
+    → is_none (closed_but hooks table s tracker on_way becomes k ts)
+    ≡ (not (is_nil (failures_but hooks table s tracker on_way below k path ts))
+    || lacking (child_as table s tracker i) (tree_nth on_way ts))
+closed_but_or_refused hooks table s tracker on_way becomes below lacking mode Below k path no_trees i is step off = absurd off
+closed_but_or_refused hooks table s tracker zero becomes below lacking mode Below k path (branch t ts) i is step off =
+    subst (λ (m : ℕ). is_none (closed_but hooks table s tracker zero becomes k (branch t ts))
+    ≡ (not (is_nil (failures_but hooks table s tracker zero below k path (branch t ts)))
+    || lacking (child_as table s tracker m) t)) here
+    (none_more_tree (becomes (child_as table s tracker k) t) (closed_all hooks table s tracker (suc k) ts)
+    ∙ ap₂ (λ (a b : Bool). a || b) (step (child_as table s tracker k) (path ++ step_as tracker k ∷ []) t off.0)
+    (closed_all_or_fail hooks table s tracker (suc k) path ts)
+    ∙ or_aside (not (is_nil (below (child_as table s tracker k) (path ++ step_as tracker k ∷ []) t)))
+    (lacking (child_as table s tracker k) t) (not (is_nil (failures_among hooks table s tracker (suc k) path ts)))
+    ∙ ap (λ (b : Bool). b || lacking (child_as table s tracker k) t)
+    (sym (joined_there (below (child_as table s tracker k) (path ++ step_as tracker k ∷ []) t)
+    (failures_among hooks table s tracker (suc k) path ts))))
   where
     here : k ≡ i
     here = omega arith
-closed_but_or_refused hooks table s form (suc on_way) becomes below lacking mode Below k path (branch t ts) i is step off =
-    none_more_tree (closed hooks table (child_as table s form k) t)
-    (closed_but hooks table s form on_way becomes (suc k) ts)
-    ∙ ap₂ (λ (a b : Bool). a || b)
-    (completes_or_fails hooks table (child_as table s form k) (path ++ step_as form k ∷ []) t)
-    (closed_but_or_refused hooks table s form on_way becomes below lacking mode Below (suc k) path ts i (omega arith) step
-    off.1)
-    ∙ or_within (not (is_nil (failures hooks table (child_as table s form k) (path ++ step_as form k ∷ []) t)))
-    (not (is_nil (failures_but hooks table s form on_way below (suc k) path ts)))
-    (lacking (child_as table s form i) (tree_nth on_way ts))
-    ∙ ap (λ (b : Bool). b || lacking (child_as table s form i) (tree_nth on_way ts))
-    (sym (joined_there (failures hooks table (child_as table s form k) (path ++ step_as form k ∷ []) t)
-    (failures_but hooks table s form on_way below (suc k) path ts)))
+closed_but_or_refused hooks table s tracker (suc on_way) becomes below lacking mode Below k path (branch t ts) i is step off =
+    none_more_tree (closed hooks table (child_as table s tracker k) t)
+    (closed_but hooks table s tracker on_way becomes (suc k) ts) ∙ ap₂ (λ (a b : Bool). a || b)
+    (completes_or_fails hooks table (child_as table s tracker k) (path ++ step_as tracker k ∷ []) t)
+    (closed_but_or_refused hooks table s tracker on_way becomes below lacking mode Below (suc k) path ts i (omega arith) step
+    off.1) ∙ or_within (not (is_nil (failures hooks table (child_as table s tracker k) (path ++ step_as tracker k ∷ []) t)))
+    (not (is_nil (failures_but hooks table s tracker on_way below (suc k) path ts)))
+    (lacking (child_as table s tracker i) (tree_nth on_way ts))
+    ∙ ap (λ (b : Bool). b || lacking (child_as table s tracker i) (tree_nth on_way ts))
+    (sym (joined_there (failures hooks table (child_as table s tracker k) (path ++ step_as tracker k ∷ []) t)
+    (failures_but hooks table s tracker on_way below (suc k) path ts)))
 
 -- what the place at the cursor lacks
 abbrev lacks_at : Meanings → Table → Place → ℕ → Tree → Bool
 lacks_at hooks table cursor s tree = is_some (own_lack hooks table (shape_in table s cursor tree) (tree_at cursor tree))
 
 finished_or_refused : (hooks : Meanings) (table : Table) (s : ℕ) (path : List PathStep) (mode : Mode) (cursor : Place)
-    (tree : Tree) → Leads mode cursor tree
-    → is_none (finished hooks table s cursor tree)
+    (tree : Tree) → Leads mode cursor tree → is_none (finished hooks table s cursor tree)
     ≡ (not (is_nil (failures_off hooks table s path cursor tree)) || lacks_at hooks table cursor s tree)
 finished_or_refused hooks table s path mode [] hole leads = absurd leads
 finished_or_refused hooks table s path mode [] entered leads =
     none_mapped whole (complete deferred_column hooks table s entered) ∙ entered_lacks hooks table s
 finished_or_refused hooks table s path mode [] (whole v) leads = refl
-finished_or_refused hooks table s path mode [] (begun form ts) leads =
-    none_mapped (begun_with form) (complete_all deferred_column hooks table s form 0 ts)
-    ∙ all_complete_or_fail hooks table s form 0 path ts
-finished_or_refused hooks table s path mode (i ∷ place) (begun form ts) leads =
-    none_mapped (begun form)
-    (closed_but hooks table s form i (λ (shape : ℕ) (t : Tree). finished hooks table shape place t) 0 ts)
-    ∙ closed_but_or_refused hooks table s form i (λ (shape : ℕ) (t : Tree). finished hooks table shape place t)
+finished_or_refused hooks table s path mode [] (begun tracker ts) leads =
+    none_mapped (begun_with tracker) (complete_all deferred_column hooks table s tracker 0 ts)
+    ∙ all_complete_or_fail hooks table s tracker 0 path ts
+finished_or_refused hooks table s path mode (i ∷ place) (begun tracker ts) leads =
+    none_mapped (begun tracker)
+    (closed_but hooks table s tracker i (λ (shape : ℕ) (t : Tree). finished hooks table shape place t) 0 ts)
+    ∙ closed_but_or_refused hooks table s tracker i (λ (shape : ℕ) (t : Tree). finished hooks table shape place t)
     (λ (shape : ℕ) (to : List PathStep) (t : Tree). failures_off hooks table shape to place t)
     (λ (shape : ℕ) (t : Tree). lacks_at hooks table place shape t) mode (λ child. Leads mode place child) 0 path ts i
     (omega arith) (λ shape to t below. finished_or_refused hooks table shape to mode place t below) leads
@@ -541,13 +452,11 @@ finished_or_refused hooks table s path mode (i ∷ place) _ leads = absurd leads
 
 -- Deferred mode can't end exactly where a place off the way fails, or else the one at the cursor lacks something.
 pub finishes_or_refuses : (hooks : Meanings) (table : Table) (s : ℕ) (path : List PathStep) (mode : Mode) (cursor : Place)
-    (tree : Tree) → Leads mode cursor tree
-    → is_none (finished hooks table s cursor tree)
+    (tree : Tree) → Leads mode cursor tree → is_none (finished hooks table s cursor tree)
     ≡ is_some (option_or (kind_of (first_by_walk (failures_off hooks table s path cursor tree)))
     (own_lack hooks table (shape_in table s cursor tree) (tree_at cursor tree)))
 finishes_or_refuses hooks table s path mode cursor tree leads =
-    finished_or_refused hooks table s path mode cursor tree leads
-    ∙ ap (λ (b : Bool). b || lacks_at hooks table cursor s tree)
+    finished_or_refused hooks table s path mode cursor tree leads ∙ ap (λ (b : Bool). b || lacks_at hooks table cursor s tree)
     (sym (kind_there (first_by_walk (failures_off hooks table s path cursor tree))
     ∙ first_there (failures_off hooks table s path cursor tree)))
     ∙ sym (some_or (kind_of (first_by_walk (failures_off hooks table s path cursor tree)))

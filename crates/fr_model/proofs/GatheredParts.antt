@@ -1,13 +1,6 @@
 -- What values that come one after the other make: they fit, no two are `same`, and it holds what they hold but for what is left out.
-use Rattle.std.proofs.Common.{◌≡◌, ℕ, ◌+◌, Bool, true, false, not, ◌&&◌, ◌||◌, if◌then◌else◌, List, [], ◌∷◌, refl, ◌∙◌, ap, arith}
-use Rattle.fr_shape.specs.declared.shape.Def.{Def}
-use Rattle.fr_shape.specs.Fits.{fits, all_fit, entries_fit, lacks_key, keys_once, all_keys_once, members_keys_once}
-use Rattle.fr_shape.specs.Look.{Table, settled}
-use Rattle.fr_shape.specs.Same.{same, is_among, none_twice, keys}
-use Rattle.fr_shape.specs.Tokens.{occurs, vals_occur, entries_occur}
-use Rattle.fr_shape.specs.Val.{Val, Vals, Entries, unit, dyn, no_vals, first, no_entries, entry}
-use Rattle.fr_model.specs.Dynamics.{dynamic_in, dynamics_in, members_in, lacks, keys_apart}
-use Rattle.fr_model.specs.Gathering.{is_there, and_last_val, with_item_in, items_in, items_left_out, with_entry_in, entry_leaves_out, entries_in, entries_left_out}
+use Rattle.std.proofs.Common.{◌≡◌, ◌+◌, ◌&&◌, ◌||◌, if◌then◌else◌, ◌∷◌}
+use Rattle.fr_model.proofs.Common.{ℕ, Bool, true, false, not, List, [], refl, ◌∙◌, ap, arith, Def, fits, all_fit, entries_fit, lacks_key, keys_once, all_keys_once, members_keys_once, Table, settled, same, is_among, none_twice, keys, occurs, vals_occur, entries_occur, Val, Vals, Entries, unit, dyn, no_vals, first, no_entries, entry, dynamic_in, dynamics_in, members_in, lacks, keys_apart, is_there, and_last_val, with_item_in, items_in, items_left_out, with_entry_in, entry_leaves_out, entries_in, entries_left_out}
 use Rattle.fr_model.proofs.Templates.{both_true}
 
 neither : (a b : Bool) → (a || b) ≡ false → (a ≡ false) × (b ≡ false)
@@ -27,17 +20,15 @@ apart_here u v (first w there) h e = go (same u w) h (λ h. apart_here u v there
     go true h rest = cc
     go false h rest = rest h
 
-apart_last : (there : Vals) (v : Val) → none_twice there ≡ true → is_there v there ≡ false
-    → none_twice (and_last_val there v) ≡ true
+apart_last : (there : Vals) (v : Val) → none_twice there ≡ true → is_there v there ≡ false → none_twice (and_last_val there v) ≡ true
 apart_last no_vals v h e = refl
 apart_last (first u there) v h e =
-    let both : (not (is_among u there) ≡ true) × (none_twice there ≡ true)
-    = both_true (not (is_among u there)) (none_twice there) h in
-    let apart : (same u v ≡ false) × (is_there v there ≡ false) = neither (same u v) (is_there v there) e in
+    let both = both_true _ _ h in
+    let apart = neither (same u v) _ e in
     rw (apart_here u v there both.0 apart.0, apart_last there v both.1 apart.1) refl
 
 item_apart : (there : Vals) (v : Val) → none_twice there ≡ true → none_twice (with_item_in there v) ≡ true
-item_apart there v h = go (is_there v there) refl
+item_apart there v h = go _ refl
   where
     go : (b : Bool) → is_there v there ≡ b → none_twice (if b then there else and_last_val there v) ≡ true
     go true is = h
@@ -59,15 +50,12 @@ keys_with (entry l w there) k v = go (same l k) (keys_with there k v)
         → keys (if b then entry l v there else entry l w (with_entry_in there k v))
         ≡ (if b || is_there k (keys there) then first l (keys there) else first l (and_last_val (keys there) k))
     go true rest = refl
-    go false rest =
-        ap (first l) rest ∙ in_front (is_there k (keys there)) (keys there) (and_last_val (keys there) k)
+    go false rest = ap (first l) rest ∙ in_front _ (keys there) _
 
-pub entries_apart : (there : Entries) (vs : Vals) → none_twice (keys there) ≡ true
-    → none_twice (keys (entries_in there vs)) ≡ true
-entries_apart there no_vals h = h
-entries_apart there (first k no_vals) h = h
+pub entries_apart : (there : Entries) (vs : Vals) → none_twice (keys there) ≡ true → none_twice (keys (entries_in there vs)) ≡ true
 entries_apart there (first k (first v vs)) h =
     entries_apart (with_entry_in there k v) vs (rw (keys_with there k v) (item_apart (keys there) k h))
+entries_apart there _ h = h
 
 -- they fit
 
@@ -75,9 +63,7 @@ last_fits : (table : Table) (s : ℕ) (there : Vals) (v : Val) → all_fit table
     → all_fit table s (and_last_val there v) ≡ true
 last_fits table s no_vals v h e = rw e refl
 last_fits table s (first u there) v h e =
-    let both : (fits table s u ≡ true) × (all_fit table s there ≡ true)
-    = both_true (fits table s u) (all_fit table s there) h in
-    rw (both.0, last_fits table s there v both.1 e) refl
+    let both = both_true _ (all_fit table s there) h in rw (both.0, last_fits table s there v both.1 e) refl
 
 pub items_fit : (table : Table) (s : ℕ) (there vs : Vals) → all_fit table s there ≡ true → all_fit table s vs ≡ true
     → all_fit table s (items_in there vs) ≡ true
@@ -85,7 +71,7 @@ items_fit table s there no_vals h e = h
 items_fit table s there (first v vs) h e = items_fit table s (with_item_in there v) vs (go (is_there v there)) both.1
   where
     both : (fits table s v ≡ true) × (all_fit table s vs ≡ true)
-    both = both_true (fits table s v) (all_fit table s vs) e
+    both = both_true _ _ e
 
     go : (b : Bool) → all_fit table s (if b then there else and_last_val there v) ≡ true
     go true = h
@@ -94,11 +80,10 @@ items_fit table s there (first v vs) h e = items_fit table s (with_item_in there
 pub entry_fits : (table : Table) (a b : ℕ) (there : Entries) (k v : Val) → entries_fit table a b there ≡ true
     → fits table a k ≡ true → fits table b v ≡ true → entries_fit table a b (with_entry_in there k v) ≡ true
 entry_fits table a b no_entries k v h of_key of_value = rw (of_key, of_value) refl
-entry_fits table a b (entry l w there) k v h of_key of_value =
-    go (same l k) (entry_fits table a b there k v others.1 of_key of_value)
+entry_fits table a b (entry l w there) k v h of_key of_value = go (same l k) (entry_fits table a b there k v others.1 of_key of_value)
   where
     others : ((fits table a l && fits table b w) ≡ true) × (entries_fit table a b there ≡ true)
-    others = both_true (fits table a l && fits table b w) (entries_fit table a b there) h
+    others = both_true _ _ h
 
     front : (fits table a l ≡ true) × (fits table b w ≡ true)
     front = both_true (fits table a l) (fits table b w) others.0
@@ -116,8 +101,7 @@ dynamic_fits table s (dyn d) is fit = rw is at fit
 dynamic_fits table s unit is fit = cc
 dynamic_fits table s _ is fit = let none = rw is at fit in cc
 
-dynamic_holds : (table : Table) (s : ℕ) (v : Val) (t : ℕ) → settled table s ≡ Def.Dynamic → fits table s v ≡ true
-    → occurs v t ≡ 0
+dynamic_holds : (table : Table) (s : ℕ) (v : Val) (t : ℕ) → settled table s ≡ Def.Dynamic → fits table s v ≡ true → occurs v t ≡ 0
 dynamic_holds table s (dyn d) t is fit = refl
 dynamic_holds table s unit t is fit = refl
 dynamic_holds table s _ t is fit = let none = rw is at fit in cc
@@ -126,12 +110,9 @@ pub elements_once : (table : Table) (s : ℕ) (vs : Vals) → settled table s �
     → all_keys_once (dynamics_in vs) ≡ true
 elements_once table s no_vals is fit = refl
 elements_once table s (first v vs) is fit =
-    let both : (fits table s v ≡ true) × (all_fit table s vs ≡ true)
-    = both_true (fits table s v) (all_fit table s vs) fit in
-    rw (dynamic_fits table s v is both.0, elements_once table s vs is both.1) refl
+    let both = both_true _ _ fit in rw (dynamic_fits table s v is both.0, elements_once table s vs is both.1) refl
 
-lacks_member : (key : List ℕ) (keys : List (List ℕ)) (vs : Vals) → lacks key keys ≡ true
-    → lacks_key key (members_in keys vs) ≡ true
+lacks_member : (key : List ℕ) (keys : List (List ℕ)) (vs : Vals) → lacks key keys ≡ true → lacks_key key (members_in keys vs) ≡ true
 lacks_member key [] vs h = refl
 lacks_member key (other ∷ keys) no_vals h = refl
 lacks_member key (other ∷ keys) (first v vs) h =
@@ -142,22 +123,15 @@ pub members_once : (table : Table) (s : ℕ) (keys : List (List ℕ)) (vs : Vals
 members_once table s [] vs is apart fit = refl
 members_once table s (key ∷ keys) no_vals is apart fit = refl
 members_once table s (key ∷ keys) (first v vs) is apart fit =
-    let both : (fits table s v ≡ true) × (all_fit table s vs ≡ true)
-    = both_true (fits table s v) (all_fit table s vs) fit in
-    let other : (lacks key keys ≡ true) × (keys_apart keys ≡ true)
-    = both_true (lacks key keys) (keys_apart keys) apart in
-    rw (
-      lacks_member key keys vs other.0,
-      dynamic_fits table s v is both.0,
-      members_once table s keys vs is other.1 both.1,
-    ) refl
+    let both = both_true _ _ fit in
+    let other = both_true _ _ apart in
+    rw (lacks_member key keys vs other.0, dynamic_fits table s v is both.0, members_once table s keys vs is other.1 both.1) refl
 
 pub dynamics_hold : (table : Table) (s : ℕ) (vs : Vals) (t : ℕ) → settled table s ≡ Def.Dynamic → all_fit table s vs ≡ true
     → vals_occur vs t ≡ 0
 dynamics_hold table s no_vals t is fit = refl
 dynamics_hold table s (first v vs) t is fit =
-    let both : (fits table s v ≡ true) × (all_fit table s vs ≡ true)
-    = both_true (fits table s v) (all_fit table s vs) fit in
+    let both = both_true _ _ fit in
     let here = dynamic_holds table s v t is both.0 in
     let rest = dynamics_hold table s vs t is both.1 in
     omega arith
@@ -171,10 +145,9 @@ last_holds (first u there) v t = let rest = last_holds there v t in omega arith
 pub items_hold : (there vs : Vals) (t : ℕ)
     → vals_occur (items_in there vs) t + items_left_out there vs t ≡ vals_occur there t + vals_occur vs t
 items_hold there no_vals t = refl
-items_hold there (first v vs) t = go (is_there v there) (λ those. items_hold those vs t)
+items_hold there (first v vs) t = go _ (λ those. items_hold those vs t)
   where
-    go : (b : Bool)
-        → ((those : Vals)
+    go : (b : Bool) → ((those : Vals)
         → vals_occur (items_in those vs) t + items_left_out those vs t ≡ vals_occur those t + vals_occur vs t)
         → vals_occur (items_in (if b then there else and_last_val there v) vs) t
         + ((if b then occurs v t else 0) + items_left_out (if b then there else and_last_val there v) vs t)
@@ -185,14 +158,12 @@ items_hold there (first v vs) t = go (is_there v there) (λ those. items_hold th
         let last = last_holds there v t in
         omega arith
 
-entry_holds : (there : Entries) (k v : Val) (t : ℕ)
-    → entries_occur (with_entry_in there k v) t + entry_leaves_out there k t
+entry_holds : (there : Entries) (k v : Val) (t : ℕ) → entries_occur (with_entry_in there k v) t + entry_leaves_out there k t
     ≡ entries_occur there t + (occurs k t + occurs v t)
 entry_holds no_entries k v t = omega arith
 entry_holds (entry l w there) k v t = go (same l k) (entry_holds there k v t)
   where
-    go : (b : Bool)
-        → entries_occur (with_entry_in there k v) t + entry_leaves_out there k t
+    go : (b : Bool) → entries_occur (with_entry_in there k v) t + entry_leaves_out there k t
         ≡ entries_occur there t + (occurs k t + occurs v t)
         → entries_occur (if b then entry l v there else entry l w (with_entry_in there k v)) t
         + (if b then occurs k t + occurs w t else entry_leaves_out there k t)

@@ -1,11 +1,12 @@
-pub mod Admits
 pub mod Agreement
 pub mod ArrayRows
+pub mod Basis
 pub mod Becoming
 pub mod Beneath
 pub mod Children
 pub mod Closing
 pub mod Collections
+pub mod Common
 pub mod Completing
 pub mod Conversions
 pub mod Covering
@@ -32,8 +33,8 @@ pub mod Moves
 pub mod Moving
 pub mod NotesApart
 pub mod Opening
-pub mod Paths
 pub mod PathWays
+pub mod Paths
 pub mod Plain
 pub mod Plannable
 pub mod Relating

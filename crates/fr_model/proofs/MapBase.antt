@@ -1,20 +1,13 @@
 -- The base of a map stays in front of its other children, whatever becomes of those.
-use Rattle.std.proofs.Common.{◌≡◌, ℕ, zero, suc, ◌+◌, ◌<◌, ◌≤◌, Bool, true, false, if◌then◌else◌, refl, sym, ◌∙◌, ap, ap₂, arith}
-use Rattle.fr_shape.specs.Fits.{count_vals}
-use Rattle.fr_shape.specs.Same.{same, none_twice, keys}
-use Rattle.fr_shape.specs.Val.{Val, Vals, Entries, no_vals, first, no_entries, entry}
-use Rattle.fr_model.specs.Collections.{ends_in_hole, has_same, without_nth, and_item}
-use Rattle.fr_model.specs.Places.{count_entries, in_turn}
-use Rattle.fr_model.specs.Tree.{Tree, whole, Trees, no_trees, branch, and_last, count_trees, wholes}
-use Rattle.fr_model.specs.Well.{in_front, IsBase}
+use Rattle.std.proofs.Common.{◌≡◌, ◌+◌, ◌<◌, ◌≤◌, if◌then◌else◌}
+use Rattle.fr_model.proofs.Common.{ℕ, zero, suc, Bool, true, false, refl, sym, ◌∙◌, ap, ap₂, arith, count_vals, same, none_twice, keys, Val, Vals, Entries, no_vals, first, no_entries, entry, ends_in_hole, without_nth, and_item, count_entries, in_turn, Tree, whole, Trees, no_trees, branch, and_last, count_trees, wholes, in_front, IsBase}
 
 -- the trees begin with these values, each of them whole
 pub record StartsWith (vs : Vals) (ts : Trees) : Type 0 where
   pub rest : Trees
   pub are : ts ≡ in_front vs rest
 
-pub starts_on : (t : Tree) (v : Val) (ts : Trees) (vs : Vals) → t ≡ whole v → StartsWith vs ts
-    → StartsWith (first v vs) (branch t ts)
+pub starts_on : (t : Tree) (v : Val) (ts : Trees) (vs : Vals) → t ≡ whole v → StartsWith vs ts → StartsWith (first v vs) (branch t ts)
 starts_on t v ts vs head tail = record { rest = tail.rest; are = ap₂ branch head tail.are }
 
 turns_counted : (es : Entries) → count_vals (in_turn es) ≡ count_entries es + count_entries es
@@ -27,8 +20,7 @@ base_long base ts is = let turns = turns_counted is.entries in omega (arith, tur
 
 -- where other trees begin with them too, these have the base
 pub base_there : (base : ℕ) (ts us : Trees) (is : IsBase base ts) → StartsWith (in_turn is.entries) us → IsBase base us
-base_there base ts us is there =
-    record { entries = is.entries; rest = there.rest; count = is.count; are = there.are; once = is.once }
+base_there base ts us is there = record { entries = is.entries; rest = there.rest; count = is.count; are = there.are; once = is.once }
 
 -- Any trees begin with no entries, and what is begun with the entries of a map begins with those.
 
@@ -40,27 +32,22 @@ wholes_in_front no_vals = refl
 wholes_in_front (first v vs) = ap (branch (whole v)) (wholes_in_front vs)
 
 pub base_begun : (es : Entries) → none_twice (keys es) ≡ true → IsBase (count_entries es) (wholes (in_turn es))
-base_begun es once =
-    record { entries = es; rest = no_trees; count = refl; are = wholes_in_front (in_turn es); once = once }
+base_begun es once = record { entries = es; rest = no_trees; count = refl; are = wholes_in_front (in_turn es); once = once }
 
 -- A child behind the base is left out, or there again
 
 front_without : (i : ℕ) (vs : Vals) (rest : Trees) → count_vals vs ≤ i → StartsWith vs (without_nth i (in_front vs rest))
 front_without i no_vals rest behind = record { rest = without_nth i rest; are = refl }
 front_without zero (first v vs) rest behind = absurd (omega arith)
-front_without (suc i) (first v vs) rest behind =
-    starts_on (whole v) v (without_nth i (in_front vs rest)) vs refl (front_without i vs rest (omega arith))
+front_without (suc i) (first v vs) rest behind = starts_on (whole v) v _ vs refl (front_without i vs rest (omega arith))
 
 pub base_without : (base i : ℕ) (ts : Trees) → base + base ≤ i → IsBase base ts → IsBase base (without_nth i ts)
 base_without base i ts behind is =
     let long = base_long base ts is in
-    let there : StartsWith (in_turn is.entries) (without_nth i (in_front (in_turn is.entries) is.rest))
-    = front_without i (in_turn is.entries) is.rest (omega arith) in
-    base_there base ts (without_nth i ts) is
-    (record { rest = there.rest; are = ap (without_nth i) is.are ∙ there.are })
+    let there = front_without i _ is.rest (omega arith) in
+    base_there base ts _ is (record { rest = there.rest; are = ap (without_nth i) is.are ∙ there.are })
 
-front_with : (i : ℕ) (vs : Vals) (ts rest : Trees) → count_vals vs ≤ i → without_nth i ts ≡ in_front vs rest
-    → StartsWith vs ts
+front_with : (i : ℕ) (vs : Vals) (ts rest : Trees) → count_vals vs ≤ i → without_nth i ts ≡ in_front vs rest → StartsWith vs ts
 front_with i no_vals ts rest behind e = record { rest = ts; are = refl }
 front_with i (first v vs) no_trees rest behind e = cc
 front_with zero (first v vs) (branch t ts) rest behind e = absurd (omega arith)
@@ -71,8 +58,7 @@ front_with (suc i) (first v vs) (branch t ts) rest behind e =
 
 pub base_with : (base i : ℕ) (ts : Trees) → base + base ≤ i → IsBase base (without_nth i ts) → IsBase base ts
 base_with base i ts behind is =
-    let long = base_long base (without_nth i ts) is in
-    base_there base (without_nth i ts) ts is (front_with i (in_turn is.entries) ts is.rest (omega arith) is.are)
+    let long = base_long base _ is in base_there base _ ts is (front_with i _ ts is.rest (omega arith) is.are)
 
 -- Another child comes behind them
 
@@ -82,14 +68,11 @@ front_last (first v vs) rest last = ap (branch (whole v)) (front_last vs rest la
 
 pub base_last : (base : ℕ) (ts : Trees) (last : Tree) → IsBase base ts → IsBase base (and_last ts last)
 base_last base ts last is =
-    base_there base ts (and_last ts last) is
-    (record {
-      rest = and_last is.rest last;
-      are = ap (λ (us : Trees). and_last us last) is.are ∙ front_last (in_turn is.entries) is.rest last;
-    })
+    base_there base ts _ is
+    (record { rest = and_last is.rest last; are = ap (λ (us : Trees). and_last us last) is.are ∙ front_last _ is.rest last })
 
 pub base_item : (base : ℕ) (ts : Trees) (v : Val) → IsBase base ts → IsBase base (and_item ts v)
-base_item base ts v is = go (has_same v ts)
+base_item base ts v is = go _
   where
     go : (b : Bool) → IsBase base (if b then ts else and_last ts (whole v))
     go true = is
@@ -104,23 +87,21 @@ front_long (first v vs) rest = let more = front_long vs rest in omega arith
 pub base_within : (base : ℕ) (ts : Trees) → IsBase base ts → base + base ≤ count_trees ts
 base_within base ts is =
     let long = base_long base ts is in
-    let same : count_trees ts ≡ count_trees (in_front (in_turn is.entries) is.rest) = ap count_trees is.are in
+    let same : count_trees ts ≡ count_trees _ = ap count_trees is.are in
     let there = front_long (in_turn is.entries) is.rest in
     omega arith
 
-front_hole : (vs : Vals) (rest : Trees) → ends_in_hole (in_front vs rest) ≡ true
-    → count_vals vs < count_trees (in_front vs rest)
+front_hole : (vs : Vals) (rest : Trees) → ends_in_hole (in_front vs rest) ≡ true → count_vals vs < count_trees (in_front vs rest)
 front_hole no_vals no_trees e = cc
 front_hole no_vals (branch t ts) e = omega arith
 front_hole (first v no_vals) no_trees e = cc
 front_hole (first v no_vals) (branch t ts) e = omega arith
 front_hole (first v (first w vs)) rest e = let more = front_hole (first w vs) rest e in omega arith
 
-pub base_hole : (base i : ℕ) (ts : Trees) → IsBase base ts → ends_in_hole ts ≡ true → suc i ≡ count_trees ts
-    → base + base ≤ i
+pub base_hole : (base i : ℕ) (ts : Trees) → IsBase base ts → ends_in_hole ts ≡ true → suc i ≡ count_trees ts → base + base ≤ i
 base_hole base i ts is e last =
     let long = base_long base ts is in
-    let same : count_trees ts ≡ count_trees (in_front (in_turn is.entries) is.rest) = ap count_trees is.are in
+    let same : count_trees ts ≡ count_trees _ = ap count_trees is.are in
     let there = front_hole (in_turn is.entries) is.rest (ap ends_in_hole (sym is.are) ∙ e) in
     omega arith
 

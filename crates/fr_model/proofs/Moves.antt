@@ -1,31 +1,14 @@
 -- What an admitted command keeps.
-use Rattle.std.proofs.Common.{◌≡◌, ℕ, zero, suc, ◌+◌, ◌≤◌, Bool, true, false, if◌then◌else◌, [], ◌∷◌, append-nil, Option, Some, None, Result, Ok, Err, refl, ◌∙◌, ap, subst, arith}
-use Rattle.fr_shape.specs.declared.error.ReflectErrorKind.{ReflectErrorKind}
-use Rattle.fr_shape.specs.declared.error.Invariant.{Invariant}
-use Rattle.fr_shape.specs.Checked.{IsChecked}
-use Rattle.fr_shape.specs.Hooks.{Meanings}
-use Rattle.fr_shape.specs.Look.{Table, def_of}
-use Rattle.fr_shape.specs.Val.{Val}
-use Rattle.fr_model.specs.Commands.{Call}
-use Rattle.fr_model.specs.Complete.{complete}
-use Rattle.fr_model.specs.Dropping.{dropped_by_completing, dropped_by_finishing}
+use Rattle.std.proofs.Common.{◌≡◌, ◌+◌, ◌≤◌, if◌then◌else◌, ◌∷◌}
+use Rattle.fr_model.proofs.Common.{ℕ, zero, suc, Bool, true, false, [], append-nil, Option, Some, None, Result, Ok, Err, refl, ◌∙◌, ap, subst, arith, ReflectErrorKind, Invariant, IsChecked, Meanings, Table, def_of, Val, Call, complete, Place, strict_column, is_root, removed, removed_by, replaced, removed_at_build, removed_by_build, IsFitting, brings, violates, step, cause, built, build_in, build, fresh, Tree, whole, change_at, Mode, strict, deferred, State, cursor_shape, cursor_tree, initial, tree_occurs, Suits, RestsAround, IsInOrder, AreDistinct, IsWell}
 use Rattle.fr_model.specs.Laws.{held_after, built_occurs, IsFresh}
-use Rattle.fr_model.specs.Places.{Place, strict_column, is_root}
-use Rattle.fr_model.specs.Removed.{removed, removed_by, replaced, removed_at_build, removed_by_build}
-use Rattle.fr_model.specs.Scripts.{IsFitting, brings}
-use Rattle.fr_model.specs.Step.{violates, step, cause, built, build_in, build}
-use Rattle.fr_model.specs.Tree.{fresh, Tree, whole, change_at, Mode, strict, deferred, State, cursor_shape, cursor_tree, initial, tree_occurs}
-use Rattle.fr_model.specs.Well.{Suits, RestsAround, IsInOrder, AreDistinct, IsWell}
-use Rattle.fr_model.proofs.Admits.{admits}
-use Rattle.fr_model.proofs.Completing.{Made, completing_makes}
-use Rattle.fr_model.proofs.Cursor.{changed_in_order, moved_in_order, made_at, start_in_order, left_in_order, deferred_in_order}
+use Rattle.fr_model.proofs.Ways.{Move, stays, goes_on, goes_up, is_taken, stays_behind, is_deferred, is_over}
+use Rattle.fr_model.proofs.Basis.{completing_makes, changed_in_order, moved_in_order, made_at, start_in_order, left_in_order, deferred_in_order, rests_here, fresh_rests, rest_on, rest_up, rest_put_up, rest_took, fresh_holds, change_holds}
 use Rattle.fr_model.proofs.Ending.{completed_in_order, took_in_order, took_holds}
 use Rattle.fr_model.proofs.FinishRests.{finish_rests}
-use Rattle.fr_model.proofs.Finishes.{Kept, finish_keeps}
-use Rattle.fr_model.proofs.Moving.{Move, stays, goes_on, goes_up, is_taken, stays_behind, is_deferred, is_over, move}
-use Rattle.fr_model.proofs.Resting.{rests_here, fresh_rests, rest_on, rest_up, rest_put_up, rest_took}
+use Rattle.fr_model.proofs.Finishes.{finish_keeps}
+use Rattle.fr_model.proofs.Moving.{moves}
 use Rattle.fr_model.proofs.Steps.{finished_in_order}
-use Rattle.fr_model.proofs.Tokens.{fresh_holds, change_holds}
 
 -- tokens
 
@@ -43,19 +26,13 @@ moves_tokens hooks table root state next command t checked order (goes_on same i
     omega arith
 moves_tokens hooks table root state next command t checked order (goes_up column v began no_set is drops) =
     let there = change_holds state.mode state.cursor state.tree (λ old. whole v) t order.leads in
-    let made : Made table (cursor_shape table root state)
-    (λ k. dropped_by_completing column hooks table (cursor_shape table root state) (cursor_tree state) k)
-    (λ k. tree_occurs (cursor_tree state) k) v
-    = made_at column hooks table root state v checked is order in
+    let made = made_at column hooks table root state v checked is order in
     let same = made.hold t in
     let dropped = drops t in
     omega arith
 moves_tokens hooks table root state next command t checked order (is_taken column v began below of_set is drops) =
     let there = took_holds table root state v t below of_set order.leads in
-    let made : Made table (cursor_shape table root state)
-    (λ k. dropped_by_completing column hooks table (cursor_shape table root state) (cursor_tree state) k)
-    (λ k. tree_occurs (cursor_tree state) k) v
-    = made_at column hooks table root state v checked is order in
+    let made = made_at column hooks table root state v checked is order in
     let same = made.hold t in
     let dropped = drops t in
     omega arith
@@ -63,56 +40,45 @@ moves_tokens hooks table root state next command t checked order (stays_behind s
     omega (arith, drops t)
 moves_tokens hooks table root state next command t checked order (is_deferred is) = refl
 moves_tokens hooks table root state next command t checked order (is_over tree is) =
-    let kept : Kept table root (λ k. dropped_by_finishing hooks table root state.cursor state.tree k) state.tree tree
-    = finish_keeps hooks table root state.cursor state.tree tree checked order.suits is in
+    let kept = finish_keeps hooks table root state.cursor state.tree tree checked order.suits is in
     let same = kept.hold t in
     omega arith
 
 -- whatever comes of a command: nothing is lost and nothing doubled
 pub step_keeps_tokens : (hooks : Meanings) (table : Table) (root : ℕ) (state : State) (command : Call)
-    → IsChecked table → IsInOrder table root state → (t : ℕ)
-    → tree_occurs state.tree t + brings command t
+    → IsChecked table → IsInOrder table root state → (t : ℕ) → tree_occurs state.tree t + brings command t
     ≡ held_after (step hooks table root state command) t + removed hooks table root state command t
-step_keeps_tokens hooks table root state command checked order t =
-    go (step hooks table root state command) refl
+step_keeps_tokens hooks table root state command checked order t = go (step hooks table root state command) refl
   where
     go : (outcome : Result State ReflectErrorKind) → step hooks table root state command ≡ outcome
         → tree_occurs state.tree t + brings command t
         ≡ held_after outcome t + removed_by hooks table root (cursor_shape table root state) state command outcome t
     go (Ok next) e =
-        moves_tokens hooks table root state next command t checked order
-        (move hooks table checked root state order command next
-        (admits hooks table checked root state next order command e))
+        moves_tokens hooks table root state next command t checked order (moves hooks table checked root state next order command e)
     go (Err kind) e = omega arith
 
 pub build_keeps_tokens : (hooks : Meanings) (table : Table) (root : ℕ) (state : State) → IsChecked table
-    → Suits table root state.tree → (t : ℕ)
-    → tree_occurs state.tree t
+    → Suits table root state.tree → (t : ℕ) → tree_occurs state.tree t
     ≡ built_occurs (build hooks table root state) t + removed_at_build hooks table root state t
-build_keeps_tokens hooks table root state checked suits t =
-    by_mode state.mode
+build_keeps_tokens hooks table root state checked suits t = by_mode state.mode
   where
     kept : (outcome : Result Val ReflectErrorKind)
         → ((v : Val) → outcome ≡ Ok v → complete strict_column hooks table root state.tree ≡ Some v)
         → tree_occurs state.tree t ≡ built_occurs outcome t + removed_by_build hooks table root state outcome t
     kept (Ok v) is =
-        let made : Made table root (λ k. dropped_by_completing strict_column hooks table root state.tree k)
-        (λ k. tree_occurs state.tree k) v
-        = completing_makes strict_column hooks table state.tree root v checked suits (is v refl) in
+        let made = completing_makes strict_column hooks table state.tree root v checked suits (is v refl) in
         let same = made.hold t in
         omega arith
     kept (Err kind) is = omega arith
 
-    go : (b : Bool) (value : Option Val) → complete strict_column hooks table root state.tree ≡ value
-        → tree_occurs state.tree t
+    go : (b : Bool) (value : Option Val) → complete strict_column hooks table root state.tree ≡ value → tree_occurs state.tree t
         ≡ built_occurs (if b then built hooks table root state.tree value else Err (violates Invariant.BuildOpenFrames)) t
         + removed_by_build hooks table root state (if b then built hooks table root state.tree value else Err (violates Invariant.BuildOpenFrames)) t
     go true (Some v) is = kept (Ok v) (λ u e. is ∙ ap Some cc)
     go true None is = kept (Err (cause hooks table root state.tree)) (λ u e. cc)
     go false value is = kept (Err (violates Invariant.BuildOpenFrames)) (λ u e. cc)
 
-    by_mode : (mode : Mode)
-        → tree_occurs state.tree t
+    by_mode : (mode : Mode) → tree_occurs state.tree t
         ≡ built_occurs (build_in hooks table root state mode) t + removed_by_build hooks table root state (build_in hooks table root state mode) t
     by_mode strict = go (is_root state.cursor) (complete strict_column hooks table root state.tree) refl
     by_mode (deferred start) = kept (Err (violates Invariant.BuildDeferred)) (λ u e. cc)
@@ -128,8 +94,7 @@ rest_there state change step rests =
     (rest_on state.cursor [] state.tree change step rests)
 
 moves_in_order : (hooks : Meanings) (table : Table) (root : ℕ) (state next : State) (command : Call) → IsChecked table
-    → IsFitting table command → IsInOrder table root state
-    → Move hooks table root state command next → IsInOrder table root next
+    → IsFitting table command → IsInOrder table root state → Move hooks table root state command next → IsInOrder table root next
 moves_in_order hooks table root state next command checked fit order (stays same change placed hold rest) =
     changed_in_order table root state change (placed fit).suits (placed fit).leads order
 moves_in_order hooks table root state next command checked fit order (goes_on same i change placed hold rest) =
@@ -140,8 +105,7 @@ moves_in_order hooks table root state next command checked fit order (is_taken c
     took_in_order column hooks table root state v checked below of_set began is order
 moves_in_order hooks table root state next command checked fit order (stays_behind start mode deeper shut no_set no_part drops) =
     left_in_order table root start state mode deeper order
-moves_in_order hooks table root state next command checked fit order (is_deferred is) =
-    deferred_in_order table root state is order
+moves_in_order hooks table root state next command checked fit order (is_deferred is) = deferred_in_order table root state is order
 moves_in_order hooks table root state next command checked fit order (is_over tree is) =
     finished_in_order hooks table root state tree checked order is
 
@@ -149,9 +113,7 @@ pub step_keeps_order : (hooks : Meanings) (table : Table) (root : ℕ) (state ne
     → IsChecked table → IsInOrder table root state → IsFitting table command
     → step hooks table root state command ≡ Ok next → IsInOrder table root next
 step_keeps_order hooks table root state next command checked order fit e =
-    moves_in_order hooks table root state next command checked fit order
-    (move hooks table checked root state order command next
-    (admits hooks table checked root state next order command e))
+    moves_in_order hooks table root state next command checked fit order (moves hooks table checked root state next order command e)
 
 moves_rest : (hooks : Meanings) (table : Table) (root : ℕ) (state next : State) (command : Call)
     → RestsAround state.cursor state.tree → Move hooks table root state command next → RestsAround next.cursor next.tree
@@ -173,9 +135,7 @@ pub step_keeps_rest : (hooks : Meanings) (table : Table) (root : ℕ) (state nex
     → IsInOrder table root state → RestsAround state.cursor state.tree → IsFitting table command
     → step hooks table root state command ≡ Ok next → RestsAround next.cursor next.tree
 step_keeps_rest hooks table root state next command checked order rests fit e =
-    moves_rest hooks table root state next command rests
-    (move hooks table checked root state order command next
-    (admits hooks table checked root state next order command e))
+    moves_rest hooks table root state next command rests (moves hooks table checked root state next order command e)
 
 pub step_keeps_distinct : (hooks : Meanings) (table : Table) (root : ℕ) (state next : State) (command : Call)
     → IsChecked table → IsWell table root state → IsFresh state command
@@ -185,8 +145,7 @@ step_keeps_distinct hooks table root state next command checked well fresh e t =
     no_more : tree_occurs next.tree t ≤ tree_occurs state.tree t + brings command t
     no_more =
         let kept = moves_tokens hooks table root state next command t checked well.in_order
-        (move hooks table checked root state well.in_order command next
-        (admits hooks table checked root state next well.in_order command e)) in
+        (moves hooks table checked root state next well.in_order command e) in
         omega arith
 
     once : (n : ℕ) → brings command t ≡ n → tree_occurs next.tree t ≤ 1
@@ -196,6 +155,6 @@ step_keeps_distinct hooks table root state next command checked well fresh e t =
 pub start_is_well : (table : Table) (root : ℕ) → IsWell table root (initial table root)
 start_is_well table root = record {
   in_order = start_in_order table root;
-  rests = rests_here (fresh (def_of table root)) (fresh_rests (def_of table root));
+  rests = rests_here _ (fresh_rests (def_of table root));
   distinct = λ t. omega (arith, fresh_holds (def_of table root) t);
 }

@@ -1,94 +1,22 @@
--- What an admitted command does to the place at the cursor: what becomes of it suits its shape, rests, and holds what it held and what
--- the command brought, but for what is dropped.
-use Rattle.std.proofs.Common.{◌≡◌, ℕ, ◌+◌, ◌<◌, ◌==◌, eqb-true, Bool, true, false, ◌&&◌, ◌||◌, List, [], ◌∷◌, ◌++◌, length, Option, Some, unwrap_or, refl, sym, ◌∙◌, ap, subst, arith}
-use Rattle.fr_shape.specs.declared.shape.Def.{Def}
-use Rattle.fr_shape.specs.declared.shape.ScalarKind.{ScalarKind}
-use Rattle.fr_shape.specs.Checked.{IsChecked}
-use Rattle.fr_shape.specs.Fits.{fits}
-use Rattle.fr_shape.specs.Hooks.{Meanings}
-use Rattle.fr_shape.specs.Look.{Table, def_of, settled}
-use Rattle.fr_shape.specs.Val.{Val, unit, text, dyn}
-use Rattle.fr_model.specs.Collections.{with_key, last_of, number_in}
-use Rattle.fr_model.specs.Commands.{Call}
-use Rattle.fr_model.specs.Complete.{complete}
-use Rattle.fr_model.specs.Contents.{variant_anew, content_anew}
-use Rattle.fr_model.specs.Dropping.{dropped_by_completing}
-use Rattle.fr_model.specs.DynamicPlaces.{array_anew, object_anew, kept_array, kept_object, entry_number, with_entry}
-use Rattle.fr_model.specs.Finish.{finished}
-use Rattle.fr_model.specs.Items.{with_item, is_open_slice}
-use Rattle.fr_model.specs.Places.{Place, Column, strict_column, deferred_column, is_root, up, child_count}
-use Rattle.fr_model.specs.Removed.{replaced, dropped_unless, dropped_if, column_at_end, dropped_with_item, dropped_by_column}
-use Rattle.fr_model.specs.Scripts.{IsFitting, brings}
-use Rattle.fr_model.specs.Entering.{Way, opened, enters, enter_child}
-use Rattle.fr_model.specs.Step.{is_str, is_owned_string_kind, is_owned_string, takes_shape, put_child, becomes, opens, variant_kept, puts_and_leaves, leaves, is_set_item, takes_item, is_dynamic_part}
-use Rattle.fr_model.specs.Tree.{Form, form_of, form_at, Tree, whole, tree_at, change_at, count_trees, count_below, Mode, strict, deferred, State, cursor_shape, cursor_tree, one_more_call, tree_occurs}
-use Rattle.fr_model.specs.Well.{Suits, RestsAround, AtCursor, BeganAbove, IsInOrder}
-use Rattle.fr_model.proofs.Ways.{changed, EndsBelow, Admits, begins, names, sets, converts, defaults, sets_child, holds_it, selects_it, opens_list, begins_array, opens_array, opens_map, begins_object, opens_set, adds_key, begins_value, adds_set_item, adds_entry, ends, ends_item, ends_part, is_left, changes_it, adds_it, defers_there, is_finished, lost_is}
-use Rattle.fr_model.proofs.Becoming.{Placed, Becoming}
+-- Each command that goes on makes one of the moves.
+use Rattle.std.proofs.Common.{◌≡◌, ◌+◌, ◌<◌, ◌∷◌, ◌==◌, ◌&&◌, ◌||◌, if◌then◌else◌}
+use Rattle.fr_model.proofs.Common.{ℕ, true, false, List, [], length, Option, Some, None, Result, Ok, refl, ReflectErrorKind, preset_of, Meanings, Table, def_of, is_dynamic, Val, Dynamic, dyn, Call, variant_anew, content_anew, converted, key_refusal, value_refusal, last_of, set_item_refusal, array_anew, object_anew, kept_array, kept_object, entry_refusal, Place, Column, strict_column, deferred_column, is_root, Tracker, Tree, count_below, Mode, strict, deferred, State, cursor_shape, cursor_tree, tree_occurs, complete, finished, Way, enters, at_shape, takes_shape, opens, becomes, init_list_refusal, init_map_refusal, init_set_refusal, variant_kept, selects, puts, is_set_item, is_dynamic_part, brings, replaced, dropped_unless, column_at_end, init_array_refusal, is_open_slice, RestsAround, eqb-true, Bool, unwrap_or, sym, ◌∙◌, ap, subst, arith, Def, ScalarKind, IsChecked, fits, settled, unit, text, with_key, number_in, dropped_by_completing, entry_number, with_entry, with_item, up, child_count, dropped_if, dropped_with_item, dropped_by_column, opened, enter_child, is_str, is_owned_string_kind, is_owned_string, put_child, tracker_of, tracker_at, whole, tree_at, count_trees, Suits, AtCursor, BeganAbove, IsInOrder, ltb-true, nat_lt, Err, Invariant, Operation, Field, VariantDef, is_option, field_in, variants_of, list_of, ptr, no_vals, is_result, pointer_refusal, points_to_slice, slice_anew, is_enum, variant_numbered, variant_named, variant_told_by, selection_refusal, as_content, ContentKind, selected, unless_refused, named_refusal, field_default, puts_child_default, defaults_field, option_kept, content_kept, begin_side, pointer_kept, begins_pointer, begins_list, init_list, begins_map, set_refusal, puts_dynamic, set_dynamic, puts_made, closes_slice, leaves_place, select_found, select, violates, puts_default, ended, item_ended, part_ended, leaves_deferred, end_in, begins_deferred, finishes, finish_in, step, dropped_by_selecting, dropped_at_end, item_refusal, closed_slice, shared_slice_refusal}
+use Rattle.fr_model.proofs.Ways.{moved, EndsBelow, Move, stays, goes_on, goes_up, is_taken, stays_behind, is_deferred, is_over, lost_is, ok_is}
+use Rattle.fr_model.proofs.Items.{TakesAnItem, list_opens, array_opens, takes_a_set_item, item_placed, item_holds, takes_an_item, slice_closes, closed_holds, shared_fits}
+use Rattle.fr_model.proofs.Becoming.{Placed, Becoming, content_becomes, option_becomes, IsSide, side_holds, pointer_holds, slice_becomes, variant_becomes}
+use Rattle.fr_model.proofs.Defaulting.{putting, field_there}
+use Rattle.fr_model.proofs.Basis.{at_cursor, suits_at, up_long, began_strict, entry_at, Enterable, enterable_behind, opening, opened_rests, enter_child_rests, item_rests, key_rests, closed_rests, settled_as, preset_template, template_holds, field_default_template, opened_holds, enter_child_holds, completing_makes}
 use Rattle.fr_model.proofs.Collections.{set_opens, map_opens, IsMap, takes_a_key, takes_a_value, key_placed, key_holds, value_enterable}
-use Rattle.fr_model.proofs.Conversions.{IsTaken, converted_is}
-use Rattle.fr_model.proofs.Cursor.{at_cursor, suits_at, up_long, began_strict, entry_at, defers}
+use Rattle.fr_model.proofs.Conversions.{converted_is}
 use Rattle.fr_model.proofs.Dynamics.{dynamic_def, array_becomes, object_becomes, IsObject, takes_an_entry, entry_placed, entry_holds, entry_rests}
 use Rattle.fr_model.proofs.Ending.{began_up}
-use Rattle.fr_model.proofs.Items.{list_opens, array_opens, TakesAnItem, takes_a_set_item, item_placed, item_holds}
-use Rattle.fr_model.proofs.Opening.{Enterable, enterable_behind, Opening, opening}
-use Rattle.fr_model.proofs.Resting.{opened_rests, enter_child_rests, item_rests, key_rests}
-use Rattle.fr_model.proofs.Steps.{finishes_as}
-use Rattle.fr_model.proofs.Structs.{settled_str, settled_scalar, settled_dynamic}
-use Rattle.fr_model.proofs.Templates.{IsTemplate, preset_template, template_holds}
-use Rattle.fr_model.proofs.Tokens.{opened_holds, enter_child_holds}
-
--- the state in which the place at the cursor has become another, to whose child i the cursor went
-abbrev pub moved : State → ℕ → (Tree → Tree) → State
-moved state i change = record state {
-  tree = change_at state.cursor change state.tree;
-  cursor = state.cursor ++ i ∷ [];
-  calls = one_more_call state.calls;
-}
-
--- what becomes of the place at the cursor holds what it held and what the command brings, but for what that drops
-abbrev pub HoldsAll : Meanings → Table → (root : ℕ) → State → Call → Tree → Type 0
-HoldsAll hooks table root state command after =
-    (t : ℕ) → tree_occurs after t + replaced hooks table root (cursor_shape table root state) state command t
-    ≡ tree_occurs (cursor_tree state) t + brings command t
-
--- The moves: the place at the cursor becomes another, and the cursor stays, or goes to a child of it; the place is completed and the
--- cursor goes up, or its set takes it; it is left as it is; or deferred mode begins or ends.
-pub data Move (hooks : Meanings) (table : Table) (root : ℕ) (state : State) : Call → State → Type 0 where
-  stays : (command : Call) (change : Tree → Tree)
-      → (IsFitting table command → Placed state.mode table (cursor_shape table root state) [] (change (cursor_tree state)))
-      → HoldsAll hooks table root state command (change (cursor_tree state))
-      → (RestsAround [] (cursor_tree state) → RestsAround [] (change (cursor_tree state)))
-      → Move hooks table root state command (changed state change)
-  goes_on : (command : Call) (i : ℕ) (change : Tree → Tree)
-      → Placed state.mode table (cursor_shape table root state) (i ∷ []) (change (cursor_tree state))
-      → HoldsAll hooks table root state command (change (cursor_tree state))
-      → (RestsAround [] (cursor_tree state) → RestsAround (i ∷ []) (change (cursor_tree state)))
-      → Move hooks table root state command (moved state i change)
-  goes_up : (column : Column) (v : Val) → BeganAbove state.mode (up state.cursor) → is_set_item state ≡ false
-      → complete column hooks table (cursor_shape table root state) (cursor_tree state) ≡ Some v
-      → ((t : ℕ) → replaced hooks table root (cursor_shape table root state) state Call.End t
-      ≡ dropped_by_completing column hooks table (cursor_shape table root state) (cursor_tree state) t)
-      → Move hooks table root state Call.End (puts_and_leaves state v)
-  is_taken : (column : Column) (v : Val) → BeganAbove state.mode (up state.cursor) → is_root state.cursor ≡ false
-      → is_set_item state ≡ true
-      → complete column hooks table (cursor_shape table root state) (cursor_tree state) ≡ Some v
-      → ((t : ℕ) → replaced hooks table root (cursor_shape table root state) state Call.End t
-      ≡ dropped_by_completing column hooks table (cursor_shape table root state) (cursor_tree state) t
-      + dropped_with_item (number_in state.cursor) (tree_at (up state.cursor) state.tree) (Some v) t)
-      → Move hooks table root state Call.End (takes_item state v)
-  stays_behind : (start : ℕ) → state.mode ≡ deferred start → start < length state.cursor
-      → is_open_slice (cursor_tree state) ≡ false → is_set_item state ≡ false → is_dynamic_part state ≡ false
-      → ((t : ℕ) → replaced hooks table root (cursor_shape table root state) state Call.End t ≡ 0)
-      → Move hooks table root state Call.End (leaves state)
-  is_deferred : state.mode ≡ strict → Move hooks table root state Call.BeginDeferred (defers state)
-  is_over : (tree : Tree) → finished hooks table root state.cursor state.tree ≡ Some tree
-      → Move hooks table root state Call.FinishDeferred (finishes_as state tree)
+use Rattle.fr_model.specs.Step.{ends_item as end_of_item}
+use Rattle.fr_model.proofs.Children.{enterable, ChildCase, a_child, a_variant_child, no_child, child_case, only_of_enum, NamedCase, a_named, a_variant_named, no_such_name, no_names, named_case}
 
 -- a text that fits an owned text fits a `str` too
 text_fits : (table : Table) (s given : ℕ) (v : Val) → is_str (def_of table s) ≡ true → is_owned_string (def_of table given) ≡ true
     → fits table given v ≡ true → fits table s v ≡ true
-text_fits table s given v str string fit = go (def_of table s) (def_of table given) refl refl str string
+text_fits table s given v str string fit = go _ _ refl refl str string
   where
     of_string : settled table s ≡ Def.Str → settled table given ≡ Def.Scalar ScalarKind.String → (v : Val)
         → fits table given v ≡ true → fits table s v ≡ true
@@ -98,20 +26,18 @@ text_fits table s given v str string fit = go (def_of table s) (def_of table giv
 
     of_kind : (kind : ScalarKind) → def_of table s ≡ Def.Str → def_of table given ≡ Def.Scalar kind
         → is_owned_string_kind kind ≡ true → fits table s v ≡ true
-    of_kind ScalarKind.String is from string =
-        of_string (settled_str table s is) (settled_scalar table given ScalarKind.String from) v fit
+    of_kind ScalarKind.String is from string = of_string (settled_as table s is refl) (settled_as table given from refl) v fit
     of_kind _ is from string = cc
 
     go : (def from_def : Def) → def_of table s ≡ def → def_of table given ≡ from_def → is_str def ≡ true
-        → is_owned_string from_def ≡ true
-        → fits table s v ≡ true
+        → is_owned_string from_def ≡ true → fits table s v ≡ true
     go Def.Str (Def.Scalar kind) is from str string = of_kind kind is from string
     go Def.Str _ is from str string = cc
     go _ from_def is from str string = cc
 
 taken_fits : (table : Table) (s given : ℕ) (v : Val) → takes_shape table s given ≡ true → fits table given v ≡ true
     → fits table s v ≡ true
-taken_fits table s given v taken fit = go (s == given) (is_str (def_of table s)) (is_owned_string (def_of table given)) refl refl refl taken
+taken_fits table s given v taken fit = go _ _ _ refl refl refl taken
   where
     go : (same str string : Bool) → (s == given) ≡ same → is_str (def_of table s) ≡ str
         → is_owned_string (def_of table given) ≡ string → (same || (str && string)) ≡ true → fits table s v ≡ true
@@ -124,87 +50,108 @@ began_above : (mode : Mode) (here : Place) → EndsBelow mode here → BeganAbov
 began_above strict here below = tt
 began_above (deferred start) here below = omega (arith, below, up_long here)
 
-module _ (hooks : Meanings) (table : Table) (checked : IsChecked table) (root : ℕ) (state : State)
+module _ (hooks : Meanings) (table : Table) (checked : IsChecked table) (root : ℕ) (state next : State)
     (order : IsInOrder table root state) where
   abbrev here : ℕ
   here = cursor_shape table root state
 
-  abbrev old : Tree
-  old = cursor_tree state
+  abbrev def : Def
+  def = def_of table here
 
-  suits_here : Suits table here (cursor_tree state)
+  abbrev tree : Tree
+  tree = cursor_tree state
+
+  suits_here : Suits table here tree
   suits_here = suits_at state.mode table root state.cursor state.tree order.leads order.suits
 
-  at_here : AtCursor state.mode (cursor_tree state)
+  at_here : AtCursor state.mode tree
   at_here = at_cursor state.mode state.cursor state.tree order.leads
 
-  placed_here : Placed state.mode table here [] (cursor_tree state)
+  placed_here : Placed state.mode table here [] tree
   placed_here = record { suits = suits_here; leads = at_here }
 
-  enters_so : (command : Call) (i : ℕ) → Enterable table here i (cursor_tree state)
+  abbrev Goes : Call → Type 0
+  Goes command = Move hooks table root state command next
+
+  -- the state that a command makes is the next one
+  goes : {command : Call} {after : State} → ◌≡◌ {A = Result State ReflectErrorKind} (Ok after) (Ok next)
+      → Move hooks table root state command after → Goes command
+  goes {command = command} {after = after} e so = subst (Move hooks table root state command) (ok_is after next e) so
+
+  -- a command goes on unless it is refused, or only where a test says so
+
+  unless : {command : Call} (refusal : Option ReflectErrorKind) (after : State)
+      → (refusal ≡ None → Move hooks table root state command after) → unless_refused refusal after ≡ Ok next → Goes command
+  unless None after so e = goes e (so refl)
+  unless (Some kind) after so e = cc
+
+  unless_at : {command : Call} (refusal : Option Operation) (after : State)
+      → (refusal ≡ None → Move hooks table root state command after)
+      → unless_refused (at_shape here refusal) after ≡ Ok next → Goes command
+  unless_at None after so e = goes e (so refl)
+  unless_at (Some operation) after so e = cc
+
+  only_if : {command : Call} (test : Bool) (kind : ReflectErrorKind) (result : Result State ReflectErrorKind)
+      → (test ≡ true → result ≡ Ok next → Goes command) → (if test then result else Err kind) ≡ Ok next → Goes command
+  only_if true kind result so e = so refl e
+  only_if false kind result so e = cc
+
+  -- The moves that commands make.
+
+  enters_child : (command : Call) (i : ℕ) → Enterable table here i tree
       → ((t : ℕ) → replaced hooks table root here state command t ≡ 0) → ((t : ℕ) → brings command t ≡ 0)
       → Move hooks table root state command (enters table here state (Way.Child i))
-  enters_so command i enterable drops none =
+  enters_child command i enterable drops none =
       let child = entry_at table root state i enterable order in
-      let form : Form = form_at (def_of table here) (cursor_tree state) in
-      let place : Opening state.mode table here i form (cursor_tree state)
-      = opening state.mode table here i (cursor_tree state) enterable at_here suits_here in
+      let tracker = tracker_at (def_of table here) tree in
+      let place = opening state.mode table here i tree enterable at_here suits_here in
       goes_on command i (enter_child table here i) (record { suits = child.suits; leads = child.leads })
-      (λ t. let same = enter_child_holds table here i (cursor_tree state) t in omega (arith, drops t, none t))
-      (λ rested. enter_child_rests table here i (cursor_tree state) suits_here
-      (enterable_behind table here i (cursor_tree state) form (count_trees place.children) enterable place.begun_as.0 refl rested)
-      rested)
+      (λ t. let same = enter_child_holds table here i tree t in omega (arith, drops t, none t))
+      (λ rested. enter_child_rests table here i tree suits_here
+      (enterable_behind table here i tree tracker (count_trees place.children) enterable place.begun_as.0 refl rested) rested)
 
-  opens_so : (command : Call) → Placed state.mode table here [] (opened (def_of table here) (cursor_tree state))
+  opens_it : (command : Call) → Placed state.mode table here [] (opened (def_of table here) tree)
       → ((t : ℕ) → replaced hooks table root here state command t ≡ 0) → ((t : ℕ) → brings command t ≡ 0)
       → Move hooks table root state command (opens table here state)
-  opens_so command placed drops none =
+  opens_it command placed drops none =
       stays command (opened (def_of table here)) (λ fit. placed)
-      (λ t. let same : tree_occurs (opened (def_of table here) (cursor_tree state)) t ≡ tree_occurs (cursor_tree state) t
-      = opened_holds (form_of (def_of table here)) (child_count table here) (cursor_tree state) t in
-      omega (arith, drops t, none t))
-      (opened_rests table here (cursor_tree state) suits_here)
+      (λ t. let same = opened_holds (tracker_of (def_of table here)) (child_count table here) tree t in
+      omega (arith, drops t, none t)) (opened_rests table here tree suits_here)
 
-  becomes_so : (command : Call) (kept : Option Tree) (anew : Tree)
-      → Becoming state.mode table here [] (cursor_tree state) kept anew
+  becomes_it : (command : Call) (kept : Option Tree) (anew : Tree) → Becoming state.mode table here [] tree kept anew
       → ((t : ℕ) → replaced hooks table root here state command t ≡ dropped_unless kept state t)
       → ((t : ℕ) → brings command t ≡ 0) → Move hooks table root state command (becomes state kept anew)
-  becomes_so command kept anew there drops none =
+  becomes_it command kept anew there drops none =
       stays command (λ (u : Tree). unwrap_or kept anew) (λ fit. there.placed)
       (λ t. omega (arith, there.hold t, lost_is kept state t, drops t, none t)) there.rest
 
-  item_so : (command : Call) → TakesAnItem (cursor_tree state)
+  takes_new_item : (command : Call) → TakesAnItem tree
       → ((t : ℕ) → replaced hooks table root here state command t ≡ 0) → ((t : ℕ) → brings command t ≡ 0)
-      → Move hooks table root state command (moved state (count_below (cursor_tree state)) (with_item table here))
-  item_so command takes drops none =
-      goes_on command (count_below (cursor_tree state)) (with_item table here)
-      (item_placed state.mode table here (cursor_tree state) takes placed_here)
-      (λ t. omega (arith, item_holds table here (cursor_tree state) t, drops t, none t))
-      (item_rests table here (cursor_tree state))
+      → Move hooks table root state command (moved state (count_below tree) (with_item table here))
+  takes_new_item command takes drops none =
+      goes_on command (count_below tree) (with_item table here) (item_placed state.mode table here tree takes placed_here)
+      (λ t. omega (arith, item_holds table here tree t, drops t, none t)) (item_rests table here tree)
 
-  key_so : IsMap (cursor_tree state) false
-      → Move hooks table root state Call.BeginKey (moved state (count_below (cursor_tree state)) (with_key table here))
-  key_so map =
-      goes_on Call.BeginKey (count_below (cursor_tree state)) (with_key table here)
+  takes_new_key : IsMap tree false → Move hooks table root state Call.BeginKey (moved state (count_below tree) (with_key table here))
+  takes_new_key map =
+      goes_on Call.BeginKey (count_below tree) (with_key table here)
       (subst (λ (u : Tree). Placed state.mode table here (count_below u ∷ []) (with_key table here u)) (sym map.is)
       (key_placed state.mode table here map.base map.children map.ends
       (subst (λ (u : Tree). Placed state.mode table here [] u) map.is placed_here)))
-      (λ t. let same : tree_occurs (with_key table here (cursor_tree state)) t ≡ tree_occurs (cursor_tree state) t
+      (λ t. let same : tree_occurs (with_key table here tree) t ≡ tree_occurs tree t
       = subst (λ (u : Tree). tree_occurs (with_key table here u) t ≡ tree_occurs u t) (sym map.is)
       (key_holds table here map.base map.children t) in omega arith)
       (subst (λ (u : Tree). RestsAround [] u → RestsAround (count_below u ∷ []) (with_key table here u)) (sym map.is)
       (key_rests table here map.base map.children))
 
-  entry_so : (key : List ℕ) → IsObject (cursor_tree state)
-      → Move hooks table root state (Call.BeginObjectEntry key)
-      (moved state (entry_number key (cursor_tree state)) (with_entry table here key))
-  entry_so key object =
-      goes_on (Call.BeginObjectEntry key) (entry_number key (cursor_tree state)) (with_entry table here key)
-      (subst (λ (u : Tree). Placed state.mode table here (entry_number key u ∷ []) (with_entry table here key u))
-      (sym object.is)
+  takes_new_entry : (key : List ℕ) → IsObject tree → Move hooks table root state (Call.BeginObjectEntry key)
+      (moved state (entry_number key tree) (with_entry table here key))
+  takes_new_entry key object =
+      goes_on (Call.BeginObjectEntry key) (entry_number key tree) (with_entry table here key)
+      (subst (λ (u : Tree). Placed state.mode table here (entry_number key u ∷ []) (with_entry table here key u)) (sym object.is)
       (entry_placed state.mode table here key object.keys object.children
       (subst (λ (u : Tree). Placed state.mode table here [] u) object.is placed_here)))
-      (λ t. let same : tree_occurs (with_entry table here key (cursor_tree state)) t ≡ tree_occurs (cursor_tree state) t
+      (λ t. let same : tree_occurs (with_entry table here key tree) t ≡ tree_occurs tree t
       = subst (λ (u : Tree). tree_occurs (with_entry table here key u) t ≡ tree_occurs u t) (sym object.is)
       (entry_holds table here key object.keys object.children t) in omega arith)
       (subst (λ (u : Tree). Suits table here u → RestsAround [] u
@@ -212,103 +159,325 @@ module _ (hooks : Meanings) (table : Table) (checked : IsChecked table) (root : 
       (entry_rests table here key object.keys object.children) suits_here)
 
   -- what a place that isn't open drops as it ends
-  replaced_end : (set part : Bool) (mode : Mode) → is_open_slice (cursor_tree state) ≡ false → is_set_item state ≡ set
-      → is_dynamic_part state ≡ part → state.mode ≡ mode → (t : ℕ)
-      → replaced hooks table root here state Call.End t
+  replaced_end : (set part : Bool) (mode : Mode) → is_open_slice tree ≡ false → is_set_item state ≡ set
+      → is_dynamic_part state ≡ part → state.mode ≡ mode → (t : ℕ) → replaced hooks table root here state Call.End t
       ≡ dropped_by_column (column_at_end mode (set || part)) hooks table here state set t
   replaced_end set part mode shut of_set of_part is t = rw (shut, of_set, of_part, is) refl
 
-  ends_so : (v : Val) → state.mode ≡ strict → is_open_slice (cursor_tree state) ≡ false → is_set_item state ≡ false
-      → complete strict_column hooks table here (cursor_tree state) ≡ Some v
-      → Move hooks table root state Call.End (puts_and_leaves state v)
-  ends_so v is_strict shut no_set is =
-      goes_up strict_column v (began_strict state.mode (up state.cursor) is_strict) no_set is
-      (λ t. let all = replaced_end false (is_dynamic_part state) strict shut no_set refl is_strict t in omega arith)
+  -- a child is entered
 
-  part_so : (start : ℕ) (v : Val) → state.mode ≡ deferred start → start < length state.cursor
-      → is_open_slice (cursor_tree state) ≡ false → is_set_item state ≡ false → is_dynamic_part state ≡ true
-      → complete deferred_column hooks table here (cursor_tree state) ≡ Some v
-      → Move hooks table root state Call.End (puts_and_leaves state v)
-  part_so start v mode deeper shut no_set of_part is =
-      goes_up deferred_column v (began_up state.mode start state.cursor mode deeper) no_set is
-      (λ t. let all = replaced_end false true (deferred start) shut no_set of_part mode t in omega arith)
+  begins_so : (i : ℕ) → step hooks table root state (Call.BeginNthField i) ≡ Ok next → Goes (Call.BeginNthField i)
+  begins_so i e = go (child_case def i tree)
+    where
+      go : ChildCase def i tree → Goes (Call.BeginNthField i)
+      go (a_child child admitted may) = goes (rw admitted at e) (enters_child (Call.BeginNthField i) i (enterable table here i tree child) (λ t. refl) (λ t. refl))
+      go (a_variant_child k child admitted chosen) = goes (rw admitted at e) (enters_child (Call.BeginNthField i) i (enterable table here i tree child) (λ t. refl) (λ t. refl))
+      go (no_child operation refused may) = let none = rw refused at e in cc
 
-  taken_so : (column : Column) (v : Val) → is_root state.cursor ≡ false → EndsBelow state.mode state.cursor
-      → column_at_end state.mode true ≡ Some column → is_open_slice (cursor_tree state) ≡ false → is_set_item state ≡ true
-      → complete column hooks table here (cursor_tree state) ≡ Some v
-      → Move hooks table root state Call.End (takes_item state v)
-  taken_so column v below deeper by shut of_set is =
-      is_taken column v (began_above state.mode state.cursor deeper) below of_set is
-      (λ t. replaced_end true (is_dynamic_part state) state.mode shut of_set refl refl t
-      ∙ ap (λ (known : Option Column). dropped_by_column known hooks table here state true t) by
-      ∙ ap (λ (made : Option Val). dropped_by_completing column hooks table here (cursor_tree state) t
-      + dropped_with_item (number_in state.cursor) (tree_at (up state.cursor) state.tree) made t) is)
+  names_so : (name : List ℕ) → step hooks table root state (Call.BeginField name) ≡ Ok next → Goes (Call.BeginField name)
+  names_so name e = go (named_case name def tree (only_of_enum table here tree suits_here))
+    where
+      go : NamedCase name def tree → Goes (Call.BeginField name)
+      go (a_variant_named i k child admitted is chosen) =
+          goes (rw (admitted, is) at e) (enters_child (Call.BeginField name) i (enterable table here i tree child) (λ t. refl) (λ t. refl))
+      go (a_named i child admitted is named may) = goes (rw (admitted, is) at e) (enters_child (Call.BeginField name) i (enterable table here i tree child) (λ t. refl) (λ t. refl))
+      go (no_such_name admitted is named) = let none = rw (admitted, is) at e in cc
+      go (no_names operation refused is) = let none = rw refused at e in cc
 
-  left_so : (start : ℕ) → state.mode ≡ deferred start → start < length state.cursor
-      → is_open_slice (cursor_tree state) ≡ false → is_set_item state ≡ false → is_dynamic_part state ≡ false
-      → Move hooks table root state Call.End (leaves state)
-  left_so start mode deeper shut no_set no_part =
-      stays_behind start mode deeper shut no_set no_part
-      (λ t. replaced_end false false (deferred start) shut no_set no_part mode t)
+  -- a value is put
 
-  pub move : (command : Call) (next : State) → Admits hooks table root state command next
-      → Move hooks table root state command next
-  move command next (begins i enterable) = enters_so (Call.BeginNthField i) i enterable (λ t. refl) (λ t. refl)
-  move command next (names name i enterable) = enters_so (Call.BeginField name) i enterable (λ t. refl) (λ t. refl)
-  move command next (sets given v taken) =
+  sets : (given : ℕ) (v : Val) → takes_shape table here given ≡ true → Move hooks table root state (Call.Set given v) (puts state v)
+  sets given v taken =
       stays (Call.Set given v) (λ (u : Tree). whole v)
       (λ fit. record { suits = taken_fits table here given v taken fit.1; leads = tt }) (λ t. omega arith) (λ rested. tt)
-  move command next (converts given v d of_dynamic made) =
-      let taken : IsTaken v d = converted_is table here (def_of table given) v d made in
-      stays (Call.Set given v) (λ (u : Tree). whole (dyn d))
-      (λ fit. record {
-        suits = rw (settled_dynamic table here (dynamic_def (def_of table here) of_dynamic)) taken.once;
-        leads = tt;
-      })
-      (λ t. omega (arith, taken.holds t)) (λ rested. tt)
-  move command next (defaults v is) =
-      let template : IsTemplate table here v = preset_template table here v checked is in
-      stays Call.SetDefault (λ (u : Tree). whole v) (λ fit. record { suits = template.fit; leads = tt })
-      (λ t. omega (arith, template_holds table here v t template)) (λ rested. tt)
-  move command next (sets_child i v put none) =
-      stays (Call.SetNthFieldToDefault i) (put_child (def_of table here) i v)
-      (λ fit. record { suits = put.suits; leads = put.at }) (λ t. omega (arith, put.hold t, none t)) put.rest
-  move command next (holds_it same form kept there drops none) =
-      goes_on same 0 (λ (u : Tree). unwrap_or kept (content_anew table here form)) there.placed
+
+  sets_so : (given : ℕ) (v : Val) → step hooks table root state (Call.Set given v) ≡ Ok next → Goes (Call.Set given v)
+  sets_so given v e = by_place (is_dynamic def) refl e
+    where
+      go : (b : Bool) → takes_shape table here given ≡ b
+          → unless_refused (if b then None else Some (ReflectErrorKind.WrongShape (record { 0 = here }) (record { 0 = given })))
+          (puts state v) ≡ Ok next → Goes (Call.Set given v)
+      go true taken h = goes h (sets given v taken)
+      go false taken h = cc
+
+      converts_so : (made : Result Dynamic Operation) → is_dynamic def ≡ true
+          → converted table here (def_of table given) v ≡ made → puts_dynamic state given made ≡ Ok next → Goes (Call.Set given v)
+      converts_so (Ok d) dynamic is h =
+          let taken = converted_is table here (def_of table given) v d is in
+          goes h (stays (Call.Set given v) (λ (u : Tree). whole (dyn d))
+          (λ fit. record { suits = rw (settled_as table here (dynamic_def def dynamic) refl) taken.once; leads = tt })
+          (λ t. omega (arith, taken.holds t)) (λ rested. tt))
+      converts_so (Err operation) dynamic is h = cc
+
+      by_shape : (b : Bool) → (here == given) ≡ b → is_dynamic def ≡ true
+          → (if b then Ok (puts state v) else puts_dynamic state given (converted table here (def_of table given) v)) ≡ Ok next
+          → Goes (Call.Set given v)
+      by_shape true same dynamic h = goes h (sets given v (rw same refl))
+      by_shape false same dynamic h = converts_so (converted table here (def_of table given) v) dynamic refl h
+
+      by_place : (b : Bool) → is_dynamic def ≡ b → (if b then set_dynamic table here state given v
+          else unless_refused (set_refusal table here given) (puts state v)) ≡ Ok next → Goes (Call.Set given v)
+      by_place true dynamic h = by_shape (here == given) refl dynamic h
+      by_place false other h = go (takes_shape table here given) refl h
+
+  defaults_so : (preset : Option Val) → preset_of table here ≡ preset → puts_default here state preset ≡ Ok next → Goes Call.SetDefault
+  defaults_so (Some v) is e =
+      let template = preset_template table here v checked is in
+      goes e (stays Call.SetDefault (λ (u : Tree). whole v) (λ fit. record { suits = template.fit; leads = tt })
+      (λ t. omega (arith, template_holds table here v t template)) (λ rested. tt))
+  defaults_so None is e = cc
+
+  child_so : (i : ℕ) → step hooks table root state (Call.SetNthFieldToDefault i) ≡ Ok next → Goes (Call.SetNthFieldToDefault i)
+  child_so i e = go (at_shape here (named_refusal def tree)) (field_in def (selected tree) i) refl e
+    where
+      set_so : (field : Field) (value : Result Val ReflectErrorKind) → field_in def (selected tree) i ≡ Some field
+          → field_default table field ≡ value → puts_child_default table here state i value ≡ Ok next
+          → Goes (Call.SetNthFieldToDefault i)
+      set_so field (Ok v) is value h =
+          let there = field_there table here i tree field suits_here is in
+          let template = field_default_template table here (selected tree) i field v checked is value in
+          let put = putting state.mode table here i v tree there.enterable at_here suits_here (rw there.shape template.fit) in
+          goes h (stays (Call.SetNthFieldToDefault i) (put_child def i v) (λ fit. record { suits = put.suits; leads = put.at })
+          (λ t. omega (arith, put.hold t, template_holds table field.shape.0 v t template)) put.rest)
+      set_so field (Err kind) is value h = cc
+
+      go : (refusal : Option ReflectErrorKind) (found : Option Field) → field_in def (selected tree) i ≡ found
+          → defaults_field table here state i refusal found ≡ Ok next → Goes (Call.SetNthFieldToDefault i)
+      go (Some kind) found is h = cc
+      go None (Some field) is h = set_so field (field_default table field) is refl h
+      go None None is h = cc
+
+  shared_so : step hooks table root state Call.SetEmptySharedSlice ≡ Ok next → Goes Call.SetEmptySharedSlice
+  shared_so e =
+      unless_at (shared_slice_refusal table def) (puts state (ptr (list_of no_vals)))
+      (λ is. stays Call.SetEmptySharedSlice (λ (u : Tree). whole (ptr (list_of no_vals)))
+      (λ fit. record { suits = shared_fits table here is; leads = tt }) (λ t. omega arith) (λ rested. tt)) e
+
+  -- a content, a side or a pointee is begun
+
+  holds_it : (command : Call) (tracker : Tracker) (kept : Option Tree)
+      → Becoming state.mode table here (0 ∷ []) tree kept (content_anew table here tracker)
+      → ((t : ℕ) → replaced hooks table root here state command t ≡ dropped_unless kept state t) → ((t : ℕ) → brings command t ≡ 0)
+      → Move hooks table root state command (enters table here state (Way.Content tracker kept))
+  holds_it command tracker kept there drops none =
+      goes_on command 0 (λ (u : Tree). unwrap_or kept (content_anew table here tracker)) there.placed
       (λ t. omega (arith, there.hold t, lost_is kept state t, drops t, none t)) there.rest
-  move command next (selects_it same k there drops none) =
-      becomes_so same (variant_kept state k) (variant_anew (def_of table here) k) there drops none
-  move command next (opens_list same e other drops none) =
-      opens_so same (list_opens state.mode table here (cursor_tree state) other e placed_here) drops none
-  move command next (begins_array same e of_dynamic drops none) =
-      becomes_so same (kept_array (cursor_tree state)) array_anew
-      (array_becomes state.mode table here (cursor_tree state) (dynamic_def (def_of table here) of_dynamic) at_here suits_here)
-      drops none
-  move command next (opens_array e) =
-      opens_so Call.InitArray (array_opens state.mode table here (cursor_tree state) e placed_here) (λ t. refl) (λ t. refl)
-  move command next (opens_map e other) =
-      opens_so Call.InitMap (map_opens state.mode table here (cursor_tree state) other e placed_here)
-      (λ t. ap (λ (b : Bool). dropped_if b (kept_object (cursor_tree state)) state t) other) (λ t. refl)
-  move command next (begins_object e of_dynamic) =
-      becomes_so Call.InitMap (kept_object (cursor_tree state)) object_anew
-      (object_becomes state.mode table here (cursor_tree state) (dynamic_def (def_of table here) of_dynamic) at_here suits_here)
-      (λ t. ap (λ (b : Bool). dropped_if b (kept_object (cursor_tree state)) state t) of_dynamic) (λ t. refl)
-  move command next (opens_set e) =
-      opens_so Call.InitSet (set_opens state.mode table here (cursor_tree state) e placed_here) (λ t. refl) (λ t. refl)
-  move command next (adds_key e) = key_so (takes_a_key (cursor_tree state) e)
-  move command next (begins_value e) =
-      enters_so Call.BeginValue (last_of (count_below (cursor_tree state)))
-      (value_enterable table here (cursor_tree state) (takes_a_value (cursor_tree state) e) suits_here) (λ t. refl) (λ t. refl)
-  move command next (adds_set_item e) =
-      item_so Call.BeginSetItem (takes_a_set_item (def_of table here) (cursor_tree state) e) (λ t. refl) (λ t. refl)
-  move command next (adds_entry key e) = entry_so key (takes_an_entry (def_of table here) (cursor_tree state) e)
-  move command next (ends v is_strict shut no_set is) = ends_so v is_strict shut no_set is
-  move command next (ends_item column v below deeper by shut of_set is) = taken_so column v below deeper by shut of_set is
-  move command next (ends_part start v mode deeper shut no_set of_part is) =
-      part_so start v mode deeper shut no_set of_part is
-  move command next (is_left start mode deeper shut no_set no_part) = left_so start mode deeper shut no_set no_part
-  move command next (changes_it same change placed hold none rest) =
-      stays same change (λ fit. placed) (λ t. omega (arith, hold t, none t)) rest
-  move command next (adds_it takes) = item_so Call.BeginListItem takes (λ t. refl) (λ t. refl)
-  move command next (defers_there is) = is_deferred is
-  move command next (is_finished tree is) = is_over tree is
+
+  some_so : step hooks table root state Call.BeginSome ≡ Ok next → Goes Call.BeginSome
+  some_so e =
+      only_if (is_option def) _ _ (λ is h. goes h (holds_it Call.BeginSome (as_content ContentKind.Some)
+      (option_kept table here state) (option_becomes state.mode table here tree is suits_here) (λ t. refl) (λ t. refl))) e
+
+  side_so : (command : Call) (side : Tracker) → IsSide side → begin_side table here state side ≡ Ok next
+      → ((t : ℕ) → replaced hooks table root here state command t ≡ dropped_unless (content_kept state side) state t)
+      → ((t : ℕ) → brings command t ≡ 0) → Goes command
+  side_so command side of_result e drops none =
+      only_if (is_result def) _ _ (λ is h. goes h (holds_it command side (content_kept state side)
+      (content_becomes state.mode table here side tree (side_holds table here side of_result is) suits_here) drops none)) e
+
+  pointer_so : step hooks table root state Call.BeginSmartPtr ≡ Ok next → Goes Call.BeginSmartPtr
+  pointer_so e =
+      unless_at (pointer_refusal table def) (begins_pointer table here state (points_to_slice table def))
+      (go (points_to_slice table def) refl) e
+    where
+      go : (to_slice : Bool) → points_to_slice table def ≡ to_slice → pointer_refusal table def ≡ None
+          → Move hooks table root state Call.BeginSmartPtr (begins_pointer table here state to_slice)
+      go false to is =
+          holds_it Call.BeginSmartPtr (as_content ContentKind.Pointer) (pointer_kept state false)
+          (content_becomes state.mode table here (as_content ContentKind.Pointer) tree (pointer_holds table here (is, to)) suits_here)
+          (λ t. ap (λ (b : Bool). dropped_unless (pointer_kept state b) state t) to) (λ t. refl)
+      go true to is =
+          let becomes = slice_becomes state.mode table here tree (is, to) suits_here in
+          becomes_it Call.BeginSmartPtr (pointer_kept state true) slice_anew becomes
+          (λ t. ap (λ (b : Bool). dropped_unless (pointer_kept state b) state t) to) (λ t. refl)
+
+  -- a list or a map is begun
+
+  list_so : (command : Call) → ((t : ℕ)
+      → replaced hooks table root here state command t ≡ dropped_if (is_dynamic def) (kept_array tree) state t)
+      → ((t : ℕ) → brings command t ≡ 0) → init_list table here state ≡ Ok next → Goes command
+  list_so command drops none e =
+      unless (init_list_refusal here def tree) (begins_list table here state (is_dynamic def)) (go (is_dynamic def) refl) e
+    where
+      go : (of_dynamic : Bool) → is_dynamic def ≡ of_dynamic → init_list_refusal here def tree ≡ None
+          → Move hooks table root state command (begins_list table here state of_dynamic)
+      go false other is =
+          opens_it command (list_opens state.mode table here tree other is placed_here)
+          (λ t. drops t ∙ ap (λ (b : Bool). dropped_if b (kept_array tree) state t) other) none
+      go true dynamic is =
+          becomes_it command (kept_array tree) array_anew
+          (array_becomes state.mode table here tree (dynamic_def def dynamic) at_here suits_here)
+          (λ t. drops t ∙ ap (λ (b : Bool). dropped_if b (kept_array tree) state t) dynamic) none
+
+  map_so : step hooks table root state Call.InitMap ≡ Ok next → Goes Call.InitMap
+  map_so e = unless (init_map_refusal here def tree) (begins_map table here state (is_dynamic def)) (go (is_dynamic def) refl) e
+    where
+      go : (of_dynamic : Bool) → is_dynamic def ≡ of_dynamic → init_map_refusal here def tree ≡ None
+          → Move hooks table root state Call.InitMap (begins_map table here state of_dynamic)
+      go false other is =
+          opens_it Call.InitMap (map_opens state.mode table here tree other is placed_here)
+          (λ t. ap (λ (b : Bool). dropped_if b (kept_object tree) state t) other) (λ t. refl)
+      go true dynamic is =
+          becomes_it Call.InitMap (kept_object tree) object_anew
+          (object_becomes state.mode table here tree (dynamic_def def dynamic) at_here suits_here)
+          (λ t. ap (λ (b : Bool). dropped_if b (kept_object tree) state t) dynamic) (λ t. refl)
+
+  -- a variant is selected
+  select_so : (command : Call) (find : List VariantDef → Option ℕ) (unknown : Operation)
+      → select table here state find unknown ≡ Ok next → ((t : ℕ)
+      → replaced hooks table root here state command t ≡ dropped_by_selecting (find (variants_of def)) state t)
+      → ((t : ℕ) → brings command t ≡ 0) → Goes command
+  select_so command find unknown e drops none =
+      only_if (is_enum def) _ _ (λ of_enum h. found_so (find (variants_of def)) of_enum refl h) e
+    where
+      found_so : (found : Option ℕ) → is_enum def ≡ true → find (variants_of def) ≡ found
+          → select_found table here state found unknown ≡ Ok next → Goes command
+      found_so (Some k) of_enum is h =
+          unless_at (selection_refusal def k) (selects table here state k) (λ admitted. becomes_it command (variant_kept state k) (variant_anew def k)
+          (variant_becomes state.mode table here k tree of_enum admitted at_here suits_here)
+          (λ t. drops t ∙ ap (λ (found : Option ℕ). dropped_by_selecting found state t) is) none) h
+      found_so None of_enum is h = cc
+
+  -- the end of a place, or of the items of a slice
+
+  closes_so : is_open_slice tree ≡ true → closes_slice hooks table here state state.mode ≡ Ok next → Goes Call.End
+  closes_so is_slice e = go state.mode refl e
+    where
+      -- an open pointer to a slice isn't left yet
+      drops : (mode : Mode) → state.mode ≡ mode → (t : ℕ)
+          → dropped_at_end hooks table here state t ≡ dropped_by_column (column_at_end mode false) hooks table here state false t
+      drops mode is t = rw (is_slice, is) refl
+
+      made_so : (value : Option Val) → state.mode ≡ strict → complete strict_column hooks table here tree ≡ value
+          → puts_made hooks table here state value ≡ Ok next → Goes Call.End
+      made_so (Some v) is_strict is h =
+          let made = completing_makes strict_column hooks table tree here v checked suits_here is in
+          goes h (stays Call.End (λ old. whole v) (λ fit. record { suits = made.fit; leads = tt })
+          (λ t. omega (arith, made.hold t, drops strict is_strict t)) (λ rested. tt))
+      made_so None is_strict is h = cc
+
+      go : (mode : Mode) → state.mode ≡ mode → closes_slice hooks table here state mode ≡ Ok next → Goes Call.End
+      go strict is h = made_so (complete strict_column hooks table here tree) is refl h
+      go (deferred start) is h =
+          goes h (stays Call.End closed_slice (λ fit. slice_closes state.mode table here tree is_slice placed_here)
+          (λ t. let same = closed_holds tree t in omega (arith, drops (deferred start) is t)) (closed_rests tree))
+
+  leaves_so : is_open_slice tree ≡ false → leaves_place hooks table here state ≡ Ok next → Goes Call.End
+  leaves_so shut e = go (is_root state.cursor) state.mode refl refl e
+    where
+      ended_so : (value : Option Val) → state.mode ≡ strict → is_set_item state ≡ false
+          → complete strict_column hooks table here tree ≡ value → ended hooks table here state value ≡ Ok next → Goes Call.End
+      ended_so (Some v) is_strict no_item is h =
+          goes h (goes_up strict_column v (began_strict state.mode (up state.cursor) is_strict) no_item is
+          (λ t. let all = replaced_end false (is_dynamic_part state) strict shut no_item refl is_strict t in omega arith))
+      ended_so None is_strict no_item is h = cc
+
+      item_so : (column : Column) (value : Option Val) → is_root state.cursor ≡ false → EndsBelow state.mode state.cursor
+          → column_at_end state.mode true ≡ Some column → is_set_item state ≡ true → complete column hooks table here tree ≡ value
+          → item_ended column hooks table here state value ≡ Ok next → Goes Call.End
+      item_so column (Some v) below deeper by_column of_set is h =
+          goes h (is_taken column v (began_above state.mode state.cursor deeper) below of_set is
+          (λ t. replaced_end true (is_dynamic_part state) state.mode shut of_set refl refl t
+          ∙ ap (λ (known : Option Column). dropped_by_column known hooks table here state true t) by_column
+          ∙ ap (λ (made : Option Val). dropped_by_completing column hooks table here tree t
+          + dropped_with_item (number_in state.cursor) (tree_at (up state.cursor) state.tree) made t) is))
+      item_so column None below deeper by_column of_set is h = cc
+
+      part_so : (start : ℕ) (value : Option Val) → state.mode ≡ deferred start → start < length state.cursor
+          → is_set_item state ≡ false → is_dynamic_part state ≡ true → complete deferred_column hooks table here tree ≡ value
+          → part_ended hooks table here state value ≡ Ok next → Goes Call.End
+      part_so start (Some v) by_mode deeper no_item of_part is h =
+          goes h (goes_up deferred_column v (began_up state.mode start state.cursor by_mode deeper) no_item is
+          (λ t. let all = replaced_end false true (deferred start) shut no_item of_part by_mode t in omega arith))
+      part_so start None by_mode deeper no_item of_part is h = cc
+
+      below_so : (mode : Mode) → state.mode ≡ mode → EndsBelow mode state.cursor → EndsBelow state.mode state.cursor
+      below_so mode is deeper = rw is deeper
+
+      left_so : (start : ℕ) (of_set of_part : Bool) → state.mode ≡ deferred start → is_root state.cursor ≡ false
+          → start < length state.cursor → is_set_item state ≡ of_set → is_dynamic_part state ≡ of_part
+          → (if of_set then end_of_item deferred_column hooks table here state
+          else leaves_deferred hooks table here state of_part) ≡ Ok next → Goes Call.End
+      left_so start true of_part is below deeper item part h =
+          item_so deferred_column (complete deferred_column hooks table here tree) below
+          (below_so (deferred start) is deeper) (ap (λ (mode : Mode). column_at_end mode true) is) item refl h
+      left_so start false true is below deeper item part h =
+          part_so start (complete deferred_column hooks table here tree) is deeper item part refl h
+      left_so start false false is below deeper item part h =
+          goes h (stays_behind start is deeper shut item part (λ t. replaced_end false false (deferred start) shut item part is t))
+
+      strict_so : (of_set : Bool) → state.mode ≡ strict → is_root state.cursor ≡ false → is_set_item state ≡ of_set
+          → (if of_set then end_of_item strict_column hooks table here state
+          else ended hooks table here state (complete strict_column hooks table here tree)) ≡ Ok next → Goes Call.End
+      strict_so true is below item h =
+          item_so strict_column (complete strict_column hooks table here tree) below
+          (below_so strict is tt) (ap (λ (mode : Mode). column_at_end mode true) is) item refl h
+      strict_so false is below item h = ended_so (complete strict_column hooks table here tree) is item refl h
+
+      go : (b : Bool) (mode : Mode) → is_root state.cursor ≡ b → state.mode ≡ mode
+          → (if b then Err (violates Invariant.EndAtRoot) else end_in hooks table here state mode) ≡ Ok next → Goes Call.End
+      go true mode below is h = cc
+      go false strict below is h = strict_so (is_set_item state) is below refl h
+      go false (deferred start) below is h =
+          only_if (nat_lt start (length state.cursor)) _ _ (λ deeper. left_so start (is_set_item state) (is_dynamic_part state) is
+          below (ltb-true start (length state.cursor) deeper) refl refl) h
+
+  ends_so : (b : Bool) → is_open_slice tree ≡ b
+      → (if b then closes_slice hooks table here state state.mode else leaves_place hooks table here state) ≡ Ok next → Goes Call.End
+  ends_so true is e = closes_so is e
+  ends_so false is e = leaves_so is e
+
+  defers_so : (mode : Mode) → state.mode ≡ mode → begins_deferred state mode ≡ Ok next → Goes Call.BeginDeferred
+  defers_so strict is e = goes e (is_deferred is)
+  defers_so (deferred start) is e = cc
+
+  finishes_so : (mode : Mode) → finish_in hooks table root state mode ≡ Ok next → Goes Call.FinishDeferred
+  finishes_so strict e = cc
+  finishes_so (deferred start) e = finished_so (finished hooks table root state.cursor state.tree) refl e
+    where
+      finished_so : (tree : Option Tree) → finished hooks table root state.cursor state.tree ≡ tree
+          → finishes hooks table root state tree ≡ Ok next → Goes Call.FinishDeferred
+      finished_so (Some tree) is h = goes h (is_over tree is)
+      finished_so None is h = cc
+
+  pub moves : (command : Call) → step hooks table root state command ≡ Ok next → Move hooks table root state command next
+  moves (Call.BeginField name) e = names_so name e
+  moves (Call.BeginNthField i) e = begins_so i e
+  moves (Call.SetNthFieldToDefault i) e = child_so i e
+  moves (Call.Set given v) e = sets_so given v e
+  moves Call.SetDefault e = defaults_so (preset_of table here) refl e
+  moves Call.SetEmptySharedSlice e = shared_so e
+  moves Call.InitList e = list_so Call.InitList (λ t. refl) (λ t. refl) e
+  moves (Call.InitListWithCapacity n) e = list_so (Call.InitListWithCapacity n) (λ t. refl) (λ t. refl) e
+  moves Call.InitArray e = unless (at_shape here (init_array_refusal def tree)) (opens table here state)
+      (λ is. opens_it Call.InitArray (array_opens state.mode table here tree is placed_here) (λ t. refl) (λ t. refl)) e
+  moves Call.InitMap e = map_so e
+  moves Call.BeginKey e = unless_at (key_refusal tree) (enters table here state Way.Key) (λ is. takes_new_key (takes_a_key tree is)) e
+  moves Call.BeginValue e =
+      unless_at (value_refusal tree) (enters table here state (Way.Value (last_of (count_below tree))))
+      (λ is. enters_child Call.BeginValue (last_of (count_below tree))
+      (value_enterable table here tree (takes_a_value tree is) suits_here) (λ t. refl) (λ t. refl)) e
+  moves Call.InitSet e = unless (init_set_refusal here def tree) (opens table here state)
+      (λ is. opens_it Call.InitSet (set_opens state.mode table here tree is placed_here) (λ t. refl) (λ t. refl)) e
+  moves Call.BeginSetItem e = unless_at (set_item_refusal def tree) (enters table here state Way.Item)
+      (λ is. takes_new_item Call.BeginSetItem (takes_a_set_item def tree is) (λ t. refl) (λ t. refl)) e
+  moves (Call.BeginObjectEntry key) e =
+      unless_at (entry_refusal def tree) (enters table here state (Way.Entry key))
+      (λ is. takes_new_entry key (takes_an_entry def tree is)) e
+  moves Call.BeginListItem e =
+      unless_at (item_refusal def tree) (enters table here state Way.Item)
+      (λ is. takes_new_item Call.BeginListItem (takes_an_item def tree is) (λ t. refl) (λ t. refl)) e
+  moves Call.BeginSome e = some_so e
+  moves Call.BeginOk e = side_so Call.BeginOk (as_content ContentKind.Ok) tt e (λ t. refl) (λ t. refl)
+  moves Call.BeginErr e = side_so Call.BeginErr (as_content ContentKind.Err) tt e (λ t. refl) (λ t. refl)
+  moves Call.BeginSmartPtr e = pointer_so e
+  moves (Call.SelectNthVariant i) e =
+      select_so (Call.SelectNthVariant i) (variant_numbered i) Operation.VariantIndexOutOfBounds e (λ t. refl) (λ t. refl)
+  moves (Call.SelectVariantNamed name) e =
+      select_so (Call.SelectVariantNamed name) (variant_named name) Operation.VariantNameUnknown e (λ t. refl) (λ t. refl)
+  moves (Call.SelectVariant discriminant) e =
+      select_so (Call.SelectVariant discriminant) (variant_told_by discriminant) Operation.DiscriminantUnknown e (λ t. refl)
+      (λ t. refl)
+  moves Call.End e = ends_so (is_open_slice tree) refl e
+  moves Call.BeginDeferred e = defers_so state.mode refl e
+  moves Call.FinishDeferred e = finishes_so state.mode e

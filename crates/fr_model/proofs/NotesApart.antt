@@ -1,13 +1,7 @@
 -- No two notes of the end of deferred mode cover each other.
-use Rattle.std.proofs.Common.{◌≡◌, ◌≢◌, ⊎_elim, ℕ, zero, suc, ◌<◌, ◌≤◌, Bool, true, false, ◌==◌, eq-eqb, if◌then◌else◌, [], ◌∷◌, ◌++◌, append_assoc, append-nil, get_or, Option, Some, None, refl, sym, ◌∙◌, ap, subst, arith}
-use Rattle.std.specs.List.{Contains}
-use Rattle.std.proofs.lemmas.List.Elements.{Contains-append_cases, Contains-get_or}
+use Rattle.std.proofs.Common.{◌≡◌, ◌≢◌, ◌<◌, ◌≤◌, ◌==◌, if◌then◌else◌, ◌∷◌, ◌++◌}
+use Rattle.fr_model.proofs.Common.{⊎_elim, ℕ, zero, suc, Bool, true, false, eq-eqb, [], append_assoc, append-nil, get_or, Option, Some, None, refl, sym, ◌∙◌, ap, subst, arith, Contains, Contains-append_cases, Contains-get_or, Table, Val, AreApart, LieApart, NotesLieApart, Note, wrote_at, Journal, Held, in_parts, untouched, held, place_of, both_notes, each_notes, writing, closing_by, closing, closing_beside, closing_parts, closing_here_by, finish_notes, Place, child_count, child_shape}
 use Rattle.std.proofs.lemmas.List.Kept.{AllPairs-cons}
-use Rattle.fr_shape.specs.Look.{Table}
-use Rattle.fr_shape.specs.Val.{Val}
-use Rattle.fr_model.specs.Finishing.{AreApart, LieApart, NotesLieApart}
-use Rattle.fr_model.specs.Journal.{Note, wrote_at, Journal, Held, in_parts, written, just_entered, untouched, held, place_of, both_notes, each_notes, writing, closing_by, closing, closing_beside, closing_parts, closing_here_by, finish_notes}
-use Rattle.fr_model.specs.Places.{Place, child_count, child_shape}
 use Rattle.fr_model.proofs.FinishNotes.{same_first}
 
 abbrev Apart : Note → Note → Type 0
@@ -32,9 +26,8 @@ both_apart : (some others : Journal) → LieApart some → LieApart others
     → ((one other : Note) → Contains some one → Contains others other → Apart one other) → LieApart (some ++ others)
 both_apart [] others apart more across = more
 both_apart (note ∷ some) others apart more across =
-    AllPairs-cons Apart note (some ++ others) (λ k d within. with_note (get_or (some ++ others) k d)
-    (Contains-get_or (some ++ others) k d within))
-    (both_apart some others (one_then_rest note some apart) more
+    AllPairs-cons Apart note _ (λ k d within. with_note _
+    (Contains-get_or (some ++ others) k d within)) (both_apart some others (one_then_rest note some apart) more
     (λ one other among beyond. across one other (further note some one among) beyond))
   where
     with_note : (other : Note) → Contains (some ++ others) other → Apart note other
@@ -62,8 +55,7 @@ IsOn here note = place_of note ≡ here
 
 spread_writing : (here : Place) (value : Option Val) → Spread (IsOn here) (writing here value)
 spread_writing here None = tt
-spread_writing here (Some v) =
-    (λ i j d before within. absurd (omega arith), λ note among. only_at among.0 note among.1 among.2)
+spread_writing here (Some v) = (λ i j d before within. absurd (omega arith), λ note among. only_at among.0 note among.1 among.2)
   where
     only_at : (k : ℕ) (note : Note) → k < 1 → get_or (wrote_at here v ∷ []) k note ≡ note → IsOn here note
     only_at zero note below is = ap place_of (sym is)
@@ -71,15 +63,12 @@ spread_writing here (Some v) =
 
 spread_both : (Known Other Both : Note → Type 0) (some others : Option Journal)
     → ((one other : Note) → Known one → Other other → Apart one other) → ((note : Note) → Known note → Both note)
-    → ((note : Note) → Other note → Both note) → Spread Known some → Spread Other others
-    → Spread Both (both_notes some others)
+    → ((note : Note) → Other note → Both note) → Spread Known some → Spread Other others → Spread Both (both_notes some others)
 spread_both Known Other Both None others across first later one more = tt
 spread_both Known Other Both (Some some) None across first later one more = tt
 spread_both Known Other Both (Some some) (Some others) across first later one more = (
-  both_apart some others one.0 more.0
-      (λ note other among beyond. across note other (one.1 note among) (more.1 other beyond)),
-  λ note has.
-      ⊎_elim (λ among. first note (one.1 note among)) (λ beyond. later note (more.1 note beyond))
+  both_apart some others one.0 more.0 (λ note other among beyond. across note other (one.1 note among) (more.1 other beyond)),
+  λ note has. ⊎_elim (λ among. first note (one.1 note among)) (λ beyond. later note (more.1 note beyond))
       (Contains-append_cases some others note has),
 )
 
@@ -90,9 +79,9 @@ KnownFrom Known i note = (k : ℕ) × (i ≤ k) × Known k note
 spread_each : (Known : ℕ → Note → Type 0) (noted : ℕ → Option Journal)
     → ((j k : ℕ) (one other : Note) → j ≢ k → Known j one → Known k other → Apart one other)
     → ((k : ℕ) → Spread (Known k) (noted k)) → (count i : ℕ) → Spread (KnownFrom Known i) (each_notes noted count i)
-spread_each Known noted across each zero i = spread_nothing (KnownFrom Known i)
+spread_each Known noted across each zero i = spread_nothing _
 spread_each Known noted across each (suc count) i =
-    spread_both (Known i) (KnownFrom Known (suc i)) (KnownFrom Known i) (noted i) (each_notes noted count (suc i))
+    spread_both (Known i) _ _ (noted i) _
     (λ one other here there. let above = there.1 in across i there.0 one other (λ same. omega arith) here there.2)
     (λ note here. (i, omega arith, here)) (λ note there. let above = there.1 in (there.0, omega arith, there.2)) (each i)
     (spread_each Known noted across each count (suc i))
@@ -100,9 +89,8 @@ spread_each Known noted across each (suc count) i =
 -- two ways on from one place that begin otherwise lead apart
 ways_apart : (above : Place) (i j : ℕ) (way other : Place) → i ≢ j → AreApart (above ++ i ∷ way) (above ++ j ∷ other)
 ways_apart above i j way other apart = record {
-  not_above = λ on leads.
-      apart (sym (same_first above j i other (way ++ on) (leads ∙ append_assoc above (i ∷ way) on)));
-  not_beneath = λ on leads. apart (same_first above i j way (other ++ on) (leads ∙ append_assoc above (j ∷ other) on));
+  not_above = λ on leads. apart (sym (same_first above j i other _ (leads ∙ append_assoc above (i ∷ way) on)));
+  not_beneath = λ on leads. apart (same_first above i j way _ (leads ∙ append_assoc above _ on));
 }
 
 -- the note is on a place, or beneath it; on child j of a place, or beneath that
@@ -116,8 +104,7 @@ children_apart : (above : Place) (i j : ℕ) (one other : Note) → i ≢ j → 
     → Apart one other
 children_apart above i j one other apart here there =
     subst (λ (place : Place). AreApart place (place_of other)) (sym here.1)
-    (subst (λ (place : Place). AreApart (above ++ i ∷ here.0) place) (sym there.1)
-    (ways_apart above i j here.0 there.0 apart))
+    (subst (λ (place : Place). AreApart (above ++ i ∷ here.0) place) (sym there.1) (ways_apart above i j here.0 there.0 apart))
 
 on_child : (above : Place) (j : ℕ) (note : Note) → IsOn (above ++ j ∷ []) note → IsOfChild above j note
 on_child above j note on = ([], on)
@@ -127,66 +114,51 @@ from_child above j note from = (from.0, from.1 ∙ append_assoc above (j ∷ [])
 
 spread_closing : (here : Place) (value : Option Val) (h : Held) → Spread (IsOn here) (closing_by h (writing here value))
 spread_closing here value untouched = spread_nothing (IsOn here)
-spread_closing here value just_entered = spread_writing here value
-spread_closing here value (written v) = spread_writing here value
-spread_closing here value in_parts = spread_writing here value
+spread_closing here value _ = spread_writing here value
 
 spread_by : (above : Place) (itself : Option Val) (h : Held) (parts : Option Journal) → Spread (IsFrom above) parts
     → Spread (IsFrom above) (closing_here_by h parts (writing above itself))
 spread_by above itself h parts spread = go h
   where
     alone : Spread (IsFrom above) (writing above itself)
-    alone =
-        spread_same (IsOn above) (IsFrom above) (writing above itself) (λ note on. ([], on ∙ sym (append-nil above)))
-        (spread_writing above itself)
+    alone = spread_same _ _ _ (λ note on. ([], on ∙ sym (append-nil above))) (spread_writing above itself)
 
     go : (h : Held) → Spread (IsFrom above) (closing_here_by h parts (writing above itself))
     go in_parts = spread
-    go (written v) = alone
-    go just_entered = alone
-    go untouched = alone
+    go _ = alone
 
 module _ (table : Table) (notes : Journal) where
   -- of child j of the place `above`, which isn't the one on the way
   abbrev IsBesideWay : Place → (on_way j : ℕ) → Note → Type 0
   IsBesideWay above on_way j note = (j ≢ on_way) × IsOfChild above j note
 
-  spread_beside : (s : ℕ) (above : Place) (on_way j : ℕ)
-      → Spread (IsBesideWay above on_way j)
+  spread_beside : (s : ℕ) (above : Place) (on_way j : ℕ) → Spread (IsBesideWay above on_way j)
       (if j == on_way then Some [] else closing table notes (child_shape table s j) (above ++ j ∷ []))
-  spread_beside s above on_way j = go (j == on_way) refl
+  spread_beside s above on_way j = go _ refl
     where
-      go : (b : Bool) → (j == on_way) ≡ b
-          → Spread (IsBesideWay above on_way j)
+      go : (b : Bool) → (j == on_way) ≡ b → Spread (IsBesideWay above on_way j)
           (if b then Some [] else closing table notes (child_shape table s j) (above ++ j ∷ []))
-      go true e = spread_nothing (IsBesideWay above on_way j)
+      go true e = spread_nothing _
       go false e =
-          spread_same (IsOn (above ++ j ∷ [])) (IsBesideWay above on_way j)
-          (closing table notes (child_shape table s j) (above ++ j ∷ []))
-          (λ note on. (λ same. let yes = eq-eqb j on_way same in cc, on_child above j note on))
+          spread_same _ _ _ (λ note on. (λ same. let yes = eq-eqb j on_way same in cc, on_child above j note on))
           (spread_closing (above ++ j ∷ []) _ (held notes (above ++ j ∷ [])))
 
   spread_parts : (s : ℕ) (above : Place) → Spread (IsFrom above) (closing_parts table notes s above)
   spread_parts s above =
-      spread_same (KnownFrom (IsOfChild above) 0) (IsFrom above) (closing_parts table notes s above)
-      (λ note there. (there.0 ∷ there.2.0, there.2.1))
-      (spread_each (IsOfChild above) _ (children_apart above)
+      spread_same _ _ _ (λ note there. (there.0 ∷ there.2.0, there.2.1)) (spread_each _ _ (children_apart above)
       (λ j. spread_same (IsOn (above ++ j ∷ [])) (IsOfChild above j) _ (on_child above j) (spread_writing (above ++ j ∷ []) _))
       (child_count table s) 0)
 
   spread_finish : (rest : Place) (s : ℕ) (above : Place) → Spread (IsFrom above) (finish_notes table notes s above rest)
-  spread_finish [] s above =
-      spread_by above _ (held notes above) (closing_parts table notes s above) (spread_parts s above)
+  spread_finish [] s above = spread_by above _ _ _ (spread_parts s above)
   spread_finish (i ∷ rest) s above =
       spread_both (KnownFrom (IsBesideWay above i) 0) (IsFrom (above ++ i ∷ [])) (IsFrom above)
       (closing_beside table notes s above i) (finish_notes table notes (child_shape table s i) (above ++ i ∷ []) rest)
       (λ one other beside from. children_apart above beside.0 i one other beside.2.0 beside.2.1 (from_child above i other from))
       (λ note beside. (beside.0 ∷ beside.2.1.0, beside.2.1.1))
-      (λ note from. let there = from_child above i note from in (i ∷ there.0, there.1))
-      (spread_each (IsBesideWay above i) _
+      (λ note from. let there = from_child above i note from in (i ∷ there.0, there.1)) (spread_each (IsBesideWay above i) _
       (λ j k one other apart here there. children_apart above j k one other apart here.1 there.1)
-      (λ j. spread_beside s above i j) (child_count table s) 0)
-      (spread_finish rest (child_shape table s i) (above ++ i ∷ []))
+      (λ j. spread_beside s above i j) (child_count table s) 0) (spread_finish rest (child_shape table s i) (above ++ i ∷ []))
 
 pub notes_lie_apart : NotesLieApart
 notes_lie_apart table root notes added cursor e =

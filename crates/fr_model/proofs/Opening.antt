@@ -1,28 +1,11 @@
 -- A place at the cursor as its children see it, and the entry of one of them.
-use Rattle.std.proofs.Common.{◌≡◌, ℕ, zero, suc, ◌+◌, ◌<◌, ◌≤◌, Bool, true, false, if◌then◌else◌, List, [], ◌∷◌, length, slice_get, Option, Some, None, refl, sym, ◌∙◌, ap, subst, arith}
-use Rattle.fr_shape.specs.declared.shape.Def.{Def}
-use Rattle.fr_shape.specs.declared.shape.ShapeId.{ShapeId}
-use Rattle.fr_shape.specs.declared.shape.StructDef.{StructDef}
-use Rattle.fr_shape.specs.declared.shape.EnumDef.{EnumDef}
-use Rattle.fr_shape.specs.declared.shape.VariantDef.{VariantDef}
-use Rattle.fr_shape.specs.declared.shape.Field.{Field}
-use Rattle.fr_shape.specs.Fills.{is_empty_struct}
-use Rattle.fr_shape.specs.Lists.{is_nil}
-use Rattle.fr_shape.specs.Look.{Table, def_of}
-use Rattle.fr_shape.specs.Val.{Val, Vals, unit, product, no_vals, first}
-use Rattle.fr_shape.specs.Fits.{fits, fields_fit}
-use Rattle.fr_model.specs.Collections.{is_set_form, ends_in_hole}
-use Rattle.fr_model.specs.Places.{array_limit, vals_nth}
-use Rattle.fr_model.specs.Journal.{entered_at, Journal, Held, written, just_entered, untouched, at_least_entered, held}
-use Rattle.fr_model.specs.Tree.{Form, as_struct, as_array, as_variant, as_some, as_ok, as_err, as_pointer, as_list, as_slice, as_closed_slice, as_set, as_map, as_dyn_array, as_dyn_object, form_of, form_at, over_base, selected, Tree, hole, entered, whole, begun, Trees, no_trees, branch, tree_nth, change_nth, change_child, child_as, count_trees, holes, wholes, fresh, Mode, strict, deferred}
-use Rattle.fr_model.specs.Relation.{HasParts}
-use Rattle.fr_model.specs.Entering.{opened, enter, enter_child}
-use Rattle.fr_model.specs.Variants.{fields_or_none, variant_fields}
-use Rattle.fr_model.specs.Well.{HasFieldsOf, IsFullAs, IsBegunAs, IsTouched, IsContent, AreTouched, AreEntries, IsBehindBase, IsBegunRightly, Suits, IsOff, AllOff, AtCursor, OffBut, Leads, RestsAround}
+use Rattle.std.proofs.Common.{◌≡◌, ◌+◌, ◌<◌, ◌≤◌, ◌∷◌}
+use Rattle.fr_model.proofs.Common.{ℕ, zero, suc, true, false, List, [], length, Option, Some, None, refl, sym, ◌∙◌, ap, subst, arith, Def, ShapeId, StructDef, EnumDef, VariantDef, Field, is_empty_struct, is_nil, Table, def_of, Val, Vals, unit, product, no_vals, first, fits, fields_fit, is_set_tracker, ends_in_hole, array_limit, vals_nth, entered_at, Journal, Held, written, just_entered, untouched, at_least_entered, held, Tracker, as_fields, as_elements, as_entries, EntriesKind, tracker_of, tracker_at, over_base, selected, Tree, hole, entered, whole, begun, Trees, no_trees, branch, tree_nth, change_nth, change_child, child_as, count_trees, holes, wholes, fresh, Mode, strict, deferred, HasParts, opened, enter, enter_child, fields_or_none, variant_fields, HasFieldsOf, IsFullAs, IsBegunAs, IsTouched, IsContent, AreTouched, AreEntries, IsBehindBase, IsBegunRightly, Suits, IsOff, AllOff, AtCursor, OffBut, Leads, RestsAround}
 use Rattle.fr_model.proofs.Beneath.{down, held_down, IsLow, untouched_below, written_below}
 use Rattle.fr_model.proofs.Agreement.{IsWhole, by_value, by_entry, Agrees, AgreeAll, agree_change, down_same, down_other}
 use Rattle.fr_model.proofs.MapBase.{base_hole}
-use Rattle.fr_model.proofs.Structs.{SuitFrom, settled_struct, all_from, WholesSuit, wholes_suit, count_change, count_holes, holes_suit, suit_change}
+use Rattle.fr_model.proofs.Tokens.{fresh_is}
+use Rattle.fr_model.proofs.Structs.{right_kept, SuitFrom, settled_as, all_from, wholes_suit, count_change, count_holes, holes_suit, suit_change}
 
 -- the place isn't a value
 abbrev pub IsOpen : Tree → Type 0
@@ -37,19 +20,19 @@ pub data Enterable (table : Table) (s i : ℕ) (t : Tree) : Type 0 where
       → Enterable table s i t
   a_variant_field : (k : ℕ) (enumeration : EnumDef) → def_of table s ≡ Def.Enum enumeration → selected t ≡ Some k
       → i < length (variant_fields (def_of table s) k) → Enterable table s i t
-  a_value : (key item : ShapeId) → def_of table s ≡ Def.Map key item → (base : ℕ) (children : Trees) → t ≡ begun (as_map base) children
+  a_value : (key item : ShapeId) → def_of table s ≡ Def.Map key item → (base : ℕ) (children : Trees) → t ≡ begun (as_entries (EntriesKind.Map base)) children
       → suc i ≡ count_trees children → ends_in_hole children ≡ true → Enterable table s i t
 
-begun_fields : (struct : StructDef) (form : Form) (n : ℕ) → IsFullAs (Def.Struct struct) form n → n ≡ length struct.fields
-begun_fields struct as_struct n full_as = full_as
+begun_fields : (struct : StructDef) (tracker : Tracker) (n : ℕ) → IsFullAs (Def.Struct struct) tracker n → n ≡ length struct.fields
+begun_fields struct (as_fields None) n full_as = full_as
 begun_fields struct _ n full_as = absurd full_as
 
-begun_elements : (item : ShapeId) (m : ℕ) (form : Form) (n : ℕ) → IsFullAs (Def.Array item m) form n → n ≡ m
-begun_elements item m as_array n full_as = full_as
+begun_elements : (item : ShapeId) (m : ℕ) (tracker : Tracker) (n : ℕ) → IsFullAs (Def.Array item m) tracker n → n ≡ m
+begun_elements item m as_elements n full_as = full_as
 begun_elements item m _ n full_as = absurd full_as
 
-begun_variant : (def : Def) (k n : ℕ) → IsFullAs def (as_variant k) n → n ≡ length (variant_fields def k)
-begun_variant (Def.Enum enumeration) k n full_as = go (slice_get enumeration.variants k) full_as
+begun_variant : (def : Def) (k n : ℕ) → IsFullAs def (as_fields (Some k)) n → n ≡ length (variant_fields def k)
+begun_variant (Def.Enum enumeration) k n full_as = go _ full_as
   where
     go : (found : Option VariantDef) → HasFieldsOf found n → n ≡ length (fields_or_none found)
     go (Some variant) full_as = full_as
@@ -57,70 +40,68 @@ begun_variant (Def.Enum enumeration) k n full_as = go (slice_get enumeration.var
 begun_variant _ k n full_as = absurd full_as
 
 -- a begun place has the child
-begun_within : (table : Table) (s i : ℕ) (form : Form) (ts : Trees) → Enterable table s i (begun form ts)
-    → IsFullAs (def_of table s) form (count_trees ts) → i < count_trees ts
-begun_within table s i form ts (a_field struct is below) full_as =
-    omega (arith, below, begun_fields struct form (count_trees ts) (rw is at full_as))
-begun_within table s i form ts (an_element item n is below few not_whole) full_as =
-    omega (arith, below, begun_elements item n form (count_trees ts) (rw is at full_as))
-begun_within table s i (as_variant j) ts (a_variant_field k enumeration is chosen below) full_as =
+begun_within : (table : Table) (s i : ℕ) (tracker : Tracker) (ts : Trees) → Enterable table s i (begun tracker ts)
+    → IsFullAs (def_of table s) tracker (count_trees ts) → i < count_trees ts
+begun_within table s i tracker ts (a_field struct is below) full_as =
+    omega (arith, below, begun_fields struct tracker _ (rw is at full_as))
+begun_within table s i tracker ts (an_element item n is below few not_whole) full_as =
+    omega (arith, below, begun_elements item n tracker _ (rw is at full_as))
+begun_within table s i (as_fields (Some j)) ts (a_variant_field k enumeration is chosen below) full_as =
     let same : j ≡ k = cc in
-    let count : count_trees ts ≡ length (variant_fields (def_of table s) k)
-    = subst (λ (n : ℕ). count_trees ts ≡ length (variant_fields (def_of table s) n)) same
+    let count : count_trees ts ≡ length _ = subst (λ (n : ℕ). count_trees ts ≡ length (variant_fields (def_of table s) n)) same
     (begun_variant (def_of table s) j (count_trees ts) full_as) in
     omega (arith, below, count)
 begun_within table s i _ ts (a_variant_field k enumeration is chosen below) full_as = cc
-begun_within table s i form ts (a_value key item is base children there last lacking) full_as =
+begun_within table s i tracker ts (a_value key item is base children there last lacking) full_as =
     let same : ts ≡ children = cc in
     let count : count_trees ts ≡ count_trees children = ap count_trees same in
     omega arith
 
 -- a place begun so is no set and has no base
-record IsApart (form : Form) : Type 0 where
-  no_set : is_set_form form ≡ false
-  behind : (i : ℕ) → IsBehindBase form i
+record IsApart (tracker : Tracker) : Type 0 where
+  no_set : is_set_tracker tracker ≡ false
+  behind : (i : ℕ) → IsBehindBase tracker i
 
-fields_apart : (struct : StructDef) (form : Form) (n : ℕ) → IsFullAs (Def.Struct struct) form n → IsApart form
-fields_apart struct as_struct n full_as = record { no_set = refl; behind = λ i. tt }
+fields_apart : (struct : StructDef) (tracker : Tracker) (n : ℕ) → IsFullAs (Def.Struct struct) tracker n → IsApart tracker
+fields_apart struct (as_fields None) n full_as = record { no_set = refl; behind = λ i. tt }
 fields_apart struct _ n full_as = absurd full_as
 
-elements_apart : (item : ShapeId) (m : ℕ) (form : Form) (n : ℕ) → IsFullAs (Def.Array item m) form n → IsApart form
-elements_apart item m as_array n full_as = record { no_set = refl; behind = λ i. tt }
+elements_apart : (item : ShapeId) (m : ℕ) (tracker : Tracker) (n : ℕ) → IsFullAs (Def.Array item m) tracker n → IsApart tracker
+elements_apart item m as_elements n full_as = record { no_set = refl; behind = λ i. tt }
 elements_apart item m _ n full_as = absurd full_as
 
-variant_apart : (enumeration : EnumDef) (form : Form) (n : ℕ) → IsFullAs (Def.Enum enumeration) form n → IsApart form
-variant_apart enumeration (as_variant k) n full_as = record { no_set = refl; behind = λ i. tt }
+variant_apart : (enumeration : EnumDef) (tracker : Tracker) (n : ℕ) → IsFullAs (Def.Enum enumeration) tracker n → IsApart tracker
+variant_apart enumeration (as_fields (Some k)) n full_as = record { no_set = refl; behind = λ i. tt }
 variant_apart enumeration _ n full_as = absurd full_as
 
-map_no_set : (key item : ShapeId) (form : Form) (n : ℕ) → IsFullAs (Def.Map key item) form n → is_set_form form ≡ false
-map_no_set key item (as_map base) n full_as = refl
+map_no_set : (key item : ShapeId) (tracker : Tracker) (n : ℕ) → IsFullAs (Def.Map key item) tracker n → is_set_tracker tracker ≡ false
+map_no_set key item (as_entries (EntriesKind.Map base)) n full_as = refl
 map_no_set key item _ n full_as = absurd full_as
 
 -- a place of which a child is entered so is no set
-pub enterable_no_set : (table : Table) (s i : ℕ) (t : Tree) (form : Form) (n : ℕ) → Enterable table s i t
-    → IsFullAs (def_of table s) form n → is_set_form form ≡ false
-enterable_no_set table s i t form n (a_field struct is below) full_as =
-    (fields_apart struct form n (rw is at full_as)).no_set
-enterable_no_set table s i t form n (an_element item m is below few not_whole) full_as =
-    (elements_apart item m form n (rw is at full_as)).no_set
-enterable_no_set table s i t form n (a_variant_field k enumeration is chosen below) full_as =
-    (variant_apart enumeration form n (rw is at full_as)).no_set
-enterable_no_set table s i t form n (a_value key item is base children there last lacking) full_as =
-    map_no_set key item form n (rw is at full_as)
+pub enterable_no_set : (table : Table) (s i : ℕ) (t : Tree) (tracker : Tracker) (n : ℕ) → Enterable table s i t
+    → IsFullAs (def_of table s) tracker n → is_set_tracker tracker ≡ false
+enterable_no_set table s i t tracker n (a_field struct is below) full_as = (fields_apart struct tracker n (rw is at full_as)).no_set
+enterable_no_set table s i t tracker n (an_element item m is below few not_whole) full_as =
+    (elements_apart item m tracker n (rw is at full_as)).no_set
+enterable_no_set table s i t tracker n (a_variant_field k enumeration is chosen below) full_as =
+    (variant_apart enumeration tracker n (rw is at full_as)).no_set
+enterable_no_set table s i t tracker n (a_value key item is base children there last lacking) full_as =
+    map_no_set key item tracker n (rw is at full_as)
 
 -- and the child isn't in its base, for that has all its values
-pub enterable_behind : (table : Table) (s i : ℕ) (t : Tree) (form : Form) (n : ℕ) → Enterable table s i t
-    → IsFullAs (def_of table s) form n → form_at (def_of table s) t ≡ form → RestsAround [] t → IsBehindBase form i
-enterable_behind table s i t form n (a_field struct is below) full_as formed rested =
-    (fields_apart struct form n (rw is at full_as)).behind i
-enterable_behind table s i t form n (an_element item m is below few not_whole) full_as formed rested =
-    (elements_apart item m form n (rw is at full_as)).behind i
-enterable_behind table s i t form n (a_variant_field k enumeration is chosen below) full_as formed rested =
-    (variant_apart enumeration form n (rw is at full_as)).behind i
-enterable_behind table s i t form n (a_value key item is base children there last lacking) full_as formed rested =
-    let rests : RestsAround [] (begun (as_map base) children) = subst (λ (u : Tree). RestsAround [] u) there rested in
-    let same : as_map base ≡ form = ap (form_at (def_of table s)) (sym there) ∙ formed in
-    subst (λ (one : Form). IsBehindBase one i) same (base_hole base i children rests.0 lacking last)
+pub enterable_behind : (table : Table) (s i : ℕ) (t : Tree) (tracker : Tracker) (n : ℕ) → Enterable table s i t
+    → IsFullAs (def_of table s) tracker n → tracker_at (def_of table s) t ≡ tracker → RestsAround [] t → IsBehindBase tracker i
+enterable_behind table s i t tracker n (a_field struct is below) full_as formed rested =
+    (fields_apart struct tracker n (rw is at full_as)).behind i
+enterable_behind table s i t tracker n (an_element item m is below few not_whole) full_as formed rested =
+    (elements_apart item m tracker n (rw is at full_as)).behind i
+enterable_behind table s i t tracker n (a_variant_field k enumeration is chosen below) full_as formed rested =
+    (variant_apart enumeration tracker n (rw is at full_as)).behind i
+enterable_behind table s i t tracker n (a_value key item is base children there last lacking) full_as formed rested =
+    let rests : RestsAround [] (begun (as_entries (EntriesKind.Map base)) children) = subst (λ (u : Tree). RestsAround [] u) there rested in
+    let same : as_entries _ ≡ tracker = ap (tracker_at _) (sym there) ∙ formed in
+    subst (λ (one : Tracker). IsBehindBase one i) same (base_hole base i children rests.0 lacking last)
 
 -- a content that is there stays there
 pub content_changed : (ts : Trees) (i : ℕ) (change : Tree → Tree) → IsTouched (change (tree_nth i ts)) → IsContent ts
@@ -153,37 +134,22 @@ entries_changed (branch key (branch value (branch next rest))) (suc (suc i)) cha
     entries_after key value zero change next rest are after = (are.0, are.1, after)
     entries_after key value (suc i) change next rest are after = (are.0, are.1, after)
 
-pub rightly_changed : (table : Table) (s : ℕ) (form : Form) (ts : Trees) (i : ℕ) (change : Tree → Tree)
-    → IsTouched (change (tree_nth i ts)) → IsBegunRightly table s form ts
-    → IsBegunRightly table s form (change_nth i change ts)
-rightly_changed table s as_struct ts i change touched rightly = tt
-rightly_changed table s as_array ts i change touched rightly = tt
-rightly_changed table s (as_variant k) ts i change touched rightly = rightly
-rightly_changed table s as_some ts i change touched rightly = content_changed ts i change touched rightly
-rightly_changed table s as_ok ts i change touched rightly = content_changed ts i change touched rightly
-rightly_changed table s as_err ts i change touched rightly = content_changed ts i change touched rightly
-rightly_changed table s as_pointer ts i change touched rightly =
-    (content_changed ts i change touched rightly.0, rightly.1)
-rightly_changed table s as_list ts i change touched rightly = all_changed ts i change touched rightly
-rightly_changed table s as_slice ts i change touched rightly = (all_changed ts i change touched rightly.0, rightly.1)
-rightly_changed table s as_closed_slice ts i change touched rightly =
-    (all_changed ts i change touched rightly.0, rightly.1)
-rightly_changed table s as_set ts i change touched rightly = all_changed ts i change touched rightly
-rightly_changed table s (as_map base) ts i change touched rightly = entries_changed ts i change touched rightly
-rightly_changed table s as_dyn_array ts i change touched rightly = all_changed ts i change touched rightly
-rightly_changed table s (as_dyn_object keys) ts i change touched rightly =
-    (all_changed ts i change touched rightly.0, rightly.1)
+pub rightly_changed : (table : Table) (s : ℕ) (tracker : Tracker) (ts : Trees) (i : ℕ) (change : Tree → Tree)
+    → IsTouched (change (tree_nth i ts)) → IsBegunRightly table s tracker ts → IsBegunRightly table s tracker (change_nth i change ts)
+rightly_changed table s tracker ts i change touched =
+    right_kept table s tracker ts _ (content_changed ts i change touched) (all_changed ts i change touched)
+    (entries_changed ts i change touched)
 
 -- the children that a place of this form has, or gets when child i is entered
-pub record Opening (mode : Mode) (table : Table) (s i : ℕ) (form : Form) (t : Tree) : Type 0 where
+pub record Opening (mode : Mode) (table : Table) (s i : ℕ) (tracker : Tracker) (t : Tree) : Type 0 where
   pub children : Trees
-  pub is : opened (def_of table s) t ≡ begun form children
-  pub begun_as : IsBegunAs (def_of table s) form (count_trees children)
-  pub suit : SuitFrom table s form 0 children
-  pub rightly : IsBegunRightly table s form children
+  pub is : opened (def_of table s) t ≡ begun tracker children
+  pub begun_as : IsBegunAs (def_of table s) tracker (count_trees children)
+  pub suit : SuitFrom table s tracker 0 children
+  pub rightly : IsBegunRightly table s tracker children
   pub within : i < count_trees children
   pub off : AllOff mode children
-  pub agree : (notes : Journal) → Agrees table s notes t → AgreeAll table s form notes 0 children × HasParts form
+  pub agree : (notes : Journal) → Agrees table s notes t → AgreeAll table s tracker notes 0 children × HasParts tracker
 
 -- holes
 
@@ -195,10 +161,10 @@ pub holes_off : (mode : Mode) (n : ℕ) → AllOff mode (holes n)
 holes_off mode zero = tt
 holes_off mode (suc n) = (hole_off mode, holes_off mode n)
 
-holes_agree : (table : Table) (s : ℕ) (form : Form) (n i : ℕ) (notes : Journal)
-    → ((j : ℕ) → held (down j notes) [] ≡ untouched) → AgreeAll table s form notes i (holes n)
-holes_agree table s form zero i notes none = tt
-holes_agree table s form (suc n) i notes none = (none i, holes_agree table s form n (suc i) notes none)
+holes_agree : (table : Table) (s : ℕ) (tracker : Tracker) (n i : ℕ) (notes : Journal)
+    → ((j : ℕ) → held (down j notes) [] ≡ untouched) → AgreeAll table s tracker notes i (holes n)
+holes_agree table s tracker zero i notes none = tt
+holes_agree table s tracker (suc n) i notes none = (none i, holes_agree table s tracker n (suc i) notes none)
 
 -- whole children
 
@@ -210,61 +176,57 @@ pub wholes_off : (mode : Mode) (vs : Vals) → AllOff mode (wholes vs)
 wholes_off mode no_vals = tt
 wholes_off mode (first v vs) = (whole_off mode v, wholes_off mode vs)
 
-wholes_agree : (table : Table) (s : ℕ) (form : Form) (vs : Vals) (i : ℕ) (notes : Journal)
-    → ((d j : ℕ) → j ≡ i + d → held (down j notes) [] ≡ written (vals_nth vs d))
-    → AgreeAll table s form notes i (wholes vs)
-wholes_agree table s form no_vals i notes each = tt
-wholes_agree table s form (first v vs) i notes each = (
+wholes_agree : (table : Table) (s : ℕ) (tracker : Tracker) (vs : Vals) (i : ℕ) (notes : Journal)
+    → ((d j : ℕ) → j ≡ i + d → held (down j notes) [] ≡ written (vals_nth vs d)) → AgreeAll table s tracker notes i (wholes vs)
+wholes_agree table s tracker no_vals i notes each = tt
+wholes_agree table s tracker (first v vs) i notes each = (
   by_value (each 0 i (omega arith)),
-  wholes_agree table s form vs (suc i) notes (λ d j e. each (suc d) j (omega arith)),
+  wholes_agree table s tracker vs (suc i) notes (λ d j e. each (suc d) j (omega arith)),
 )
 
 -- all that may stand at the cursor
 
-opening_holes : (mode : Mode) (table : Table) (s i n : ℕ) (form : Form) → HasParts form
-    → opened (def_of table s) entered ≡ begun form (holes n) → IsBegunAs (def_of table s) form n
-    → IsBegunRightly table s form (holes n) → i < n → Opening mode table s i form entered
-opening_holes mode table s i n form parts is begun_as rightly below = record {
+opening_holes : (mode : Mode) (table : Table) (s i n : ℕ) (tracker : Tracker) → HasParts tracker
+    → opened (def_of table s) entered ≡ begun tracker (holes n) → IsBegunAs (def_of table s) tracker n
+    → IsBegunRightly table s tracker (holes n) → i < n → Opening mode table s i tracker entered
+opening_holes mode table s i n tracker parts is begun_as rightly below = record {
   children = holes n;
   is = is;
-  begun_as = subst (λ (m : ℕ). IsBegunAs (def_of table s) form m) (sym (count_holes n)) begun_as;
-  suit = holes_suit table s form 0 n;
+  begun_as = subst (λ (m : ℕ). IsBegunAs (def_of table s) tracker m) (sym (count_holes n)) begun_as;
+  suit = holes_suit table s tracker 0 n;
   rightly = rightly;
   within = omega (arith, below, count_holes n);
   off = holes_off mode n;
   agree = λ notes agrees. (
-    holes_agree table s form n 0 notes
-        (λ j. sym (held_down j notes []) ∙ untouched_below j notes [] (subst IsLow (sym agrees) tt)),
+    holes_agree table s tracker n 0 notes (λ j. sym (held_down j notes []) ∙ untouched_below j notes [] (subst IsLow (sym agrees) tt)),
     parts,
   );
 }
 
 opening_entered : (mode : Mode) (table : Table) (s i : ℕ) → Enterable table s i entered
-    → Opening mode table s i (form_at (def_of table s) entered) entered
+    → Opening mode table s i (tracker_at (def_of table s) entered) entered
 opening_entered mode table s i (a_field struct is below) =
-    subst (λ (form : Form). Opening mode table s i form entered) (sym (ap form_of is))
-    (opening_holes mode table s i (length struct.fields) as_struct tt (rw is refl) (rw is (refl, omega arith)) tt below)
+    subst (λ (tracker : Tracker). Opening mode table s i tracker entered) (sym (ap tracker_of is))
+    (opening_holes mode table s i _ _ tt (rw is refl) (rw is (refl, omega arith)) tt below)
 opening_entered mode table s i (an_element item n is below few not_whole) =
-    subst (λ (form : Form). Opening mode table s i form entered) (sym (ap form_of is))
-    (opening_holes mode table s i n as_array tt (rw is refl) (rw is (refl, few)) tt below)
+    subst (λ (tracker : Tracker). Opening mode table s i tracker entered) (sym (ap tracker_of is))
+    (opening_holes mode table s i n as_elements tt (rw is refl) (rw is (refl, few)) tt below)
 opening_entered mode table s i (a_variant_field k enumeration is chosen below) = cc
 opening_entered mode table s i (a_value key item is base children there last lacking) = cc
 
 product_agrees : (table : Table) (s : ℕ) (vs : Vals) (notes : Journal) → IsWhole table s (product vs) (held notes [])
-    → AgreeAll table s as_struct notes 0 (wholes vs)
+    → AgreeAll table s (as_fields None) notes 0 (wholes vs)
 product_agrees table s vs notes (by_value is) =
-    wholes_agree table s as_struct vs 0 notes
-    (λ d j e. sym (held_down j notes []) ∙ written_below j notes [] (product vs) is
+    wholes_agree table s _ vs 0 notes (λ d j e. sym (held_down j notes []) ∙ written_below j notes [] _ is
     ∙ ap (λ (m : ℕ). written (vals_nth vs m)) (omega arith))
 product_agrees table s no_vals notes (by_entry is empty same) = tt
 product_agrees table s (first v vs) notes (by_entry is empty same) = cc
 
 opening_product : (mode : Mode) (table : Table) (s i : ℕ) (struct : StructDef) (vs : Vals) → def_of table s ≡ Def.Struct struct
     → i < length struct.fields → fields_fit table struct.fields vs ≡ true
-    → Opening mode table s i as_struct (whole (product vs))
+    → Opening mode table s i (as_fields None) (whole (product vs))
 opening_product mode table s i struct vs is below fit =
-    let suits : WholesSuit table s 0 struct.fields vs
-    = wholes_suit table s struct is 0 struct.fields vs (all_from struct.fields) fit in
+    let suits = wholes_suit table s struct is 0 struct.fields vs (all_from struct.fields) fit in
     record {
       children = wholes vs;
       is = rw is refl;
@@ -277,82 +239,66 @@ opening_product mode table s i struct vs is below fit =
     }
 
 opening_whole : (mode : Mode) (table : Table) (s i : ℕ) (struct : StructDef) (v : Val) → def_of table s ≡ Def.Struct struct
-    → i < length struct.fields → fits table s v ≡ true → Opening mode table s i as_struct (whole v)
+    → i < length struct.fields → fits table s v ≡ true → Opening mode table s i (as_fields None) (whole v)
 opening_whole mode table s i struct (product vs) is below fit =
-    opening_product mode table s i struct vs is below (rw (settled_struct table s struct is) at fit)
+    opening_product mode table s i struct vs is below (rw (settled_as table s is refl) at fit)
 opening_whole mode table s i struct unit is below fit = cc
-opening_whole mode table s i struct _ is below fit = let none = rw (settled_struct table s struct is) at fit in cc
+opening_whole mode table s i struct _ is below fit = let none = rw (settled_as table s is refl) at fit in cc
 
-opening_begun : (mode : Mode) (table : Table) (s i : ℕ) (form : Form) (ts : Trees) → Enterable table s i (begun form ts)
-    → AllOff mode ts → Suits table s (begun form ts) → Opening mode table s i form (begun form ts)
-opening_begun mode table s i form ts enterable off suits = record {
+opening_begun : (mode : Mode) (table : Table) (s i : ℕ) (tracker : Tracker) (ts : Trees) → Enterable table s i (begun tracker ts)
+    → AllOff mode ts → Suits table s (begun tracker ts) → Opening mode table s i tracker (begun tracker ts)
+opening_begun mode table s i tracker ts enterable off suits = record {
   children = ts;
   is = refl;
   begun_as = suits.0;
   suit = suits.1;
   rightly = suits.2;
-  within = begun_within table s i form ts enterable suits.0.0;
+  within = begun_within table s i tracker ts enterable suits.0.0;
   off = off;
   agree = λ notes agrees. (agrees.1, agrees.2);
 }
 
 pub opening : (mode : Mode) (table : Table) (s i : ℕ) (t : Tree) → Enterable table s i t → AtCursor mode t → Suits table s t
-    → Opening mode table s i (form_at (def_of table s) t) t
+    → Opening mode table s i (tracker_at (def_of table s) t) t
 opening mode table s i hole enterable at suits = absurd at
 opening mode table s i entered enterable at suits = opening_entered mode table s i enterable
 opening mode table s i (whole v) (a_field struct is below) at suits =
-    subst (λ (form : Form). Opening mode table s i form (whole v)) (sym (ap (λ (def : Def). over_base (form_of def) v) is))
+    subst (λ (tracker : Tracker). Opening mode table s i tracker (whole v)) (sym (ap (λ (def : Def). over_base (tracker_of def) v) is))
     (opening_whole mode table s i struct v is below suits)
 opening mode table s i (whole v) (an_element item n is below few not_whole) at suits = absurd not_whole
 opening mode table s i (whole v) (a_variant_field k enumeration is chosen below) at suits = cc
 opening mode table s i (whole v) (a_value key item is base children there last lacking) at suits = cc
-opening mode table s i (begun form ts) enterable at suits = opening_begun mode table s i form ts enterable at suits
+opening mode table s i (begun tracker ts) enterable at suits = opening_begun mode table s i tracker ts enterable at suits
 
 -- a fresh place
 
 pub fresh_suits : (table : Table) (s : ℕ) → Suits table s (fresh (def_of table s))
-fresh_suits table s = go (is_empty_struct (def_of table s)) refl
+fresh_suits table s = fresh_is (Suits table s) _ (of_def _ refl) (λ e. e)
   where
     empty_fits : (struct : StructDef) → def_of table s ≡ Def.Struct struct → is_nil struct.fields ≡ true
         → fits table s (product no_vals) ≡ true
-    empty_fits struct is none = rw (settled_struct table s struct is) (of_fields struct.fields none)
+    empty_fits struct is none = rw (settled_as table s is refl) (of_fields struct.fields none)
       where
         of_fields : (fields : List Field) → is_nil fields ≡ true → fields_fit table fields no_vals ≡ true
         of_fields [] none = refl
-        of_fields (field ∷ fields) none = cc
+        of_fields _ none = cc
 
     of_def : (def : Def) → def_of table s ≡ def → is_empty_struct def ≡ true → fits table s (product no_vals) ≡ true
     of_def (Def.Struct struct) is none = empty_fits struct is none
     of_def _ is none = cc
 
-    go : (b : Bool) → is_empty_struct (def_of table s) ≡ b
-        → Suits table s (if b then whole (product no_vals) else entered)
-    go true e = of_def (def_of table s) refl e
-    go false e = e
-
 pub fresh_at_cursor : (mode : Mode) (def : Def) → AtCursor mode (fresh def)
-fresh_at_cursor mode def = go (is_empty_struct def)
-  where
-    go : (b : Bool) → AtCursor mode (if b then whole (product no_vals) else entered)
-    go true = tt
-    go false = tt
+fresh_at_cursor mode def = fresh_is (AtCursor mode) def (λ e. tt) (λ e. tt)
 
 pub fresh_agrees : (table : Table) (s : ℕ) (notes : Journal) → held notes [] ≡ just_entered
     → Agrees table s notes (fresh (def_of table s))
-fresh_agrees table s notes agrees = go (is_empty_struct (def_of table s)) refl
-  where
-    go : (b : Bool) → is_empty_struct (def_of table s) ≡ b
-        → Agrees table s notes (if b then whole (product no_vals) else entered)
-    go true e = by_entry agrees e refl
-    go false e = agrees
+fresh_agrees table s notes agrees = fresh_is (Agrees table s notes) _ (λ empty. by_entry agrees empty refl) (λ e. agrees)
 
 -- one child entered
 
 enter_suits : (table : Table) (s : ℕ) (t : Tree) → Suits table s t → Suits table s (enter (def_of table s) t)
 enter_suits table s hole suits = fresh_suits table s
-enter_suits table s entered suits = suits
-enter_suits table s (whole v) suits = suits
-enter_suits table s (begun form ts) suits = suits
+enter_suits table s _ suits = suits
 
 -- in deferred mode whatever stands off the way may be half done
 pub all_deferred : (start : ℕ) (ts : Trees) → AllOff (deferred start) ts
@@ -361,10 +307,9 @@ all_deferred start (branch t ts) = (tt, all_deferred start ts)
 
 enter_at_cursor : (mode : Mode) (def : Def) (t : Tree) → IsOff mode t → AtCursor mode (enter def t)
 enter_at_cursor mode def hole off = fresh_at_cursor mode def
-enter_at_cursor mode def entered off = tt
-enter_at_cursor mode def (whole v) off = tt
-enter_at_cursor strict def (begun form ts) off = absurd off
-enter_at_cursor (deferred start) def (begun form ts) off = all_deferred start ts
+enter_at_cursor strict def (begun tracker ts) off = absurd off
+enter_at_cursor (deferred start) def (begun tracker ts) off = all_deferred start ts
+enter_at_cursor mode def _ off = tt
 
 enter_leads : (mode : Mode) (def : Def) (i : ℕ) (ts : Trees) → AllOff mode ts → i < count_trees ts
     → OffBut mode i (λ child. AtCursor mode child) (change_nth i (enter def) ts)
@@ -372,22 +317,19 @@ enter_leads mode def i no_trees off within = absurd (omega arith)
 enter_leads mode def zero (branch t ts) off within = (enter_at_cursor mode def t off.0, off.1)
 enter_leads mode def (suc i) (branch t ts) off within = (off.0, enter_leads mode def i ts off.1 (omega arith))
 
-whole_entered : (table : Table) (s : ℕ) (v : Val) (h : Held) → IsWhole table s v h
-    → IsWhole table s v (at_least_entered h)
+whole_entered : (table : Table) (s : ℕ) (v : Val) (h : Held) → IsWhole table s v h → IsWhole table s v (at_least_entered h)
 whole_entered table s v h (by_value e) = by_value (ap at_least_entered e)
 whole_entered table s v h (by_entry e empty same) = by_entry (ap at_least_entered e) empty same
 
 enter_agrees : (table : Table) (s : ℕ) (t : Tree) (notes : Journal) → Agrees table s notes t
     → Agrees table s (entered_at [] ∷ notes) (enter (def_of table s) t)
-enter_agrees table s hole notes agrees =
-    fresh_agrees table s (entered_at [] ∷ notes) (ap at_least_entered agrees)
+enter_agrees table s hole notes agrees = fresh_agrees table s _ (ap at_least_entered agrees)
 enter_agrees table s entered notes agrees = ap at_least_entered agrees
-enter_agrees table s (whole v) notes agrees = whole_entered table s v (held notes []) agrees
-enter_agrees table s (begun form ts) notes agrees =
-    (ap at_least_entered agrees.0, seen_alike ts 0 notes agrees.1, agrees.2)
+enter_agrees table s (whole v) notes agrees = whole_entered table s v _ agrees
+enter_agrees table s (begun tracker ts) notes agrees = (ap at_least_entered agrees.0, seen_alike ts 0 notes agrees.1, agrees.2)
   where
-    seen_alike : (ts : Trees) (i : ℕ) (notes : Journal) → AgreeAll table s form notes i ts
-        → AgreeAll table s form (entered_at [] ∷ notes) i ts
+    seen_alike : (ts : Trees) (i : ℕ) (notes : Journal) → AgreeAll table s tracker notes i ts
+        → AgreeAll table s tracker (entered_at [] ∷ notes) i ts
     seen_alike no_trees i notes agrees = tt
     seen_alike (branch t ts) i notes agrees = (agrees.0, seen_alike ts (suc i) notes agrees.1)
 
@@ -398,45 +340,32 @@ pub record Entry (mode : Mode) (table : Table) (s i : ℕ) (t after : Tree) : Ty
   pub agrees : (notes : Journal) → Agrees table s notes t → Agrees table s (entered_at (i ∷ []) ∷ notes) after
 
 pub enter_touched : (def : Def) (t : Tree) → IsTouched (enter def t)
-enter_touched def hole = go (is_empty_struct def)
-  where
-    go : (b : Bool) → IsTouched (if b then whole (product no_vals) else entered)
-    go true = tt
-    go false = tt
-enter_touched def entered = tt
-enter_touched def (whole v) = tt
-enter_touched def (begun form ts) = tt
+enter_touched def hole = fresh_is IsTouched def (λ e. tt) (λ e. tt)
+enter_touched def _ = tt
 
-entry_opened : (mode : Mode) (table : Table) (s : ℕ) (form : Form) (i : ℕ) (t : Tree) → Opening mode table s i form t
-    → Entry mode table s i t
-    (change_child i (enter (def_of table (child_as table s form i))) (opened (def_of table s) t))
-entry_opened mode table s form i t place =
-    subst (λ (u : Tree). Entry mode table s i t (change_child i (enter (def_of table (child_as table s form i))) u))
+entry_opened : (mode : Mode) (table : Table) (s : ℕ) (tracker : Tracker) (i : ℕ) (t : Tree) → Opening mode table s i tracker t
+    → Entry mode table s i t (change_child i (enter (def_of table (child_as table s tracker i))) (opened (def_of table s) t))
+entry_opened mode table s tracker i t place =
+    subst (λ (u : Tree). Entry mode table s i t (change_child i (enter (def_of table (child_as table s tracker i))) u))
     (sym place.is) (record {
       suits = (
-        subst (λ (n : ℕ). IsBegunAs (def_of table s) form n)
-            (sym (count_change i (enter (def_of table (child_as table s form i))) place.children)) place.begun_as,
-        suit_change table s form i 0 place.children i (enter (def_of table (child_as table s form i))) (omega arith)
-            place.suit (λ h. enter_suits table (child_as table s form i) (tree_nth i place.children) h),
-        rightly_changed table s form place.children i (enter (def_of table (child_as table s form i)))
-            (enter_touched (def_of table (child_as table s form i)) (tree_nth i place.children)) place.rightly,
+        subst (λ (n : ℕ). IsBegunAs (def_of table s) tracker n) (sym (count_change i _ place.children)) place.begun_as,
+        suit_change table s tracker i 0 place.children i _ (omega arith) place.suit (λ h. enter_suits table _ _ h),
+        rightly_changed table s tracker place.children i _
+            (enter_touched (def_of table (child_as table s tracker i)) (tree_nth i place.children)) place.rightly,
       );
-      leads = enter_leads mode (def_of table (child_as table s form i)) i place.children place.off place.within;
+      leads = enter_leads mode _ i place.children place.off place.within;
       agrees = λ notes agrees. (
         refl,
-        agree_change table s form i 0 place.children i notes (entered_at (i ∷ []) ∷ notes)
-            (enter (def_of table (child_as table s form i))) (omega arith)
-            (λ j apart. down_other i j (entered_at []) notes apart) (place.agree notes agrees).0
-            (λ h. subst
-            (λ (seen : Journal). Agrees table (child_as table s form i) seen
-            (enter (def_of table (child_as table s form i)) (tree_nth i place.children)))
-            (sym (down_same i (entered_at []) notes))
-            (enter_agrees table (child_as table s form i) (tree_nth i place.children) (down i notes) h)),
+        agree_change table s tracker i 0 place.children i notes _ _ (omega arith)
+            (λ j apart. down_other i j (entered_at []) notes apart) (place.agree notes agrees).0 (λ h. subst
+            (λ (seen : Journal). Agrees table (child_as table s tracker i) seen
+            (enter (def_of table (child_as table s tracker i)) (tree_nth i place.children))) (sym (down_same i (entered_at []) notes))
+            (enter_agrees table (child_as table s tracker i) (tree_nth i place.children) (down i notes) h)),
         (place.agree notes agrees).1,
       );
     })
 
 pub entry : (mode : Mode) (table : Table) (s i : ℕ) (t : Tree) → Enterable table s i t → AtCursor mode t → Suits table s t
     → Entry mode table s i t (enter_child table s i t)
-entry mode table s i t enterable at suits =
-    entry_opened mode table s (form_at (def_of table s) t) i t (opening mode table s i t enterable at suits)
+entry mode table s i t enterable at suits = entry_opened mode table s _ i t (opening mode table s i t enterable at suits)

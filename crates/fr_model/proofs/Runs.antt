@@ -1,37 +1,15 @@
 -- A whole script does the same to the journal and to the tree, and the relation place by place is kept.
-use Rattle.std.proofs.Common.{◌≡◌, ℕ, ◌+◌, Bool, true, false, if◌then◌else◌, List, [], ◌∷◌, Option, Some, None, Result, Ok, Err, refl, sym, ◌∙◌, ap, ap₂, subst, arith}
+use Rattle.std.proofs.Common.{◌≡◌, ◌+◌, if◌then◌else◌, ◌∷◌}
+use Rattle.fr_model.proofs.Common.{ℕ, Bool, true, false, List, [], Option, Some, None, Result, Ok, Err, refl, sym, ◌∙◌, ap, ap₂, subst, arith, AllocError, ReflectErrorKind, Invariant, IsChecked, is_sized, Meanings, Table, def_of, IsPlain, Val, Call, IsFieldCall, IsFieldScript, Place, strict_column, is_root, longest, completes, Progress, initial_progress, rule, then_rules, rules, outcome_in, outcome, journal_run, Tree, Mode, strict, deferred, State, initial, complete, violates, step, built, build_in, IsRelated, BothGoOn, Refusal, numbered, and_then, run_from, unless_alloc, full_run, IsFitting, AllFitting, IsInOrder}
 use Rattle.std.specs.Result.{result_ok}
-use Rattle.fr_shape.specs.declared.error.AllocError.{AllocError}
-use Rattle.fr_shape.specs.declared.error.ReflectErrorKind.{ReflectErrorKind}
-use Rattle.fr_shape.specs.declared.error.Invariant.{Invariant}
-use Rattle.fr_shape.specs.Checked.{IsChecked, is_sized}
-use Rattle.fr_shape.specs.Hooks.{Meanings}
-use Rattle.fr_shape.specs.Look.{Table, def_of}
-use Rattle.fr_shape.specs.Plannable.{IsPlain}
-use Rattle.fr_shape.specs.Val.{Val}
-use Rattle.fr_model.specs.Commands.{Call, IsFieldCall, IsFieldScript}
-use Rattle.fr_model.specs.Places.{Place, strict_column, is_root}
-use Rattle.fr_model.specs.Journal.{entered_at, longest, completes, Progress, initial_progress, rule, then_rules, rules, outcome_in, outcome, journal_run}
-use Rattle.fr_model.specs.Tree.{Tree, Mode, strict, deferred, State, initial}
-use Rattle.fr_model.specs.Complete.{complete}
-use Rattle.fr_model.specs.Step.{violates, step, built, build_in}
-use Rattle.fr_model.specs.Relation.{IsRelated, BothGoOn}
-use Rattle.fr_model.specs.Run.{Refusal, numbered, and_then, run_from, unless_alloc, full_run}
-use Rattle.fr_model.specs.Scripts.{IsFitting, AllFitting}
-use Rattle.fr_model.specs.Well.{IsInOrder}
-use Rattle.fr_model.proofs.Plain.{AllPlain}
+use Rattle.fr_model.proofs.Basis.{AllPlain, completes_tree, fresh_agrees, start_in_order}
 use Rattle.fr_model.proofs.Plannable.{none_refused}
-use Rattle.fr_model.proofs.Agreement.{completes_tree}
 use Rattle.fr_model.proofs.Relating.{agrees_each, each_stands}
-use Rattle.fr_model.proofs.Opening.{fresh_agrees}
 use Rattle.fr_model.proofs.Steps.{Alike, BothStep, steps_alike}
-use Rattle.fr_model.proofs.Cursor.{start_in_order}
 
 joined : (table : Table) (root number : ℕ) (state : State) (step_gives : Result State ReflectErrorKind) (rule_gives : Option Progress)
-    (by_steps : State → Result Val Refusal) (by_rules : Progress → Option Progress)
-    → BothStep table root step_gives rule_gives
-    → ((next : State) (run : Progress) → Alike table root next run
-    → result_ok (by_steps next) ≡ outcome table root (by_rules run))
+    (by_steps : State → Result Val Refusal) (by_rules : Progress → Option Progress) → BothStep table root step_gives rule_gives
+    → ((next : State) (run : Progress) → Alike table root next run → result_ok (by_steps next) ≡ outcome table root (by_rules run))
     → result_ok (and_then number state step_gives by_steps) ≡ outcome table root (then_rules rule_gives by_rules)
 joined table root number state (Ok next) (Some after) by_steps by_rules both rest = rest next after both
 joined table root number state (Ok next) None by_steps by_rules both rest = absurd both
@@ -54,12 +32,9 @@ module _ (hooks : Meanings) (table : Table) (checked : IsChecked table) (root : 
           completes_tree strict_column hooks table state.tree (longest run.notes) root run.notes checked plain
           alike.in_order.suits alike.agrees (omega arith)
 
-      go : (b : Bool)
-          → result_ok
-          (numbered number state
+      go : (b : Bool) → result_ok (numbered number state
           (if b then built hooks table root state.tree (complete strict_column hooks table root state.tree)
-          else Err (violates Invariant.BuildOpenFrames)))
-          ≡ (if b then completes strict_column table run.notes root [] else None)
+          else Err (violates Invariant.BuildOpenFrames))) ≡ (if b then completes strict_column table run.notes root [] else None)
       go true =
           built_same hooks table root number state state.tree (complete strict_column hooks table root state.tree)
           (completes strict_column table run.notes root []) same
@@ -73,8 +48,7 @@ module _ (hooks : Meanings) (table : Table) (checked : IsChecked table) (root : 
   both_step : (state : State) (run : Progress) (command : Call) → Alike table root state run → IsFieldCall command
       → IsFitting table command → BothStep table root (step hooks table root state command) (rule table root run command)
   both_step state run command alike of_field fit =
-      subst (λ (there : Progress). BothStep table root (step hooks table root state command) (rule table root there command))
-      (sym
+      subst (λ (there : Progress). BothStep table root (step hooks table root state command) (rule table root there command)) (sym
       (ap₂ (λ (here : Place) (mode : Mode). record { notes = run.notes; cursor = here; mode = mode }) alike.same_cursor
       alike.same_mode))
       (steps_alike hooks table checked root sized plain state run.notes alike.in_order alike.agrees command of_field fit)
@@ -94,7 +68,7 @@ module _ (hooks : Meanings) (table : Table) (checked : IsChecked table) (root : 
 start_alike : (table : Table) (root : ℕ) → Alike table root (initial table root) initial_progress
 start_alike table root = record {
   in_order = start_in_order table root;
-  agrees = fresh_agrees table root (entered_at [] ∷ []) refl;
+  agrees = fresh_agrees table root _ refl;
   same_cursor = refl;
   same_mode = refl;
 }
@@ -103,10 +77,8 @@ start_alike table root = record {
 pub machine_agrees : (hooks : Meanings) (table : Table) (root : ℕ) (script : List Call) → IsPlain table root
     → IsFieldScript script → AllFitting table script → result_ok (full_run hooks table root script) ≡ journal_run table root script
 machine_agrees hooks table root script plain of_fields fit =
-    ap
-    (λ (refusal : Option AllocError).
-    result_ok (unless_alloc refusal (run_from hooks table root 0 (initial table root) script)))
-    (none_refused table root plain)
+    ap (λ (refusal : Option AllocError).
+    result_ok (unless_alloc refusal (run_from hooks table root 0 (initial table root) script))) (none_refused table root plain)
     ∙ run_same hooks table plain.checked root plain.sized plain.plain script 0 (initial table root) initial_progress
     (start_alike table root) of_fields fit
 
@@ -134,11 +106,9 @@ start_is_related table root = alike_related table root (initial table root) init
 
 pub step_keeps_related : (hooks : Meanings) (table : Table) (root : ℕ) (state : State) (run : Progress) (command : Call)
     → IsPlain table root → IsInOrder table root state → IsRelated table root state run → IsFieldCall command
-    → IsFitting table command
-    → BothGoOn table root (step hooks table root state command) (rule table root run command)
+    → IsFitting table command → BothGoOn table root (step hooks table root state command) (rule table root run command)
 step_keeps_related hooks table root state run command plain order related of_field fit =
-    go (step hooks table root state command) (rule table root run command)
-    (both_step hooks table plain.checked root plain.sized plain.plain state run command
+    go _ _ (both_step hooks table plain.checked root plain.sized plain.plain state run command
     (related_alike table root state run order related) of_field fit)
   where
     go : (outcome : Result State ReflectErrorKind) (ruled : Option Progress) → BothStep table root outcome ruled

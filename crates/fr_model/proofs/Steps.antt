@@ -1,41 +1,11 @@
 -- One command does the same to the journal and to the tree.
-use Rattle.std.proofs.Common.{◌≡◌, ℕ, ◌<◌, ◌==◌, eqb-true, ltb-true, Bool, true, false, ◌&&◌, ◌||◌, if◌then◌else◌, List, [], ◌∷◌, ◌++◌, length, nat_lt, Option, Some, None, Result, Ok, Err, refl, sym, ◌∙◌, ap, subst}
-use Rattle.fr_shape.specs.declared.error.ReflectErrorKind.{ReflectErrorKind}
-use Rattle.fr_shape.specs.declared.error.Operation.{Operation}
-use Rattle.fr_shape.specs.declared.error.Invariant.{Invariant}
-use Rattle.fr_shape.specs.declared.shape.Def.{Def}
-use Rattle.fr_shape.specs.Checked.{IsChecked, is_sized}
-use Rattle.fr_shape.specs.Fills.{preset_of}
-use Rattle.fr_shape.specs.Fits.{fits}
-use Rattle.fr_shape.specs.Hooks.{Meanings}
-use Rattle.fr_shape.specs.Look.{Table, def_of}
-use Rattle.fr_shape.specs.Val.{Val}
-use Rattle.fr_model.specs.Commands.{Call, IsFieldCall}
-use Rattle.fr_shape.specs.Named.{field_named}
-use Rattle.fr_model.specs.Places.{Place, Column, strict_column, deferred_column, is_root, up, shape_at}
-use Rattle.fr_model.specs.Journal.{entered_at, wrote_at, Journal, Held, held, completes, Progress, may_enter, goes_to_child, goes_to_found, writes, ends, goes_up, end_rule, begin_deferred_rule, finishes_with, finish_rule, finish_notes, rule}
-use Rattle.fr_model.specs.Collections.{is_set, is_set_form}
-use Rattle.fr_model.specs.Dropping.{dropped_by_finishing}
-use Rattle.fr_model.specs.DynamicPlaces.{is_begun_dynamic, is_dynamic_form}
-use Rattle.fr_model.specs.Items.{is_open_slice}
-use Rattle.fr_model.specs.Relation.{HasParts}
-use Rattle.fr_model.specs.Variants.{field_found}
-use Rattle.fr_model.specs.Tree.{Form, as_struct, as_array, as_slice, variant_of, selected, Tree, hole, entered, begun, whole, tree_nth, tree_at, Mode, strict, deferred, State, cursor_shape, cursor_tree, one_more_call}
-use Rattle.fr_model.specs.Complete.{complete}
-use Rattle.fr_model.specs.Finish.{finished}
-use Rattle.fr_model.specs.Entering.{Way, enter_child, enters}
-use Rattle.fr_model.specs.Step.{unless_refused, field_refusal, named_refusal, at_shape, begins_named, puts, is_str, is_owned_string, takes_shape, set_refusal, puts_default, violates, ended, leaves, is_set_item, is_dynamic_part, ends_item, leaves_deferred, end_in, begins_deferred, finishes, finish_in, step}
-use Rattle.fr_model.specs.Scripts.{IsFitting}
-use Rattle.fr_model.specs.Well.{Suits, IsInOrder}
-use Rattle.fr_model.proofs.Plain.{AllPlain, not_dynamic}
-use Rattle.fr_model.proofs.Beneath.{along, held_along}
-use Rattle.fr_model.proofs.Agreement.{by_value, Agrees, agree_along, completes_at, under_entered, under_wrote, follow}
+use Rattle.std.proofs.Common.{◌≡◌, ◌<◌, ◌==◌, ◌&&◌, ◌||◌, if◌then◌else◌, ◌∷◌, ◌++◌}
+use Rattle.fr_model.proofs.Common.{ℕ, eqb-true, ltb-true, Bool, true, false, List, [], length, nat_lt, Option, Some, None, Result, Ok, Err, refl, sym, ◌∙◌, ap, subst, ReflectErrorKind, Operation, Invariant, Def, IsChecked, is_sized, preset_of, fits, Meanings, Table, def_of, Val, Call, IsFieldCall, field_named, Place, Column, strict_column, deferred_column, is_root, up, shape_at, entered_at, wrote_at, Journal, Held, held, completes, Progress, may_enter, goes_to_child, goes_to_found, writes, ends, goes_up, end_rule, begin_deferred_rule, finishes_with, finish_rule, finish_notes, rule, is_set, is_set_tracker, is_begun_dynamic, is_dynamic_tracker, is_open_slice, HasParts, field_found, Tracker, as_fields, as_elements, as_items, ItemsKind, variant_of, selected, Tree, hole, entered, begun, whole, tree_at, Mode, strict, deferred, State, cursor_shape, cursor_tree, one_more_call, complete, finished, Way, enter_child, enters, unless_refused, field_refusal, named_refusal, at_shape, begins_named, puts, is_str, is_owned_string, takes_shape, set_refusal, puts_default, violates, ended, leaves, is_set_item, is_dynamic_part, ends_item, leaves_deferred, end_in, begins_deferred, finishes, finish_in, step, IsFitting, Suits, IsInOrder}
+use Rattle.fr_model.proofs.Basis.{AllPlain, not_dynamic, along, held_along, by_value, Agrees, agree_along, completes_at, under_entered, under_wrote, follow, PartsAlong, parts_along, at_cursor, suits_at, plain_at, same_shape, entry_at, begun_in_order, put_in_order, ended_in_order, left_in_order, deferred_in_order, preset_template}
 use Rattle.fr_model.proofs.Children.{nothing_below, SeesWhole, sees_whole, may_enter_by, ChildOf, enterable, ChildCase, a_child, a_variant_child, no_child, child_case, only_of_enum, NamedCase, a_named, a_variant_named, no_such_name, no_names, named_case}
-use Rattle.fr_model.proofs.Cursor.{PartsAlong, parts_along, at_cursor, suits_at, plain_at, same_shape, entry_at, begun_in_order, put_in_order, ended_in_order, left_in_order, deferred_in_order}
 use Rattle.fr_model.proofs.FinishAgreement.{BothFinish, finish_agrees}
-use Rattle.fr_model.proofs.Finishes.{Kept, finish_keeps, finish_leads}
+use Rattle.fr_model.proofs.Finishes.{finish_keeps, finish_leads}
 use Rattle.fr_model.proofs.Sized.{sized_at}
-use Rattle.fr_model.proofs.Templates.{preset_template}
 
 -- a builder's state and a run of the rules that have come equally far
 pub record Alike (table : Table) (root : ℕ) (state : State) (run : Progress) : Type 0 where
@@ -55,40 +25,13 @@ BothStep table root _ _ = ⊥
 abbrev entered_run : Progress → ℕ → Progress
 entered_run run i = record run { notes = entered_at (run.cursor ++ i ∷ []) ∷ run.notes; cursor = run.cursor ++ i ∷ [] }
 
-begun_both : (table : Table) (root s i : ℕ) (refusal : Option Operation) (may : Bool) (next : State) (run : Progress)
-    → refusal ≡ None → may ≡ true → Alike table root next (entered_run run i)
-    → BothStep table root (unless_refused (at_shape s refusal) next) (goes_to_child may run i)
-begun_both table root s i refusal may next run admitted there alike = rw (admitted, there) alike
-
-begun_neither : (table : Table) (root s i : ℕ) (refusal : Option Operation) (may : Bool) (operation : Operation)
-    (next : State) (run : Progress)
-    → refusal ≡ Some operation → may ≡ false
-    → BothStep table root (unless_refused (at_shape s refusal) next) (goes_to_child may run i)
-begun_neither table root s i refusal may operation next run refused absent = rw (refused, absent) tt
-
-named_both : (table : Table) (root s i : ℕ) (state : State) (refusal : Option Operation) (found named : Option ℕ)
-    (run : Progress) (t : ℕ) → refusal ≡ None → found ≡ Some i → named ≡ Some i
-    → may_enter table t i (held run.notes run.cursor) ≡ true → Alike table root (enters table s state (Way.Child i)) (entered_run run i)
-    → BothStep table root (begins_named table s state (at_shape s refusal) found) (goes_to_found table t run named)
-named_both table root s i state refusal found named run t admitted is same there alike = rw (admitted, is, same, there) alike
-
-named_none : (table : Table) (root s t : ℕ) (state : State) (refusal : Option Operation) (found named : Option ℕ)
-    (run : Progress) → refusal ≡ None → found ≡ None → named ≡ None
-    → BothStep table root (begins_named table s state (at_shape s refusal) found) (goes_to_found table t run named)
-named_none table root s t state refusal found named run admitted is same = rw (admitted, is, same) tt
-
-named_refused : (table : Table) (root s t : ℕ) (state : State) (refusal : Option Operation) (operation : Operation)
-    (found named : Option ℕ) (run : Progress) → refusal ≡ Some operation → named ≡ None
-    → BothStep table root (begins_named table s state (at_shape s refusal) found) (goes_to_found table t run named)
-named_refused table root s t state refusal operation found named run refused same = rw (refused, same) tt
-
 -- a tree that agrees with a journal has no variant selected
 no_variant : (table : Table) (s k : ℕ) (t : Tree) (notes : Journal) → Agrees table s notes t → selected t ≡ Some k → ⊥
-no_variant table s k (begun form ts) notes agrees e = go form agrees.2 e
+no_variant table s k (begun tracker ts) notes agrees e = go tracker agrees.2 e
   where
-    go : (form : Form) → HasParts form → variant_of form ≡ Some k → ⊥
-    go as_struct parts e = cc
-    go as_array parts e = cc
+    go : (tracker : Tracker) → HasParts tracker → variant_of tracker ≡ Some k → ⊥
+    go (as_fields None) parts e = cc
+    go as_elements parts e = cc
     go _ parts e = absurd parts
 no_variant table s k hole notes agrees e = cc
 no_variant table s k entered notes agrees e = cc
@@ -100,15 +43,15 @@ not_str _ sized = refl
 
 -- what has parts is neither a set nor a dynamic value, and so is what lies above the cursor
 
-parts_alone : (form : Form) → HasParts form → (is_set_form form ≡ false) × (is_dynamic_form form ≡ false)
-parts_alone as_struct parts = (refl, refl)
-parts_alone as_array parts = (refl, refl)
+parts_alone : (tracker : Tracker) → HasParts tracker → (is_set_tracker tracker ≡ false) × (is_dynamic_tracker tracker ≡ false)
+parts_alone (as_fields None) parts = (refl, refl)
+parts_alone as_elements parts = (refl, refl)
 parts_alone _ parts = absurd parts
 
 no_item : (i : ℕ) (here : Place) (t : Tree) → PartsAlong (i ∷ here) t
     → (is_set (tree_at (up (i ∷ here)) t) ≡ false) × (is_begun_dynamic (tree_at (up (i ∷ here)) t) ≡ false)
-no_item i [] (begun form ts) along = parts_alone form along.0
-no_item i (j ∷ here) (begun form ts) along = no_item j here (tree_nth i ts) along.1
+no_item i [] (begun tracker ts) along = parts_alone tracker along.0
+no_item i (j ∷ here) (begun tracker ts) along = no_item j here _ along.1
 no_item i here _ along = absurd along
 
 -- the end of deferred mode
@@ -121,8 +64,7 @@ pub finished_in_order : (hooks : Meanings) (table : Table) (root : ℕ) (state :
     → IsInOrder table root state → finished hooks table root state.cursor state.tree ≡ Some tree
     → IsInOrder table root (finishes_as state tree)
 finished_in_order hooks table root state tree checked order is =
-    let kept : Kept table root (λ t. dropped_by_finishing hooks table root state.cursor state.tree t) state.tree tree
-    = finish_keeps hooks table root state.cursor state.tree tree checked order.suits is in
+    let kept = finish_keeps hooks table root state.cursor state.tree tree checked order.suits is in
     record {
       suits = kept.suits;
       leads = finish_leads hooks table root state.mode state.cursor state.tree tree order.leads is;
@@ -179,21 +121,15 @@ module _ (hooks : Meanings) (table : Table) (checked : IsChecked table) (root : 
       → BothStep table root (step hooks table root state (Call.BeginNthField i)) (rule table root run (Call.BeginNthField i))
   begins_alike i = go (child_case (def_of table at_here) i (cursor_tree state))
     where
-      go : ChildCase (def_of table at_here) i (cursor_tree state)
-          → BothStep table root
+      go : ChildCase (def_of table at_here) i (cursor_tree state) → BothStep table root
           (unless_refused (at_shape at_here (field_refusal (def_of table at_here) (cursor_tree state) i))
           (enters table at_here state (Way.Child i)))
           (goes_to_child (may_enter table (shape_at table root state.cursor) i (held notes state.cursor)) run i)
       go (a_child child admitted may) =
-          begun_both table root at_here i (field_refusal (def_of table at_here) (cursor_tree state) i)
-          (may_enter table (shape_at table root state.cursor) i (held notes state.cursor)) (enters table at_here state (Way.Child i)) run admitted
-          (may_is i true (may (held notes state.cursor) sees)) (entered_alike i child)
+          let there = may_is i true (may (held notes state.cursor) sees) in rw (admitted, there) (entered_alike i child)
       go (a_variant_child k child admitted chosen) =
           absurd (no_variant table at_here k (cursor_tree state) (along state.cursor notes) agrees_here chosen)
-      go (no_child operation refused may) =
-          begun_neither table root at_here i (field_refusal (def_of table at_here) (cursor_tree state) i)
-          (may_enter table (shape_at table root state.cursor) i (held notes state.cursor)) operation (enters table at_here state (Way.Child i)) run
-          refused (may_is i false (may (held notes state.cursor) sees))
+      go (no_child operation refused may) = let absent = may_is i false (may (held notes state.cursor) sees) in rw (refused, absent) tt
 
   abbrev refuses_names : Option Operation
   refuses_names = named_refusal (def_of table at_here) (cursor_tree state)
@@ -204,31 +140,22 @@ module _ (hooks : Meanings) (table : Table) (checked : IsChecked table) (root : 
   named_alike : (name : List ℕ)
       → BothStep table root (step hooks table root state (Call.BeginField name)) (rule table root run (Call.BeginField name))
   named_alike name =
-      subst
-      (λ (s : ℕ). BothStep table root (begins_named table at_here state (at_shape at_here refuses_names) (finds name))
-      (goes_to_found table s run (field_named name (def_of table s))))
-      (sym same)
-      (go (named_case name (def_of table at_here) (cursor_tree state)
-      (only_of_enum table at_here (cursor_tree state) suits_here)))
+      subst (λ (s : ℕ). BothStep table root (begins_named table at_here state (at_shape at_here refuses_names) (finds name))
+      (goes_to_found table s run (field_named name (def_of table s)))) (sym same)
+      (go (named_case name (def_of table at_here) (cursor_tree state) (only_of_enum table at_here (cursor_tree state) suits_here)))
     where
       go : NamedCase name (def_of table at_here) (cursor_tree state)
           → BothStep table root (begins_named table at_here state (at_shape at_here refuses_names) (finds name))
           (goes_to_found table at_here run (field_named name (def_of table at_here)))
       go (a_named i child admitted is named may) =
-          named_both table root at_here i state refuses_names (finds name) (field_named name (def_of table at_here)) run at_here
-          admitted is named (may (held notes state.cursor)) (entered_alike i child)
+          let there = may (held notes state.cursor) in rw (admitted, is, named, there) (entered_alike i child)
       go (a_variant_named i k child admitted is chosen) =
           absurd (no_variant table at_here k (cursor_tree state) (along state.cursor notes) agrees_here chosen)
-      go (no_such_name admitted is named) =
-          named_none table root at_here at_here state refuses_names (finds name) (field_named name (def_of table at_here)) run
-          admitted is named
-      go (no_names operation refused named) =
-          named_refused table root at_here at_here state refuses_names operation (finds name)
-          (field_named name (def_of table at_here)) run refused named
+      go (no_such_name admitted is named) = rw (admitted, is, named) tt
+      go (no_names operation refused named) = rw (refused, named) tt
 
   -- a value is put
-  put_alike : (v : Val) → fits table at_here v ≡ true
-      → Alike table root (puts state v)
+  put_alike : (v : Val) → fits table at_here v ≡ true → Alike table root (puts state v)
       (record { notes = wrote_at state.cursor v ∷ notes; cursor = state.cursor; mode = state.mode })
   put_alike v fit = record {
     in_order = put_in_order table root state v fit order;
@@ -242,8 +169,7 @@ module _ (hooks : Meanings) (table : Table) (checked : IsChecked table) (root : 
   -- the place has a size, so it is no `str`
   own_shape : (given : ℕ) → takes_shape table at_here given ≡ (at_here == given)
   own_shape given =
-      let no_str : is_str (def_of table at_here) ≡ false
-      = not_str (def_of table at_here)
+      let no_str = not_str (def_of table at_here)
       (sized_at state.mode table root state.cursor state.tree checked parts order.leads order.suits sized) in
       ap (λ (b : Bool). at_here == given || (b && is_owned_string (def_of table given))) no_str ∙ or_false (at_here == given)
     where
@@ -256,14 +182,11 @@ module _ (hooks : Meanings) (table : Table) (checked : IsChecked table) (root : 
 
   sets_alike : (given : ℕ) (v : Val) → fits table given v ≡ true
       → BothStep table root (step hooks table root state (Call.Set given v)) (rule table root run (Call.Set given v))
-  sets_alike given v fit =
-      rw (same, not_dynamic table at_here plain_here) (go (at_here == given) refl)
+  sets_alike given v fit = rw (same, not_dynamic table at_here plain_here) (go (at_here == given) refl)
     where
-      go : (b : Bool) → (at_here == given) ≡ b
-          → BothStep table root (unless_refused (set_refusal table at_here given) (puts state v))
+      go : (b : Bool) → (at_here == given) ≡ b → BothStep table root (unless_refused (set_refusal table at_here given) (puts state v))
           (writes run (if at_here == given then Some v else None))
-      go true e =
-          rw (own_shape given, e) (put_alike v (ap (λ (s : ℕ). fits table s v) (eqb-true at_here given e) ∙ fit))
+      go true e = rw (own_shape given, e) (put_alike v (ap (λ (s : ℕ). fits table s v) (eqb-true at_here given e) ∙ fit))
       go false e = rw (own_shape given, e) tt
 
   defaults_alike : BothStep table root (step hooks table root state Call.SetDefault) (rule table root run Call.SetDefault)
@@ -276,13 +199,11 @@ module _ (hooks : Meanings) (table : Table) (checked : IsChecked table) (root : 
       go None is = tt
 
   -- what the place at the cursor makes, by the rules of either column
-  completes_here : (column : Column)
-      → completes column table notes (shape_at table root state.cursor) state.cursor
+  completes_here : (column : Column) → completes column table notes (shape_at table root state.cursor) state.cursor
       ≡ complete column hooks table at_here (cursor_tree state)
   completes_here column =
       ap (λ (s : ℕ). completes column table notes s state.cursor) same
-      ∙ completes_at state.mode column hooks table root state.cursor state.tree notes checked
-      plain_here order.leads suits_here agrees
+      ∙ completes_at state.mode column hooks table root state.cursor state.tree notes checked plain_here order.leads suits_here agrees
 
   -- end in strict mode
   ends_alike : state.mode ≡ strict → (value : Option Val) (by_notes : Option Val)
@@ -299,8 +220,7 @@ module _ (hooks : Meanings) (table : Table) (checked : IsChecked table) (root : 
   ends_alike is_strict None by_notes is same_value = rw same_value tt
 
   -- end in deferred mode
-  left_alike : (start : ℕ) → state.mode ≡ deferred start → start < length state.cursor
-      → Alike table root (leaves state) (goes_up run)
+  left_alike : (start : ℕ) → state.mode ≡ deferred start → start < length state.cursor → Alike table root (leaves state) (goes_up run)
   left_alike start is deeper = record {
     in_order = left_in_order table root start state is deeper order;
     agrees = agrees;
@@ -323,8 +243,7 @@ module _ (hooks : Meanings) (table : Table) (checked : IsChecked table) (root : 
       if is_set_item state then ends_item deferred_column hooks table at_here state
       else leaves_deferred hooks table at_here state (is_dynamic_part state)
 
-  leaves_alike : (start : ℕ) → state.mode ≡ deferred start → (here : Place) → state.cursor ≡ here
-      → BothStep table root
+  leaves_alike : (start : ℕ) → state.mode ≡ deferred start → (here : Place) → state.cursor ≡ here → BothStep table root
       (if is_root here then Err (violates Invariant.EndAtRoot)
       else (if nat_lt start (length here) then leaves_it else Err (violates Invariant.EndAtStart)))
       (if nat_lt start (length here) then Some (goes_up run) else None)
@@ -332,12 +251,10 @@ module _ (hooks : Meanings) (table : Table) (checked : IsChecked table) (root : 
   leaves_alike start is (i ∷ here) at = go (nat_lt start (length (i ∷ here))) refl
     where
       go : (b : Bool) → nat_lt start (length (i ∷ here)) ≡ b
-          → BothStep table root (if b then leaves_it else Err (violates Invariant.EndAtStart))
-          (if b then Some (goes_up run) else None)
+          → BothStep table root (if b then leaves_it else Err (violates Invariant.EndAtStart)) (if b then Some (goes_up run) else None)
       go true e =
-          let by_itself : (is_set_item state ≡ false) × (is_dynamic_part state ≡ false) = alone (ap is_root at) in
-          rw (by_itself.0, by_itself.1)
-          (left_alike start is
+          let by_itself = alone (ap is_root at) in
+          rw (by_itself.0, by_itself.1) (left_alike start is
           (subst (λ (place : Place). start < length place) (sym at) (ltb-true start (length (i ∷ here)) e)))
       go false e = tt
 
@@ -346,33 +263,26 @@ module _ (hooks : Meanings) (table : Table) (checked : IsChecked table) (root : 
   no_slice = go (cursor_tree state) agrees_here
     where
       go : (t : Tree) → Agrees table at_here (along state.cursor notes) t → is_open_slice t ≡ false
-      go (begun as_slice ts) agrees = absurd agrees.2
+      go (begun (as_items ItemsKind.Slice) ts) agrees = absurd agrees.2
       go _ agrees = refl
 
-  end_alike : (mode : Mode) → state.mode ≡ mode
-      → BothStep table root
+  end_alike : (mode : Mode) → state.mode ≡ mode → BothStep table root
       (if is_root state.cursor then Err (violates Invariant.EndAtRoot) else end_in hooks table at_here state mode)
       (end_rule table (shape_at table root state.cursor) run mode)
   end_alike strict is = go (is_root state.cursor) refl
     where
-      go : (b : Bool) → is_root state.cursor ≡ b
-          → BothStep table root
-          (if b then Err (violates Invariant.EndAtRoot)
+      go : (b : Bool) → is_root state.cursor ≡ b → BothStep table root (if b then Err (violates Invariant.EndAtRoot)
           else (if is_set_item state then ends_item strict_column hooks table at_here state
-          else ended hooks table at_here state (complete strict_column hooks table at_here (cursor_tree state))))
-          (if b then None
+          else ended hooks table at_here state (complete strict_column hooks table at_here (cursor_tree state)))) (if b then None
           else ends run (completes strict_column table notes (shape_at table root state.cursor) state.cursor))
       go true at = tt
       go false below =
-          rw (alone below).0
-          (ends_alike is (complete strict_column hooks table at_here (cursor_tree state))
-          (completes strict_column table notes (shape_at table root state.cursor) state.cursor) refl
-          (completes_here strict_column))
+          rw (alone below).0 (ends_alike is (complete strict_column hooks table at_here (cursor_tree state))
+          (completes strict_column table notes (shape_at table root state.cursor) state.cursor) refl (completes_here strict_column))
   end_alike (deferred start) is = leaves_alike start is state.cursor refl
 
   -- deferred mode
-  defers_alike : (mode : Mode) → state.mode ≡ mode
-      → BothStep table root (begins_deferred state mode) (begin_deferred_rule run mode)
+  defers_alike : (mode : Mode) → state.mode ≡ mode → BothStep table root (begins_deferred state mode) (begin_deferred_rule run mode)
   defers_alike strict is = record {
     in_order = deferred_in_order table root state is order;
     agrees = agrees;
@@ -394,8 +304,7 @@ module _ (hooks : Meanings) (table : Table) (checked : IsChecked table) (root : 
   finished_alike None (Some added) is both = absurd both
   finished_alike None None is both = tt
 
-  finish_alike : (mode : Mode)
-      → BothStep table root (finish_in hooks table root state mode) (finish_rule table root run mode)
+  finish_alike : (mode : Mode) → BothStep table root (finish_in hooks table root state mode) (finish_rule table root run mode)
   finish_alike strict = tt
   finish_alike (deferred start) =
       finished_alike (finished hooks table root state.cursor state.tree) (finish_notes table notes root [] state.cursor) refl

@@ -1,27 +1,13 @@
 -- What a checked table's presets and defaults give: values that fit and hold no token.
-use Rattle.std.proofs.Common.{◌≡◌, ℕ, Bool, true, false, ◌&&◌, List, [], ◌∷◌, ◌++◌, slice_get, Option, Some, None, is_some, Result, Ok, option_to_list, zero, suc, refl, sym, ◌∙◌, ap, subst}
-use Rattle.std.specs.List.{list_all, flat_map}
-use Rattle.fr_shape.specs.declared.shape.Shape.{Shape}
-use Rattle.fr_shape.specs.declared.shape.Def.{Def}
-use Rattle.fr_shape.specs.declared.shape.StructDef.{StructDef}
-use Rattle.fr_shape.specs.declared.shape.Field.{Field}
-use Rattle.fr_shape.specs.declared.shape.DefaultSource.{DefaultSource}
-use Rattle.fr_shape.specs.declared.shape.ShapeId.{ShapeId}
-use Rattle.fr_shape.specs.declared.shape.VariantDef.{VariantDef}
-use Rattle.fr_shape.specs.declared.error.Operation.{Operation}
-use Rattle.fr_shape.specs.declared.error.ReflectErrorKind.{ReflectErrorKind}
-use Rattle.fr_shape.specs.Checked.{IsChecked, fields_of, is_template, default_is_template, is_none_val}
-use Rattle.fr_shape.specs.Fills.{preset_in, preset_of, has_default, strict_by_mark, takes_shape_default, by_strict_rule, deferred_by_mark, takes_deferred_default, by_deferred_rule}
-use Rattle.fr_shape.specs.Look.{Table, def_or_other, def_of, field_of_variant, field_in}
-use Rattle.fr_shape.specs.Lists.{is_nil}
-use Rattle.fr_shape.specs.Val.{Val, none}
-use Rattle.fr_shape.specs.Fits.{fits}
-use Rattle.fr_shape.specs.Tokens.{tokens, times, occurs}
+use Rattle.std.proofs.Common.{◌≡◌, ◌&&◌, ◌∷◌, ◌++◌}
+use Rattle.fr_model.proofs.Common.{ℕ, Bool, true, false, List, [], slice_get, Option, Some, None, is_some, Result, Ok, zero, suc, refl, sym, ◌∙◌, ap, subst, list_all, flat_map, Shape, Def, StructDef, Field, DefaultSource, ShapeId, VariantDef, Operation, ReflectErrorKind, IsChecked, fields_of, is_template, default_is_template, is_none_val, preset_in, preset_of, strict_by_mark, by_strict_rule, deferred_by_mark, by_deferred_rule, Table, def_or_other, def_of, field_of_variant, field_in, is_nil, Val, none, fits, tokens, times, occurs, Column, strict_column, deferred_column, child_shape, shape_of_field, shape_of_child, fill_by, fill_of_field, fill_in, fill_at, default_or, default_by_mark, field_default}
 use Rattle.fr_shape.specs.TokenLaws.{occurs_times}
-use Rattle.fr_model.specs.Places.{Column, strict_column, deferred_column, child_shape, shape_of_field, shape_of_child, fill_by, fill_of_field, fill_in, fill_at}
-use Rattle.fr_model.specs.Step.{operation_failed, default_or, default_by_mark, field_default}
+use Rattle.fr_model.specs.Step.{operation_failed}
 
 -- lists and tests
+
+pub some_is : {T : Type 0} (x y : T) → Some x ≡ Some y → x ≡ y
+some_is x y e = cc
 
 pub both_true : (a b : Bool) → (a && b) ≡ true → (a ≡ true) × (b ≡ true)
 both_true true true h = (refl, refl)
@@ -32,9 +18,8 @@ pub each_passes : {X : Type 0} (test : X → Bool) (xs : List X) (i : ℕ) (x : 
     → slice_get xs i ≡ Some x → test x ≡ true
 each_passes test [] i x all at = cc
 each_passes test (y ∷ ys) zero x all at =
-    let same : y ≡ x = cc in ap test (sym same) ∙ (both_true (test y) (list_all test ys) all).0
-each_passes test (y ∷ ys) (suc i) x all at =
-    each_passes test ys i x (both_true (test y) (list_all test ys) all).1 at
+    let same : y ≡ x = cc in ap test (sym same) ∙ (both_true (test y) _ all).0
+each_passes test (y ∷ ys) (suc i) x all at = each_passes test ys i x (both_true (test y) (list_all test ys) all).1 at
 
 pub nil_is : {X : Type 0} (xs : List X) → is_nil xs ≡ true → xs ≡ []
 nil_is [] h = refl
@@ -50,10 +35,7 @@ pub template_holds : (table : Table) (s : ℕ) (v : Val) (t : ℕ) → IsTemplat
 template_holds table s v t template = occurs_times v t ∙ ap (λ (ts : List ℕ). times ts t) template.no_tokens
 
 tested_template : (table : Table) (s : ℕ) (v : Val) → is_template table s v ≡ true → IsTemplate table s v
-tested_template table s v tested =
-    let both : (fits table s v ≡ true) × (is_nil (tokens v) ≡ true)
-    = both_true (fits table s v) (is_nil (tokens v)) tested in
-    record { fit = both.0; no_tokens = nil_is (tokens v) both.1 }
+tested_template table s v tested = let both = both_true _ _ tested in record { fit = both.0; no_tokens = nil_is (tokens v) both.1 }
 
 -- presets
 
@@ -63,18 +45,15 @@ pub record HasPreset (table : Table) (s : ℕ) (v : Val) : Type 0 where
   pub preset : shape.preset ≡ Some v
 
 pub has_preset : (table : Table) (s : ℕ) (v : Val) → preset_of table s ≡ Some v → HasPreset table s v
-has_preset table s v e = go (slice_get table s) refl e
+has_preset table s v e = go _ refl e
   where
     go : (found : Option Shape) → slice_get table s ≡ found → preset_in found ≡ Some v → HasPreset table s v
     go (Some shape) is e = record { shape = shape; is = is; preset = e }
     go None is e = cc
 
-pub preset_template : (table : Table) (s : ℕ) (v : Val) → IsChecked table → preset_of table s ≡ Some v
-    → IsTemplate table s v
+pub preset_template : (table : Table) (s : ℕ) (v : Val) → IsChecked table → preset_of table s ≡ Some v → IsTemplate table s v
 preset_template table s v checked e =
-    tested_template table s v
-    (both_true (is_template table s v) true
-    (rw has.preset at (both_true (list_all (is_template table s) (option_to_list has.shape.preset))
+    tested_template table s v (both_true _ true (rw has.preset at (both_true _
     (list_all (λ (field : Field). default_is_template table field.shape.0 field.default) (fields_of has.shape.def))
     (checked.templates s has.shape has.is)).0)).0
   where
@@ -84,8 +63,7 @@ preset_template table s v checked e =
 -- an option's preset is none
 pub option_preset : (table : Table) (s t : ℕ) (v : Val) → IsChecked table → def_of table s ≡ Def.Option (record { 0 = t })
     → preset_of table s ≡ Some v → v ≡ none
-option_preset table s t v checked is e =
-    is_none v (rw (has.preset, here) at (checked.options s has.shape has.is))
+option_preset table s t v checked is e = is_none v (rw (has.preset, here) at (checked.options s has.shape has.is))
   where
     has : HasPreset table s v
     has = has_preset table s v e
@@ -104,12 +82,10 @@ pub record IsStructAt (table : Table) (s : ℕ) (struct : StructDef) : Type 0 wh
   pub is : slice_get table s ≡ Some shape
   pub def : shape.def ≡ Def.Struct struct
 
-pub struct_at : (table : Table) (s : ℕ) (struct : StructDef) → def_of table s ≡ Def.Struct struct
-    → IsStructAt table s struct
-struct_at table s struct e = go (slice_get table s) refl e
+pub struct_at : (table : Table) (s : ℕ) (struct : StructDef) → def_of table s ≡ Def.Struct struct → IsStructAt table s struct
+struct_at table s struct e = go _ refl e
   where
-    go : (found : Option Shape) → slice_get table s ≡ found → def_or_other found ≡ Def.Struct struct
-        → IsStructAt table s struct
+    go : (found : Option Shape) → slice_get table s ≡ found → def_or_other found ≡ Def.Struct struct → IsStructAt table s struct
     go (Some shape) is e = record { shape = shape; is = is; def = e }
     go None is e = cc
 
@@ -119,7 +95,7 @@ pub all_of_both : {X : Type 0} (test : X → Bool) (xs ys : List X) → list_all
     → (list_all test xs ≡ true) × (list_all test ys ≡ true)
 all_of_both test [] ys all = (refl, all)
 all_of_both test (x ∷ xs) ys all =
-    let here = both_true (test x) (list_all test (xs ++ ys)) all in
+    let here = both_true (test x) _ all in
     let rest = all_of_both test xs ys here.1 in
     (rw (here.0, rest.0) refl, rest.1)
 
@@ -139,23 +115,20 @@ pub field_passes : (test : Field → Bool) (def : Def) (selected : Option ℕ) (
     → list_all test (fields_of def) ≡ true → field_in def selected i ≡ Some field → test field ≡ true
 field_passes test (Def.Struct struct) None i field all at = each_passes test struct.fields i field all at
 field_passes test (Def.Struct struct) (Some k) i field all at = cc
-field_passes test (Def.Enum enumeration) (Some k) i field all at =
-    variant_field_passes test enumeration.variants k i field all at
+field_passes test (Def.Enum enumeration) (Some k) i field all at = variant_field_passes test enumeration.variants k i field all at
 field_passes test (Def.Enum enumeration) None i field all at = cc
 field_passes test _ selected i field all at = cc
 
 default_template : (table : Table) (s : ℕ) (selected : Option ℕ) (i : ℕ) (field : Field) (v : Val) → IsChecked table
     → field_in (def_of table s) selected i ≡ Some field → field.default ≡ Some (DefaultSource.Custom v)
     → IsTemplate table field.shape.0 v
-default_template table s selected i field v checked at marked = go (slice_get table s) refl at
+default_template table s selected i field v checked at marked = go _ refl at
   where
     go : (found : Option Shape) → slice_get table s ≡ found → field_in (def_or_other found) selected i ≡ Some field
         → IsTemplate table field.shape.0 v
     go (Some shape) is at =
-        let each : default_is_template table field.shape.0 field.default ≡ true
-        = field_passes (λ (f : Field). default_is_template table f.shape.0 f.default) shape.def selected i field
-        (both_true (list_all (is_template table s) (option_to_list shape.preset))
-        (list_all (λ (f : Field). default_is_template table f.shape.0 f.default) (fields_of shape.def))
+        let each = field_passes (λ (f : Field). default_is_template table f.shape.0 f.default) shape.def selected i field
+        (both_true _ (list_all (λ (f : Field). default_is_template table f.shape.0 f.default) (fields_of shape.def))
         (checked.templates s shape is)).1 at in
         tested_template table field.shape.0 v (rw marked at each)
     go None is at = cc
@@ -163,25 +136,21 @@ default_template table s selected i field v checked at marked = go (slice_get ta
 field_template : (column : Column) (table : Table) (s : ℕ) (selected : Option ℕ) (i : ℕ) (field : Field) (v : Val)
     → IsChecked table → field_in (def_of table s) selected i ≡ Some field
     → fill_by column table s (is_some selected) field ≡ Some v → IsTemplate table field.shape.0 v
-field_template strict_column table s selected i field v checked at e =
-    go field.default (takes_shape_default table s (is_some selected) field) refl e
+field_template strict_column table s selected i field v checked at e = go field.default _ refl e
   where
     go : (mark : Option DefaultSource) (unmarked : Bool) → field.default ≡ mark
         → by_strict_rule table field (strict_by_mark mark unmarked) ≡ Some v → IsTemplate table field.shape.0 v
     go (Some (DefaultSource.Custom value)) unmarked marked e =
-        let same : value ≡ v = cc in
-        rw (← same) (default_template table s selected i field value checked at marked)
+        let same : value ≡ v = cc in rw (← same) (default_template table s selected i field value checked at marked)
     go (Some DefaultSource.FromTrait) unmarked marked e = preset_template table field.shape.0 v checked e
     go None true marked e = preset_template table field.shape.0 v checked e
     go None false marked e = cc
-field_template deferred_column table s selected i field v checked at e =
-    go field.default (has_default table field.shape.0) (takes_deferred_default table s field) refl e
+field_template deferred_column table s selected i field v checked at e = go field.default _ _ refl e
   where
     go : (mark : Option DefaultSource) (has unmarked : Bool) → field.default ≡ mark
         → by_deferred_rule table field (deferred_by_mark mark has unmarked) ≡ Some v → IsTemplate table field.shape.0 v
     go (Some (DefaultSource.Custom value)) has unmarked marked e =
-        let same : value ≡ v = cc in
-        rw (← same) (default_template table s selected i field value checked at marked)
+        let same : value ≡ v = cc in rw (← same) (default_template table s selected i field value checked at marked)
     go (Some DefaultSource.FromTrait) true unmarked marked e = preset_template table field.shape.0 v checked e
     go (Some DefaultSource.FromTrait) false unmarked marked e = cc
     go None has true marked e = preset_template table field.shape.0 v checked e
@@ -190,21 +159,18 @@ field_template deferred_column table s selected i field v checked at e =
 -- a field's default by its mark, and by that of its shape
 abbrev default_by : Table → ShapeId → (preset : Option Val) → Option DefaultSource → Result Val ReflectErrorKind
 default_by table shape preset (Some (DefaultSource.Custom v)) = Ok v
-default_by table shape preset (Some DefaultSource.FromTrait) =
-    default_or preset (operation_failed shape.0 Operation.NoDefault)
+default_by table shape preset (Some DefaultSource.FromTrait) = default_or preset (operation_failed shape.0 Operation.NoDefault)
 default_by table shape preset None = default_or preset (ReflectErrorKind.DefaultAttrButNoDefaultImpl shape)
 
 default_same : (table : Table) (shape : ShapeId) (mark : Option DefaultSource)
     → default_by table shape (preset_of table shape.0) mark ≡ default_by_mark table shape mark
 default_same table shape (Some (DefaultSource.Custom v)) = refl
-default_same table shape (Some DefaultSource.FromTrait) = refl
-default_same table shape None = refl
+default_same table shape _ = refl
 
 -- what a hole takes, as a field of a struct or of the selected variant
 pub fill_in_template : (column : Column) (table : Table) (s : ℕ) (selected : Option ℕ) (i : ℕ) (v : Val) → IsChecked table
-    → fill_in column table s selected i ≡ Some v
-    → IsTemplate table (shape_of_field (field_in (def_of table s) selected i)) v
-fill_in_template column table s selected i v checked e = go (field_in (def_of table s) selected i) refl e
+    → fill_in column table s selected i ≡ Some v → IsTemplate table (shape_of_field (field_in (def_of table s) selected i)) v
+fill_in_template column table s selected i v checked e = go _ refl e
   where
     go : (found : Option Field) → field_in (def_of table s) selected i ≡ found
         → fill_of_field column table s (is_some selected) found ≡ Some v → IsTemplate table (shape_of_field found) v
@@ -213,8 +179,7 @@ fill_in_template column table s selected i v checked e = go (field_in (def_of ta
 
 -- a struct's field has the shape of the child of its number
 struct_field : (def : Def) (i : ℕ) (v : Val) (column : Column) (table : Table) (s : ℕ)
-    → fill_of_field column table s false (field_in def None i) ≡ Some v
-    → shape_of_field (field_in def None i) ≡ shape_of_child def i
+    → fill_of_field column table s false (field_in def None i) ≡ Some v → shape_of_field (field_in def None i) ≡ shape_of_child def i
 struct_field (Def.Struct struct) i v column table s e = refl
 struct_field _ i v column table s e = cc
 
@@ -228,13 +193,12 @@ fill_template column table s i v checked e =
 pub field_default_template : (table : Table) (s : ℕ) (selected : Option ℕ) (i : ℕ) (field : Field) (v : Val) → IsChecked table
     → field_in (def_of table s) selected i ≡ Some field → field_default table field ≡ Ok v → IsTemplate table field.shape.0 v
 field_default_template table s selected i field v checked at e =
-    go field.default (preset_of table field.shape.0) refl refl (default_same table field.shape field.default ∙ e)
+    go field.default _ refl refl (default_same table field.shape field.default ∙ e)
   where
     go : (mark : Option DefaultSource) (preset : Option Val) → field.default ≡ mark → preset_of table field.shape.0 ≡ preset
         → default_by table field.shape preset mark ≡ Ok v → IsTemplate table field.shape.0 v
     go (Some (DefaultSource.Custom value)) preset marked is e =
-        let same : value ≡ v = cc in
-        rw (← same) (default_template table s selected i field value checked at marked)
+        let same : value ≡ v = cc in rw (← same) (default_template table s selected i field value checked at marked)
     go (Some DefaultSource.FromTrait) (Some u) marked is e =
         let same : u ≡ v = cc in preset_template table field.shape.0 v checked (is ∙ ap Some same)
     go (Some DefaultSource.FromTrait) None marked is e = cc

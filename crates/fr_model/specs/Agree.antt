@@ -1,17 +1,11 @@
 -- The builder does what the journal says.
-use Rattle.std.specs.Prelude.{◌≡◌, ℕ, List}
+use Rattle.std.specs.Prelude.{◌≡◌}
+use Rattle.fr_model.specs.Common.{ℕ, List, Meanings, Table, IsIn, IsPlain}
 use Rattle.std.specs.Result.{result_ok}
-use Rattle.fr_shape.specs.Hooks.{Meanings}
-use Rattle.fr_shape.specs.Look.{Table, IsIn}
-use Rattle.fr_shape.specs.Plannable.{IsPlain}
-use Rattle.fr_model.specs.Commands.{Call, IsFieldCall, IsFieldScript}
-use Rattle.fr_model.specs.Journal.{Progress, initial_progress, rule, journal_run}
+use Rattle.fr_model.specs.Basis.{Call, IsFieldCall, IsFieldScript, Progress, initial_progress, rule, journal_run, IsFitting, AllFitting, State, initial, IsInOrder}
 use Rattle.fr_model.specs.Relation.{IsRelated, BothGoOn}
 use Rattle.fr_model.specs.Run.{full_run}
-use Rattle.fr_model.specs.Scripts.{IsFitting, AllFitting}
 use Rattle.fr_model.specs.Step.{step}
-use Rattle.fr_model.specs.Tree.{State, initial}
-use Rattle.fr_model.specs.Well.{IsInOrder}
 
 -- For every table and root for which it is plain, whatever the hooks mean, and for every field script of fitting values: the
 -- machine returns `Ok v` exactly where the journal completes to v.
@@ -30,5 +24,4 @@ abbrev pub StepKeepsRelated : Type 0
 StepKeepsRelated =
     (hooks : Meanings) (table : Table) (root : ℕ) (state : State) (run : Progress) (command : Call)
     → IsPlain table root → IsInOrder table root state → IsRelated table root state run → IsFieldCall command
-    → IsFitting table command
-    → BothGoOn table root (step hooks table root state command) (rule table root run command)
+    → IsFitting table command → BothGoOn table root (step hooks table root state command) (rule table root run command)

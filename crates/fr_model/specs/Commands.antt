@@ -1,6 +1,6 @@
 -- Calls of the builder as plain data.
-use Rattle.std.specs.Prelude.{ℕ, ℤ, List, [], ◌∷◌, map}
-use Rattle.fr_shape.specs.Val.{Val}
+use Rattle.std.specs.Prelude.{◌∷◌}
+use Rattle.fr_model.specs.Common.{ℕ, ℤ, List, [], map, Val}
 use Rattle.fr_shape.specs.View.{view}
 use Rattle.fr_model.specs.declared.command.Command.{Command}
 

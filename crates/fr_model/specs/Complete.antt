@@ -1,26 +1,17 @@
 -- Completing a place: the value that it makes by the rules of either column, and what it lacks first in strict mode. What fails at
 -- the end of deferred mode is said in Failing.
-use Rattle.std.specs.Prelude.{ℕ, zero, suc, List, [], ◌∷◌, Option, Some, None, if◌then◌else◌}
-use Rattle.std.specs.Option.{option_map, option_or}
-use Rattle.fr_shape.specs.declared.shape.Def.{Def}
-use Rattle.fr_shape.specs.declared.shape.Field.{Field}
-use Rattle.fr_shape.specs.declared.shape.ValidatorDef.{ValidatorDef}
-use Rattle.fr_shape.specs.declared.error.ReflectErrorKind.{ReflectErrorKind}
-use Rattle.fr_shape.specs.Fills.{preset_of}
-use Rattle.fr_shape.specs.Hooks.{Meanings}
-use Rattle.fr_shape.specs.Look.{Table, def_of, field_in}
-use Rattle.fr_shape.specs.Val.{Val, Vals, product, variant, none, some, ok, err, list_of, map_of, set_of, ptr, dyn, no_vals, no_entries, dyn_array, dyn_object}
-use Rattle.fr_shape.specs.Validators.{passes_at, message}
+use Rattle.std.specs.Prelude.{◌∷◌, if◌then◌else◌}
+use Rattle.fr_model.specs.Common.{ℕ, zero, suc, List, [], Option, Some, None, option_map, option_or, Def, Field, ValidatorDef, ReflectErrorKind, preset_of, Meanings, Table, def_of, field_in, Val, Vals, product, variant, none, some, ok, err, list_of, map_of, set_of, ptr, dyn, no_vals, no_entries, dyn_array, dyn_object, passes_at, message}
 use Rattle.fr_model.specs.Dynamics.{dynamics_in, members_in}
 use Rattle.fr_model.specs.Gathering.{items_in, entries_in}
 use Rattle.fr_model.specs.Places.{Column, strict_column, child_count, vals_nth, one_more, each_child, fill_in, fill_at}
-use Rattle.fr_model.specs.Tree.{Form, as_struct, as_array, as_variant, as_some, as_ok, as_err, as_pointer, as_list, as_slice, as_closed_slice, as_set, as_map, as_dyn_array, as_dyn_object, Tree, hole, entered, whole, begun, Trees, no_trees, branch, for_hole, child_as}
+use Rattle.fr_model.specs.Trackers.{Tracker, as_fields, as_elements, as_content, ContentKind, as_items, ItemsKind, as_entries, EntriesKind}
+use Rattle.fr_model.specs.Tree.{Tree, hole, entered, whole, begun, Trees, no_trees, branch, for_hole, child_as}
 
 -- the refusals, of field i of a struct of shape s, or of the variant that is selected at an enum of shape s
 
 abbrev pub missing_field : ℕ → (selected : Option ℕ) → ℕ → ReflectErrorKind
-missing_field s selected i =
-    ReflectErrorKind.UninitializedField (record { shape = record { 0 = s }; variant = selected; index = i })
+missing_field s selected i = ReflectErrorKind.UninitializedField (record { shape = record { 0 = s }; variant = selected; index = i })
 
 abbrev pub missing_value : ℕ → ReflectErrorKind
 missing_value s = ReflectErrorKind.UninitializedValue (record { 0 = s })
@@ -50,26 +41,16 @@ failing_field hooks table s selected i None value = None
 
 -- the same of the field that a struct, or the selected variant, has under this number
 abbrev pub failing_field_in : Meanings → Table → ℕ → (selected : Option ℕ) → ℕ → Option Val → Option ReflectErrorKind
-failing_field_in hooks table s selected i value =
-    failing_field hooks table s selected i (field_in (def_of table s) selected i) value
+failing_field_in hooks table s selected i value = failing_field hooks table s selected i (field_in (def_of table s) selected i) value
 
 -- of child i of a place of shape s that is begun so: the first validator that its value, if it has one, doesn't pass. Only fields
 -- have any.
-abbrev pub failing_child : Meanings → Table → ℕ → Form → ℕ → Option Val → Option ReflectErrorKind
-failing_child hooks table s as_struct i value = failing_field_in hooks table s None i value
-failing_child hooks table s (as_variant k) i value = failing_field_in hooks table s (Some k) i value
-failing_child hooks table s as_array i value = None
-failing_child hooks table s as_some i value = None
-failing_child hooks table s as_ok i value = None
-failing_child hooks table s as_err i value = None
-failing_child hooks table s as_pointer i value = None
-failing_child hooks table s as_list i value = None
-failing_child hooks table s as_slice i value = None
-failing_child hooks table s as_closed_slice i value = None
-failing_child hooks table s as_set i value = None
-failing_child hooks table s (as_map base) i value = None
-failing_child hooks table s as_dyn_array i value = None
-failing_child hooks table s (as_dyn_object keys) i value = None
+abbrev pub failing_child : Meanings → Table → ℕ → Tracker → ℕ → Option Val → Option ReflectErrorKind
+failing_child hooks table s (as_fields selected) i value = failing_field_in hooks table s selected i value
+failing_child hooks table s as_elements i value = None
+failing_child hooks table s (as_content kind) i value = None
+failing_child hooks table s (as_items kind) i value = None
+failing_child hooks table s (as_entries kind) i value = None
 
 -- the value, unless there is something to refuse
 abbrev pub unless_failing : Option ReflectErrorKind → Option Val → Option Val
@@ -77,72 +58,54 @@ unless_failing (Some kind) value = None
 unless_failing None value = value
 
 -- a child's value, where it passes its field's validators
-abbrev pub valid_child : Meanings → Table → ℕ → Form → ℕ → Option Val → Option Val
-valid_child hooks table s form i value = unless_failing (failing_child hooks table s form i value) value
+abbrev pub valid_child : Meanings → Table → ℕ → Tracker → ℕ → Option Val → Option Val
+valid_child hooks table s tracker i value = unless_failing (failing_child hooks table s tracker i value) value
 
 -- what a hole takes as child i of a place of shape s that is begun so: a field its fill, if it has one; anything else nothing
-abbrev pub hole_takes : Column → Table → ℕ → Form → ℕ → Option Val
-hole_takes column table s as_struct i = fill_at column table s i
-hole_takes column table s (as_variant k) i = fill_in column table s (Some k) i
-hole_takes column table s as_array i = None
-hole_takes column table s as_some i = None
-hole_takes column table s as_ok i = None
-hole_takes column table s as_err i = None
-hole_takes column table s as_pointer i = None
-hole_takes column table s as_list i = None
-hole_takes column table s as_slice i = None
-hole_takes column table s as_closed_slice i = None
-hole_takes column table s as_set i = None
-hole_takes column table s (as_map base) i = None
-hole_takes column table s as_dyn_array i = None
-hole_takes column table s (as_dyn_object keys) i = None
+abbrev pub hole_takes : Column → Table → ℕ → Tracker → ℕ → Option Val
+hole_takes column table s (as_fields selected) i = fill_in column table s selected i
+hole_takes column table s as_elements i = None
+hole_takes column table s (as_content kind) i = None
+hole_takes column table s (as_items kind) i = None
+hole_takes column table s (as_entries kind) i = None
 
 -- what a begun place lacks where child i is a hole that takes nothing: a struct or a variant that field, any other its value
-abbrev pub missing_child : ℕ → Form → ℕ → ReflectErrorKind
-missing_child s as_struct i = missing_field s None i
-missing_child s (as_variant k) i = missing_field s (Some k) i
-missing_child s as_array i = missing_value s
-missing_child s as_some i = missing_value s
-missing_child s as_ok i = missing_value s
-missing_child s as_err i = missing_value s
-missing_child s as_pointer i = missing_value s
-missing_child s as_list i = missing_value s
-missing_child s as_slice i = missing_value s
-missing_child s as_closed_slice i = missing_value s
-missing_child s as_set i = missing_value s
-missing_child s (as_map base) i = missing_value s
-missing_child s as_dyn_array i = missing_value s
-missing_child s (as_dyn_object keys) i = missing_value s
+abbrev pub missing_child : ℕ → Tracker → ℕ → ReflectErrorKind
+missing_child s (as_fields selected) i = missing_field s selected i
+missing_child s as_elements i = missing_value s
+missing_child s (as_content kind) i = missing_value s
+missing_child s (as_items kind) i = missing_value s
+missing_child s (as_entries kind) i = missing_value s
 
 -- the value that a place begun so makes of those of its children: their product, their variant, the one value held so, their list,
 -- the pointer to it, the set or map that they make one after the other, or the dynamic array or object
-abbrev pub value_as : Form → Vals → Val
-value_as as_struct vs = product vs
-value_as as_array vs = product vs
-value_as (as_variant k) vs = variant k vs
-value_as as_some vs = some (vals_nth vs 0)
-value_as as_ok vs = ok (vals_nth vs 0)
-value_as as_err vs = err (vals_nth vs 0)
-value_as as_pointer vs = ptr (vals_nth vs 0)
-value_as as_list vs = list_of vs
-value_as as_slice vs = ptr (list_of vs)
-value_as as_closed_slice vs = ptr (list_of vs)
-value_as as_set vs = set_of (items_in no_vals vs)
-value_as (as_map base) vs = map_of (entries_in no_entries vs)
-value_as as_dyn_array vs = dyn (dyn_array (dynamics_in vs))
-value_as (as_dyn_object keys) vs = dyn (dyn_object (members_in keys vs))
+abbrev pub value_as : Tracker → Vals → Val
+value_as (as_fields None) vs = product vs
+value_as as_elements vs = product vs
+value_as (as_fields (Some k)) vs = variant k vs
+value_as (as_content ContentKind.Some) vs = some (vals_nth vs 0)
+value_as (as_content ContentKind.Ok) vs = ok (vals_nth vs 0)
+value_as (as_content ContentKind.Err) vs = err (vals_nth vs 0)
+value_as (as_content ContentKind.Pointer) vs = ptr (vals_nth vs 0)
+value_as (as_items ItemsKind.List) vs = list_of vs
+value_as (as_items ItemsKind.Slice) vs = ptr (list_of vs)
+value_as (as_items ItemsKind.ClosedSlice) vs = ptr (list_of vs)
+value_as (as_items ItemsKind.Set) vs = set_of (items_in no_vals vs)
+value_as (as_entries (EntriesKind.Map base)) vs = map_of (entries_in no_entries vs)
+value_as (as_items ItemsKind.Array) vs = dyn (dyn_array (dynamics_in vs))
+value_as (as_entries (EntriesKind.Object keys)) vs = dyn (dyn_object (members_in keys vs))
 
 -- the same, where each child has a value
-abbrev pub made : Form → (values : Option Vals) → Option Val
-made form values = option_map (value_as form) values
+abbrev pub made : Tracker → (values : Option Vals) → Option Val
+made tracker values = option_map (value_as tracker) values
 
 -- The value of an entered place
 
 -- of a struct whose fields are all holes
 abbrev pub made_of_fills : Column → Meanings → Table → ℕ → Option Val
 made_of_fills column hooks table s =
-    made as_struct
-    (each_child (λ i. valid_child hooks table s as_struct i (fill_at column table s i)) (child_count table s) 0)
+    made (as_fields None)
+    (each_child (λ i. valid_child hooks table s (as_fields None) i (fill_at column table s i)) (child_count table s) 0)
 
 abbrev pub none_if_preset : Option Val → Option Val
 none_if_preset (Some v) = Some none
@@ -179,29 +142,28 @@ abbrev mutual
   complete column hooks table s hole = None
   complete column hooks table s entered = made_of_entered column hooks table s
   complete column hooks table s (whole v) = Some v
-  complete column hooks table s (begun form ts) = made form (complete_all column hooks table s form 0 ts)
+  complete column hooks table s (begun tracker ts) = made tracker (complete_all column hooks table s tracker 0 ts)
 
-  pub complete_all : Column → Meanings → Table → ℕ → Form → ℕ → Trees → Option Vals
-  complete_all column hooks table s form i no_trees = Some no_vals
-  complete_all column hooks table s form i (branch t ts) =
-      one_more
-      (valid_child hooks table s form i
-      (for_hole t (hole_takes column table s form i) (complete column hooks table (child_as table s form i) t)))
-      (complete_all column hooks table s form (suc i) ts)
+  pub complete_all : Column → Meanings → Table → ℕ → Tracker → ℕ → Trees → Option Vals
+  complete_all column hooks table s tracker i no_trees = Some no_vals
+  complete_all column hooks table s tracker i (branch t ts) =
+      one_more (valid_child hooks table s tracker i
+      (for_hole t (hole_takes column table s tracker i) (complete column hooks table (child_as table s tracker i) t)))
+      (complete_all column hooks table s tracker (suc i) ts)
 
 -- What is lacking in strict mode
 
 -- of child i, a hole: its fill, or that the fill passes its validators
-abbrev pub lack_of_hole : Meanings → Table → ℕ → Form → ℕ → Option ReflectErrorKind
-lack_of_hole hooks table s form i =
-    option_or (unless_there (hole_takes strict_column table s form i) (missing_child s form i))
-    (failing_child hooks table s form i (hole_takes strict_column table s form i))
+abbrev pub lack_of_hole : Meanings → Table → ℕ → Tracker → ℕ → Option ReflectErrorKind
+lack_of_hole hooks table s tracker i =
+    option_or (unless_there (hole_takes strict_column table s tracker i) (missing_child s tracker i))
+    (failing_child hooks table s tracker i (hole_takes strict_column table s tracker i))
 
 -- of so many children from number i on, all of them holes
-abbrev pub lack_of_holes : Meanings → Table → ℕ → Form → (count i : ℕ) → Option ReflectErrorKind
-lack_of_holes hooks table s form zero i = None
-lack_of_holes hooks table s form (suc count) i =
-    option_or (lack_of_hole hooks table s form i) (lack_of_holes hooks table s form count (suc i))
+abbrev pub lack_of_holes : Meanings → Table → ℕ → Tracker → (count i : ℕ) → Option ReflectErrorKind
+lack_of_holes hooks table s tracker zero i = None
+lack_of_holes hooks table s tracker (suc count) i =
+    option_or (lack_of_hole hooks table s tracker i) (lack_of_holes hooks table s tracker count (suc i))
 
 abbrev pub unless_default : Option Val → Option ReflectErrorKind → Option ReflectErrorKind
 unless_default (Some v) lacking = None
@@ -229,7 +191,7 @@ lack_by Def.Other preset of_holes missing = Some missing
 -- anything else, its value
 abbrev pub lack_of_entered : Meanings → Table → ℕ → Option ReflectErrorKind
 lack_of_entered hooks table s =
-    lack_by (def_of table s) (preset_of table s) (lack_of_holes hooks table s as_struct (child_count table s) 0) (missing_value s)
+    lack_by (def_of table s) (preset_of table s) (lack_of_holes hooks table s (as_fields None) (child_count table s) 0) (missing_value s)
 
 -- What a place of shape s lacks, if anything. A begun place is taken child by child in index order: a hole has to have a
 -- fill, any other child must lack nothing itself, and then the value has to pass its field's validators in their order.
@@ -238,12 +200,12 @@ abbrev mutual
   lack hooks table s hole = Some (missing_value s)
   lack hooks table s entered = lack_of_entered hooks table s
   lack hooks table s (whole v) = None
-  lack hooks table s (begun form ts) = lack_among hooks table s form 0 ts
+  lack hooks table s (begun tracker ts) = lack_among hooks table s tracker 0 ts
 
-  pub lack_among : Meanings → Table → ℕ → Form → ℕ → Trees → Option ReflectErrorKind
-  lack_among hooks table s form i no_trees = None
-  lack_among hooks table s form i (branch t ts) =
-      for_hole t (option_or (lack_of_hole hooks table s form i) (lack_among hooks table s form (suc i) ts))
-      (option_or (lack hooks table (child_as table s form i) t)
-      (option_or (failing_child hooks table s form i (complete strict_column hooks table (child_as table s form i) t))
-      (lack_among hooks table s form (suc i) ts)))
+  pub lack_among : Meanings → Table → ℕ → Tracker → ℕ → Trees → Option ReflectErrorKind
+  lack_among hooks table s tracker i no_trees = None
+  lack_among hooks table s tracker i (branch t ts) =
+      for_hole t (option_or (lack_of_hole hooks table s tracker i) (lack_among hooks table s tracker (suc i) ts))
+      (option_or (lack hooks table (child_as table s tracker i) t)
+      (option_or (failing_child hooks table s tracker i (complete strict_column hooks table (child_as table s tracker i) t))
+      (lack_among hooks table s tracker (suc i) ts)))

@@ -1,13 +1,6 @@
 -- The values of other shapes that a dynamic place takes.
-use Rattle.std.specs.Prelude.{ℕ, encode_utf8, Bool, true, false, List, [], ◌∷◌, slice_get, Option, Some, None, Result, Ok, Err, if◌then◌else◌}
-use Rattle.std.specs.Option.{option_map}
-use Rattle.fr_shape.specs.declared.shape.Def.{Def}
-use Rattle.fr_shape.specs.declared.shape.ScalarKind.{ScalarKind}
-use Rattle.fr_shape.specs.declared.shape.Shape.{Shape}
-use Rattle.fr_shape.specs.declared.error.Operation.{Operation}
-use Rattle.fr_shape.specs.Look.{Table, def_of}
-use Rattle.fr_shape.specs.Val.{Val, Vals, bool, char, int, nat, text, list_of, no_vals, first}
-use Rattle.fr_shape.specs.Val.{Dynamic, dyn_bool, dyn_int, dyn_nat, dyn_text, dyn_bytes}
+use Rattle.std.specs.Prelude.{◌∷◌, if◌then◌else◌}
+use Rattle.fr_model.specs.Common.{ℕ, encode_utf8, Bool, true, false, List, [], slice_get, Option, Some, None, Result, Ok, Err, option_map, Def, ScalarKind, Shape, Operation, Table, def_of, Val, Vals, bool, char, int, nat, text, list_of, no_vals, first, Dynamic, dyn_bool, dyn_int, dyn_nat, dyn_text, dyn_bytes}
 
 abbrev pub or_not_dynamic : Option Dynamic → Result Dynamic Operation
 or_not_dynamic (Some d) = Ok d

@@ -1,10 +1,7 @@
 -- What a journal holds of a place, said rule by rule. `held` of Journal is a scan of the notes that gives the same.
-use Rattle.std.specs.Prelude.{◌≡◌, ◌↔◌, ◌==◌, Bool, true, false, [], ◌∷◌, ◌++◌, is_some, Option, Some, None, option_map, if◌then◌else◌}
-use Rattle.std.specs.List.{list_any}
-use Rattle.std.specs.Option.{option_or, option_map_or}
-use Rattle.fr_shape.specs.Val.{Val}
-use Rattle.fr_model.specs.Places.{Place, part_at}
-use Rattle.fr_model.specs.Journal.{Note, entered_at, wrote_at, Journal, Held, in_parts, written, just_entered, untouched, place_of, held}
+use Rattle.fr_model.specs.Common.{Bool, true, false, [], is_some, Option, Some, None, list_any, option_or, option_map_or, Val}
+use Rattle.std.specs.Prelude.{option_map, ◌≡◌, ◌↔◌, ◌==◌, ◌∷◌, ◌++◌, if◌then◌else◌}
+use Rattle.fr_model.specs.Basis.{Place, part_at, Note, entered_at, wrote_at, Journal, Held, in_parts, written, just_entered, untouched, place_of, held}
 
 -- the way from one place down to another, where that is the same place or lies beneath it
 abbrev pub way_down : (above here : Place) → Option Place
@@ -54,8 +51,7 @@ since_covered (note ∷ notes) here = if is_some (part_given note here) then [] 
 abbrev pub held_by_rules : Journal → Place → Held
 held_by_rules notes here =
     if list_any (is_beneath here) (since_covered notes here) then in_parts
-    else option_map_or written (covering_part notes here)
-    (if list_any (is_entry_at here) notes then just_entered else untouched)
+    else option_map_or written (covering_part notes here) (if list_any (is_entry_at here) notes then just_entered else untouched)
 
 -- the scan and the rules give the same of every place
 abbrev pub ScanAgrees : Type 0

@@ -1,23 +1,9 @@
 -- Worked examples of what fields take by default and of what their validators say, of variants' fields too, computed from the
 -- definitions.
-use Rattle.std.specs.Prelude.{ℕ, pos, true, List, [], ◌∷◌, ◌++◌, Some, Ok, codes}
-use Rattle.fr_shape.specs.declared.shape.Def.{Def}
-use Rattle.fr_shape.specs.declared.shape.DefaultSource.{DefaultSource}
-use Rattle.fr_shape.specs.declared.shape.EnumRepr.{EnumRepr}
-use Rattle.fr_shape.specs.declared.shape.Field.{Field}
-use Rattle.fr_shape.specs.declared.shape.Shape.{Shape}
-use Rattle.fr_shape.specs.declared.shape.ValidatorDef.{ValidatorDef}
-use Rattle.fr_shape.specs.declared.error.Operation.{Operation}
-use Rattle.fr_shape.specs.declared.error.ReflectErrorKind.{ReflectErrorKind}
-use Rattle.fr_shape.specs.Look.{Table}
-use Rattle.fr_shape.specs.Plain.{plain_field, plain_shape}
-use Rattle.fr_shape.specs.Val.{nat, token, product, variant, none, some}
-use Rattle.fr_shape.specs.Validators.{message}
-use Rattle.fr_model.specs.Commands.{Call}
-use Rattle.fr_model.specs.Complete.{missing_field, invalid_field}
-use Rattle.fr_model.specs.ContentExamples.{id, u32, resource, struct_of, enum_of, variant_of_name, with_preset, one, two, put_in, in_deferred, refused, refused_first, Runs, Drops, foo_bar}
-use Rattle.fr_model.specs.Step.{operation_failed}
-use Rattle.fr_model.specs.Tree.{as_struct, as_variant, Tree, hole, whole, begun, no_trees, branch, strict}
+use Rattle.std.specs.Prelude.{◌∷◌, ◌++◌}
+use Rattle.fr_model.specs.Common.{ℕ, pos, true, List, [], Some, Ok, codes, None, Def, DefaultSource, EnumRepr, Field, Shape, ValidatorDef, Operation, ReflectErrorKind, Table, plain_field, plain_shape, nat, token, product, variant, none, some, message}
+use Rattle.fr_model.specs.Basis.{Call, missing_field, invalid_field, as_fields, Tree, hole, whole, begun, no_trees, branch, strict, SelectNthVariant, Set, SetNthFieldToDefault}
+use Rattle.fr_model.specs.ContentExamples.{fails, id, u32, resource, struct_of, enum_of, variant_of_name, with_preset, one, two, put_in, in_deferred, refused, refused_first, Runs, Drops, foo_bar}
 
 -- Defaults of fields
 
@@ -26,8 +12,7 @@ marked field source = record field { default = Some source }
 
 -- an enum of one variant with one field
 abbrev pub variant_with : (name : List ℕ) → Field → Shape
-variant_with name field =
-    plain_shape name (enum_of EnumRepr.U8 (variant_of_name (codes "A") (field ∷ []) (Some (pos 0)) ∷ []))
+variant_with name field = plain_shape name (enum_of EnumRepr.U8 (variant_of_name (codes "A") (field ∷ []) (Some (pos 0)) ∷ []))
 
 -- fields marked with a default of their own, marked for that of their shape, and unmarked; and enums with such fields
 abbrev pub defaults : Table
@@ -50,47 +35,35 @@ defaults =
 
 -- a struct that is begun with these two children
 abbrev pub begun_two : Tree → Tree → Tree
-begun_two first_child second_child = begun as_struct (branch first_child (branch second_child no_trees))
+begun_two first_child second_child = begun (as_fields None) (branch first_child (branch second_child no_trees))
 
 abbrev pub set_to_default : ℕ → Call
-set_to_default i = Call.SetNthFieldToDefault i
+set_to_default i = SetNthFieldToDefault i
 
 abbrev pub first_variant : Call
-first_variant = Call.SelectNthVariant 0
+first_variant = SelectNthVariant 0
 
 pub record DefaultExamples : Type 0 where
   pub own : Runs defaults 2 (set_to_default 0 ∷ []) (Ok (product (one (nat 5))))
   pub of_shape : Runs defaults 3 (set_to_default 0 ∷ put_in 1 1 (token 0)) (Ok (product (two (nat 0) (token 0))))
   pub unmarked : Runs defaults 4 (set_to_default 0 ∷ put_in 1 1 (token 0)) (Ok (product (two (nat 0) (token 0))))
-  pub of_shape_deferred :
-      Runs defaults 3 (in_deferred (set_to_default 0 ∷ put_in 1 1 (token 0))) (Ok (product (two (nat 0) (token 0))))
+  pub of_shape_deferred : Runs defaults 3 (in_deferred (set_to_default 0 ∷ put_in 1 1 (token 0))) (Ok (product (two (nat 0) (token 0))))
   pub in_place_of_another : Runs defaults 2 (put_in 0 0 (nat 9) ++ set_to_default 0 ∷ []) (Ok (product (one (nat 5))))
-  pub of_whole :
-      Runs defaults 4 (Call.Set 4 (product (two (nat 9) (token 0))) ∷ set_to_default 0 ∷ [])
-      (Ok (product (two (nat 0) (token 0))))
-  pub marked_without : Runs defaults 3 (set_to_default 1 ∷ []) (refused_first (operation_failed 1 Operation.NoDefault))
-  pub unmarked_without :
-      Runs defaults 4 (set_to_default 1 ∷ []) (refused_first (ReflectErrorKind.DefaultAttrButNoDefaultImpl (id 1)))
-  pub no_such_field :
-      Runs defaults 4 (set_to_default 2 ∷ []) (refused_first (operation_failed 4 Operation.FieldIndexOutOfBounds))
-  pub of_a_number :
-      Runs defaults 0 (set_to_default 0 ∷ []) (refused_first (operation_failed 0 Operation.NamedFieldOfPrimitive))
-  pub of_an_option : Runs defaults 8 (set_to_default 0 ∷ []) (refused_first (operation_failed 8 Operation.FieldOfOther))
-  pub unselected :
-      Runs defaults 6 (set_to_default 0 ∷ []) (refused_first (operation_failed 6 Operation.NamedFieldOfUnselectedVariant))
+  pub of_whole : Runs defaults 4 (Set 4 (product (two (nat 9) (token 0))) ∷ set_to_default 0 ∷ []) (Ok (product (two (nat 0) (token 0))))
+  pub marked_without : Runs defaults 3 (set_to_default 1 ∷ []) (fails 0 1 Operation.NoDefault)
+  pub unmarked_without : Runs defaults 4 (set_to_default 1 ∷ []) (refused_first (ReflectErrorKind.DefaultAttrButNoDefaultImpl (id 1)))
+  pub no_such_field : Runs defaults 4 (set_to_default 2 ∷ []) (fails 0 4 Operation.FieldIndexOutOfBounds)
+  pub of_a_number : Runs defaults 0 (set_to_default 0 ∷ []) (fails 0 0 Operation.NamedFieldOfPrimitive)
+  pub of_an_option : Runs defaults 8 (set_to_default 0 ∷ []) (fails 0 8 Operation.FieldOfOther)
+  pub unselected : Runs defaults 6 (set_to_default 0 ∷ []) (fails 0 6 Operation.NamedFieldOfUnselectedVariant)
   pub of_variant : Runs defaults 6 (first_variant ∷ set_to_default 0 ∷ []) (Ok (variant 0 (one (nat 0))))
-  pub no_such_variant_field :
-      Runs defaults 6 (first_variant ∷ set_to_default 1 ∷ [])
-      (refused 1 (operation_failed 6 Operation.FieldIndexOutOfBounds) [])
+  pub no_such_variant_field : Runs defaults 6 (first_variant ∷ set_to_default 1 ∷ []) (fails 1 6 Operation.FieldIndexOutOfBounds)
   -- a variant's hole doesn't take its shape's default for its enum's preset, but for its enum's attribute in deferred mode
   pub no_fill_by_preset : Runs defaults 5 (first_variant ∷ []) (refused 1 (missing_field 5 (Some 0) 0) [])
-  pub no_fill_by_preset_deferred :
-      Runs defaults 5 (in_deferred (first_variant ∷ [])) (refused 2 (missing_field 5 (Some 0) 0) [])
+  pub no_fill_by_preset_deferred : Runs defaults 5 (in_deferred (first_variant ∷ [])) (refused 2 (missing_field 5 (Some 0) 0) [])
   pub fill_by_attribute : Runs defaults 6 (in_deferred (first_variant ∷ [])) (Ok (variant 0 (one (nat 0))))
   pub no_fill_by_attribute : Runs defaults 6 (first_variant ∷ []) (refused 1 (missing_field 6 (Some 0) 0) [])
-  pub marked_hole :
-      Runs defaults 7 (in_deferred (first_variant ∷ []))
-      (refused 2 (ReflectErrorKind.DefaultAttrButNoDefaultImpl (id 1)) [])
+  pub marked_hole : Runs defaults 7 (in_deferred (first_variant ∷ [])) (refused 2 (ReflectErrorKind.DefaultAttrButNoDefaultImpl (id 1)) [])
   -- a variant's hole takes its field's own default in either column
   pub own_of_variant : Runs defaults 11 (first_variant ∷ []) (Ok (variant 0 (one (nat 5))))
   pub own_of_variant_deferred : Runs defaults 11 (in_deferred (first_variant ∷ [])) (Ok (variant 0 (one (nat 5))))
@@ -98,8 +71,7 @@ pub record DefaultExamples : Type 0 where
   pub marked_of_variant_deferred : Runs defaults 13 (in_deferred (first_variant ∷ [])) (Ok (variant 0 (one (nat 0))))
   -- a skipped field takes its shape's default in strict mode alone
   pub skipped_of_variant : Runs defaults 12 (first_variant ∷ []) (Ok (variant 0 (one (nat 0))))
-  pub skipped_of_variant_deferred :
-      Runs defaults 12 (in_deferred (first_variant ∷ [])) (refused 2 (missing_field 12 (Some 0) 0) [])
+  pub skipped_of_variant_deferred : Runs defaults 12 (in_deferred (first_variant ∷ [])) (refused 2 (missing_field 12 (Some 0) 0) [])
   -- what stood at the field is dropped, and nothing of another
   pub drops_child : Drops defaults 10 strict (begun_two (whole (some (token 0))) hole) (set_to_default 0) 0 1
   pub keeps_other : Drops defaults 10 strict (begun_two (whole none) (whole (token 0))) (set_to_default 0) 0 0
@@ -107,7 +79,7 @@ pub record DefaultExamples : Type 0 where
   pub keeps_other_part : Drops defaults 10 strict (whole (product (two (some (token 0)) (token 1)))) (set_to_default 0) 1 0
   -- a refusal drops all
   pub refused_drops :
-      Drops foo_bar 2 strict (begun (as_variant 1) (branch hole (branch (whole (token 0)) no_trees))) (set_to_default 1) 0 1
+      Drops foo_bar 2 strict (begun (as_fields (Some 1)) (branch hole (branch (whole (token 0)) no_trees))) (set_to_default 1) 0 1
 
 -- Validators of a variant's field
 

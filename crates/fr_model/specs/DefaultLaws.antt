@@ -1,16 +1,9 @@
 -- Setting a field to its default is three calls made as one, or refused where there is no default.
-use Rattle.std.specs.Prelude.{◌≡◌, ◌↔◌, ℕ, Some, None, Result, Ok, Err}
-use Rattle.fr_shape.specs.declared.error.Operation.{Operation}
-use Rattle.fr_shape.specs.declared.error.ReflectErrorKind.{ReflectErrorKind}
-use Rattle.fr_shape.specs.declared.shape.Field.{Field}
-use Rattle.fr_shape.specs.Hooks.{Meanings}
-use Rattle.fr_shape.specs.Look.{Table, def_of, field_in}
-use Rattle.fr_shape.specs.Val.{Val}
-use Rattle.fr_model.specs.Commands.{Call}
+use Rattle.std.specs.Prelude.{◌≡◌, ◌↔◌}
+use Rattle.fr_model.specs.Common.{ℕ, Some, None, Result, Ok, Err, Operation, ReflectErrorKind, Field, Meanings, Table, def_of, field_in, Val}
+use Rattle.fr_model.specs.Basis.{Call, selected, Tree, State, cursor_shape, cursor_tree, IsInOrder}
 use Rattle.fr_model.specs.Refusals.{at_shape, named_refusal, operation_failed}
 use Rattle.fr_model.specs.Step.{field_default, step}
-use Rattle.fr_model.specs.Tree.{selected, Tree, State, cursor_shape, cursor_tree}
-use Rattle.fr_model.specs.Well.{IsInOrder}
 
 -- a command after another, unless that one was refused
 abbrev pub and_step : Meanings → Table → (root : ℕ) → Result State ReflectErrorKind → Call → Result State ReflectErrorKind
@@ -46,15 +39,12 @@ pub data HasNoDefault (table : Table) (s : ℕ) (tree : Tree) (i : ℕ) (kind : 
 pub record SetsToDefault (hooks : Meanings) (table : Table) (root : ℕ) (state : State) (i : ℕ) : Type 0 where
   pub default : (field : Field) (v : Val) → IsInOrder table root state
       → field_in (def_of table (cursor_shape table root state)) (selected (cursor_tree state)) i ≡ Some field
-      → field_default table field ≡ Ok v
-      → AreSameButCalls (step hooks table root state (Call.SetNthFieldToDefault i))
+      → field_default table field ≡ Ok v → AreSameButCalls (step hooks table root state (Call.SetNthFieldToDefault i))
       (three_calls hooks table root state i field.shape.0 v)
-  pub none : (kind : ReflectErrorKind)
-      → (step hooks table root state (Call.SetNthFieldToDefault i) ≡ Err kind)
+  pub none : (kind : ReflectErrorKind) → (step hooks table root state (Call.SetNthFieldToDefault i) ≡ Err kind)
       ↔ HasNoDefault table (cursor_shape table root state) (cursor_tree state) i kind
 
 -- whatever the state and the field: where there is a default it is three calls (the state being in order), and where there is none the
 -- call is refused
 abbrev pub DefaultIsThreeCalls : Type 0
-DefaultIsThreeCalls =
-    (hooks : Meanings) (table : Table) (root : ℕ) (state : State) (i : ℕ) → SetsToDefault hooks table root state i
+DefaultIsThreeCalls = (hooks : Meanings) (table : Table) (root : ℕ) (state : State) (i : ℕ) → SetsToDefault hooks table root state i

@@ -1,27 +1,11 @@
 -- Worked examples of dynamic values, computed from the definitions.
-use Rattle.std.specs.Prelude.{◌≡◌, ℕ, pos, negsuc, true, List, [], ◌∷◌, ◌++◌, Some, Ok, codes}
-use Rattle.fr_shape.specs.declared.shape.Def.{Def}
-use Rattle.fr_shape.specs.declared.shape.EnumRepr.{EnumRepr}
-use Rattle.fr_shape.specs.declared.shape.KnownPointer.{KnownPointer}
-use Rattle.fr_shape.specs.declared.shape.ScalarKind.{ScalarKind}
-use Rattle.fr_shape.specs.declared.shape.Shape.{Shape}
-use Rattle.fr_shape.specs.declared.error.InitCall.{InitCall}
-use Rattle.fr_shape.specs.declared.error.Operation.{Operation}
-use Rattle.fr_shape.specs.declared.error.TrackerKind.{TrackerKind}
-use Rattle.fr_shape.specs.Hooks.{no_hooks}
-use Rattle.fr_shape.specs.Look.{Table}
-use Rattle.fr_shape.specs.Plain.{plain_field, plain_shape}
-use Rattle.fr_shape.specs.Val.{Val, bool, char, int, nat, text, token, product, variant, none, some, ok, list_of, map_of, set_of, ptr, dyn, no_vals, no_entries}
-use Rattle.fr_shape.specs.Val.{Dynamic, Dynamics, dyn_null, dyn_bool, dyn_int, dyn_nat, dyn_text, dyn_bytes, dyn_array, dyn_object, no_dynamics, first_dynamic, no_members, member}
-use Rattle.fr_path.specs.declared.path_steps.PathStep.{PathStep}
-use Rattle.fr_model.specs.Commands.{Call}
-use Rattle.fr_model.specs.Complete.{missing_value}
+use Rattle.std.specs.Prelude.{◌≡◌, ◌∷◌, ◌++◌}
+use Rattle.fr_model.specs.Common.{ℕ, pos, negsuc, true, List, [], Some, Ok, codes, Def, EnumRepr, KnownPointer, ScalarKind, Shape, InitCall, Operation, TrackerKind, no_hooks, Table, plain_field, plain_shape, Val, bool, char, int, nat, text, token, product, variant, none, some, ok, list_of, map_of, set_of, ptr, dyn, no_vals, no_entries, Dynamic, Dynamics, dyn_null, dyn_bool, dyn_int, dyn_nat, dyn_text, dyn_bytes, dyn_array, dyn_object, no_dynamics, first_dynamic, no_members, member, PathStep}
+use Rattle.fr_model.specs.Basis.{Call, missing_value, first_by_walk, failures, as_items, ItemsKind, as_entries, EntriesKind, Tree, entered, whole, begun, no_trees, branch, strict, BeginDeferred, BeginKey, BeginListItem, BeginObjectEntry, BeginSetItem, BeginSome, BeginValue, End, FinishDeferred, InitList, InitListWithCapacity, InitMap, InitSet, Set}
 use Rattle.fr_model.specs.CollectionExamples.{Releases}
-use Rattle.fr_model.specs.ContentExamples.{id, u32, string, resource, struct_of, enum_of, variant_of_name, pointer_to, one, two, put_in, in_deferred, refused, refused_first, Runs, Drops, in_field}
-use Rattle.fr_model.specs.Failing.{first_by_walk, failures}
+use Rattle.fr_model.specs.ContentExamples.{fails, lacks, id, u32, string, resource, struct_of, enum_of, variant_of_name, pointer_to, one, two, put_in, in_deferred, refused, refused_first, Runs, Drops, in_field}
 use Rattle.fr_model.specs.ListExamples.{item, unexpected}
 use Rattle.fr_model.specs.Step.{operation_failed}
-use Rattle.fr_model.specs.Tree.{as_dyn_array, as_dyn_object, Tree, entered, whole, begun, no_trees, branch, strict}
 
 -- What a dynamic place makes of values of other shapes
 
@@ -56,10 +40,10 @@ conversions =
     ∷ record (plain_shape (codes "Wrapped") Def.Other) { inner = Some (id 2) } ∷ []
 
 abbrev pub Converts : (given : ℕ) → Val → Dynamic → Type 0
-Converts given v made = Runs conversions 0 (Call.Set given v ∷ []) (Ok (dyn made))
+Converts given v made = Runs conversions 0 (Set given v ∷ []) (Ok (dyn made))
 
 abbrev pub Refuses : (given : ℕ) → Val → Operation → Type 0
-Refuses given v operation = Runs conversions 0 (Call.Set given v ∷ []) (refused_first (operation_failed given operation))
+Refuses given v operation = Runs conversions 0 (Set given v ∷ []) (refused_first (operation_failed given operation))
 
 -- a refusal names the value's shape
 pub record ConversionExamples : Type 0 where
@@ -84,14 +68,12 @@ pub record ConversionExamples : Type 0 where
   pub of_str : Converts 17 (text (codes "hi")) (dyn_text (codes "hi"))
   pub no_cow_str : Refuses 18 (text (codes "hi")) Operation.NotDynamic
   -- bytes, only where the place takes them
-  pub of_bytes :
-      Runs conversions 1 (Call.Set 19 (list_of (two (nat 1) (nat 255))) ∷ []) (Ok (dyn (dyn_bytes (1 ∷ 255 ∷ []))))
-  pub of_no_bytes : Runs conversions 1 (Call.Set 19 (list_of no_vals) ∷ []) (Ok (dyn (dyn_bytes [])))
+  pub of_bytes : Runs conversions 1 (Set 19 (list_of (two (nat 1) (nat 255))) ∷ []) (Ok (dyn (dyn_bytes (1 ∷ 255 ∷ []))))
+  pub of_no_bytes : Runs conversions 1 (Set 19 (list_of no_vals) ∷ []) (Ok (dyn (dyn_bytes [])))
   pub bytes_not_taken : Refuses 19 (list_of (one (nat 1))) Operation.NotDynamic
-  pub no_other_list :
-      Runs conversions 1 (Call.Set 20 (list_of (one (nat 1))) ∷ []) (refused_first (operation_failed 20 Operation.NotDynamic))
+  pub no_other_list : Runs conversions 1 (Set 20 (list_of (one (nat 1))) ∷ []) (fails 0 20 Operation.NotDynamic)
   pub no_opaque : Refuses 21 (token 0) Operation.NotDynamic
-  pub no_opaque_drops : Releases conversions 0 (Call.Set 21 (token 0) ∷ []) (1 ∷ [])
+  pub no_opaque_drops : Releases conversions 0 (Set 21 (token 0) ∷ []) (1 ∷ [])
   pub no_struct : Refuses 22 (product no_vals) Operation.NotDynamic
   pub no_enum : Refuses 23 (variant 0 no_vals) Operation.NotDynamic
   pub no_option : Refuses 24 none Operation.NotDynamic
@@ -114,13 +96,13 @@ dynamics =
 
 -- an entry of an object is entered and left, with what is done at it
 abbrev pub in_entry : (key : List ℕ) → List Call → List Call
-in_entry key script = Call.BeginObjectEntry key ∷ script ++ Call.End ∷ []
+in_entry key script = BeginObjectEntry key ∷ script ++ End ∷ []
 
 abbrev pub number_under : (key : List ℕ) → ℕ → List Call
-number_under key n = in_entry key (Call.Set 0 (nat n) ∷ [])
+number_under key n = in_entry key (Set 0 (nat n) ∷ [])
 
 abbrev pub element : ℕ → List Call
-element n = item (Call.Set 0 (nat n) ∷ [])
+element n = item (Set 0 (nat n) ∷ [])
 
 abbrev pub numbers_in : List ℕ → Dynamics
 numbers_in [] = no_dynamics
@@ -144,9 +126,7 @@ no_object = dyn (dyn_object no_members)
 
 -- a number under one key, and an array of a text under another
 abbrev pub number_and_array : List Call
-number_and_array =
-    Call.InitMap ∷ number_under (codes "a") 5
-    ++ in_entry (codes "b") (Call.InitList ∷ item (Call.Set 1 (text (codes "x")) ∷ []))
+number_and_array = InitMap ∷ number_under (codes "a") 5 ++ in_entry (codes "b") (InitList ∷ item (Set 1 (text (codes "x")) ∷ []))
 
 abbrev pub number_and_array_made : Val
 number_and_array_made = a_and_b (dyn_nat 5) (dyn_array (first_dynamic (dyn_text (codes "x")) no_dynamics))
@@ -154,116 +134,86 @@ number_and_array_made = a_and_b (dyn_nat 5) (dyn_array (first_dynamic (dyn_text 
 -- an entry is begun twice, and goes on
 abbrev pub entry_twice : List Call
 entry_twice =
-    Call.InitMap ∷ in_entry (codes "a") (Call.InitList ∷ element 1) ++ number_under (codes "b") 5
-    ++ in_entry (codes "a") (Call.InitList ∷ element 2)
+    InitMap ∷ in_entry (codes "a") (InitList ∷ element 1) ++ number_under (codes "b") 5 ++ in_entry (codes "a") (InitList ∷ element 2)
 
 -- an object both of whose entries are just entered, the later key first
 abbrev pub two_entered : Tree
-two_entered = begun (as_dyn_object (codes "b" ∷ codes "a" ∷ [])) (branch entered (branch entered no_trees))
+two_entered = begun (as_entries (EntriesKind.Object (codes "b" ∷ codes "a" ∷ []))) (branch entered (branch entered no_trees))
 
 -- no dynamic value holds a token, but what stands there is dropped where it starts anew
 abbrev pub array_with_token : Tree
-array_with_token = begun as_dyn_array (branch (whole (token 0)) no_trees)
+array_with_token = begun (as_items ItemsKind.Array) (branch (whole (token 0)) no_trees)
 
 abbrev pub object_with_token : Tree
-object_with_token = begun (as_dyn_object (codes "a" ∷ [])) (branch (whole (token 0)) no_trees)
+object_with_token = begun (as_entries (EntriesKind.Object (codes "a" ∷ []))) (branch (whole (token 0)) no_trees)
 
 pub record DynamicExamples : Type 0 where
-  pub only_entered : Runs dynamics 2 [] (refused_first (missing_value 2))
-  pub empty_array : Runs dynamics 2 (Call.InitList ∷ []) (Ok (array_made []))
-  pub empty_object : Runs dynamics 2 (Call.InitMap ∷ []) (Ok no_object)
-  pub elements :
-      Runs dynamics 2 (Call.InitListWithCapacity 9 ∷ element 1 ++ element 2) (Ok (array_made (1 ∷ 2 ∷ [])))
+  pub only_entered : Runs dynamics 2 [] (lacks 0 2 [])
+  pub empty_array : Runs dynamics 2 (InitList ∷ []) (Ok (array_made []))
+  pub empty_object : Runs dynamics 2 (InitMap ∷ []) (Ok no_object)
+  pub elements : Runs dynamics 2 (InitListWithCapacity 9 ∷ element 1 ++ element 2) (Ok (array_made (1 ∷ 2 ∷ [])))
   pub nested : Runs dynamics 2 number_and_array (Ok number_and_array_made)
   pub nested_deferred : Runs dynamics 2 (in_deferred number_and_array) (Ok number_and_array_made)
   -- an array keeps its elements and an object its entries, however often they are begun
   pub elements_stay :
-      Runs dynamics 2 (Call.Set 2 (array_made (1 ∷ [])) ∷ Call.InitList ∷ element 2 ++ Call.InitList ∷ element 3)
-      (Ok (array_made (1 ∷ 2 ∷ 3 ∷ [])))
+      Runs dynamics 2 (Set 2 (array_made (1 ∷ [])) ∷ InitList ∷ element 2 ++ InitList ∷ element 3) (Ok (array_made (1 ∷ 2 ∷ 3 ∷ [])))
   pub entries_stay :
-      Runs dynamics 2
-      (Call.Set 2 (only_a (dyn_bool true)) ∷ Call.InitMap ∷ number_under (codes "b") 2 ++ Call.InitMap
-      ∷ number_under (codes "a") 3)
-      (Ok (a_and_b (dyn_nat 3) (dyn_nat 2)))
+      Runs dynamics 2 (Set 2 (only_a (dyn_bool true)) ∷ InitMap ∷ number_under (codes "b") 2 ++ InitMap
+      ∷ number_under (codes "a") 3) (Ok (a_and_b (dyn_nat 3) (dyn_nat 2)))
   pub array_in_an_option :
-      Runs dynamics 3
-      (Call.Set 3 (some (array_made (1 ∷ []))) ∷ Call.BeginSome ∷ Call.InitList ∷ element 2 ++ Call.End ∷ [])
+      Runs dynamics 3 (Set 3 (some (array_made (1 ∷ []))) ∷ BeginSome ∷ InitList ∷ element 2 ++ End ∷ [])
       (Ok (some (array_made (1 ∷ 2 ∷ []))))
   pub object_in_a_struct :
-      Runs dynamics 4
-      (in_deferred (in_field 1 (Call.InitMap ∷ number_under (codes "a") 1) ++ put_in 0 0 (nat 7)
-      ++ in_field 1 (Call.InitMap ∷ number_under (codes "b") 2)))
-      (Ok (product (two (nat 7) (a_and_b (dyn_nat 1) (dyn_nat 2)))))
+      Runs dynamics 4 (in_deferred (in_field 1 (InitMap ∷ number_under (codes "a") 1) ++ put_in 0 0 (nat 7)
+      ++ in_field 1 (InitMap ∷ number_under (codes "b") 2))) (Ok (product (two (nat 7) (a_and_b (dyn_nat 1) (dyn_nat 2)))))
   -- an entry whose key is there is entered as it is
-  pub entry_goes_on :
-      Runs dynamics 2 entry_twice (Ok (a_and_b (array_with (1 ∷ 2 ∷ [])) (dyn_nat 5)))
-  pub entry_goes_on_deferred :
-      Runs dynamics 2 (in_deferred entry_twice) (Ok (a_and_b (array_with (1 ∷ 2 ∷ [])) (dyn_nat 5)))
-  pub entry_left_as_it_is :
-      Runs dynamics 2 (Call.InitMap ∷ number_under (codes "a") 1 ++ in_entry (codes "a") []) (Ok (only_a (dyn_nat 1)))
+  pub entry_goes_on : Runs dynamics 2 entry_twice (Ok (a_and_b (array_with (1 ∷ 2 ∷ [])) (dyn_nat 5)))
+  pub entry_goes_on_deferred : Runs dynamics 2 (in_deferred entry_twice) (Ok (a_and_b (array_with (1 ∷ 2 ∷ [])) (dyn_nat 5)))
+  pub entry_left_as_it_is : Runs dynamics 2 (InitMap ∷ number_under (codes "a") 1 ++ in_entry (codes "a") []) (Ok (only_a (dyn_nat 1)))
   -- a value of another kind starts anew
-  pub number_to_array : Runs dynamics 2 (Call.Set 0 (nat 1) ∷ Call.InitList ∷ element 2) (Ok (array_made (2 ∷ [])))
-  pub object_to_array :
-      Runs dynamics 2 (Call.InitMap ∷ number_under (codes "a") 1 ++ Call.InitList ∷ []) (Ok (array_made []))
-  pub whole_object_to_array : Runs dynamics 2 (Call.Set 2 (only_a dyn_null) ∷ Call.InitList ∷ []) (Ok (array_made []))
-  pub number_to_object :
-      Runs dynamics 2 (Call.Set 0 (nat 1) ∷ Call.InitMap ∷ number_under (codes "a") 2) (Ok (only_a (dyn_nat 2)))
-  pub array_to_object : Runs dynamics 2 (in_deferred (Call.InitList ∷ element 1 ++ Call.InitMap ∷ [])) (Ok no_object)
-  pub whole_array_to_object : Runs dynamics 2 (Call.Set 2 (array_made (1 ∷ [])) ∷ Call.InitMap ∷ []) (Ok no_object)
-  pub array_to_number : Runs dynamics 2 (Call.InitList ∷ element 1 ++ Call.Set 0 (nat 2) ∷ []) (Ok (dyn (dyn_nat 2)))
-  pub array_anew_drops : Drops dynamics 2 strict object_with_token Call.InitList 0 1
-  pub array_with_capacity_anew_drops : Drops dynamics 2 strict object_with_token (Call.InitListWithCapacity 1) 0 1
-  pub object_anew_drops : Drops dynamics 2 strict array_with_token Call.InitMap 0 1
-  pub array_kept_drops_none : Drops dynamics 2 strict array_with_token Call.InitList 0 0
-  pub object_kept_drops_none : Drops dynamics 2 strict object_with_token Call.InitMap 0 0
-  pub entry_drops_none : Drops dynamics 2 strict object_with_token (Call.BeginObjectEntry (codes "a")) 0 0
+  pub number_to_array : Runs dynamics 2 (Set 0 (nat 1) ∷ InitList ∷ element 2) (Ok (array_made (2 ∷ [])))
+  pub object_to_array : Runs dynamics 2 (InitMap ∷ number_under (codes "a") 1 ++ InitList ∷ []) (Ok (array_made []))
+  pub whole_object_to_array : Runs dynamics 2 (Set 2 (only_a dyn_null) ∷ InitList ∷ []) (Ok (array_made []))
+  pub number_to_object : Runs dynamics 2 (Set 0 (nat 1) ∷ InitMap ∷ number_under (codes "a") 2) (Ok (only_a (dyn_nat 2)))
+  pub array_to_object : Runs dynamics 2 (in_deferred (InitList ∷ element 1 ++ InitMap ∷ [])) (Ok no_object)
+  pub whole_array_to_object : Runs dynamics 2 (Set 2 (array_made (1 ∷ [])) ∷ InitMap ∷ []) (Ok no_object)
+  pub array_to_number : Runs dynamics 2 (InitList ∷ element 1 ++ Set 0 (nat 2) ∷ []) (Ok (dyn (dyn_nat 2)))
+  pub array_anew_drops : Drops dynamics 2 strict object_with_token InitList 0 1
+  pub array_with_capacity_anew_drops : Drops dynamics 2 strict object_with_token (InitListWithCapacity 1) 0 1
+  pub object_anew_drops : Drops dynamics 2 strict array_with_token InitMap 0 1
+  pub array_kept_drops_none : Drops dynamics 2 strict array_with_token InitList 0 0
+  pub object_kept_drops_none : Drops dynamics 2 strict object_with_token InitMap 0 0
+  pub entry_drops_none : Drops dynamics 2 strict object_with_token (BeginObjectEntry (codes "a")) 0 0
   -- an element or an entry is completed as it ends, in deferred mode too
-  pub element_missing : Runs dynamics 2 (Call.InitList ∷ item []) (refused 2 (missing_value 2) (PathStep.Index 0 ∷ []))
-  pub element_missing_deferred :
-      Runs dynamics 2 (in_deferred (Call.InitList ∷ item [])) (refused 3 (missing_value 2) (PathStep.Index 0 ∷ []))
+  pub element_missing : Runs dynamics 2 (InitList ∷ item []) (lacks 2 2 (PathStep.Index 0 ∷ []))
+  pub element_missing_deferred : Runs dynamics 2 (in_deferred (InitList ∷ item [])) (lacks 3 2 (PathStep.Index 0 ∷ []))
   pub entry_missing_deferred :
-      Runs dynamics 2 (in_deferred (Call.InitMap ∷ in_entry (codes "a") []))
-      (refused 3 (missing_value 2) (PathStep.Entry (codes "a") ∷ []))
+      Runs dynamics 2 (in_deferred (InitMap ∷ in_entry (codes "a") [])) (lacks 3 2 (PathStep.Entry (codes "a") ∷ []))
   -- deferred mode ends inside an entry, which is left in strict mode
   pub finished_inside :
-      Runs dynamics 2
-      (Call.BeginDeferred ∷ Call.InitMap ∷ Call.BeginObjectEntry (codes "a") ∷ Call.Set 0 (nat 1) ∷ Call.FinishDeferred
-      ∷ Call.End ∷ number_under (codes "b") 2)
-      (Ok (a_and_b (dyn_nat 1) (dyn_nat 2)))
+      Runs dynamics 2 (BeginDeferred ∷ InitMap ∷ BeginObjectEntry (codes "a") ∷ Set 0 (nat 1) ∷ FinishDeferred
+      ∷ End ∷ number_under (codes "b") 2) (Ok (a_and_b (dyn_nat 1) (dyn_nat 2)))
   pub finished_too_early :
-      Runs dynamics 2 (Call.BeginDeferred ∷ Call.InitMap ∷ Call.BeginObjectEntry (codes "a") ∷ Call.FinishDeferred ∷ [])
-      (refused 3 (missing_value 2) (PathStep.Entry (codes "a") ∷ []))
+      Runs dynamics 2 (BeginDeferred ∷ InitMap ∷ BeginObjectEntry (codes "a") ∷ FinishDeferred ∷ [])
+      (lacks 3 2 (PathStep.Entry (codes "a") ∷ []))
   -- paths: an element's counts all that stands in front, an entry's is its key
   pub path_behind_elements :
-      Runs dynamics 2 (Call.Set 2 (array_made (1 ∷ 2 ∷ [])) ∷ Call.InitList ∷ element 3 ++ item [])
-      (refused 6 (missing_value 2) (PathStep.Index 3 ∷ []))
+      Runs dynamics 2 (Set 2 (array_made (1 ∷ 2 ∷ [])) ∷ InitList ∷ element 3 ++ item []) (lacks 6 2 (PathStep.Index 3 ∷ []))
   pub path_inside :
-      Runs dynamics 2 (Call.InitMap ∷ number_under (codes "a") 1 ++ in_entry (codes "b") (Call.InitList ∷ item []))
-      (refused 7 (missing_value 2) (PathStep.Entry (codes "b") ∷ PathStep.Index 0 ∷ []))
+      Runs dynamics 2 (InitMap ∷ number_under (codes "a") 1 ++ in_entry (codes "b") (InitList ∷ item []))
+      (lacks 7 2 (PathStep.Entry (codes "b") ∷ PathStep.Index 0 ∷ []))
   pub entries_go_by_key :
       first_by_walk (failures no_hooks dynamics 2 [] two_entered)
       ≡ Some (record { path = PathStep.Entry (codes "a") ∷ []; kind = missing_value 2 })
   -- refusals
-  pub entry_of_other :
-      Runs dynamics 0 (Call.BeginObjectEntry (codes "a") ∷ []) (refused_first (operation_failed 0 Operation.EntryOfOther))
-  pub entry_of_entered :
-      Runs dynamics 2 (Call.BeginObjectEntry (codes "a") ∷ [])
-      (refused_first (operation_failed 2 Operation.EntryBeforeInitMap))
-  pub entry_of_array :
-      Runs dynamics 2 (Call.InitList ∷ Call.BeginObjectEntry (codes "a") ∷ [])
-      (refused 1 (operation_failed 2 Operation.EntryBeforeInitMap) [])
-  pub entry_of_whole :
-      Runs dynamics 2 (Call.Set 2 no_object ∷ Call.BeginObjectEntry (codes "a") ∷ [])
-      (refused 1 (operation_failed 2 Operation.EntryBeforeInitMap) [])
-  pub item_of_object :
-      Runs dynamics 2 (Call.InitMap ∷ Call.BeginListItem ∷ []) (refused 1 (operation_failed 2 Operation.ItemOfOther) [])
-  pub item_of_entered : Runs dynamics 2 (Call.BeginListItem ∷ []) (refused_first (operation_failed 2 Operation.ItemOfOther))
-  pub key_of_object :
-      Runs dynamics 2 (Call.InitMap ∷ Call.BeginKey ∷ []) (refused 1 (operation_failed 2 Operation.KeyBeforeInitMap) [])
-  pub value_of_object :
-      Runs dynamics 2 (Call.InitMap ∷ Call.BeginValue ∷ []) (refused 1 (operation_failed 2 Operation.ValueBeforeKey) [])
-  pub no_set : Runs dynamics 2 (Call.InitSet ∷ []) (refused_first (operation_failed 2 Operation.InitSetOfOther))
-  pub no_begun_set :
-      Runs dynamics 2 (Call.InitList ∷ Call.InitSet ∷ [])
-      (refused 1 (unexpected InitCall.Set TrackerKind.DynamicValue) [])
-  pub no_set_item : Runs dynamics 2 (Call.BeginSetItem ∷ []) (refused_first (operation_failed 2 Operation.SetItemOfOther))
+  pub entry_of_other : Runs dynamics 0 (BeginObjectEntry (codes "a") ∷ []) (fails 0 0 Operation.EntryOfOther)
+  pub entry_of_entered : Runs dynamics 2 (BeginObjectEntry (codes "a") ∷ []) (fails 0 2 Operation.EntryBeforeInitMap)
+  pub entry_of_array : Runs dynamics 2 (InitList ∷ BeginObjectEntry (codes "a") ∷ []) (fails 1 2 Operation.EntryBeforeInitMap)
+  pub entry_of_whole : Runs dynamics 2 (Set 2 no_object ∷ BeginObjectEntry (codes "a") ∷ []) (fails 1 2 Operation.EntryBeforeInitMap)
+  pub item_of_object : Runs dynamics 2 (InitMap ∷ BeginListItem ∷ []) (fails 1 2 Operation.ItemOfOther)
+  pub item_of_entered : Runs dynamics 2 (BeginListItem ∷ []) (fails 0 2 Operation.ItemOfOther)
+  pub key_of_object : Runs dynamics 2 (InitMap ∷ BeginKey ∷ []) (fails 1 2 Operation.KeyBeforeInitMap)
+  pub value_of_object : Runs dynamics 2 (InitMap ∷ BeginValue ∷ []) (fails 1 2 Operation.ValueBeforeKey)
+  pub no_set : Runs dynamics 2 (InitSet ∷ []) (fails 0 2 Operation.InitSetOfOther)
+  pub no_begun_set : Runs dynamics 2 (InitList ∷ InitSet ∷ []) (refused 1 (unexpected InitCall.Set TrackerKind.DynamicValue) [])
+  pub no_set_item : Runs dynamics 2 (BeginSetItem ∷ []) (fails 0 2 Operation.SetItemOfOther)

@@ -1,31 +1,13 @@
 -- The parts of dynamic values: elements of arrays, and entries of objects under their keys.
-use Rattle.std.specs.Prelude.{ℕ, zero, suc, Bool, true, not, ◌&&◌, List, [], ◌∷◌, Option, Some, None}
-use Rattle.std.specs.Str.{bytes_eq}
-use Rattle.fr_shape.specs.Val.{Val, Vals, unit, bool, char, int, nat, text, token, product, variant, none, some, ok, err, list_of, map_of, set_of, ptr, dyn, no_vals, first}
-use Rattle.fr_shape.specs.Val.{Dynamic, Dynamics, Members, dyn_null, dyn_bool, dyn_int, dyn_nat, dyn_text, dyn_bytes, dyn_array, dyn_object, no_dynamics, first_dynamic, no_members, member}
+use Rattle.std.specs.Prelude.{◌&&◌, ◌∷◌}
+use Rattle.fr_model.specs.Common.{ℕ, zero, suc, Bool, true, not, List, [], Option, Some, None, bytes_eq, Val, Vals, dyn, no_vals, first, Dynamic, Dynamics, Members, dyn_null, dyn_array, dyn_object, no_dynamics, first_dynamic, no_members, member}
 
 -- What parts make
 
 -- the dynamic value that a value of a dynamic shape is (a placeholder for any other value)
 abbrev pub dynamic_in : Val → Dynamic
 dynamic_in (dyn d) = d
-dynamic_in unit = dyn_null
-dynamic_in (bool b) = dyn_null
-dynamic_in (char c) = dyn_null
-dynamic_in (int i) = dyn_null
-dynamic_in (nat n) = dyn_null
-dynamic_in (text codes) = dyn_null
-dynamic_in (token t) = dyn_null
-dynamic_in (product vs) = dyn_null
-dynamic_in (variant index vs) = dyn_null
-dynamic_in none = dyn_null
-dynamic_in (some v) = dyn_null
-dynamic_in (ok v) = dyn_null
-dynamic_in (err v) = dyn_null
-dynamic_in (list_of vs) = dyn_null
-dynamic_in (map_of es) = dyn_null
-dynamic_in (set_of vs) = dyn_null
-dynamic_in (ptr v) = dyn_null
+dynamic_in _ = dyn_null
 
 abbrev pub dynamics_in : Vals → Dynamics
 dynamics_in no_vals = no_dynamics
@@ -53,23 +35,11 @@ member_keys (member key d ms) = key ∷ member_keys ms
 
 abbrev pub elements_in : Dynamic → Option Dynamics
 elements_in (dyn_array ds) = Some ds
-elements_in dyn_null = None
-elements_in (dyn_bool b) = None
-elements_in (dyn_int i) = None
-elements_in (dyn_nat n) = None
-elements_in (dyn_text codes) = None
-elements_in (dyn_bytes bytes) = None
-elements_in (dyn_object ms) = None
+elements_in _ = None
 
 abbrev pub members_of_object : Dynamic → Option Members
 members_of_object (dyn_object ms) = Some ms
-members_of_object dyn_null = None
-members_of_object (dyn_bool b) = None
-members_of_object (dyn_int i) = None
-members_of_object (dyn_nat n) = None
-members_of_object (dyn_text codes) = None
-members_of_object (dyn_bytes bytes) = None
-members_of_object (dyn_array ds) = None
+members_of_object _ = None
 
 -- Keys
 

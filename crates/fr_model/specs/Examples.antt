@@ -1,16 +1,7 @@
 -- Worked examples, computed from the definitions.
-use Rattle.std.specs.Prelude.{◌≡◌, pos, [], ◌∷◌, List, None, Err, codes}
-use Rattle.fr_shape.specs.declared.shape.Def.{Def}
-use Rattle.fr_shape.specs.declared.shape.ScalarKind.{ScalarKind}
-use Rattle.fr_shape.specs.declared.shape.StructKind.{StructKind}
-use Rattle.fr_shape.specs.declared.shape.ValidatorDef.{ValidatorDef}
-use Rattle.fr_shape.specs.Hooks.{no_hooks}
-use Rattle.fr_shape.specs.Look.{Table}
-use Rattle.fr_shape.specs.Plain.{plain_field, plain_shape}
-use Rattle.fr_shape.specs.Val.{nat}
-use Rattle.fr_shape.specs.Validators.{message}
-use Rattle.fr_model.specs.Commands.{Call}
-use Rattle.fr_model.specs.Complete.{invalid_field}
+use Rattle.std.specs.Prelude.{◌≡◌, ◌∷◌}
+use Rattle.fr_model.specs.Common.{pos, [], List, None, Err, codes, Def, ScalarKind, StructKind, ValidatorDef, no_hooks, Table, plain_field, plain_shape, nat, message}
+use Rattle.fr_model.specs.Basis.{Call, invalid_field, BeginDeferred, BeginNthField, End, FinishDeferred, Set}
 use Rattle.fr_model.specs.Run.{full_run}
 
 -- the shapes u64, and Vmin, a struct of one u64 that has to be at least 5
@@ -25,8 +16,7 @@ at_least_five =
 
 -- a field that is set to 1 in deferred mode
 abbrev pub set_to_one : List Call
-set_to_one =
-    Call.BeginDeferred ∷ Call.BeginNthField 0 ∷ Call.Set 0 (nat 1) ∷ Call.End ∷ Call.FinishDeferred ∷ []
+set_to_one = BeginDeferred ∷ BeginNthField 0 ∷ Set 0 (nat 1) ∷ End ∷ FinishDeferred ∷ []
 
 -- the end of deferred mode runs validators
 abbrev pub EndRunsValidators : Type 0

@@ -1,18 +1,11 @@
 -- Completing at the end of deferred mode: which places fail, each with its refusal, and the first of them.
-use Rattle.std.specs.Prelude.{ℕ, suc, List, [], ◌∷◌, ◌++◌, Option, Some, None}
-use Rattle.std.specs.Option.{option_or}
-use Rattle.std.specs.declared.cmp.Ordering.{Ordering}
-use Rattle.fr_shape.specs.declared.shape.Field.{Field}
-use Rattle.fr_shape.specs.declared.error.ReflectErrorKind.{ReflectErrorKind}
-use Rattle.fr_shape.specs.Fills.{DeferredRule, filled, marked_without_default, missing, deferred_rule, preset_of}
-use Rattle.fr_shape.specs.Hooks.{Meanings}
-use Rattle.fr_shape.specs.Look.{Table, def_of, field_in}
-use Rattle.fr_path.specs.declared.path_steps.PathStep.{PathStep}
-use Rattle.fr_path.specs.Order.{walk_order}
+use Rattle.std.specs.Prelude.{◌∷◌, ◌++◌}
+use Rattle.fr_model.specs.Common.{ℕ, suc, List, [], Option, Some, None, option_or, Ordering, Field, ReflectErrorKind, DeferredRule, filled, marked_without_default, missing, deferred_rule, preset_of, Meanings, Table, def_of, field_in, PathStep, walk_order}
 use Rattle.fr_model.specs.Complete.{complete, failing_child, hole_takes, lack_by, missing_child, missing_value, unless_there}
 use Rattle.fr_model.specs.Paths.{step_as}
 use Rattle.fr_model.specs.Places.{deferred_column, child_count}
-use Rattle.fr_model.specs.Tree.{Form, as_struct, as_array, as_variant, as_some, as_ok, as_err, as_pointer, as_list, as_slice, as_closed_slice, as_set, as_map, as_dyn_array, as_dyn_object, Tree, hole, entered, whole, begun, Trees, no_trees, branch, for_hole, child_as, holes}
+use Rattle.fr_model.specs.Trackers.{Tracker, as_fields, as_elements, as_content, as_items, as_entries}
+use Rattle.fr_model.specs.Tree.{Tree, hole, entered, whole, begun, Trees, no_trees, branch, for_hole, child_as, holes}
 
 -- What one place lacks, its children being complete.
 
@@ -27,51 +20,39 @@ unmet_mark_of table s (Some field) = unmet_by field (deferred_rule table s field
 unmet_mark_of table s None = None
 
 -- child i of a place of shape s that is begun so, a hole, is marked to take a default that there isn't
-abbrev pub unmet_mark : Table → ℕ → Form → ℕ → Option ReflectErrorKind
-unmet_mark table s as_struct i = unmet_mark_of table s (field_in (def_of table s) None i)
-unmet_mark table s (as_variant k) i = unmet_mark_of table s (field_in (def_of table s) (Some k) i)
-unmet_mark table s as_array i = None
-unmet_mark table s as_some i = None
-unmet_mark table s as_ok i = None
-unmet_mark table s as_err i = None
-unmet_mark table s as_pointer i = None
-unmet_mark table s as_list i = None
-unmet_mark table s as_slice i = None
-unmet_mark table s as_closed_slice i = None
-unmet_mark table s as_set i = None
-unmet_mark table s (as_map base) i = None
-unmet_mark table s as_dyn_array i = None
-unmet_mark table s (as_dyn_object keys) i = None
+abbrev pub unmet_mark : Table → ℕ → Tracker → ℕ → Option ReflectErrorKind
+unmet_mark table s (as_fields selected) i = unmet_mark_of table s (field_in (def_of table s) selected i)
+unmet_mark table s as_elements i = None
+unmet_mark table s (as_content kind) i = None
+unmet_mark table s (as_items kind) i = None
+unmet_mark table s (as_entries kind) i = None
 
 -- the first hole among the children from number i on that is marked so
-abbrev pub first_unmet : Table → ℕ → Form → ℕ → Trees → Option ReflectErrorKind
-first_unmet table s form i no_trees = None
-first_unmet table s form i (branch t ts) =
-    option_or (for_hole t (unmet_mark table s form i) None) (first_unmet table s form (suc i) ts)
+abbrev pub first_unmet : Table → ℕ → Tracker → ℕ → Trees → Option ReflectErrorKind
+first_unmet table s tracker i no_trees = None
+first_unmet table s tracker i (branch t ts) =
+    option_or (for_hole t (unmet_mark table s tracker i) None) (first_unmet table s tracker (suc i) ts)
 
 -- the first hole among them that takes nothing
-abbrev pub first_missing : Table → ℕ → Form → ℕ → Trees → Option ReflectErrorKind
-first_missing table s form i no_trees = None
-first_missing table s form i (branch t ts) =
-    option_or (for_hole t (unless_there (hole_takes deferred_column table s form i) (missing_child s form i)) None)
-    (first_missing table s form (suc i) ts)
+abbrev pub first_missing : Table → ℕ → Tracker → ℕ → Trees → Option ReflectErrorKind
+first_missing table s tracker i no_trees = None
+first_missing table s tracker i (branch t ts) =
+    option_or (for_hole t (unless_there (hole_takes deferred_column table s tracker i) (missing_child s tracker i)) None)
+    (first_missing table s tracker (suc i) ts)
 
 -- the first of them whose value, or what it takes where it is a hole, doesn't pass its field's validators
-abbrev pub first_invalid : Meanings → Table → ℕ → Form → ℕ → Trees → Option ReflectErrorKind
-first_invalid hooks table s form i no_trees = None
-first_invalid hooks table s form i (branch t ts) =
-    option_or
-    (failing_child hooks table s form i
-    (for_hole t (hole_takes deferred_column table s form i)
-    (complete deferred_column hooks table (child_as table s form i) t)))
-    (first_invalid hooks table s form (suc i) ts)
+abbrev pub first_invalid : Meanings → Table → ℕ → Tracker → ℕ → Trees → Option ReflectErrorKind
+first_invalid hooks table s tracker i no_trees = None
+first_invalid hooks table s tracker i (branch t ts) =
+    option_or (failing_child hooks table s tracker i (for_hole t (hole_takes deferred_column table s tracker i)
+    (complete deferred_column hooks table (child_as table s tracker i) t))) (first_invalid hooks table s tracker (suc i) ts)
 
 -- A begun place takes its fills in index order: the first hole that is marked and has no default fails it. Then the first hole
 -- that is left does, and then the first field, in index order, whose validators aren't passed.
-abbrev pub lack_of_begun : Meanings → Table → ℕ → Form → Trees → Option ReflectErrorKind
-lack_of_begun hooks table s form ts =
-    option_or (first_unmet table s form 0 ts)
-    (option_or (first_missing table s form 0 ts) (first_invalid hooks table s form 0 ts))
+abbrev pub lack_of_begun : Meanings → Table → ℕ → Tracker → Trees → Option ReflectErrorKind
+lack_of_begun hooks table s tracker ts =
+    option_or (first_unmet table s tracker 0 ts)
+    (option_or (first_missing table s tracker 0 ts) (first_invalid hooks table s tracker 0 ts))
 
 -- What a place lacks by itself. An entered struct without a default lacks what a struct of holes lacks; an entered option without
 -- one, and any other entered place, its value.
@@ -79,9 +60,9 @@ abbrev pub own_lack : Meanings → Table → ℕ → Tree → Option ReflectErro
 own_lack hooks table s hole = Some (missing_value s)
 own_lack hooks table s entered =
     lack_by (def_of table s) (preset_of table s)
-    (lack_of_begun hooks table s as_struct (holes (child_count table s))) (missing_value s)
+    (lack_of_begun hooks table s (as_fields None) (holes (child_count table s))) (missing_value s)
 own_lack hooks table s (whole v) = None
-own_lack hooks table s (begun form ts) = lack_of_begun hooks table s form ts
+own_lack hooks table s (begun tracker ts) = lack_of_begun hooks table s tracker ts
 
 -- Failing places
 
@@ -103,18 +84,17 @@ or_itself (failure ∷ beneath) itself = failure ∷ beneath
 -- and it doesn't. A hole isn't completed.
 abbrev mutual
   pub failures : Meanings → Table → ℕ → (path : List PathStep) → Tree → List Failure
-  failures hooks table s path hole = []
   failures hooks table s path entered = failure_at path (own_lack hooks table s entered)
-  failures hooks table s path (whole v) = []
-  failures hooks table s path (begun form ts) =
-      or_itself (failures_among hooks table s form 0 path ts) (failure_at path (lack_of_begun hooks table s form ts))
+  failures hooks table s path (begun tracker ts) =
+      or_itself (failures_among hooks table s tracker 0 path ts) (failure_at path (lack_of_begun hooks table s tracker ts))
+  failures hooks table s path _ = []
 
   -- among the children from number i on
-  pub failures_among : Meanings → Table → ℕ → Form → ℕ → (path : List PathStep) → Trees → List Failure
-  failures_among hooks table s form i path no_trees = []
-  failures_among hooks table s form i path (branch t ts) =
-      failures hooks table (child_as table s form i) (path ++ step_as form i ∷ []) t
-      ++ failures_among hooks table s form (suc i) path ts
+  pub failures_among : Meanings → Table → ℕ → Tracker → ℕ → (path : List PathStep) → Trees → List Failure
+  failures_among hooks table s tracker i path no_trees = []
+  failures_among hooks table s tracker i path (branch t ts) =
+      failures hooks table (child_as table s tracker i) (path ++ step_as tracker i ∷ []) t
+      ++ failures_among hooks table s tracker (suc i) path ts
 
 -- The first
 

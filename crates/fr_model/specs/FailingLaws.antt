@@ -1,28 +1,16 @@
 -- Which places fail at the end of deferred mode, and what that end is once nothing is left.
-use Rattle.std.specs.Prelude.{◌≡◌, ◌⊎◌, ℕ, false, List, [], ◌++◌, is_none, is_some, Some}
-use Rattle.std.specs.List.{Contains}
-use Rattle.std.specs.Option.{option_map, option_or}
-use Rattle.std.specs.declared.cmp.Ordering.{Ordering}
-use Rattle.fr_shape.specs.declared.error.ReflectErrorKind.{ReflectErrorKind}
-use Rattle.fr_shape.specs.Hooks.{Meanings}
-use Rattle.fr_shape.specs.Look.{Table}
-use Rattle.fr_path.specs.declared.path_steps.PathStep.{PathStep}
-use Rattle.fr_path.specs.Order.{walk_order}
-use Rattle.fr_model.specs.Failing.{Failure, failures, first_by_walk, own_lack}
+use Rattle.std.specs.Prelude.{◌≡◌, ◌⊎◌, ◌++◌}
+use Rattle.fr_model.specs.Common.{ℕ, false, List, [], is_none, is_some, Some, Contains, option_map, option_or, Ordering, ReflectErrorKind, Meanings, Table, PathStep, walk_order}
+use Rattle.fr_model.specs.Basis.{Failure, failures, first_by_walk, own_lack, steps_in, Place, Mode, strict, Tree, entered, begun, child_tree, tree_at, change_at, shape_below, shape_in, AtCursor, Leads}
 use Rattle.fr_model.specs.Finish.{closed, finished, finished_here, failures_off, kind_of}
 use Rattle.fr_model.specs.Finishing.{IsOffTheWay}
-use Rattle.fr_model.specs.Paths.{steps_in}
-use Rattle.fr_model.specs.Places.{Place}
 use Rattle.fr_model.specs.Relation.{HasPlace}
-use Rattle.fr_model.specs.Tree.{Mode, strict, Tree, hole, entered, whole, begun, child_tree, tree_at, change_at, shape_below, shape_in}
-use Rattle.fr_model.specs.Well.{AtCursor, Leads}
 
 -- a place is neither a hole nor whole
 abbrev pub IsHalfDone : Tree → Type 0
-IsHalfDone hole = ⊥
 IsHalfDone entered = Unit {0}
-IsHalfDone (whole v) = ⊥
-IsHalfDone (begun form children) = Unit {0}
+IsHalfDone (begun tracker children) = Unit {0}
+IsHalfDone _ = ⊥
 
 -- a failure is that of a place of the tree, off the way, that is half done
 pub record LiesThere (path : List PathStep) (cursor : Place) (tree : Tree) (failure : Failure) : Type 0 where
@@ -41,15 +29,13 @@ FailuresLieThere =
 abbrev pub LackingFails : Type 0
 LackingFails =
     (hooks : Meanings) (table : Table) (s : ℕ) (path : List PathStep) (mode : Mode) (cursor here : Place) (tree : Tree)
-    (kind : ReflectErrorKind)
-    → Leads mode cursor tree → HasPlace here tree → IsOffTheWay cursor here → IsHalfDone (tree_at here tree)
+    (kind : ReflectErrorKind) → Leads mode cursor tree → HasPlace here tree → IsOffTheWay cursor here → IsHalfDone (tree_at here tree)
     → AtCursor strict (tree_at here tree) → own_lack hooks table (shape_in table s here tree) (tree_at here tree) ≡ Some kind
     → Contains (failures_off hooks table s path cursor tree) (record { path = path ++ steps_in here tree; kind = kind })
 
 -- each child of a place of shape s completes at the end of deferred mode, or is a hole, as is one that the place hasn't
 abbrev pub ChildrenClose : Meanings → Table → ℕ → Tree → Type 0
-ChildrenClose hooks table s tree =
-    (i : ℕ) → is_none (closed hooks table (shape_below table s i tree) (child_tree i tree)) ≡ false
+ChildrenClose hooks table s tree = (i : ℕ) → is_none (closed hooks table (shape_below table s i tree) (child_tree i tree)) ≡ false
 
 -- A failure of a tree that stands at this path is that of one of its places, half done, to which the failure's path leads. That
 -- place lacks the failure's kind by itself: its children close, and nothing fails beneath it (seen with the cursor at this place,
@@ -94,8 +80,7 @@ FirstByWalkIs =
 abbrev pub FinishesOrRefuses : Type 0
 FinishesOrRefuses =
     (hooks : Meanings) (table : Table) (s : ℕ) (path : List PathStep) (mode : Mode) (cursor : Place) (tree : Tree)
-    → Leads mode cursor tree
-    → is_none (finished hooks table s cursor tree)
+    → Leads mode cursor tree → is_none (finished hooks table s cursor tree)
     ≡ is_some (option_or (kind_of (first_by_walk (failures_off hooks table s path cursor tree)))
     (own_lack hooks table (shape_in table s cursor tree) (tree_at cursor tree)))
 
@@ -109,6 +94,5 @@ NothingFailsOfDone =
 abbrev pub FinishOfDone : Type 0
 FinishOfDone =
     (hooks : Meanings) (table : Table) (s : ℕ) (cursor : Place) (tree : Tree) → Leads strict cursor tree
-    → finished hooks table s cursor tree
-    ≡ option_map (λ (here : Tree). change_at cursor (λ old. here) tree)
+    → finished hooks table s cursor tree ≡ option_map (λ (here : Tree). change_at cursor (λ old. here) tree)
     (finished_here hooks table (shape_in table s cursor tree) (tree_at cursor tree))

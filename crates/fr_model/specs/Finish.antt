@@ -1,16 +1,7 @@
 -- The end of deferred mode, along the way to the place at which a builder works.
-use Rattle.std.specs.Prelude.{ℕ, zero, suc, Bool, true, false, List, [], ◌∷◌, ◌++◌, Option, Some, None, if◌then◌else◌}
-use Rattle.std.specs.Option.{option_map, option_or}
-use Rattle.fr_shape.specs.declared.error.ReflectErrorKind.{ReflectErrorKind}
-use Rattle.fr_shape.specs.Hooks.{Meanings}
-use Rattle.fr_shape.specs.Look.{Table}
-use Rattle.fr_shape.specs.Val.{Vals}
-use Rattle.fr_path.specs.declared.path_steps.PathStep.{PathStep}
-use Rattle.fr_model.specs.Complete.{complete, complete_all, missing_value, value_as}
-use Rattle.fr_model.specs.Failing.{Failure, failures, failures_among, first_by_walk, own_lack}
-use Rattle.fr_model.specs.Paths.{step_as}
-use Rattle.fr_model.specs.Places.{Place, deferred_column}
-use Rattle.fr_model.specs.Tree.{Form, as_struct, as_array, as_variant, as_some, as_ok, as_err, as_pointer, as_list, as_slice, as_closed_slice, as_set, as_map, as_dyn_array, as_dyn_object, Tree, hole, entered, whole, begun, Trees, no_trees, branch, for_hole, child_as, shape_in, tree_at, wholes}
+use Rattle.std.specs.Prelude.{◌∷◌, ◌++◌, if◌then◌else◌}
+use Rattle.fr_model.specs.Common.{ℕ, zero, suc, Bool, true, false, List, [], Option, Some, None, option_map, option_or, ReflectErrorKind, Meanings, Table, Vals, PathStep}
+use Rattle.fr_model.specs.Basis.{complete, complete_all, missing_value, value_as, Failure, failures, failures_among, first_by_walk, own_lack, step_as, Place, deferred_column, Tracker, as_items, ItemsKind, Tree, hole, entered, whole, begun, Trees, no_trees, branch, for_hole, child_as, shape_in, tree_at, wholes}
 
 -- What becomes of the tree.
 
@@ -25,39 +16,27 @@ one_more_tree (Some t) None = None
 one_more_tree None ts = None
 
 -- the children from number i on, of a place of shape s that is begun so, each of them off the way
-abbrev pub closed_all : Meanings → Table → ℕ → Form → ℕ → Trees → Option Trees
-closed_all hooks table s form i no_trees = Some no_trees
-closed_all hooks table s form i (branch t ts) =
-    one_more_tree (closed hooks table (child_as table s form i) t) (closed_all hooks table s form (suc i) ts)
+abbrev pub closed_all : Meanings → Table → ℕ → Tracker → ℕ → Trees → Option Trees
+closed_all hooks table s tracker i no_trees = Some no_trees
+closed_all hooks table s tracker i (branch t ts) =
+    one_more_tree (closed hooks table (child_as table s tracker i) t) (closed_all hooks table s tracker (suc i) ts)
 
 -- the same with one of them, as many further on, on the way: of that one something else becomes
-abbrev pub closed_but : Meanings → Table → ℕ → Form → (on_way : ℕ) → (ℕ → Tree → Option Tree) → ℕ → Trees → Option Trees
-closed_but hooks table s form on_way becomes i no_trees = Some no_trees
-closed_but hooks table s form zero becomes i (branch t ts) =
-    one_more_tree (becomes (child_as table s form i) t) (closed_all hooks table s form (suc i) ts)
-closed_but hooks table s form (suc on_way) becomes i (branch t ts) =
-    one_more_tree (closed hooks table (child_as table s form i) t) (closed_but hooks table s form on_way becomes (suc i) ts)
+abbrev pub closed_but : Meanings → Table → ℕ → Tracker → (on_way : ℕ) → (ℕ → Tree → Option Tree) → ℕ → Trees → Option Trees
+closed_but hooks table s tracker on_way becomes i no_trees = Some no_trees
+closed_but hooks table s tracker zero becomes i (branch t ts) =
+    one_more_tree (becomes (child_as table s tracker i) t) (closed_all hooks table s tracker (suc i) ts)
+closed_but hooks table s tracker (suc on_way) becomes i (branch t ts) =
+    one_more_tree (closed hooks table (child_as table s tracker i) t) (closed_but hooks table s tracker on_way becomes (suc i) ts)
 
-abbrev pub is_closed_slice : Form → Bool
-is_closed_slice as_closed_slice = true
-is_closed_slice as_struct = false
-is_closed_slice as_array = false
-is_closed_slice (as_variant k) = false
-is_closed_slice as_some = false
-is_closed_slice as_ok = false
-is_closed_slice as_err = false
-is_closed_slice as_pointer = false
-is_closed_slice as_list = false
-is_closed_slice as_slice = false
-is_closed_slice as_set = false
-is_closed_slice (as_map base) = false
-is_closed_slice as_dyn_array = false
-is_closed_slice (as_dyn_object keys) = false
+abbrev pub is_closed_slice : Tracker → Bool
+is_closed_slice (as_items ItemsKind.ClosedSlice) = true
+is_closed_slice _ = false
 
 -- the place at which the builder works, begun, keeps its children apart: each of them, and each hole its fill, is now whole. Only a
 -- pointer to a slice that is closed becomes whole itself.
-abbrev pub begun_with : Form → Vals → Tree
-begun_with form vs = if is_closed_slice form then whole (value_as form vs) else begun form (wholes vs)
+abbrev pub begun_with : Tracker → Vals → Tree
+begun_with tracker vs = if is_closed_slice tracker then whole (value_as tracker vs) else begun tracker (wholes vs)
 
 -- The place at which the builder works: where it is begun its children are completed, its holes are filled, its fields'
 -- validators are passed, and it stays begun, but a closed pointer to a slice; an entered one becomes whole with the value that it
@@ -66,7 +45,7 @@ abbrev pub finished_here : Meanings → Table → ℕ → Tree → Option Tree
 finished_here hooks table s hole = Some hole
 finished_here hooks table s entered = option_map whole (complete deferred_column hooks table s entered)
 finished_here hooks table s (whole v) = Some (whole v)
-finished_here hooks table s (begun form ts) = option_map (begun_with form) (complete_all deferred_column hooks table s form 0 ts)
+finished_here hooks table s (begun tracker ts) = option_map (begun_with tracker) (complete_all deferred_column hooks table s tracker 0 ts)
 
 -- Each place that is neither that place nor above it is completed; the places above it stay begun. None where one of them
 -- makes no value.
@@ -75,31 +54,28 @@ finished hooks table s [] t = finished_here hooks table s t
 finished hooks table s (i ∷ place) hole = Some hole
 finished hooks table s (i ∷ place) entered = Some entered
 finished hooks table s (i ∷ place) (whole v) = Some (whole v)
-finished hooks table s (i ∷ place) (begun form ts) =
-    option_map (begun form)
-    (closed_but hooks table s form i (λ (shape : ℕ) (t : Tree). finished hooks table shape place t) 0 ts)
+finished hooks table s (i ∷ place) (begun tracker ts) =
+    option_map (begun tracker) (closed_but hooks table s tracker i (λ (shape : ℕ) (t : Tree). finished hooks table shape place t) 0 ts)
 
 -- What fails.
 
 -- among the children from number i on, of which one, as many further on, lies on the way
-abbrev pub failures_but : Meanings → Table → ℕ → Form → (on_way : ℕ) → (ℕ → List PathStep → Tree → List Failure) → ℕ → (path : List PathStep) → Trees → List Failure
-failures_but hooks table s form on_way below i path no_trees = []
-failures_but hooks table s form zero below i path (branch t ts) =
-    below (child_as table s form i) (path ++ step_as form i ∷ []) t
-    ++ failures_among hooks table s form (suc i) path ts
-failures_but hooks table s form (suc on_way) below i path (branch t ts) =
-    failures hooks table (child_as table s form i) (path ++ step_as form i ∷ []) t
-    ++ failures_but hooks table s form on_way below (suc i) path ts
+abbrev pub failures_but : Meanings → Table → ℕ → Tracker → (on_way : ℕ) → (ℕ → List PathStep → Tree → List Failure) → ℕ → (path : List PathStep) → Trees → List Failure
+failures_but hooks table s tracker on_way below i path no_trees = []
+failures_but hooks table s tracker zero below i path (branch t ts) =
+    below (child_as table s tracker i) (path ++ step_as tracker i ∷ []) t ++ failures_among hooks table s tracker (suc i) path ts
+failures_but hooks table s tracker (suc on_way) below i path (branch t ts) =
+    failures hooks table (child_as table s tracker i) (path ++ step_as tracker i ∷ []) t
+    ++ failures_but hooks table s tracker on_way below (suc i) path ts
 
 -- the failing places that are neither the one at which the builder works nor above it
 abbrev pub failures_off : Meanings → Table → ℕ → (path : List PathStep) → (cursor : Place) → Tree → List Failure
 failures_off hooks table s path cursor hole = []
-failures_off hooks table s path cursor entered = []
-failures_off hooks table s path cursor (whole v) = []
-failures_off hooks table s path [] (begun form ts) = failures_among hooks table s form 0 path ts
-failures_off hooks table s path (i ∷ place) (begun form ts) =
-    failures_but hooks table s form i
+failures_off hooks table s path [] (begun tracker ts) = failures_among hooks table s tracker 0 path ts
+failures_off hooks table s path (i ∷ place) (begun tracker ts) =
+    failures_but hooks table s tracker i
     (λ (shape : ℕ) (to : List PathStep) (t : Tree). failures_off hooks table shape to place t) 0 path ts
+failures_off hooks table s path cursor _ = []
 
 abbrev pub kind_of : Option Failure → Option ReflectErrorKind
 kind_of (Some failure) = Some failure.kind
@@ -112,7 +88,5 @@ refusal_or None otherwise = otherwise
 -- why deferred mode can't end: the first failing place off the way; else what the place at which the builder works lacks
 abbrev pub finish_cause : Meanings → Table → (root : ℕ) → (cursor : Place) → Tree → ReflectErrorKind
 finish_cause hooks table root cursor tree =
-    refusal_or
-    (option_or (kind_of (first_by_walk (failures_off hooks table root [] cursor tree)))
-    (own_lack hooks table (shape_in table root cursor tree) (tree_at cursor tree)))
-    (missing_value (shape_in table root cursor tree))
+    refusal_or (option_or (kind_of (first_by_walk (failures_off hooks table root [] cursor tree)))
+    (own_lack hooks table (shape_in table root cursor tree) (tree_at cursor tree))) (missing_value (shape_in table root cursor tree))

@@ -1,16 +1,10 @@
 -- What closing a place beneath the others leaves as it is: a walk over the places of deferred mode may close them one by one.
-use Rattle.std.specs.Prelude.{◌≡◌, ◌≢◌, ℕ, List, Some}
-use Rattle.fr_shape.specs.Hooks.{Meanings}
-use Rattle.fr_shape.specs.Look.{Table}
-use Rattle.fr_shape.specs.Val.{Val}
-use Rattle.fr_path.specs.declared.path_steps.PathStep.{PathStep}
-use Rattle.fr_model.specs.Complete.{complete}
-use Rattle.fr_model.specs.Failing.{failures}
+use Rattle.std.specs.Prelude.{◌≡◌, ◌≢◌}
+use Rattle.fr_model.specs.Common.{ℕ, List, Some, Meanings, Table, Val, PathStep}
+use Rattle.fr_model.specs.Basis.{complete, failures, Place, deferred_column, Tree, hole, whole, tree_at, change_at, shape_in}
 use Rattle.fr_model.specs.Finish.{finished, failures_off}
 use Rattle.fr_model.specs.Finishing.{IsOffTheWay}
-use Rattle.fr_model.specs.Places.{Place, deferred_column}
 use Rattle.fr_model.specs.Relation.{HasPlace}
-use Rattle.fr_model.specs.Tree.{Tree, hole, whole, tree_at, change_at, shape_in}
 
 -- at this place of a tree stands no hole, and it makes this value at the end of deferred mode
 pub record Closes (hooks : Meanings) (table : Table) (s : ℕ) (here : Place) (v : Val) (tree : Tree) : Type 0 where
@@ -32,8 +26,7 @@ ClosingKeepsCompletion =
 abbrev pub ClosingKeepsFailures : Type 0
 ClosingKeepsFailures =
     (hooks : Meanings) (table : Table) (s : ℕ) (path : List PathStep) (here : Place) (v : Val) (tree : Tree)
-    → Closes hooks table s here v tree
-    → failures hooks table s path (closed_at here v tree) ≡ failures hooks table s path tree
+    → Closes hooks table s here v tree → failures hooks table s path (closed_at here v tree) ≡ failures hooks table s path tree
 
 -- where the place neither is the cursor's nor leads to it, the same becomes of the tree at the end of deferred mode
 abbrev pub ClosingKeepsFinish : Type 0

@@ -1,11 +1,8 @@
 -- The notes of the end of deferred mode, said place by place. `finish_notes` of Journal, which finds them along the way, gives
 -- the same.
-use Rattle.std.specs.Prelude.{◌≡◌, ◌≢◌, ◌⊎◌, ◌↔◌, ℕ, ◌<◌, [], ◌∷◌, ◌++◌, Option, Some, None}
-use Rattle.std.specs.List.{AllPairs, Contains}
-use Rattle.fr_shape.specs.Look.{Table}
-use Rattle.fr_shape.specs.Val.{Val}
-use Rattle.fr_model.specs.Journal.{Note, wrote_at, Journal, in_parts, untouched, held, place_of, completes, finish_notes}
-use Rattle.fr_model.specs.Places.{Place, deferred_column, child_count, shape_at, fill_at}
+use Rattle.std.specs.Prelude.{◌≡◌, ◌≢◌, ◌⊎◌, ◌↔◌, ◌<◌, ◌∷◌, ◌++◌}
+use Rattle.fr_model.specs.Common.{ℕ, [], Option, Some, None, AllPairs, Contains, Table, Val}
+use Rattle.fr_model.specs.Basis.{Note, wrote_at, Journal, in_parts, untouched, held, place_of, completes, finish_notes, Place, deferred_column, child_count, shape_at, fill_at}
 
 -- a place lies strictly above another
 pub record IsAbove (above here : Place) : Type 0 where
@@ -51,8 +48,7 @@ pub record IsCursor (table : Table) (root : ℕ) (notes : Journal) (cursor here 
 -- a place has to get a value at the end of deferred mode, and this is the value, if there is one
 abbrev pub IsDue : Table → (root : ℕ) → Journal → (cursor here : Place) → Option Val → Type 0
 IsDue table root notes cursor here value =
-    IsLeft table root notes cursor here value ⊎ IsHole table root notes cursor here value
-    ⊎ IsCursor table root notes cursor here value
+    IsLeft table root notes cursor here value ⊎ IsHole table root notes cursor here value ⊎ IsCursor table root notes cursor here value
 
 -- some place has to get a value, and there is none
 pub record IsStuck (table : Table) (root : ℕ) (notes : Journal) (cursor : Place) : Type 0 where
@@ -76,8 +72,7 @@ StuckOrNoted =
 abbrev pub NotesWhatIsDue : Type 0
 NotesWhatIsDue =
     (table : Table) (root : ℕ) (notes added : Journal) (cursor : Place) (note : Note)
-    → finish_notes table notes root [] cursor ≡ Some added
-    → Contains added note ↔ IsDueNote table root notes cursor note
+    → finish_notes table notes root [] cursor ≡ Some added → Contains added note ↔ IsDueNote table root notes cursor note
 
 -- neither of two places leads to the other, and so they aren't the same
 pub record AreApart (one other : Place) : Type 0 where

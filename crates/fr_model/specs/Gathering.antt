@@ -1,9 +1,7 @@
 -- How values that come one after the other make a set or a map, and what is left out of it.
-use Rattle.std.specs.Prelude.{ℕ, ◌+◌, Bool, false, ◌||◌, if◌then◌else◌}
-use Rattle.fr_shape.specs.Same.{same}
-use Rattle.fr_shape.specs.Tokens.{occurs}
-use Rattle.fr_shape.specs.Val.{Val, Vals, Entries, no_vals, first, no_entries, entry}
-use Rattle.fr_model.specs.Tree.{Form, as_struct, as_array, as_variant, as_some, as_ok, as_err, as_pointer, as_list, as_slice, as_closed_slice, as_set, as_map, as_dyn_array, as_dyn_object}
+use Rattle.std.specs.Prelude.{◌+◌, ◌||◌, if◌then◌else◌}
+use Rattle.fr_model.specs.Common.{ℕ, Bool, false, same, occurs, Val, Vals, Entries, no_vals, first, no_entries, entry}
+use Rattle.fr_model.specs.Trackers.{Tracker, as_fields, as_elements, as_content, as_items, ItemsKind, as_entries, EntriesKind}
 
 -- Sets
 
@@ -29,8 +27,7 @@ items_in there (first v vs) = items_in (with_item_in there v) vs
 -- how often a token stands in the items that are left out of it
 abbrev pub items_left_out : (there : Vals) → Vals → ℕ → ℕ
 items_left_out there no_vals t = 0
-items_left_out there (first v vs) t =
-    (if is_there v there then occurs v t else 0) + items_left_out (with_item_in there v) vs t
+items_left_out there (first v vs) t = (if is_there v there then occurs v t else 0) + items_left_out (with_item_in there v) vs t
 
 -- Maps
 
@@ -54,23 +51,18 @@ entries_in there (first k (first v vs)) = entries_in (with_entry_in there k v) v
 abbrev pub entries_left_out : (there : Entries) → Vals → ℕ → ℕ
 entries_left_out there no_vals t = 0
 entries_left_out there (first k no_vals) t = occurs k t
-entries_left_out there (first k (first v vs)) t =
-    entry_leaves_out there k t + entries_left_out (with_entry_in there k v) vs t
+entries_left_out there (first k (first v vs)) t = entry_leaves_out there k t + entries_left_out (with_entry_in there k v) vs t
 
 -- how often a token stands in what is left out of the value that a place begun so makes of those of its children: nothing, but of a
 -- set and of a map
-abbrev pub left_out : Form → Vals → ℕ → ℕ
-left_out as_set vs t = items_left_out no_vals vs t
-left_out (as_map base) vs t = entries_left_out no_entries vs t
-left_out as_struct vs t = 0
-left_out as_array vs t = 0
-left_out (as_variant k) vs t = 0
-left_out as_some vs t = 0
-left_out as_ok vs t = 0
-left_out as_err vs t = 0
-left_out as_pointer vs t = 0
-left_out as_list vs t = 0
-left_out as_slice vs t = 0
-left_out as_closed_slice vs t = 0
-left_out as_dyn_array vs t = 0
-left_out (as_dyn_object keys) vs t = 0
+abbrev pub left_out : Tracker → Vals → ℕ → ℕ
+left_out (as_items ItemsKind.Set) vs t = items_left_out no_vals vs t
+left_out (as_entries (EntriesKind.Map base)) vs t = entries_left_out no_entries vs t
+left_out (as_fields selected) vs t = 0
+left_out as_elements vs t = 0
+left_out (as_content kind) vs t = 0
+left_out (as_items ItemsKind.List) vs t = 0
+left_out (as_items ItemsKind.Slice) vs t = 0
+left_out (as_items ItemsKind.ClosedSlice) vs t = 0
+left_out (as_items ItemsKind.Array) vs t = 0
+left_out (as_entries (EntriesKind.Object keys)) vs t = 0

@@ -1,11 +1,7 @@
 -- What is distinct stays: nothing is left out of it.
-use Rattle.std.specs.Prelude.{◌≡◌, ℕ, true}
-use Rattle.fr_shape.specs.Same.{none_twice, keys}
-use Rattle.fr_shape.specs.Val.{Val, Vals, Entries, no_vals, no_entries}
-use Rattle.fr_model.specs.Collections.{has_same}
-use Rattle.fr_model.specs.Gathering.{is_there, items_in, items_left_out, entries_in, entries_left_out}
-use Rattle.fr_model.specs.Places.{in_turn}
-use Rattle.fr_model.specs.Tree.{wholes}
+use Rattle.std.specs.Prelude.{◌≡◌}
+use Rattle.fr_model.specs.Common.{ℕ, true, none_twice, keys, Val, Vals, Entries, no_vals, no_entries}
+use Rattle.fr_model.specs.Basis.{has_same, is_there, items_in, items_left_out, entries_in, entries_left_out, in_turn, wholes}
 
 -- items no two of which are `same` make themselves
 abbrev pub DistinctItemsStay : Type 0

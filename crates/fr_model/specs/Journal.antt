@@ -1,12 +1,8 @@
 -- The journal: what a run wrote and where, newest note first, and what the last writes make of each place. It knows
 -- no tree, no stack and no bits; it is what a reader checks the builder against, over served tables.
-use Rattle.std.specs.Prelude.{ℕ, zero, suc, ◌==◌, max, Bool, true, false, not, ◌&&◌, List, [], ◌∷◌, ◌++◌, length, nat_lt, nat_le, Option, Some, None, if◌then◌else◌}
-use Rattle.fr_shape.specs.declared.shape.Def.{Def}
-use Rattle.fr_shape.specs.Fills.{preset_of}
-use Rattle.fr_shape.specs.Look.{Table, def_of}
-use Rattle.fr_shape.specs.Val.{Val, product, no_vals}
+use Rattle.std.specs.Prelude.{◌==◌, ◌&&◌, ◌∷◌, ◌++◌, if◌then◌else◌}
+use Rattle.fr_model.specs.Common.{ℕ, zero, suc, max, Bool, true, false, not, List, [], length, nat_lt, nat_le, Option, Some, None, Def, preset_of, Table, def_of, Val, product, no_vals, field_named}
 use Rattle.fr_model.specs.Commands.{Call}
-use Rattle.fr_shape.specs.Named.{field_named}
 use Rattle.fr_model.specs.Places.{Place, is_root, up, array_limit, Column, strict_column, deferred_column, child_count, child_shape, shape_at, part_at, product_of, each_child, fill_at}
 use Rattle.fr_model.specs.Tree.{Mode, strict, deferred}
 
@@ -130,9 +126,7 @@ by_held untouched of_parts of_entered = None
 -- an untouched child takes its fill, every other makes its own value
 abbrev pub child_makes : Held → (fill own : Option Val) → Option Val
 child_makes untouched fill own = fill
-child_makes just_entered fill own = own
-child_makes (written v) fill own = own
-child_makes in_parts fill own = own
+child_makes _ fill own = own
 
 -- The value that a place of shape s makes, or none. A place with a whole value makes it. A place with parts, which only
 -- a struct or an array has, makes the product of its children's values, of which an untouched one takes its fill, and none
@@ -159,9 +153,7 @@ initial_progress = record { notes = entered_at [] ∷ []; cursor = []; mode = st
 
 abbrev pub is_written : Held → Bool
 is_written (written v) = true
-is_written in_parts = false
-is_written just_entered = false
-is_written untouched = false
+is_written _ = false
 
 -- an array of this many elements may be entered: it has no more than the limit, and isn't whole
 abbrev pub may_enter_elements : ℕ → Held → Bool
@@ -170,29 +162,14 @@ may_enter_elements n held = nat_le n array_limit && not (is_written held)
 -- the children of a place of this definition may be entered: a struct's always
 abbrev pub may_enter_children : Def → Held → Bool
 may_enter_children (Def.Array t n) held = may_enter_elements n held
-may_enter_children (Def.Scalar kind) held = true
-may_enter_children Def.Str held = true
-may_enter_children Def.Opaque held = true
-may_enter_children (Def.Struct struct) held = true
-may_enter_children (Def.Enum enumeration) held = true
-may_enter_children (Def.Option t) held = true
-may_enter_children (Def.Result t e) held = true
-may_enter_children (Def.List t) held = true
-may_enter_children (Def.Map key item) held = true
-may_enter_children (Def.Set t) held = true
-may_enter_children (Def.Pointer pointer) held = true
-may_enter_children (Def.Slice t) held = true
-may_enter_children Def.Dynamic held = true
-may_enter_children Def.Undefined held = true
-may_enter_children Def.Other held = true
+may_enter_children _ held = true
 
 -- child i of a place of shape s may be entered: it is there, and the children may be entered
 abbrev pub may_enter : Table → ℕ → ℕ → Held → Bool
 may_enter table s i held = nat_lt i (child_count table s) && may_enter_children (def_of table s) held
 
 abbrev pub goes_to_child : Bool → Progress → ℕ → Option Progress
-goes_to_child true run i =
-    Some (record run { notes = entered_at (run.cursor ++ i ∷ []) ∷ run.notes; cursor = run.cursor ++ i ∷ [] })
+goes_to_child true run i = Some (record run { notes = entered_at (run.cursor ++ i ∷ []) ∷ run.notes; cursor = run.cursor ++ i ∷ [] })
 goes_to_child false run i = None
 
 abbrev pub goes_to_found : Table → ℕ → Progress → Option ℕ → Option Progress
@@ -231,13 +208,10 @@ writing here None = None
 -- what is noted of a child off the way: nothing, where it is untouched; else its value
 abbrev pub closing_by : Held → (value : Option Journal) → Option Journal
 closing_by untouched value = Some []
-closing_by just_entered value = value
-closing_by (written v) value = value
-closing_by in_parts value = value
+closing_by _ value = value
 
 abbrev pub closing : Table → Journal → ℕ → Place → Option Journal
-closing table notes s here =
-    closing_by (held notes here) (writing here (completes deferred_column table notes s here))
+closing table notes s here = closing_by (held notes here) (writing here (completes deferred_column table notes s here))
 
 -- of all children, but the one on the way, of the place `above` of shape s
 abbrev pub closing_beside : Table → Journal → ℕ → (above : Place) → (on_way : ℕ) → Option Journal
@@ -253,23 +227,19 @@ closing_parts table notes s here =
 
 abbrev pub closing_here_by : Held → (of_parts of_itself : Option Journal) → Option Journal
 closing_here_by in_parts of_parts of_itself = of_parts
-closing_here_by (written v) of_parts of_itself = of_itself
-closing_here_by just_entered of_parts of_itself = of_itself
-closing_here_by untouched of_parts of_itself = of_itself
+closing_here_by _ of_parts of_itself = of_itself
 
 -- of the place at which the run works: of its parts, where it has any; else its own value
 abbrev pub closing_here : Table → Journal → ℕ → (here : Place) → Option Journal
 closing_here table notes s here =
-    closing_here_by (held notes here) (closing_parts table notes s here)
-    (writing here (completes deferred_column table notes s here))
+    closing_here_by (held notes here) (closing_parts table notes s here) (writing here (completes deferred_column table notes s here))
 
 -- What is noted from the place `above` of shape s on, the rest of the way leading to the place at which the run works: of each
 -- place above that one, of its children beside the way; and of that place. None, where a value that is asked for isn't there.
 abbrev pub finish_notes : Table → Journal → ℕ → (above rest : Place) → Option Journal
 finish_notes table notes s above [] = closing_here table notes s above
 finish_notes table notes s above (i ∷ rest) =
-    both_notes (closing_beside table notes s above i)
-    (finish_notes table notes (child_shape table s i) (above ++ i ∷ []) rest)
+    both_notes (closing_beside table notes s above i) (finish_notes table notes (child_shape table s i) (above ++ i ∷ []) rest)
 
 abbrev pub finishes_with : Progress → Option Journal → Option Progress
 finishes_with run (Some added) = Some (record run { notes = added ++ run.notes; mode = strict })
@@ -278,8 +248,7 @@ finishes_with run None = None
 -- `end` by the mode: in strict mode the place's value is noted, where it makes one; in deferred mode nothing is, and the place
 -- has to lie deeper than that at which deferred mode began
 abbrev pub end_rule : Table → ℕ → Progress → Mode → Option Progress
-end_rule table s run strict =
-    if is_root run.cursor then None else ends run (completes strict_column table run.notes s run.cursor)
+end_rule table s run strict = if is_root run.cursor then None else ends run (completes strict_column table run.notes s run.cursor)
 end_rule table s run (deferred start) = if nat_lt start (length run.cursor) then Some (goes_up run) else None
 
 abbrev pub begin_deferred_rule : Progress → Mode → Option Progress
@@ -333,12 +302,10 @@ then_rules None rest = None
 
 abbrev pub rules : Table → ℕ → Progress → List Call → Option Progress
 rules table root run [] = Some run
-rules table root run (command ∷ commands) =
-    then_rules (rule table root run command) (λ next. rules table root next commands)
+rules table root run (command ∷ commands) = then_rules (rule table root run command) (λ next. rules table root next commands)
 
 abbrev pub outcome_in : Table → ℕ → Progress → Mode → Option Val
-outcome_in table root run strict =
-    if is_root run.cursor then completes strict_column table run.notes root [] else None
+outcome_in table root run strict = if is_root run.cursor then completes strict_column table run.notes root [] else None
 outcome_in table root run (deferred start) = None
 
 -- the value of the root, where the mode is strict and the cursor has come back to it

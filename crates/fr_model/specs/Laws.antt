@@ -1,25 +1,11 @@
 -- Laws of the tree and of the steps.
-use Rattle.std.specs.Prelude.{◌≡◌, ℕ, ◌+◌, ◌<◌, ◌≤◌, true, not, List, is_none, is_some, Some, Result, Ok, Err}
-use Rattle.fr_shape.specs.declared.error.ReflectErrorKind.{ReflectErrorKind}
-use Rattle.fr_shape.specs.Checked.{IsChecked}
-use Rattle.fr_shape.specs.Hooks.{Meanings}
-use Rattle.fr_shape.specs.Lists.{is_nil}
-use Rattle.fr_shape.specs.Look.{Table}
-use Rattle.fr_shape.specs.Val.{Val}
-use Rattle.fr_shape.specs.Fits.{fits}
-use Rattle.fr_shape.specs.Tokens.{occurs}
-use Rattle.fr_model.specs.Commands.{Call}
-use Rattle.fr_model.specs.Tree.{Tree, tree_occurs, State, initial}
-use Rattle.fr_path.specs.declared.path_steps.PathStep.{PathStep}
-use Rattle.fr_model.specs.Complete.{complete, lack}
+use Rattle.std.specs.Prelude.{◌≡◌, ◌+◌, ◌<◌, ◌≤◌}
+use Rattle.fr_model.specs.Common.{ℕ, true, not, List, is_none, is_some, Some, Result, Ok, Err, ReflectErrorKind, IsChecked, Meanings, is_nil, Table, Val, fits, occurs, PathStep}
+use Rattle.fr_model.specs.Basis.{Call, Tree, tree_occurs, State, initial, complete, lack, failures, Column, strict_column, IsFitting, brings, Suits, IsInOrder, RestsAround, AreDistinct, IsWell}
 use Rattle.fr_model.specs.Dropping.{dropped_by_completing}
-use Rattle.fr_model.specs.Failing.{failures}
 use Rattle.fr_model.specs.Finish.{closed}
-use Rattle.fr_model.specs.Places.{Column, strict_column}
 use Rattle.fr_model.specs.Step.{step, build}
-use Rattle.fr_model.specs.Scripts.{IsFitting, brings}
 use Rattle.fr_model.specs.Removed.{removed, removed_at_build}
-use Rattle.fr_model.specs.Well.{Suits, IsInOrder, RestsAround, AreDistinct, IsWell}
 
 -- a place makes no value in strict mode exactly where it lacks something
 abbrev pub CompletesOrLacks : Type 0
@@ -58,8 +44,7 @@ held_after (Err kind) t = 0
 abbrev pub StepKeepsTokens : Type 0
 StepKeepsTokens =
     (hooks : Meanings) (table : Table) (root : ℕ) (state : State) (command : Call) → IsChecked table
-    → IsInOrder table root state → (t : ℕ)
-    → tree_occurs state.tree t + brings command t
+    → IsInOrder table root state → (t : ℕ) → tree_occurs state.tree t + brings command t
     ≡ held_after (step hooks table root state command) t + removed hooks table root state command t
 
 -- how often a token stands in what is built, if anything is
@@ -70,10 +55,8 @@ built_occurs (Err kind) t = 0
 -- What the tree held is what the built value holds, and what `build` dropped.
 abbrev pub BuildKeepsTokens : Type 0
 BuildKeepsTokens =
-    (hooks : Meanings) (table : Table) (root : ℕ) (state : State) → IsChecked table → Suits table root state.tree
-    → (t : ℕ)
-    → tree_occurs state.tree t
-    ≡ built_occurs (build hooks table root state) t + removed_at_build hooks table root state t
+    (hooks : Meanings) (table : Table) (root : ℕ) (state : State) → IsChecked table → Suits table root state.tree → (t : ℕ)
+    → tree_occurs state.tree t ≡ built_occurs (build hooks table root state) t + removed_at_build hooks table root state t
 
 -- States stay well
 
@@ -85,8 +68,7 @@ StartIsWell = (table : Table) (root : ℕ) → IsWell table root (initial table 
 abbrev pub StepKeepsOrder : Type 0
 StepKeepsOrder =
     (hooks : Meanings) (table : Table) (root : ℕ) (state next : State) (command : Call) → IsChecked table
-    → IsInOrder table root state → IsFitting table command → step hooks table root state command ≡ Ok next
-    → IsInOrder table root next
+    → IsInOrder table root state → IsFitting table command → step hooks table root state command ≡ Ok next → IsInOrder table root next
 
 -- and if what lay around the cursor rested, so it does then
 abbrev pub StepKeepsRest : Type 0
@@ -104,5 +86,4 @@ pub record IsFresh (state : State) (command : Call) : Type 0 where
 abbrev pub StepKeepsDistinct : Type 0
 StepKeepsDistinct =
     (hooks : Meanings) (table : Table) (root : ℕ) (state next : State) (command : Call) → IsChecked table
-    → IsWell table root state → IsFresh state command → step hooks table root state command ≡ Ok next
-    → AreDistinct next.tree
+    → IsWell table root state → IsFresh state command → step hooks table root state command ≡ Ok next → AreDistinct next.tree

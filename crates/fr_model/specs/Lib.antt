@@ -1,7 +1,9 @@
 pub mod Agree
+pub mod Basis
 pub mod CollectionExamples
 pub mod Collections
 pub mod Commands
+pub mod Common
 pub mod Complete
 pub mod ContentExamples
 pub mod Contents
@@ -25,6 +27,7 @@ pub mod Gathering
 pub mod GatheringLaws
 pub mod Items
 pub mod Journal
+pub mod Kinds
 pub mod Laws
 pub mod ListExamples
 pub mod PathLaws
@@ -39,6 +42,7 @@ pub mod Served
 pub mod Settled
 pub mod StateCode
 pub mod Step
+pub mod Trackers
 pub mod Tree
 pub mod Variants
 pub mod Well

@@ -1,18 +1,11 @@
 -- The path of the place at which a builder works depends only on the places above it: whatever becomes of the place keeps the path,
 -- entering a child adds a step, going up takes the last one away, and the end of deferred mode keeps the path.
-use Rattle.std.specs.Prelude.{◌≡◌, ℕ, true, List, [], ◌∷◌, ◌++◌, length, Option, Some, None}
-use Rattle.fr_shape.specs.declared.shape.Def.{Def}
-use Rattle.fr_shape.specs.Hooks.{Meanings}
-use Rattle.fr_shape.specs.Look.{Table, def_of}
-use Rattle.fr_path.specs.declared.path_steps.PathStep.{PathStep}
-use Rattle.fr_model.specs.DynamicPlaces.{is_begun_object}
+use Rattle.std.specs.Prelude.{◌≡◌, ◌∷◌, ◌++◌}
+use Rattle.fr_model.specs.Common.{ℕ, true, List, [], length, Option, Some, None, Def, Meanings, Table, def_of, PathStep}
+use Rattle.fr_model.specs.Basis.{is_begun_object, step_as, step_below, steps_in, path_of, Place, up, Tracker, as_content, ContentKind, tracker_at, Tree, begun, change_at, count_below, State, cursor_shape, cursor_tree, Leads, IsInOrder}
 use Rattle.fr_model.specs.Entering.{Way, enters}
 use Rattle.fr_model.specs.Finish.{finished}
-use Rattle.fr_model.specs.Paths.{step_as, step_below, steps_in, path_of}
-use Rattle.fr_model.specs.Places.{Place, up}
 use Rattle.fr_model.specs.Step.{option_kept, content_kept}
-use Rattle.fr_model.specs.Tree.{Form, as_some, form_at, Tree, hole, entered, whole, begun, change_at, count_below, State, cursor_shape, cursor_tree}
-use Rattle.fr_model.specs.Well.{Leads, IsInOrder}
 
 -- the path has one step for each place below the root on the way to the cursor, so that only the root has none
 abbrev pub PathIsAsDeep : Type 0
@@ -21,8 +14,7 @@ PathIsAsDeep = (state : State) → length (path_of state) ≡ length state.curso
 -- whatever becomes of the cursor's place, its path stays
 abbrev pub ChangingKeepsThePath : Type 0
 ChangingKeepsThePath =
-    (state : State) (change : Tree → Tree)
-    → steps_in state.cursor (change_at state.cursor change state.tree) ≡ path_of state
+    (state : State) (change : Tree → Tree) → steps_in state.cursor (change_at state.cursor change state.tree) ≡ path_of state
 
 -- the path of a child of the cursor's place is that place's, and the step to the child from what the place has become
 abbrev pub EnteringAddsAStep : Type 0
@@ -34,31 +26,27 @@ EnteringAddsAStep =
 -- the step to which a way leads on from a place of this definition: to a child as what the place is begun as, or will be, tells; to a
 -- new item or key behind the children that are there; to the entry of a key; to the one child of what is begun around it
 abbrev pub step_on : Def → Tree → Way → PathStep
-step_on def tree (Way.Child i) = step_as (form_at def tree) i
-step_on def tree Way.Item = step_as (form_at def tree) (count_below tree)
-step_on def tree Way.Key = step_as (form_at def tree) (count_below tree)
-step_on def tree (Way.Value i) = step_as (form_at def tree) i
+step_on def tree (Way.Child i) = step_as (tracker_at def tree) i
+step_on def tree Way.Item = step_as (tracker_at def tree) (count_below tree)
+step_on def tree Way.Key = step_as (tracker_at def tree) (count_below tree)
+step_on def tree (Way.Value i) = step_as (tracker_at def tree) i
 step_on def tree (Way.Entry key) = PathStep.Entry key
-step_on def tree (Way.Content form kept) = step_as form 0
+step_on def tree (Way.Content tracker kept) = step_as tracker 0
 
 -- the place is begun
 abbrev pub HasBegun : Tree → Type 0
-HasBegun hole = ⊥
-HasBegun entered = ⊥
-HasBegun (whole v) = ⊥
-HasBegun (begun form children) = Unit {0}
+HasBegun (begun tracker children) = Unit {0}
+HasBegun _ = ⊥
 
 -- the place is begun in just this form
-abbrev pub HasBegunAs : Form → Tree → Type 0
-HasBegunAs form hole = ⊥
-HasBegunAs form entered = ⊥
-HasBegunAs form (whole v) = ⊥
-HasBegunAs form (begun made children) = made ≡ form
+abbrev pub HasBegunAs : Tracker → Tree → Type 0
+HasBegunAs tracker (begun made children) = made ≡ tracker
+HasBegunAs tracker _ = ⊥
 
 -- what is kept of a place, if anything is, is begun in this form
-abbrev pub IsKeptAs : Form → (kept : Option Tree) → Type 0
-IsKeptAs form (Some tree) = HasBegunAs form tree
-IsKeptAs form None = Unit {0}
+abbrev pub IsKeptAs : Tracker → (kept : Option Tree) → Type 0
+IsKeptAs tracker (Some tree) = HasBegunAs tracker tree
+IsKeptAs tracker None = Unit {0}
 
 -- A way on is admitted at such a place: to an item or a key where the place is begun, to an entry where it is begun as a dynamic
 -- object, and to the one child of a form where what is kept is begun in that form. To a child by its number it always is.
@@ -68,35 +56,32 @@ IsAdmittedOn tree Way.Item = HasBegun tree
 IsAdmittedOn tree Way.Key = HasBegun tree
 IsAdmittedOn tree (Way.Value i) = Unit {0}
 IsAdmittedOn tree (Way.Entry key) = is_begun_object tree ≡ true
-IsAdmittedOn tree (Way.Content form kept) = IsKeptAs form kept
+IsAdmittedOn tree (Way.Content tracker kept) = IsKeptAs tracker kept
 
 -- on each way that is admitted, in a state that is in order, this is the step that is added
 abbrev pub EnteringAddsItsStep : Type 0
 EnteringAddsItsStep =
-    (table : Table) (root : ℕ) (state : State) (way : Way) → IsInOrder table root state
-    → IsAdmittedOn (cursor_tree state) way
+    (table : Table) (root : ℕ) (state : State) (way : Way) → IsInOrder table root state → IsAdmittedOn (cursor_tree state) way
     → path_of (enters table (cursor_shape table root state) state way)
     ≡ path_of state ++ step_on (def_of table (cursor_shape table root state)) (cursor_tree state) way ∷ []
 
 -- what the commands keep of a side, of what a pointer points to, and of an option is begun in the form that they enter
 abbrev pub KeptIsAdmitted : Type 0
 KeptIsAdmitted =
-    (table : Table) (s : ℕ) (state : State) (form : Form)
-    → IsKeptAs form (content_kept state form) × IsKeptAs as_some (option_kept table s state)
+    (table : Table) (s : ℕ) (state : State) (tracker : Tracker)
+    → IsKeptAs tracker (content_kept state tracker) × IsKeptAs (as_content ContentKind.Some) (option_kept table s state)
 
 -- these steps lead to the place above the cursor's: where the cursor's place stays as it is, where something becomes of it, and where
 -- something becomes of the place above
 pub record LeadAbove (state : State) (before : List PathStep) : Type 0 where
   pub as_it_is : steps_in (up state.cursor) state.tree ≡ before
   pub changed : (change : Tree → Tree) → steps_in (up state.cursor) (change_at state.cursor change state.tree) ≡ before
-  pub changed_above : (change : Tree → Tree)
-      → steps_in (up state.cursor) (change_at (up state.cursor) change state.tree) ≡ before
+  pub changed_above : (change : Tree → Tree) → steps_in (up state.cursor) (change_at (up state.cursor) change state.tree) ≡ before
 
 -- going up takes the last step away
 abbrev pub LeavingDropsAStep : Type 0
 LeavingDropsAStep =
-    (state : State) (before : List PathStep) (last : PathStep) → path_of state ≡ before ++ last ∷ []
-    → LeadAbove state before
+    (state : State) (before : List PathStep) (last : PathStep) → path_of state ≡ before ++ last ∷ [] → LeadAbove state before
 
 -- the end of deferred mode keeps the path
 abbrev pub FinishingKeepsThePath : Type 0

@@ -1,11 +1,6 @@
 -- Places: lists of child numbers from the root, and what a table says of the shapes along them.
-use Rattle.std.specs.Prelude.{ℕ, zero, suc, Bool, true, false, List, [], ◌∷◌, length, slice_get, Option, Some, None, is_some, if◌then◌else◌}
-use Rattle.fr_shape.specs.declared.shape.Def.{Def}
-use Rattle.fr_shape.specs.declared.shape.Field.{Field}
-use Rattle.fr_shape.specs.declared.shape.ShapeId.{ShapeId}
-use Rattle.fr_shape.specs.Fills.{strict_fill, deferred_fill}
-use Rattle.fr_shape.specs.Look.{Table, def_of, field_in}
-use Rattle.fr_shape.specs.Val.{Val, Vals, Entries, unit, bool, char, int, nat, text, token, product, variant, none, some, ok, err, list_of, map_of, set_of, ptr, dyn, no_vals, first, no_entries, entry}
+use Rattle.std.specs.Prelude.{◌∷◌, if◌then◌else◌}
+use Rattle.fr_model.specs.Common.{ℕ, zero, suc, Bool, true, false, List, [], length, slice_get, Option, Some, None, is_some, Def, Field, ShapeId, strict_fill, deferred_fill, Table, def_of, field_in, Val, Vals, Entries, unit, product, list_of, map_of, set_of, no_vals, first, no_entries, entry}
 
 abbrev pub Place : Type 0
 Place = List ℕ
@@ -29,20 +24,7 @@ up (i ∷ j ∷ place) = i ∷ up (j ∷ place)
 abbrev pub count_children : Def → ℕ
 count_children (Def.Struct struct) = length struct.fields
 count_children (Def.Array t n) = n
-count_children (Def.Scalar kind) = 0
-count_children Def.Str = 0
-count_children Def.Opaque = 0
-count_children (Def.Enum enumeration) = 0
-count_children (Def.Option t) = 0
-count_children (Def.Result t e) = 0
-count_children (Def.List t) = 0
-count_children (Def.Map key item) = 0
-count_children (Def.Set t) = 0
-count_children (Def.Pointer pointer) = 0
-count_children (Def.Slice t) = 0
-count_children Def.Dynamic = 0
-count_children Def.Undefined = 0
-count_children Def.Other = 0
+count_children _ = 0
 
 abbrev pub child_count : Table → ℕ → ℕ
 child_count table s = count_children (def_of table s)
@@ -54,20 +36,7 @@ shape_of_field None = 0
 abbrev pub shape_of_child : Def → ℕ → ℕ
 shape_of_child (Def.Struct struct) i = shape_of_field (slice_get struct.fields i)
 shape_of_child (Def.Array t n) i = t.0
-shape_of_child (Def.Scalar kind) i = 0
-shape_of_child Def.Str i = 0
-shape_of_child Def.Opaque i = 0
-shape_of_child (Def.Enum enumeration) i = 0
-shape_of_child (Def.Option t) i = 0
-shape_of_child (Def.Result t e) i = 0
-shape_of_child (Def.List t) i = 0
-shape_of_child (Def.Map key item) i = 0
-shape_of_child (Def.Set t) i = 0
-shape_of_child (Def.Pointer pointer) i = 0
-shape_of_child (Def.Slice t) i = 0
-shape_of_child Def.Dynamic i = 0
-shape_of_child Def.Undefined i = 0
-shape_of_child Def.Other i = 0
+shape_of_child _ i = 0
 
 -- the shape of child i of a place: that of the field of this number, or of an element. Where there is no such child it
 -- is 0, which no definition asks for.
@@ -159,65 +128,17 @@ vals_nth (first v vs) (suc i) = vals_nth vs i
 -- the values of the children that a value has: a product's, of fields or of elements
 abbrev pub parts_of : Val → Option Vals
 parts_of (product vs) = Some vs
-parts_of unit = None
-parts_of (bool b) = None
-parts_of (char c) = None
-parts_of (int i) = None
-parts_of (nat n) = None
-parts_of (text codes) = None
-parts_of (token t) = None
-parts_of (variant index vs) = None
-parts_of none = None
-parts_of (some v) = None
-parts_of (ok v) = None
-parts_of (err v) = None
-parts_of (list_of vs) = None
-parts_of (map_of es) = None
-parts_of (set_of vs) = None
-parts_of (ptr v) = None
-parts_of (dyn value) = None
+parts_of _ = None
 
 -- the values of the items that a list's value has
 abbrev pub items_of : Val → Option Vals
 items_of (list_of vs) = Some vs
-items_of unit = None
-items_of (bool b) = None
-items_of (char c) = None
-items_of (int i) = None
-items_of (nat n) = None
-items_of (text codes) = None
-items_of (token t) = None
-items_of (product vs) = None
-items_of (variant index vs) = None
-items_of none = None
-items_of (some v) = None
-items_of (ok v) = None
-items_of (err v) = None
-items_of (map_of es) = None
-items_of (set_of vs) = None
-items_of (ptr v) = None
-items_of (dyn value) = None
+items_of _ = None
 
 -- the same of a set's value
 abbrev pub set_items_of : Val → Option Vals
 set_items_of (set_of vs) = Some vs
-set_items_of unit = None
-set_items_of (bool b) = None
-set_items_of (char c) = None
-set_items_of (int i) = None
-set_items_of (nat n) = None
-set_items_of (text codes) = None
-set_items_of (token t) = None
-set_items_of (product vs) = None
-set_items_of (variant index vs) = None
-set_items_of none = None
-set_items_of (some v) = None
-set_items_of (ok v) = None
-set_items_of (err v) = None
-set_items_of (list_of vs) = None
-set_items_of (map_of es) = None
-set_items_of (ptr v) = None
-set_items_of (dyn value) = None
+set_items_of _ = None
 
 -- the keys and values of entries in turn
 abbrev pub in_turn : Entries → Vals
@@ -227,23 +148,7 @@ in_turn (entry k v es) = first k (first v (in_turn es))
 -- those of the entries that a map's value has
 abbrev pub entries_of : Val → Option Vals
 entries_of (map_of es) = Some (in_turn es)
-entries_of unit = None
-entries_of (bool b) = None
-entries_of (char c) = None
-entries_of (int i) = None
-entries_of (nat n) = None
-entries_of (text codes) = None
-entries_of (token t) = None
-entries_of (product vs) = None
-entries_of (variant index vs) = None
-entries_of none = None
-entries_of (some v) = None
-entries_of (ok v) = None
-entries_of (err v) = None
-entries_of (list_of vs) = None
-entries_of (set_of vs) = None
-entries_of (ptr v) = None
-entries_of (dyn value) = None
+entries_of _ = None
 
 abbrev pub count_entries : Entries → ℕ
 count_entries no_entries = zero

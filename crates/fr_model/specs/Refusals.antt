@@ -1,19 +1,8 @@
 -- What commands are refused for: each function says why one can't be made at a place, if it can't.
-use Rattle.std.specs.Prelude.{ℕ, ◌==◌, Bool, true, false, ◌&&◌, ◌||◌, length, nat_lt, nat_le, Option, Some, None, is_some, if◌then◌else◌}
-use Rattle.std.specs.Option.{option_or}
-use Rattle.fr_shape.specs.declared.shape.Def.{Def}
-use Rattle.fr_shape.specs.declared.shape.ScalarKind.{ScalarKind}
-use Rattle.fr_shape.specs.declared.error.Expected.{Expected}
-use Rattle.fr_shape.specs.declared.error.InitCall.{InitCall}
-use Rattle.fr_shape.specs.declared.error.ReflectErrorKind.{ReflectErrorKind}
-use Rattle.fr_shape.specs.declared.error.Operation.{Operation}
-use Rattle.fr_shape.specs.declared.error.Invariant.{Invariant}
-use Rattle.fr_shape.specs.Look.{Table, def_of}
+use Rattle.std.specs.Prelude.{◌==◌, ◌&&◌, ◌||◌, if◌then◌else◌}
+use Rattle.fr_model.specs.Common.{ℕ, Bool, true, false, length, nat_lt, nat_le, Option, Some, None, is_some, option_or, Def, ScalarKind, Expected, InitCall, ReflectErrorKind, Operation, Invariant, Table, def_of}
 use Rattle.fr_model.specs.Items.{unless_list, is_list_like}
-use Rattle.fr_model.specs.Places.{array_limit}
-use Rattle.fr_model.specs.Tree.{Form, tracker_of, selected, Tree, hole, entered, whole, begun}
-use Rattle.fr_model.specs.Variants.{variant_fields}
-use Rattle.fr_model.specs.Collections.{unless_map, unless_set, is_map_like, is_set_form}
+use Rattle.fr_model.specs.Basis.{array_limit, Tracker, tracker_kind, selected, Tree, hole, entered, whole, begun, variant_fields, unless_map, unless_set, is_map_like, is_set_tracker}
 
 abbrev pub operation_failed : ℕ → Operation → ReflectErrorKind
 operation_failed s operation = ReflectErrorKind.OperationFailed (record { 0 = s }) operation
@@ -33,9 +22,7 @@ was_not_a expected s = ReflectErrorKind.WasNotA expected (record { 0 = s })
 -- the elements of a whole array can't be entered
 abbrev pub element_refusal : Tree → Option Operation
 element_refusal (whole v) = Some Operation.ElementOfWholeArray
-element_refusal hole = None
-element_refusal entered = None
-element_refusal (begun form children) = None
+element_refusal _ = None
 
 -- of an enum, a field of the variant that is selected
 abbrev pub variant_field_refusal : Def → (selected : Option ℕ) → ℕ → Option Operation
@@ -47,8 +34,7 @@ variant_field_refusal def (Some k) i =
 -- has no more elements than the limit and isn't whole. Of several refusals of an array the first in this order is given: there is no
 -- such element; the array is too large; it is whole.
 abbrev pub field_refusal : Def → Tree → ℕ → Option Operation
-field_refusal (Def.Struct struct) tree i =
-    if nat_lt i (length struct.fields) then None else Some Operation.FieldIndexOutOfBounds
+field_refusal (Def.Struct struct) tree i = if nat_lt i (length struct.fields) then None else Some Operation.FieldIndexOutOfBounds
 field_refusal (Def.Enum enumeration) tree i = variant_field_refusal (Def.Enum enumeration) (selected tree) i
 field_refusal (Def.Array item n) tree i =
     option_or (if nat_lt i n then None else Some Operation.ArrayIndexOutOfBounds)
@@ -70,8 +56,7 @@ field_refusal Def.Other tree i = Some Operation.FieldOfOther
 -- begin_field is refused but at a struct and at a begun enum
 abbrev pub named_refusal : Def → Tree → Option Operation
 named_refusal (Def.Struct struct) tree = None
-named_refusal (Def.Enum enumeration) tree =
-    if is_some (selected tree) then None else Some Operation.NamedFieldOfUnselectedVariant
+named_refusal (Def.Enum enumeration) tree = if is_some (selected tree) then None else Some Operation.NamedFieldOfUnselectedVariant
 named_refusal Def.Undefined tree = Some Operation.NamedFieldOfUndefined
 named_refusal (Def.Scalar kind) tree = Some Operation.NamedFieldOfPrimitive
 named_refusal Def.Str tree = Some Operation.NamedFieldOfPrimitive
@@ -96,21 +81,7 @@ is_str _ = false
 -- a text that may be borrowed is none
 abbrev pub is_owned_string_kind : ScalarKind → Bool
 is_owned_string_kind ScalarKind.String = true
-is_owned_string_kind ScalarKind.CowStr = false
-is_owned_string_kind ScalarKind.Bool = false
-is_owned_string_kind ScalarKind.Char = false
-is_owned_string_kind ScalarKind.I8 = false
-is_owned_string_kind ScalarKind.I16 = false
-is_owned_string_kind ScalarKind.I32 = false
-is_owned_string_kind ScalarKind.I64 = false
-is_owned_string_kind ScalarKind.I128 = false
-is_owned_string_kind ScalarKind.ISize = false
-is_owned_string_kind ScalarKind.U8 = false
-is_owned_string_kind ScalarKind.U16 = false
-is_owned_string_kind ScalarKind.U32 = false
-is_owned_string_kind ScalarKind.U64 = false
-is_owned_string_kind ScalarKind.U128 = false
-is_owned_string_kind ScalarKind.USize = false
+is_owned_string_kind _ = false
 
 -- an owned text
 abbrev pub is_owned_string : Def → Bool
@@ -129,25 +100,21 @@ set_refusal table s given =
 
 -- Beginning a list, a map or a set
 
-abbrev pub unexpected_unless : Bool → InitCall → Form → Option ReflectErrorKind
-unexpected_unless true call form = None
-unexpected_unless false call form = Some (ReflectErrorKind.UnexpectedTracker call (tracker_of form))
+abbrev pub unexpected_unless : Bool → InitCall → Tracker → Option ReflectErrorKind
+unexpected_unless true call tracker = None
+unexpected_unless false call tracker = Some (ReflectErrorKind.UnexpectedTracker call (tracker_kind tracker))
 
 -- init_list is refused but at a list or a dynamic value, and at what is begun as one of these or as a pointer to a slice
 abbrev pub init_list_refusal : ℕ → Def → Tree → Option ReflectErrorKind
 init_list_refusal s def (whole v) = at_shape s (unless_list Operation.InitListOfWholeOther def)
-init_list_refusal s def (begun form children) = unexpected_unless (is_list_like form) InitCall.List form
+init_list_refusal s def (begun tracker children) = unexpected_unless (is_list_like tracker) InitCall.List tracker
 init_list_refusal s def entered = at_shape s (unless_list Operation.InitListOfOther def)
 init_list_refusal s def hole = at_shape s (unless_list Operation.InitListOfOther def)
 
 abbrev pub init_map_refusal : ℕ → Def → Tree → Option ReflectErrorKind
-init_map_refusal s def (begun form children) = unexpected_unless (is_map_like form) InitCall.Map form
-init_map_refusal s def (whole v) = at_shape s (unless_map Operation.InitMapOfOther def)
-init_map_refusal s def entered = at_shape s (unless_map Operation.InitMapOfOther def)
-init_map_refusal s def hole = at_shape s (unless_map Operation.InitMapOfOther def)
+init_map_refusal s def (begun tracker children) = unexpected_unless (is_map_like tracker) InitCall.Map tracker
+init_map_refusal s def _ = at_shape s (unless_map Operation.InitMapOfOther def)
 
 abbrev pub init_set_refusal : ℕ → Def → Tree → Option ReflectErrorKind
-init_set_refusal s def (begun form children) = unexpected_unless (is_set_form form) InitCall.Set form
-init_set_refusal s def (whole v) = at_shape s (unless_set Operation.InitSetOfOther def)
-init_set_refusal s def entered = at_shape s (unless_set Operation.InitSetOfOther def)
-init_set_refusal s def hole = at_shape s (unless_set Operation.InitSetOfOther def)
+init_set_refusal s def (begun tracker children) = unexpected_unless (is_set_tracker tracker) InitCall.Set tracker
+init_set_refusal s def _ = at_shape s (unless_set Operation.InitSetOfOther def)

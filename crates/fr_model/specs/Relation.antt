@@ -1,46 +1,27 @@
 -- How a builder's state and a run of the rules stand to each other, place by place.
-use Rattle.std.specs.Prelude.{◌≡◌, ℕ, ◌<◌, [], ◌∷◌, Option, Some, None, Result, Ok, Err, if◌then◌else◌}
-use Rattle.fr_shape.specs.declared.shape.Def.{Def}
-use Rattle.fr_shape.specs.declared.error.ReflectErrorKind.{ReflectErrorKind}
-use Rattle.fr_shape.specs.Fills.{is_empty_struct}
-use Rattle.fr_shape.specs.Look.{Table, def_of}
-use Rattle.fr_shape.specs.Val.{product, no_vals}
-use Rattle.fr_model.specs.Places.{Place, shape_at}
-use Rattle.fr_model.specs.Journal.{Held, in_parts, written, just_entered, untouched, held, Progress}
-use Rattle.fr_model.specs.Tree.{Form, as_struct, as_array, as_variant, as_some, as_ok, as_err, as_pointer, as_list, as_slice, as_closed_slice, as_set, as_map, as_dyn_array, as_dyn_object, Tree, hole, entered, whole, begun, count_trees, tree_nth, tree_at, State}
-use Rattle.fr_model.specs.Well.{IsFullAs}
+use Rattle.std.specs.Prelude.{◌≡◌, ◌<◌, ◌∷◌, if◌then◌else◌}
+use Rattle.fr_model.specs.Common.{ℕ, [], Option, Some, None, Result, Ok, Err, Def, ReflectErrorKind, is_empty_struct, Table, def_of, product, no_vals}
+use Rattle.fr_model.specs.Basis.{Place, shape_at, Held, in_parts, written, just_entered, untouched, held, Progress, Tracker, as_fields, as_elements, as_content, as_items, as_entries, Tree, hole, entered, whole, begun, count_trees, tree_nth, tree_at, State, IsFullAs}
 
 -- a place of a tree: a way from the top through begun places leads to it
 abbrev pub HasPlace : Place → Tree → Type 0
 HasPlace [] t = Unit {0}
-HasPlace (i ∷ place) hole = ⊥
-HasPlace (i ∷ place) entered = ⊥
-HasPlace (i ∷ place) (whole v) = ⊥
-HasPlace (i ∷ place) (begun form children) = (i < count_trees children) × HasPlace place (tree_nth i children)
+HasPlace (i ∷ place) (begun tracker children) = (i < count_trees children) × HasPlace place (tree_nth i children)
+HasPlace (i ∷ place) _ = ⊥
 
 -- a place that is begun so has parts to which the journal writes: as a struct or an array
-abbrev pub HasParts : Form → Type 0
-HasParts as_struct = Unit {0}
-HasParts as_array = Unit {0}
-HasParts (as_variant k) = ⊥
-HasParts as_some = ⊥
-HasParts as_ok = ⊥
-HasParts as_err = ⊥
-HasParts as_pointer = ⊥
-HasParts as_list = ⊥
-HasParts as_slice = ⊥
-HasParts as_closed_slice = ⊥
-HasParts as_set = ⊥
-HasParts (as_map base) = ⊥
-HasParts as_dyn_array = ⊥
-HasParts (as_dyn_object keys) = ⊥
+abbrev pub HasParts : Tracker → Type 0
+HasParts (as_fields None) = Unit {0}
+HasParts as_elements = Unit {0}
+HasParts (as_fields (Some k)) = ⊥
+HasParts (as_content kind) = ⊥
+HasParts (as_items kind) = ⊥
+HasParts (as_entries kind) = ⊥
 
 -- a place is begun, as a struct or an array with all its children, as its definition says
 abbrev pub IsBegun : Def → Tree → Type 0
-IsBegun def hole = ⊥
-IsBegun def entered = ⊥
-IsBegun def (whole v) = ⊥
-IsBegun def (begun form children) = HasParts form × IsFullAs def form (count_trees children)
+IsBegun def (begun tracker children) = HasParts tracker × IsFullAs def tracker (count_trees children)
+IsBegun def _ = ⊥
 
 -- What stands in the tree at a place of this definition, by what the journal holds of it. A hole stands exactly where the
 -- journal holds nothing. Where the place was only entered it is entered, but a struct without fields is whole with the

@@ -1,24 +1,11 @@
 -- The tokens that a call drops: the ledger rises by exactly these.
-use Rattle.std.specs.Prelude.{ℕ, ◌+◌, Bool, true, false, not, ◌&&◌, ◌||◌, if◌then◌else◌, Option, Some, None, Result, Ok, Err}
-use Rattle.fr_shape.specs.declared.error.ReflectErrorKind.{ReflectErrorKind}
-use Rattle.fr_shape.specs.Hooks.{Meanings}
-use Rattle.fr_shape.specs.Plannable.{is_dynamic}
-use Rattle.fr_shape.specs.Look.{Table, def_of, variants_of}
-use Rattle.fr_shape.specs.Val.{Val}
-use Rattle.fr_shape.specs.Tokens.{occurs}
-use Rattle.fr_model.specs.Collections.{leaves_item_out, number_in}
-use Rattle.fr_model.specs.Commands.{Call}
-use Rattle.fr_model.specs.Complete.{complete}
-use Rattle.fr_model.specs.DynamicPlaces.{kept_array, kept_object}
+use Rattle.std.specs.Prelude.{◌+◌, ◌&&◌, ◌||◌, if◌then◌else◌}
+use Rattle.fr_model.specs.Common.{ℕ, Bool, true, false, not, Option, Some, None, Result, Ok, Err, ReflectErrorKind, Meanings, is_dynamic, Table, def_of, variants_of, Val, occurs}
+use Rattle.fr_model.specs.Basis.{leaves_item_out, number_in, Call, complete, kept_array, kept_object, up, Column, strict_column, deferred_column, points_to_slice, as_content, ContentKind, Tree, child_tree, tree_at, Mode, strict, deferred, State, cursor_shape, cursor_tree, tree_occurs, brings, variant_numbered, variant_named, variant_told_by}
 use Rattle.fr_model.specs.Dropping.{dropped_by_completing, dropped_by_finishing}
 use Rattle.fr_model.specs.Items.{is_open_slice}
-use Rattle.fr_model.specs.Places.{up, Column, strict_column, deferred_column}
-use Rattle.fr_model.specs.Contents.{points_to_slice}
-use Rattle.fr_model.specs.Tree.{as_ok, as_err, Tree, child_tree, tree_at, Mode, strict, deferred, State, cursor_shape, cursor_tree, tree_occurs}
-use Rattle.fr_model.specs.Scripts.{brings}
 use Rattle.fr_model.specs.Entering.{opened}
 use Rattle.fr_model.specs.Step.{option_kept, content_kept, pointer_kept, variant_kept, is_set_item, is_dynamic_part, step, build}
-use Rattle.fr_model.specs.Variants.{variant_numbered, variant_named, variant_told_by}
 
 -- how often a token stands in what is at the cursor
 abbrev pub occurs_here : State → ℕ → ℕ
@@ -89,22 +76,20 @@ replaced hooks table root s state (Call.SetNthFieldToDefault i) t = occurs_in_ch
 replaced hooks table root s state (Call.Set given v) t = occurs_here state t
 replaced hooks table root s state Call.SetDefault t = occurs_here state t
 replaced hooks table root s state Call.SetEmptySharedSlice t = occurs_here state t
-replaced hooks table root s state Call.InitList t =
-    dropped_if (is_dynamic (def_of table s)) (kept_array (cursor_tree state)) state t
+replaced hooks table root s state Call.InitList t = dropped_if (is_dynamic (def_of table s)) (kept_array (cursor_tree state)) state t
 replaced hooks table root s state (Call.InitListWithCapacity n) t =
     dropped_if (is_dynamic (def_of table s)) (kept_array (cursor_tree state)) state t
 replaced hooks table root s state Call.InitArray t = 0
 replaced hooks table root s state Call.BeginListItem t = 0
-replaced hooks table root s state Call.InitMap t =
-    dropped_if (is_dynamic (def_of table s)) (kept_object (cursor_tree state)) state t
+replaced hooks table root s state Call.InitMap t = dropped_if (is_dynamic (def_of table s)) (kept_object (cursor_tree state)) state t
 replaced hooks table root s state Call.BeginKey t = 0
 replaced hooks table root s state Call.BeginValue t = 0
 replaced hooks table root s state Call.InitSet t = 0
 replaced hooks table root s state Call.BeginSetItem t = 0
 replaced hooks table root s state (Call.BeginObjectEntry key) t = 0
 replaced hooks table root s state Call.BeginSome t = dropped_unless (option_kept table s state) state t
-replaced hooks table root s state Call.BeginOk t = dropped_unless (content_kept state as_ok) state t
-replaced hooks table root s state Call.BeginErr t = dropped_unless (content_kept state as_err) state t
+replaced hooks table root s state Call.BeginOk t = dropped_unless (content_kept state (as_content ContentKind.Ok)) state t
+replaced hooks table root s state Call.BeginErr t = dropped_unless (content_kept state (as_content ContentKind.Err)) state t
 replaced hooks table root s state Call.BeginSmartPtr t =
     dropped_unless (pointer_kept state (points_to_slice table (def_of table s))) state t
 replaced hooks table root s state (Call.SelectNthVariant i) t =

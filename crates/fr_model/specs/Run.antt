@@ -1,18 +1,9 @@
 -- The run of a whole script: the plan of its root, its steps in order, and then `build`.
-use Rattle.std.specs.Prelude.{ℕ, ◌+◌, List, [], ◌∷◌, Option, Some, None, Result, Ok, Err, if◌then◌else◌}
-use Rattle.std.specs.Option.{option_or}
+use Rattle.std.specs.Prelude.{◌+◌, ◌∷◌, if◌then◌else◌}
+use Rattle.fr_model.specs.Common.{ℕ, List, [], Option, Some, None, Result, Ok, Err, option_or, ReflectErrorKind, is_sized, Meanings, Table, def_of, first_refusal, Val, PathStep}
 use Rattle.fr_shape.specs.declared.error.AllocError.{AllocError}
 use Rattle.fr_shape.specs.declared.error.PlanFault.{PlanFault}
-use Rattle.fr_shape.specs.declared.error.ReflectErrorKind.{ReflectErrorKind}
-use Rattle.fr_shape.specs.Checked.{is_sized}
-use Rattle.fr_shape.specs.Hooks.{Meanings}
-use Rattle.fr_shape.specs.Look.{Table, def_of}
-use Rattle.fr_shape.specs.Plannable.{first_refusal}
-use Rattle.fr_shape.specs.Val.{Val}
-use Rattle.fr_path.specs.declared.path_steps.PathStep.{PathStep}
-use Rattle.fr_model.specs.Commands.{Call}
-use Rattle.fr_model.specs.Paths.{path_of}
-use Rattle.fr_model.specs.Tree.{State, initial}
+use Rattle.fr_model.specs.Basis.{Call, path_of, State, initial}
 use Rattle.fr_model.specs.Step.{step, build}
 
 -- the number of the refused command, counted from 0, or the script's length where `build` is refused; why; and the
@@ -37,8 +28,7 @@ and_then n state (Err kind) rest = Err (refused_at n state kind)
 abbrev pub run_from : Meanings → Table → ℕ → ℕ → State → List Call → Result Val Refusal
 run_from hooks table root n state [] = numbered n state (build hooks table root state)
 run_from hooks table root n state (command ∷ commands) =
-    and_then n state (step hooks table root state command)
-    (λ next. run_from hooks table root (n + 1) next commands)
+    and_then n state (step hooks table root state command) (λ next. run_from hooks table root (n + 1) next commands)
 
 -- a shape whose size isn't known is no root
 abbrev pub unsized_refusal : Table → ℕ → Option AllocError
@@ -61,5 +51,4 @@ unless_alloc None run = run
 
 -- the whole script
 abbrev pub full_run : Meanings → Table → ℕ → List Call → Result Val Refusal
-full_run hooks table root script =
-    unless_alloc (alloc_refusal table root) (run_from hooks table root 0 (initial table root) script)
+full_run hooks table root script = unless_alloc (alloc_refusal table root) (run_from hooks table root 0 (initial table root) script)

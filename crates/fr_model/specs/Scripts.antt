@@ -1,9 +1,6 @@
 -- Which scripts may be handed to the builder, and the tokens that they bring.
-use Rattle.std.specs.Prelude.{◌≡◌, ℕ, ◌+◌, ◌<◌, ◌≤◌, true, List, [], ◌∷◌, ◌++◌, slice_index, length, Option, Some, None}
-use Rattle.fr_shape.specs.Look.{Table, IsIn}
-use Rattle.fr_shape.specs.Fits.{fits}
-use Rattle.fr_shape.specs.Tokens.{tokens, occurs}
-use Rattle.fr_shape.specs.Val.{Val}
+use Rattle.std.specs.Prelude.{◌≡◌, ◌+◌, ◌<◌, ◌≤◌, ◌∷◌}
+use Rattle.fr_model.specs.Common.{ℕ, true, List, [], slice_index, length, Option, Some, None, Table, IsIn, fits, tokens, occurs, Val}
 use Rattle.fr_model.specs.Commands.{Call}
 
 -- the value that a call brings, with the shape that it names: `set` brings its value, every other call nothing
@@ -29,10 +26,6 @@ FitsIfAny table None = Unit {0}
 -- the tokens that a command, or a script, brings, in order
 abbrev pub tokens_of : Call → List ℕ
 tokens_of command = tokens_if_any (value_brought command)
-
-abbrev pub script_tokens : List Call → List ℕ
-script_tokens [] = []
-script_tokens (command ∷ commands) = tokens_of command ++ script_tokens commands
 
 -- how often a command, or a script, brings a token
 abbrev pub brings : Call → ℕ → ℕ

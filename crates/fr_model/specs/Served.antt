@@ -1,12 +1,6 @@
 -- The tables that the builder serves so far. The definition widens until it holds of every table.
-use Rattle.std.specs.Prelude.{◌≡◌, Bool, true, ◌&&◌, is_none}
-use Rattle.std.specs.List.{list_all}
-use Rattle.fr_shape.specs.declared.shape.Shape.{Shape}
-use Rattle.fr_shape.specs.declared.shape.Def.{Def}
-use Rattle.fr_shape.specs.declared.shape.Field.{Field}
-use Rattle.fr_shape.specs.declared.shape.VariantDef.{VariantDef}
-use Rattle.fr_shape.specs.Lists.{is_nil}
-use Rattle.fr_shape.specs.Look.{Table}
+use Rattle.std.specs.Prelude.{◌≡◌, ◌&&◌}
+use Rattle.fr_model.specs.Common.{Bool, true, is_none, list_all, Shape, Def, Field, VariantDef, is_nil, Table}
 
 -- a field without proxies and without validators
 abbrev pub serves_field : Field → Bool

@@ -1,5 +1,6 @@
 -- What an exit owes to the tokens of a script.
-use Rattle.std.specs.Prelude.{◌≡◌, ℕ, ◌+◌, ◌<◌, ◌≤◌, List, length, slice_index}
+use Rattle.std.specs.Prelude.{◌≡◌, ◌+◌, ◌<◌, ◌≤◌}
+use Rattle.fr_model.specs.Common.{ℕ, List, length, slice_index}
 
 -- Each token of the script stands once in the returned value or was released once: the two numbers add up to one, and
 -- no count falls. Every other count is unchanged, and the returned value holds no token from elsewhere.

@@ -1,27 +1,27 @@
 -- The code of a builder's state, for the models above: a tree is stored as a value that gives it back.
-use Rattle.std.specs.Prelude.{◌≡◌, ℕ, zero, suc, List, [], ◌∷◌, refl}
+use Rattle.std.specs.Prelude.{◌≡◌, ◌∷◌}
+use Rattle.fr_model.specs.Common.{ℕ, zero, suc, List, [], refl, None, Some, Val, Vals, unit, nat, text, variant, none, some, list_of, no_vals, first}
 use Rattle.std.specs.Coded.{Coded, code_by, coded×, coded_ℕ, coded_list}
 use mathlib.Core.Path.{ap, ◌∙◌}
 use Rattle.fr_shape.specs.Code.{val_code}
-use Rattle.fr_shape.specs.Val.{Val, Vals, unit, bool, char, int, nat, text, token, product, variant, none, some, ok, err, list_of, map_of, set_of, ptr, dyn, no_vals, first}
-use Rattle.fr_model.specs.Tree.{Form, as_struct, as_array, as_variant, as_some, as_ok, as_err, as_pointer, as_list, as_slice, as_closed_slice, as_set, as_map, as_dyn_array, as_dyn_object, base_of_form, keys_of_form, form_number, Tree, hole, entered, whole, begun, Trees, no_trees, branch, Mode, strict, deferred, State}
+use Rattle.fr_model.specs.Basis.{Tracker, as_fields, as_elements, as_content, ContentKind, as_items, ItemsKind, as_entries, EntriesKind, base_of_tracker, keys_of_tracker, tracker_number, Tree, hole, entered, whole, begun, Trees, no_trees, branch, Mode, strict, deferred, State}
 
 -- the form that has a number, and of a map this base, of an object these keys
-abbrev pub form_numbered : ℕ → (base : ℕ) → (keys : List (List ℕ)) → Form
-form_numbered zero base keys = as_struct
-form_numbered (suc zero) base keys = as_array
-form_numbered (suc (suc zero)) base keys = as_some
-form_numbered (suc (suc (suc zero))) base keys = as_ok
-form_numbered (suc (suc (suc (suc zero)))) base keys = as_err
-form_numbered (suc (suc (suc (suc (suc zero))))) base keys = as_pointer
-form_numbered (suc (suc (suc (suc (suc (suc zero)))))) base keys = as_list
-form_numbered (suc (suc (suc (suc (suc (suc (suc zero))))))) base keys = as_slice
-form_numbered (suc (suc (suc (suc (suc (suc (suc (suc zero)))))))) base keys = as_closed_slice
-form_numbered (suc (suc (suc (suc (suc (suc (suc (suc (suc zero))))))))) base keys = as_set
-form_numbered (suc (suc (suc (suc (suc (suc (suc (suc (suc (suc zero)))))))))) base keys = as_map base
-form_numbered (suc (suc (suc (suc (suc (suc (suc (suc (suc (suc (suc zero))))))))))) base keys = as_dyn_array
-form_numbered (suc (suc (suc (suc (suc (suc (suc (suc (suc (suc (suc (suc zero)))))))))))) base keys = as_dyn_object keys
-form_numbered (suc (suc (suc (suc (suc (suc (suc (suc (suc (suc (suc (suc (suc k))))))))))))) base keys = as_variant k
+abbrev pub tracker_numbered : ℕ → (base : ℕ) → (keys : List (List ℕ)) → Tracker
+tracker_numbered zero base keys = as_fields None
+tracker_numbered (suc zero) base keys = as_elements
+tracker_numbered (suc (suc zero)) base keys = as_content ContentKind.Some
+tracker_numbered (suc (suc (suc zero))) base keys = as_content ContentKind.Ok
+tracker_numbered (suc (suc (suc (suc zero)))) base keys = as_content ContentKind.Err
+tracker_numbered (suc (suc (suc (suc (suc zero))))) base keys = as_content ContentKind.Pointer
+tracker_numbered (suc (suc (suc (suc (suc (suc zero)))))) base keys = as_items ItemsKind.List
+tracker_numbered (suc (suc (suc (suc (suc (suc (suc zero))))))) base keys = as_items ItemsKind.Slice
+tracker_numbered (suc (suc (suc (suc (suc (suc (suc (suc zero)))))))) base keys = as_items ItemsKind.ClosedSlice
+tracker_numbered (suc (suc (suc (suc (suc (suc (suc (suc (suc zero))))))))) base keys = as_items ItemsKind.Set
+tracker_numbered (suc (suc (suc (suc (suc (suc (suc (suc (suc (suc zero)))))))))) base keys = as_entries (EntriesKind.Map base)
+tracker_numbered (suc (suc (suc (suc (suc (suc (suc (suc (suc (suc (suc zero))))))))))) base keys = as_items ItemsKind.Array
+tracker_numbered (suc (suc (suc (suc (suc (suc (suc (suc (suc (suc (suc (suc zero)))))))))))) base keys = as_entries (EntriesKind.Object keys)
+tracker_numbered (suc (suc (suc (suc (suc (suc (suc (suc (suc (suc (suc (suc (suc k))))))))))))) base keys = as_fields (Some k)
 
 -- the keys of a form, as values that give them back
 
@@ -41,21 +41,16 @@ abbrev pub keys_come_back : (keys : List (List ℕ)) → restored_keys (stored_k
 keys_come_back [] = refl
 keys_come_back (key ∷ keys) = ap (λ (rest : List (List ℕ)). key ∷ rest) (keys_come_back keys)
 
-abbrev pub form_comes_back : (form : Form) → form_numbered (form_number form) (base_of_form form) (keys_of_form form) ≡ form
-form_comes_back as_struct = refl
-form_comes_back as_array = refl
-form_comes_back (as_variant k) = refl
-form_comes_back as_some = refl
-form_comes_back as_ok = refl
-form_comes_back as_err = refl
-form_comes_back as_pointer = refl
-form_comes_back as_list = refl
-form_comes_back as_slice = refl
-form_comes_back as_closed_slice = refl
-form_comes_back as_set = refl
-form_comes_back (as_map base) = refl
-form_comes_back as_dyn_array = refl
-form_comes_back (as_dyn_object keys) = refl
+abbrev pub tracker_comes_back : (tracker : Tracker) → tracker_numbered (tracker_number tracker) (base_of_tracker tracker) (keys_of_tracker tracker) ≡ tracker
+tracker_comes_back (as_fields None) = refl
+tracker_comes_back (as_fields (Some k)) = refl
+tracker_comes_back as_elements = refl
+tracker_comes_back (as_content ContentKind.Some) = refl
+tracker_comes_back (as_content _) = refl
+tracker_comes_back (as_items ItemsKind.List) = refl
+tracker_comes_back (as_items _) = refl
+tracker_comes_back (as_entries (EntriesKind.Map base)) = refl
+tracker_comes_back (as_entries (EntriesKind.Object keys)) = refl
 
 abbrev pub keys_in : Val → List (List ℕ)
 keys_in (list_of vs) = restored_keys vs
@@ -70,9 +65,9 @@ abbrev mutual
   stored hole = none
   stored entered = unit
   stored (whole v) = some v
-  stored (begun form ts) =
-      variant (form_number form)
-      (first (nat (base_of_form form)) (first (list_of (stored_keys (keys_of_form form))) (all_stored ts)))
+  stored (begun tracker ts) =
+      variant (tracker_number tracker)
+      (first (nat (base_of_tracker tracker)) (first (list_of (stored_keys (keys_of_tracker tracker))) (all_stored ts)))
 
   pub all_stored : Trees → Vals
   all_stored no_trees = no_vals
@@ -85,22 +80,8 @@ abbrev mutual
   restored (variant number no_vals) = entered
   restored (variant number (first base no_vals)) = entered
   restored (variant number (first base (first keys vs))) =
-      begun (form_numbered number (base_stored base) (keys_in keys)) (all_restored vs)
-  restored (product vs) = entered
-  restored (list_of vs) = entered
-  restored unit = entered
-  restored (bool b) = entered
-  restored (char c) = entered
-  restored (int i) = entered
-  restored (nat n) = entered
-  restored (text codes) = entered
-  restored (token t) = entered
-  restored (ok v) = entered
-  restored (err v) = entered
-  restored (map_of es) = entered
-  restored (set_of vs) = entered
-  restored (ptr v) = entered
-  restored (dyn value) = entered
+      begun (tracker_numbered number (base_stored base) (keys_in keys)) (all_restored vs)
+  restored _ = entered
 
   pub all_restored : Vals → Trees
   all_restored no_vals = no_trees
@@ -108,13 +89,11 @@ abbrev mutual
 
 abbrev mutual
   pub stored_comes_back : (t : Tree) → restored (stored t) ≡ t
-  stored_comes_back hole = refl
-  stored_comes_back entered = refl
-  stored_comes_back (whole v) = refl
-  stored_comes_back (begun form ts) =
-      ap (λ (known : Form). begun known (all_restored (all_stored ts)))
-      (ap (form_numbered (form_number form) (base_of_form form)) (keys_come_back (keys_of_form form)) ∙ form_comes_back form)
-      ∙ ap (begun form) (all_stored_come_back ts)
+  stored_comes_back (begun tracker ts) =
+      ap (λ (known : Tracker). begun known (all_restored (all_stored ts)))
+      (ap (tracker_numbered (tracker_number tracker) (base_of_tracker tracker)) (keys_come_back (keys_of_tracker tracker)) ∙ tracker_comes_back tracker)
+      ∙ ap (begun tracker) (all_stored_come_back ts)
+  stored_comes_back _ = refl
 
   pub all_stored_come_back : (ts : Trees) → all_restored (all_stored ts) ≡ ts
   all_stored_come_back no_trees = refl

@@ -1,33 +1,10 @@
 -- What each command does to a builder's state, or which refusal it meets: one function for each command. The words
 -- here mean what they say at tables that are served.
-use Rattle.std.specs.Prelude.{ℕ, ℤ, ◌==◌, Bool, true, false, List, length, nat_lt, Option, Some, None, unwrap_or, Result, Ok, Err, if◌then◌else◌}
-use Rattle.fr_shape.specs.declared.shape.Def.{Def}
-use Rattle.fr_shape.specs.declared.shape.DefaultSource.{DefaultSource}
-use Rattle.fr_shape.specs.declared.shape.Field.{Field}
-use Rattle.fr_shape.specs.declared.shape.ShapeId.{ShapeId}
-use Rattle.fr_shape.specs.declared.shape.VariantDef.{VariantDef}
-use Rattle.fr_shape.specs.declared.error.Expected.{Expected}
-use Rattle.fr_shape.specs.declared.error.ReflectErrorKind.{ReflectErrorKind}
-use Rattle.fr_shape.specs.declared.error.Operation.{Operation}
-use Rattle.fr_shape.specs.declared.error.Invariant.{Invariant}
-use Rattle.fr_shape.specs.Fills.{preset_of, is_option}
-use Rattle.fr_shape.specs.Hooks.{Meanings}
-use Rattle.fr_shape.specs.Plannable.{is_dynamic}
-use Rattle.fr_shape.specs.Look.{Table, def_of, field_in, variants_of}
-use Rattle.fr_shape.specs.Val.{Val, Dynamic, list_of, ptr, dyn, no_vals}
-use Rattle.fr_path.specs.declared.path_steps.PathStep.{PathStep}
-use Rattle.fr_model.specs.Commands.{Call}
-use Rattle.fr_model.specs.Contents.{is_result, pointer_refusal, points_to_slice, variant_anew, slice_anew, kept_so, kept_in, kept_slice, kept_option}
+use Rattle.std.specs.Prelude.{◌==◌, if◌then◌else◌}
+use Rattle.fr_model.specs.Common.{ℕ, ℤ, Bool, true, false, List, length, nat_lt, Option, Some, None, unwrap_or, Result, Ok, Err, Def, DefaultSource, Field, ShapeId, VariantDef, Expected, ReflectErrorKind, Operation, Invariant, preset_of, is_option, Meanings, is_dynamic, Table, def_of, field_in, variants_of, Val, Dynamic, list_of, ptr, dyn, no_vals, PathStep}
+use Rattle.fr_model.specs.Basis.{Call, is_result, pointer_refusal, points_to_slice, variant_anew, slice_anew, kept_so, kept_in, kept_slice, kept_option, is_begun_dynamic, array_anew, object_anew, kept_array, kept_object, entry_refusal, Column, strict_column, deferred_column, is_root, up, content_shape, Tracker, as_fields, as_content, ContentKind, selected, Tree, whole, count_below, change_child, change_at, tree_at, Mode, strict, deferred, State, cursor_shape, cursor_tree, one_more_call, is_enum, field_found, variant_numbered, variant_named, variant_told_by, selection_refusal, is_set, key_refusal, value_refusal, last_of, set_item_refusal, with_ended_item, number_in, complete, lack, missing_value, failures, first_by_walk, path_of}
 use Rattle.fr_model.specs.Converting.{converted}
-use Rattle.fr_model.specs.DynamicPlaces.{is_begun_dynamic, array_anew, object_anew, kept_array, kept_object, entry_refusal}
 use Rattle.fr_model.specs.Items.{init_array_refusal, item_refusal, is_open_slice, closed_slice, shared_slice_refusal}
-use Rattle.fr_model.specs.Places.{Column, strict_column, deferred_column, is_root, up, content_shape}
-use Rattle.fr_model.specs.Tree.{Form, as_variant, as_some, as_ok, as_err, as_pointer, selected, Tree, whole, count_below, change_child, change_at, tree_at, Mode, strict, deferred, State, cursor_shape, cursor_tree, one_more_call}
-use Rattle.fr_model.specs.Variants.{is_enum, field_found, variant_numbered, variant_named, variant_told_by, selection_refusal}
-use Rattle.fr_model.specs.Collections.{is_set, key_refusal, value_refusal, last_of, set_item_refusal, with_ended_item, number_in}
-use Rattle.fr_model.specs.Complete.{complete, lack, missing_value}
-use Rattle.fr_model.specs.Failing.{failures, first_by_walk}
-use Rattle.fr_model.specs.Paths.{path_of}
 use Rattle.fr_model.specs.Finish.{finished, finish_cause, kind_of}
 pub use Rattle.fr_model.specs.Entering.{Way, enters, opened_value, parts_as, opened_as, opened, enter, enter_child}
 pub use Rattle.fr_model.specs.Refusals.{operation_failed, violates, at_shape, was_not_a, element_refusal, variant_field_refusal, field_refusal, named_refusal, is_str, is_owned_string_kind, is_owned_string, takes_shape, set_refusal, unexpected_unless, init_list_refusal, init_map_refusal, init_set_refusal}
@@ -42,8 +19,7 @@ unless_refused None next = Ok next
 -- begin_nth_field enters the field or the element of this number
 abbrev pub begin_nth_field : Table → ℕ → State → ℕ → Result State ReflectErrorKind
 begin_nth_field table s state i =
-    unless_refused (at_shape s (field_refusal (def_of table s) (cursor_tree state) i))
-    (enters table s state (Way.Child i))
+    unless_refused (at_shape s (field_refusal (def_of table s) (cursor_tree state) i)) (enters table s state (Way.Child i))
 
 abbrev pub enters_named : Table → ℕ → State → Option ℕ → Result State ReflectErrorKind
 enters_named table s state (Some i) = Ok (enters table s state (Way.Child i))
@@ -63,10 +39,7 @@ begin_field table s state name =
 
 -- the value takes the place of all that stood at the cursor
 abbrev pub puts : State → Val → State
-puts state v = record state {
-  tree = change_at state.cursor (λ old. whole v) state.tree;
-  calls = one_more_call state.calls;
-}
+puts state v = record state { tree = change_at state.cursor (λ old. whole v) state.tree; calls = one_more_call state.calls }
 
 abbrev pub puts_dynamic : State → (given : ℕ) → Result Dynamic Operation → Result State ReflectErrorKind
 puts_dynamic state given (Ok d) = Ok (puts state (dyn d))
@@ -100,8 +73,7 @@ abbrev pub default_by_mark : Table → (shape : ShapeId) → Option DefaultSourc
 default_by_mark table shape (Some (DefaultSource.Custom v)) = Ok v
 default_by_mark table shape (Some DefaultSource.FromTrait) =
     default_or (preset_of table shape.0) (operation_failed shape.0 Operation.NoDefault)
-default_by_mark table shape None =
-    default_or (preset_of table shape.0) (ReflectErrorKind.DefaultAttrButNoDefaultImpl shape)
+default_by_mark table shape None = default_or (preset_of table shape.0) (ReflectErrorKind.DefaultAttrButNoDefaultImpl shape)
 
 -- What a field is set to by its default, or why it can't be: its own template, where it is marked with one; else the default of its
 -- shape. Where its shape has none, a marked field is refused as `set_default` is, and any other for want of either default.
@@ -149,30 +121,30 @@ abbrev pub option_kept : Table → ℕ → State → Option Tree
 option_kept table s state = kept_option state.mode (def_of table (content_shape (def_of table s))) (cursor_tree state)
 
 -- what begin_ok, begin_err and begin_smart_ptr keep of the cursor's place
-abbrev pub content_kept : State → Form → Option Tree
-content_kept state form = kept_in state.mode form (cursor_tree state)
+abbrev pub content_kept : State → Tracker → Option Tree
+content_kept state tracker = kept_in state.mode tracker (cursor_tree state)
 
 -- begin_some: at an option alone
 abbrev pub begin_some : Table → ℕ → State → Result State ReflectErrorKind
 begin_some table s state =
-    if is_option (def_of table s) then Ok (enters table s state (Way.Content as_some (option_kept table s state)))
+    if is_option (def_of table s) then Ok (enters table s state (Way.Content (as_content ContentKind.Some) (option_kept table s state)))
     else Err (was_not_a Expected.Option s)
 
 -- begin_ok and begin_err: at a result alone
-abbrev pub begin_side : Table → ℕ → State → (side : Form) → Result State ReflectErrorKind
+abbrev pub begin_side : Table → ℕ → State → (side : Tracker) → Result State ReflectErrorKind
 begin_side table s state side =
     if is_result (def_of table s) then Ok (enters table s state (Way.Content side (content_kept state side)))
     else Err (was_not_a Expected.Result s)
 
 -- what begin_smart_ptr keeps of the pointer at the cursor, whose pointee is a slice or isn't
 abbrev pub pointer_kept : State → (to_slice : Bool) → Option Tree
-pointer_kept state to_slice = if to_slice then kept_slice state.mode (cursor_tree state) else content_kept state as_pointer
+pointer_kept state to_slice = if to_slice then kept_slice state.mode (cursor_tree state) else content_kept state (as_content ContentKind.Pointer)
 
 -- a pointer to a slice is open for items and the cursor stays; what any other points to is entered
 abbrev pub begins_pointer : Table → ℕ → State → (to_slice : Bool) → State
 begins_pointer table s state to_slice =
     if to_slice then becomes state (pointer_kept state to_slice) slice_anew
-    else enters table s state (Way.Content as_pointer (pointer_kept state to_slice))
+    else enters table s state (Way.Content (as_content ContentKind.Pointer) (pointer_kept state to_slice))
 
 -- begin_smart_ptr: at a pointer that can be built
 abbrev pub begin_smart_ptr : Table → ℕ → State → Result State ReflectErrorKind
@@ -197,13 +169,11 @@ begins_list table s state of_dynamic =
 -- init_list, with a capacity or without: a list keeps the items that it has
 abbrev pub init_list : Table → ℕ → State → Result State ReflectErrorKind
 init_list table s state =
-    unless_refused (init_list_refusal s (def_of table s) (cursor_tree state))
-    (begins_list table s state (is_dynamic (def_of table s)))
+    unless_refused (init_list_refusal s (def_of table s) (cursor_tree state)) (begins_list table s state (is_dynamic (def_of table s)))
 
 -- init_array: the elements of an entered array are holes
 abbrev pub init_array : Table → ℕ → State → Result State ReflectErrorKind
-init_array table s state =
-    unless_refused (at_shape s (init_array_refusal (def_of table s) (cursor_tree state))) (opens table s state)
+init_array table s state = unless_refused (at_shape s (init_array_refusal (def_of table s) (cursor_tree state))) (opens table s state)
 
 -- begin_list_item enters a new item, behind the others
 abbrev pub begin_list_item : Table → ℕ → State → Result State ReflectErrorKind
@@ -220,13 +190,11 @@ begins_map table s state of_dynamic =
 -- init_map: a map keeps the entries that it has
 abbrev pub init_map : Table → ℕ → State → Result State ReflectErrorKind
 init_map table s state =
-    unless_refused (init_map_refusal s (def_of table s) (cursor_tree state))
-    (begins_map table s state (is_dynamic (def_of table s)))
+    unless_refused (init_map_refusal s (def_of table s) (cursor_tree state)) (begins_map table s state (is_dynamic (def_of table s)))
 
 -- init_set: at a set alone, which keeps the items that it has
 abbrev pub init_set : Table → ℕ → State → Result State ReflectErrorKind
-init_set table s state =
-    unless_refused (init_set_refusal s (def_of table s) (cursor_tree state)) (opens table s state)
+init_set table s state = unless_refused (init_set_refusal s (def_of table s) (cursor_tree state)) (opens table s state)
 
 -- begin_key enters the key of a new entry, behind the others
 abbrev pub begin_key : Table → ℕ → State → Result State ReflectErrorKind
@@ -261,7 +229,7 @@ set_empty_shared_slice table s state =
 
 -- what selecting a variant keeps of the enum at the cursor: that it is begun as that variant
 abbrev pub variant_kept : State → ℕ → Option Tree
-variant_kept state k = kept_so (as_variant k) (cursor_tree state)
+variant_kept state k = kept_so (as_fields (Some k)) (cursor_tree state)
 
 abbrev pub selects : Table → ℕ → State → ℕ → State
 selects table s state k = becomes state (variant_kept state k) (variant_anew (def_of table s) k)
@@ -284,8 +252,7 @@ abbrev pub select_variant_named : Table → ℕ → State → (name : List ℕ) 
 select_variant_named table s state name = select table s state (variant_named name) Operation.VariantNameUnknown
 
 abbrev pub select_variant : Table → ℕ → State → (discriminant : ℤ) → Result State ReflectErrorKind
-select_variant table s state discriminant =
-    select table s state (variant_told_by discriminant) Operation.DiscriminantUnknown
+select_variant table s state discriminant = select table s state (variant_told_by discriminant) Operation.DiscriminantUnknown
 
 -- Ending
 
@@ -332,8 +299,7 @@ item_ended column hooks table s state None = Err (cause_by column hooks table s 
 
 -- an item of a set is completed as it is left, in either mode, with all that lies beneath it
 abbrev pub ends_item : Column → Meanings → Table → ℕ → State → Result State ReflectErrorKind
-ends_item column hooks table s state =
-    item_ended column hooks table s state (complete column hooks table s (cursor_tree state))
+ends_item column hooks table s state = item_ended column hooks table s state (complete column hooks table s (cursor_tree state))
 
 -- the place at the cursor, below the root, is an element or an entry of a dynamic value
 abbrev pub is_dynamic_part : State → Bool
@@ -345,8 +311,7 @@ part_ended hooks table s state None = Err (cause_by deferred_column hooks table 
 
 -- in deferred mode such a part is completed as it is left, with all that lies beneath it; any other place is left as it is
 abbrev pub leaves_deferred : Meanings → Table → ℕ → State → (of_dynamic : Bool) → Result State ReflectErrorKind
-leaves_deferred hooks table s state true =
-    part_ended hooks table s state (complete deferred_column hooks table s (cursor_tree state))
+leaves_deferred hooks table s state true = part_ended hooks table s state (complete deferred_column hooks table s (cursor_tree state))
 leaves_deferred hooks table s state false = Ok (leaves state)
 
 -- In strict mode the place is completed and becomes whole; in deferred mode it is left as it is, where it lies deeper than
@@ -371,15 +336,11 @@ puts_made hooks table s state None = Err (cause hooks table s (cursor_tree state
 
 -- the pointer to a slice at the cursor takes no more items
 abbrev pub closes : State → State
-closes state = record state {
-  tree = change_at state.cursor closed_slice state.tree;
-  calls = one_more_call state.calls;
-}
+closes state = record state { tree = change_at state.cursor closed_slice state.tree; calls = one_more_call state.calls }
 
 -- an open pointer to a slice is completed and becomes whole in strict mode, and is closed in deferred mode; the cursor stays
 abbrev pub closes_slice : Meanings → Table → ℕ → State → Mode → Result State ReflectErrorKind
-closes_slice hooks table s state strict =
-    puts_made hooks table s state (complete strict_column hooks table s (cursor_tree state))
+closes_slice hooks table s state strict = puts_made hooks table s state (complete strict_column hooks table s (cursor_tree state))
 closes_slice hooks table s state (deferred start) = Ok (closes state)
 
 -- end: at an open pointer to a slice, be it the root, that is closed; any other place is left, if it isn't the root
@@ -391,10 +352,7 @@ end hooks table s state =
 -- Deferred mode
 
 abbrev pub begins_deferred : State → Mode → Result State ReflectErrorKind
-begins_deferred state strict = Ok (record state {
-  mode = deferred (length state.cursor);
-  calls = one_more_call state.calls;
-})
+begins_deferred state strict = Ok (record state { mode = deferred (length state.cursor); calls = one_more_call state.calls })
 begins_deferred state (deferred start) = Err (violates Invariant.AlreadyDeferred)
 
 -- begin_deferred: in strict mode alone; from now on places are left as they are
@@ -403,17 +361,12 @@ begin_deferred state = begins_deferred state state.mode
 
 -- the tree that the end of deferred mode makes, where it makes one; the cursor stays
 abbrev pub finishes : Meanings → Table → (root : ℕ) → State → Option Tree → Result State ReflectErrorKind
-finishes hooks table root state (Some tree) = Ok (record state {
-  tree = tree;
-  mode = strict;
-  calls = one_more_call state.calls;
-})
+finishes hooks table root state (Some tree) = Ok (record state { tree = tree; mode = strict; calls = one_more_call state.calls })
 finishes hooks table root state None = Err (finish_cause hooks table root state.cursor state.tree)
 
 abbrev pub finish_in : Meanings → Table → (root : ℕ) → State → Mode → Result State ReflectErrorKind
 finish_in hooks table root state strict = Err (violates Invariant.NotDeferred)
-finish_in hooks table root state (deferred start) =
-    finishes hooks table root state (finished hooks table root state.cursor state.tree)
+finish_in hooks table root state (deferred start) = finishes hooks table root state (finished hooks table root state.cursor state.tree)
 
 -- finish_deferred: in deferred mode alone; all that was left is completed, and the mode is strict again
 abbrev pub finish_deferred : Meanings → Table → (root : ℕ) → State → Result State ReflectErrorKind
@@ -438,8 +391,8 @@ step_at hooks table root s state Call.InitSet = init_set table s state
 step_at hooks table root s state Call.BeginSetItem = begin_set_item table s state
 step_at hooks table root s state (Call.BeginObjectEntry key) = begin_object_entry table s state key
 step_at hooks table root s state Call.BeginSome = begin_some table s state
-step_at hooks table root s state Call.BeginOk = begin_side table s state as_ok
-step_at hooks table root s state Call.BeginErr = begin_side table s state as_err
+step_at hooks table root s state Call.BeginOk = begin_side table s state (as_content ContentKind.Ok)
+step_at hooks table root s state Call.BeginErr = begin_side table s state (as_content ContentKind.Err)
 step_at hooks table root s state Call.BeginSmartPtr = begin_smart_ptr table s state
 step_at hooks table root s state (Call.SelectNthVariant i) = select_nth_variant table s state i
 step_at hooks table root s state (Call.SelectVariantNamed name) = select_variant_named table s state name

@@ -1,15 +1,7 @@
 -- The variants of an enum: their fields, how one is found, and whether it may be selected.
-use Rattle.std.specs.Prelude.{ℕ, ℤ, length, nat_lt, position, Bool, true, false, not, ◌&&◌, List, [], is_some, slice_get, Option, Some, None, if◌then◌else◌}
-use Rattle.std.specs.Option.{option_or}
+use Rattle.std.specs.Prelude.{◌&&◌, if◌then◌else◌}
+use Rattle.fr_model.specs.Common.{ℕ, ℤ, length, nat_lt, position, Bool, true, false, not, List, [], is_some, slice_get, Option, Some, None, option_or, bytes_eq, Def, EnumRepr, Field, VariantDef, Operation, variants_of, name_of, first_declared, field_named}
 use Rattle.std.specs.Ordering.{int_eq}
-use Rattle.std.specs.Str.{bytes_eq}
-use Rattle.fr_shape.specs.declared.shape.Def.{Def}
-use Rattle.fr_shape.specs.declared.shape.EnumRepr.{EnumRepr}
-use Rattle.fr_shape.specs.declared.shape.Field.{Field}
-use Rattle.fr_shape.specs.declared.shape.VariantDef.{VariantDef}
-use Rattle.fr_shape.specs.declared.error.Operation.{Operation}
-use Rattle.fr_shape.specs.Look.{variants_of}
-use Rattle.fr_shape.specs.Named.{name_of, first_declared, field_named}
 
 abbrev pub is_enum : Def → Bool
 is_enum (Def.Enum enumeration) = true
@@ -56,16 +48,7 @@ variant_told_by asked variants = position (λ (variant : VariantDef). is_discrim
 abbrev pub layout_refusal : EnumRepr → Option Operation
 layout_refusal EnumRepr.Rust = Some Operation.RustLayout
 layout_refusal EnumRepr.RustNPO = Some Operation.RustNpoLayout
-layout_refusal EnumRepr.U8 = None
-layout_refusal EnumRepr.U16 = None
-layout_refusal EnumRepr.U32 = None
-layout_refusal EnumRepr.U64 = None
-layout_refusal EnumRepr.USize = None
-layout_refusal EnumRepr.I8 = None
-layout_refusal EnumRepr.I16 = None
-layout_refusal EnumRepr.I32 = None
-layout_refusal EnumRepr.I64 = None
-layout_refusal EnumRepr.ISize = None
+layout_refusal _ = None
 
 abbrev pub layout_refusal_of : Def → Option Operation
 layout_refusal_of (Def.Enum enumeration) = layout_refusal enumeration.repr

@@ -1,126 +1,81 @@
 -- The states that a builder can be in.
-use Rattle.std.specs.Prelude.{◌≡◌, ℕ, zero, suc, ◌+◌, ◌<◌, ◌≤◌, Bool, true, false, List, [], ◌∷◌, length, slice_get, Option, Some, None}
-use Rattle.fr_shape.specs.declared.shape.Def.{Def}
-use Rattle.fr_shape.specs.declared.shape.ShapeId.{ShapeId}
-use Rattle.fr_shape.specs.declared.shape.VariantDef.{VariantDef}
-use Rattle.fr_shape.specs.Look.{Table, def_of}
-use Rattle.fr_shape.specs.Fits.{fits}
-use Rattle.fr_shape.specs.Fills.{is_empty_struct}
-use Rattle.fr_shape.specs.Same.{none_twice, keys}
-use Rattle.fr_shape.specs.Val.{Vals, Entries, no_vals, first}
+use Rattle.std.specs.Prelude.{◌≡◌, ◌+◌, ◌<◌, ◌≤◌, ◌∷◌}
+use Rattle.fr_model.specs.Common.{ℕ, zero, suc, Bool, true, false, List, [], length, slice_get, Option, Some, None, Def, ShapeId, VariantDef, Table, def_of, fits, is_empty_struct, none_twice, keys, Vals, Entries, no_vals, first}
 use Rattle.fr_model.specs.Collections.{without_nth}
 use Rattle.fr_model.specs.Contents.{pointer_refusal, points_to_slice}
 use Rattle.fr_model.specs.Dynamics.{keys_apart}
 use Rattle.fr_model.specs.Places.{Place, array_limit, is_key, in_turn, count_entries}
-use Rattle.fr_model.specs.Tree.{Form, as_struct, as_array, as_variant, as_some, as_ok, as_err, as_pointer, as_list, as_slice, as_closed_slice, as_set, as_map, as_dyn_array, as_dyn_object, Tree, hole, entered, whole, begun, Trees, no_trees, branch, shapes_as, count_trees, wholes, tree_occurs, Mode, strict, deferred, State}
+use Rattle.fr_model.specs.Trackers.{Tracker, as_fields, as_elements, as_content, ContentKind, as_items, ItemsKind, as_entries, EntriesKind}
+use Rattle.fr_model.specs.Tree.{Tree, hole, entered, whole, begun, Trees, no_trees, branch, shapes_as, count_trees, wholes, tree_occurs, Mode, strict, deferred, State}
 use Rattle.fr_model.specs.Variants.{selection_refusal}
 
 -- Each word says of a definition that a place of it has so many children, begun in one way.
-
-abbrev pub HasFields : Def → ℕ → Type 0
-HasFields (Def.Struct struct) count = count ≡ length struct.fields
-HasFields _ count = ⊥
-
-abbrev pub HasElements : Def → ℕ → Type 0
-HasElements (Def.Array item n) count = count ≡ n
-HasElements _ count = ⊥
 
 abbrev pub HasFieldsOf : Option VariantDef → ℕ → Type 0
 HasFieldsOf (Some variant) count = count ≡ length variant.fields
 HasFieldsOf None count = ⊥
 
-abbrev pub HasVariantFields : Def → ℕ → ℕ → Type 0
-HasVariantFields (Def.Enum enumeration) k count = HasFieldsOf (slice_get enumeration.variants k) count
-HasVariantFields _ k count = ⊥
+abbrev pub HasFields : Def → (selected : Option ℕ) → ℕ → Type 0
+HasFields (Def.Struct struct) None count = count ≡ length struct.fields
+HasFields (Def.Enum enumeration) (Some k) count = HasFieldsOf (slice_get enumeration.variants k) count
+HasFields _ selected count = ⊥
 
-abbrev pub HasContent : Def → ℕ → Type 0
-HasContent (Def.Option t) count = count ≡ 1
-HasContent _ count = ⊥
-
-abbrev pub HasSide : Def → ℕ → Type 0
-HasSide (Def.Result t e) count = count ≡ 1
-HasSide _ count = ⊥
+abbrev pub HasElements : Def → ℕ → Type 0
+HasElements (Def.Array item n) count = count ≡ n
+HasElements _ count = ⊥
 
 abbrev pub PointsTo : Option ShapeId → ℕ → Type 0
 PointsTo (Some pointee) count = count ≡ 1
 PointsTo None count = ⊥
 
-abbrev pub HasPointee : Def → ℕ → Type 0
-HasPointee (Def.Pointer pointer) count = PointsTo pointer.pointee count
-HasPointee _ count = ⊥
+abbrev pub HasContent : Def → ContentKind → ℕ → Type 0
+HasContent (Def.Option t) ContentKind.Some count = count ≡ 1
+HasContent (Def.Result t e) ContentKind.Ok count = count ≡ 1
+HasContent (Def.Result t e) ContentKind.Err count = count ≡ 1
+HasContent (Def.Pointer pointer) ContentKind.Pointer count = PointsTo pointer.pointee count
+HasContent _ kind count = ⊥
 
-abbrev pub IsList : Def → Type 0
-IsList (Def.List t) = Unit {0}
-IsList _ = ⊥
+abbrev pub TakesItemsAs : Def → ItemsKind → Type 0
+TakesItemsAs (Def.List t) ItemsKind.List = Unit {0}
+TakesItemsAs (Def.Pointer pointer) ItemsKind.Slice = Unit {0}
+TakesItemsAs (Def.Pointer pointer) ItemsKind.ClosedSlice = Unit {0}
+TakesItemsAs (Def.Set t) ItemsKind.Set = Unit {0}
+TakesItemsAs Def.Dynamic ItemsKind.Array = Unit {0}
+TakesItemsAs _ kind = ⊥
 
-abbrev pub IsDynamic : Def → Type 0
-IsDynamic Def.Dynamic = Unit {0}
-IsDynamic _ = ⊥
-
--- a dynamic object has one child for each key
-abbrev pub HasKeys : Def → (keys : List (List ℕ)) → ℕ → Type 0
-HasKeys Def.Dynamic keys count = count ≡ length keys
-HasKeys _ keys count = ⊥
-
-abbrev pub IsSet : Def → Type 0
-IsSet (Def.Set t) = Unit {0}
-IsSet _ = ⊥
-
--- a map has a key and a value for each entry
-abbrev pub HasEntries : Def → ℕ → Type 0
-HasEntries (Def.Map key item) count = is_key count ≡ true
-HasEntries _ count = ⊥
-
-abbrev pub IsPointer : Def → Type 0
-IsPointer (Def.Pointer pointer) = Unit {0}
-IsPointer _ = ⊥
+-- a map has a key and a value for each entry, a dynamic object one child for each key
+abbrev pub HasEntries : Def → EntriesKind → ℕ → Type 0
+HasEntries (Def.Map key item) (EntriesKind.Map base) count = is_key count ≡ true
+HasEntries Def.Dynamic (EntriesKind.Object keys) count = count ≡ length keys
+HasEntries _ kind count = ⊥
 
 -- a place of this definition has all its children, begun so: a struct or a variant one for each field, an array one for each
 -- element, an option, a result or a pointer one, a map two for each entry, a dynamic object one for each key; a list, a set, a pointer to
 -- a slice and a dynamic array as many as there are
-abbrev pub IsFullAs : Def → Form → ℕ → Type 0
-IsFullAs def as_struct count = HasFields def count
-IsFullAs def as_array count = HasElements def count
-IsFullAs def (as_variant k) count = HasVariantFields def k count
-IsFullAs def as_some count = HasContent def count
-IsFullAs def as_ok count = HasSide def count
-IsFullAs def as_err count = HasSide def count
-IsFullAs def as_pointer count = HasPointee def count
-IsFullAs def as_list count = IsList def
-IsFullAs def as_slice count = IsPointer def
-IsFullAs def as_closed_slice count = IsPointer def
-IsFullAs def as_set count = IsSet def
-IsFullAs def (as_map base) count = HasEntries def count
-IsFullAs def as_dyn_array count = IsDynamic def
-IsFullAs def (as_dyn_object keys) count = HasKeys def keys count
+abbrev pub IsFullAs : Def → Tracker → ℕ → Type 0
+IsFullAs def (as_fields selected) count = HasFields def selected count
+IsFullAs def as_elements count = HasElements def count
+IsFullAs def (as_content kind) count = HasContent def kind count
+IsFullAs def (as_items kind) count = TakesItemsAs def kind
+IsFullAs def (as_entries kind) count = HasEntries def kind count
 
 -- a struct is begun only with at least one child, an array only with no more than the limit
-abbrev pub MayBegin : Form → ℕ → Type 0
-MayBegin as_struct count = 0 < count
-MayBegin as_array count = count ≤ array_limit
-MayBegin (as_variant k) count = Unit {0}
-MayBegin as_some count = Unit {0}
-MayBegin as_ok count = Unit {0}
-MayBegin as_err count = Unit {0}
-MayBegin as_pointer count = Unit {0}
-MayBegin as_list count = Unit {0}
-MayBegin as_slice count = Unit {0}
-MayBegin as_closed_slice count = Unit {0}
-MayBegin as_set count = Unit {0}
-MayBegin (as_map base) count = Unit {0}
-MayBegin as_dyn_array count = Unit {0}
-MayBegin (as_dyn_object keys) count = Unit {0}
+abbrev pub MayBegin : Tracker → ℕ → Type 0
+MayBegin (as_fields None) count = 0 < count
+MayBegin as_elements count = count ≤ array_limit
+MayBegin (as_fields (Some k)) count = Unit {0}
+MayBegin (as_content kind) count = Unit {0}
+MayBegin (as_items kind) count = Unit {0}
+MayBegin (as_entries kind) count = Unit {0}
 
 -- a place of this definition may be begun so, with that many children: all that it has, if it may be begun with them
-abbrev pub IsBegunAs : Def → Form → ℕ → Type 0
-IsBegunAs def form count = IsFullAs def form count × MayBegin form count
+abbrev pub IsBegunAs : Def → Tracker → ℕ → Type 0
+IsBegunAs def tracker count = IsFullAs def tracker count × MayBegin tracker count
 
 -- what stands there is no hole
 abbrev pub IsTouched : Tree → Type 0
 IsTouched hole = ⊥
-IsTouched entered = Unit {0}
-IsTouched (whole v) = Unit {0}
-IsTouched (begun form children) = Unit {0}
+IsTouched _ = Unit {0}
 
 -- the one child is there: a hole stands only as a field or an element
 abbrev pub IsContent : Trees → Type 0
@@ -141,27 +96,26 @@ AreEntries (branch key (branch value (branch next rest))) = IsTouched key × IsT
 
 -- a pointer of shape s may be begun, and what it points to is a slice, or isn't one
 abbrev pub MayPoint : Table → ℕ → (to_slice : Bool) → Type 0
-MayPoint table s to_slice =
-    (pointer_refusal table (def_of table s) ≡ None) × (points_to_slice table (def_of table s) ≡ to_slice)
+MayPoint table s to_slice = (pointer_refusal table (def_of table s) ≡ None) × (points_to_slice table (def_of table s) ≡ to_slice)
 
 -- A place of shape s is rightly begun so: a variant only where it may be selected, a pointer only where it may be begun, and an
 -- option, a result or a pointer with its content. What a list, a slice, a set or a dynamic value has is there, and so is what a map has
 -- but perhaps its last value. An object has no key twice.
-abbrev pub IsBegunRightly : Table → ℕ → Form → Trees → Type 0
-IsBegunRightly table s as_struct children = Unit {0}
-IsBegunRightly table s as_array children = Unit {0}
-IsBegunRightly table s (as_variant k) children = selection_refusal (def_of table s) k ≡ None
-IsBegunRightly table s as_some children = IsContent children
-IsBegunRightly table s as_ok children = IsContent children
-IsBegunRightly table s as_err children = IsContent children
-IsBegunRightly table s as_pointer children = IsContent children × MayPoint table s false
-IsBegunRightly table s as_list children = AreTouched children
-IsBegunRightly table s as_slice children = AreTouched children × MayPoint table s true
-IsBegunRightly table s as_closed_slice children = AreTouched children × MayPoint table s true
-IsBegunRightly table s as_set children = AreTouched children
-IsBegunRightly table s (as_map base) children = AreEntries children
-IsBegunRightly table s as_dyn_array children = AreTouched children
-IsBegunRightly table s (as_dyn_object keys) children = AreTouched children × (keys_apart keys ≡ true)
+abbrev pub IsBegunRightly : Table → ℕ → Tracker → Trees → Type 0
+IsBegunRightly table s (as_fields None) children = Unit {0}
+IsBegunRightly table s as_elements children = Unit {0}
+IsBegunRightly table s (as_fields (Some k)) children = selection_refusal (def_of table s) k ≡ None
+IsBegunRightly table s (as_content ContentKind.Some) children = IsContent children
+IsBegunRightly table s (as_content ContentKind.Ok) children = IsContent children
+IsBegunRightly table s (as_content ContentKind.Err) children = IsContent children
+IsBegunRightly table s (as_content ContentKind.Pointer) children = IsContent children × MayPoint table s false
+IsBegunRightly table s (as_items ItemsKind.List) children = AreTouched children
+IsBegunRightly table s (as_items ItemsKind.Slice) children = AreTouched children × MayPoint table s true
+IsBegunRightly table s (as_items ItemsKind.ClosedSlice) children = AreTouched children × MayPoint table s true
+IsBegunRightly table s (as_items ItemsKind.Set) children = AreTouched children
+IsBegunRightly table s (as_entries (EntriesKind.Map base)) children = AreEntries children
+IsBegunRightly table s (as_items ItemsKind.Array) children = AreTouched children
+IsBegunRightly table s (as_entries (EntriesKind.Object keys)) children = AreTouched children × (keys_apart keys ≡ true)
 
 -- Each node suits its shape: what is whole fits it, and what is begun is so rightly and has one child for each field or element, the
 -- one that it holds, or its items, each of which suits the shape of that. What is entered isn't a struct without fields, which is
@@ -171,9 +125,9 @@ abbrev mutual
   Suits table s hole = Unit {0}
   Suits table s entered = is_empty_struct (def_of table s) ≡ false
   Suits table s (whole v) = fits table s v ≡ true
-  Suits table s (begun form ts) =
-      IsBegunAs (def_of table s) form (count_trees ts) × SuitAll table (shapes_as table s form (count_trees ts)) ts
-      × IsBegunRightly table s form ts
+  Suits table s (begun tracker ts) =
+      IsBegunAs (def_of table s) tracker (count_trees ts) × SuitAll table (shapes_as table s tracker (count_trees ts)) ts
+      × IsBegunRightly table s tracker ts
 
   -- trees suit shapes, one each
   pub SuitAll : Table → List ℕ → Trees → Type 0
@@ -188,7 +142,7 @@ IsOff (deferred start) t = Unit {0}
 IsOff strict hole = Unit {0}
 IsOff strict (whole v) = Unit {0}
 IsOff strict entered = ⊥
-IsOff strict (begun form ts) = ⊥
+IsOff strict (begun tracker ts) = ⊥
 
 abbrev pub AllOff : Mode → Trees → Type 0
 AllOff mode no_trees = Unit {0}
@@ -199,7 +153,7 @@ abbrev pub AtCursor : Mode → Tree → Type 0
 AtCursor mode hole = ⊥
 AtCursor mode entered = Unit {0}
 AtCursor mode (whole v) = Unit {0}
-AtCursor mode (begun form ts) = AllOff mode ts
+AtCursor mode (begun tracker ts) = AllOff mode ts
 
 -- the children of a place but one lie off the way, and of that one something holds
 abbrev pub OffBut : Mode → ℕ → (Tree → Type 0) → Trees → Type 0
@@ -211,10 +165,8 @@ OffBut mode (suc i) Below (branch t ts) = IsOff mode t × OffBut mode i Below ts
 -- hole.
 abbrev pub Leads : Mode → Place → Tree → Type 0
 Leads mode [] t = AtCursor mode t
-Leads mode (i ∷ place) hole = ⊥
-Leads mode (i ∷ place) entered = ⊥
-Leads mode (i ∷ place) (whole v) = ⊥
-Leads mode (i ∷ place) (begun form ts) = OffBut mode i (λ child. Leads mode place child) ts
+Leads mode (i ∷ place) (begun tracker ts) = OffBut mode i (λ child. Leads mode place child) ts
+Leads mode (i ∷ place) _ = ⊥
 
 -- deferred mode began no deeper than the cursor lies
 abbrev pub BeganAbove : Mode → Place → Type 0
@@ -232,21 +184,9 @@ pub record IsInOrder (table : Table) (root : ℕ) (state : State) : Type 0 where
 -- set, the entries that a map had when it was begun, and the parts of a dynamic value are whole in it, for those entries were so from
 -- the start and each item and each part is completed as it ends; and no two of the items or of the keys of those entries are `same`.
 
-abbrev pub IsShut : Form → Type 0
-IsShut as_slice = ⊥
-IsShut as_closed_slice = Unit {0}
-IsShut as_struct = Unit {0}
-IsShut as_array = Unit {0}
-IsShut (as_variant k) = Unit {0}
-IsShut as_some = Unit {0}
-IsShut as_ok = Unit {0}
-IsShut as_err = Unit {0}
-IsShut as_pointer = Unit {0}
-IsShut as_list = Unit {0}
-IsShut as_set = Unit {0}
-IsShut (as_map base) = Unit {0}
-IsShut as_dyn_array = Unit {0}
-IsShut (as_dyn_object keys) = Unit {0}
+abbrev pub IsShut : Tracker → Type 0
+IsShut (as_items ItemsKind.Slice) = ⊥
+IsShut _ = Unit {0}
 
 -- the trees are whole
 pub record AreValues (ts : Trees) : Type 0 where
@@ -274,28 +214,22 @@ pub record IsBase (base : ℕ) (ts : Trees) : Type 0 where
 
 -- Of a place that is begun so, these children are done with: those of a set are whole, and no two of them are `same`; those of a dynamic
 -- value are whole; and those of a map begin with its base. Of any other place nothing is asked.
-abbrev pub AreDone : Form → Trees → Type 0
-AreDone as_set ts = AreItems ts
-AreDone as_dyn_array ts = AreValues ts
-AreDone (as_dyn_object keys) ts = AreValues ts
-AreDone (as_map base) ts = IsBase base ts
-AreDone as_struct ts = Unit {0}
-AreDone as_array ts = Unit {0}
-AreDone (as_variant k) ts = Unit {0}
-AreDone as_some ts = Unit {0}
-AreDone as_ok ts = Unit {0}
-AreDone as_err ts = Unit {0}
-AreDone as_pointer ts = Unit {0}
-AreDone as_list ts = Unit {0}
-AreDone as_slice ts = Unit {0}
-AreDone as_closed_slice ts = Unit {0}
+abbrev pub AreDone : Tracker → Trees → Type 0
+AreDone (as_items ItemsKind.Set) ts = AreItems ts
+AreDone (as_items ItemsKind.Array) ts = AreValues ts
+AreDone (as_entries (EntriesKind.Object keys)) ts = AreValues ts
+AreDone (as_entries (EntriesKind.Map base)) ts = IsBase base ts
+AreDone (as_fields selected) ts = Unit {0}
+AreDone as_elements ts = Unit {0}
+AreDone (as_content kind) ts = Unit {0}
+AreDone (as_items ItemsKind.List) ts = Unit {0}
+AreDone (as_items ItemsKind.Slice) ts = Unit {0}
+AreDone (as_items ItemsKind.ClosedSlice) ts = Unit {0}
 
 abbrev mutual
   pub Rests : Tree → Type 0
-  Rests hole = Unit {0}
-  Rests entered = Unit {0}
-  Rests (whole v) = Unit {0}
-  Rests (begun form ts) = IsShut form × AreDone form ts × AllRest ts
+  Rests (begun tracker ts) = IsShut tracker × AreDone tracker ts × AllRest ts
+  Rests _ = Unit {0}
 
   pub AllRest : Trees → Type 0
   AllRest no_trees = Unit {0}
@@ -308,31 +242,22 @@ RestBut zero Below (branch t ts) = Below t × AllRest ts
 RestBut (suc i) Below (branch t ts) = Rests t × RestBut i Below ts
 
 -- this child is no part of a map's base: it comes behind the keys and values of so many entries
-abbrev pub IsBehindBase : Form → ℕ → Type 0
-IsBehindBase (as_map base) i = base + base ≤ i
-IsBehindBase as_struct i = Unit {0}
-IsBehindBase as_array i = Unit {0}
-IsBehindBase (as_variant k) i = Unit {0}
-IsBehindBase as_some i = Unit {0}
-IsBehindBase as_ok i = Unit {0}
-IsBehindBase as_err i = Unit {0}
-IsBehindBase as_pointer i = Unit {0}
-IsBehindBase as_list i = Unit {0}
-IsBehindBase as_slice i = Unit {0}
-IsBehindBase as_closed_slice i = Unit {0}
-IsBehindBase as_set i = Unit {0}
-IsBehindBase as_dyn_array i = Unit {0}
-IsBehindBase (as_dyn_object keys) i = Unit {0}
+abbrev pub IsBehindBase : Tracker → ℕ → Type 0
+IsBehindBase (as_entries (EntriesKind.Map base)) i = base + base ≤ i
+IsBehindBase (as_fields selected) i = Unit {0}
+IsBehindBase as_elements i = Unit {0}
+IsBehindBase (as_content kind) i = Unit {0}
+IsBehindBase (as_items kind) i = Unit {0}
+IsBehindBase (as_entries (EntriesKind.Object keys)) i = Unit {0}
 
 -- Every place rests that is neither the cursor's nor above it, so that only such a pointer to a slice may be open, and only such an
 -- item of a set, or part of a dynamic value, may be half done. The way to the cursor leads through no part of a map's base.
 abbrev pub RestsAround : (cursor : Place) → Tree → Type 0
 RestsAround cursor hole = Unit {0}
-RestsAround cursor entered = Unit {0}
-RestsAround cursor (whole v) = Unit {0}
-RestsAround [] (begun form ts) = AreDone form ts × AllRest ts
-RestsAround (i ∷ place) (begun form ts) =
-    AreDone form (without_nth i ts) × RestBut i (λ child. RestsAround place child) ts × IsBehindBase form i
+RestsAround [] (begun tracker ts) = AreDone tracker ts × AllRest ts
+RestsAround (i ∷ place) (begun tracker ts) =
+    AreDone tracker (without_nth i ts) × RestBut i (λ child. RestsAround place child) ts × IsBehindBase tracker i
+RestsAround cursor _ = Unit {0}
 
 -- no token stands twice in a tree
 abbrev pub AreDistinct : Tree → Type 0

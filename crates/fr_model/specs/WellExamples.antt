@@ -1,16 +1,14 @@
 -- Worked examples of states that are well and of such as aren't: what a map had when it was begun is whole, has no key twice, and isn't
 -- entered.
-use Rattle.std.specs.Prelude.{ℕ, [], ◌∷◌}
-use Rattle.fr_shape.specs.Val.{nat}
+use Rattle.std.specs.Prelude.{◌∷◌}
+use Rattle.fr_model.specs.Common.{ℕ, [], nat}
 use Rattle.fr_model.specs.CollectionExamples.{collections}
-use Rattle.fr_model.specs.Places.{Place}
-use Rattle.fr_model.specs.Tree.{as_map, hole, entered, whole, begun, Trees, no_trees, branch, strict, State}
-use Rattle.fr_model.specs.Well.{IsWell}
+use Rattle.fr_model.specs.Basis.{Place, as_entries, EntriesKind, hole, entered, whole, begun, Trees, no_trees, branch, strict, State, IsWell}
 
 -- a map of numbers to numbers over a base of so many entries, at whose place, or at a child of it, the builder works
 abbrev pub pairs_over : (base : ℕ) → Trees → (cursor : Place) → State
 pairs_over base children cursor =
-    record { tree = begun (as_map base) children; cursor = cursor; mode = strict; calls = 0 }
+    record { tree = begun (as_entries (EntriesKind.Map base)) children; cursor = cursor; mode = strict; calls = 0 }
 
 -- an entry in front of others
 abbrev pub pair_and : (key value : ℕ) → Trees → Trees

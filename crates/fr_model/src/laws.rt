@@ -21,6 +21,7 @@ ghost use Rattle.fr_model.specs.WellExamples.{WellExamples};
 /// hooks mean, the run of the commands gives a value exactly where the journal completes, and the
 /// same one. At the start, and after each fitting call of a field script that is admitted, what
 /// stands at each place of the tree is what the journal holds of it.
+#[tactic(auto, using(crate::proofs::Runs::machine_agrees, crate::proofs::Runs::start_is_related, crate::proofs::Runs::step_keeps_related))]
 pub fn law_agree()
     ensures agree { MachineAgrees }
     ensures start { StartIsRelated }
@@ -28,6 +29,7 @@ pub fn law_agree()
 {}
 
 /// What a journal holds of a place is what the rules on covering notes say.
+#[tactic(auto, using(crate::proofs::Covering::scan_agrees))]
 pub fn law_covering()
     ensures scan { ScanAgrees }
     ensures ways { WaysAgree }
@@ -35,6 +37,7 @@ pub fn law_covering()
 
 /// Where a place off the way makes a value and becomes whole with it, the tree still makes what it
 /// made, what fails in it still fails, and the end of deferred mode is what it was.
+#[tactic(auto, using(crate::proofs::Closing::closing_keeps_completion, crate::proofs::Closing::closing_keeps_failures, crate::proofs::Closing::closing_keeps_finish, crate::proofs::Closing::closing_keeps_failures_off))]
 pub fn law_closing()
     ensures completion { ClosingKeepsCompletion }
     ensures failures { ClosingKeepsFailures }
@@ -45,6 +48,7 @@ pub fn law_closing()
 /// In strict mode a place completes unless it lacks something, and at the end of deferred mode
 /// unless it or a place beneath it fails. Over a checked table, what completes of a tree that suits
 /// its shape fits that shape and keeps its tokens.
+#[tactic(auto, using(crate::proofs::Completing::completes_or_lacks, crate::proofs::Failing::completes_or_fails))]
 pub fn law_completes()
     ensures or_lacks { CompletesOrLacks }
     ensures or_fails { CompletesOrFails }
@@ -56,6 +60,7 @@ pub fn law_completes()
 /// and leaving it, made as one call. In any state it is refused just where no field can be named,
 /// there is no such field, or the field has no default: with the refusal of the first of these that
 /// is so.
+#[tactic(auto, using(crate::proofs::DefaultRefused::sets_to_default))]
 pub fn law_default()
     ensures default { DefaultIsThreeCalls }
 {}
@@ -88,6 +93,7 @@ pub fn law_examples()
 /// end is refused exactly where something fails, or the place at which the builder works lacks
 /// something. Once every place off the way is whole or a hole, only that place is left to be
 /// finished.
+#[tactic(auto, using(crate::proofs::FailsAt::each_failure_has_its_place, crate::proofs::FailsAt::each_failure_of_a_tree_has_its_place, crate::proofs::FailingPlaces::finish_of_done, crate::proofs::FailingPlaces::nothing_fails_of_done, crate::proofs::Finishes::finishes_or_refuses))]
 pub fn law_failing()
     ensures lie { FailuresLieThere }
     ensures lacking { LackingFails }
@@ -102,6 +108,7 @@ pub fn law_failing()
 /// Items of which no two are the same make a set of just these, and entries with distinct keys a
 /// map of just these; nothing is left out. Among whole places a value has its like exactly where it
 /// has one among their values.
+#[tactic(auto, using(crate::proofs::DistinctGathered::same_is_there))]
 pub fn law_gathering()
     ensures items { DistinctItemsStay }
     ensures items_out { NoItemIsLeftOut }
@@ -112,6 +119,7 @@ pub fn law_gathering()
 
 /// What the end of deferred mode notes, and when it can't end, is what the three rules on places
 /// say; and no two of these notes cover each other.
+#[tactic(auto, using(crate::proofs::FinishNotes::stuck_or_noted))]
 pub fn law_finishing()
     ensures stuck { StuckOrNoted }
     ensures noted { NotesWhatIsDue }
@@ -122,6 +130,7 @@ pub fn law_finishing()
 /// step for each place on the way: entering a child adds a step, which each way on that is admitted
 /// tells, going up takes the last one away, and the end of deferred mode keeps the path. What the
 /// commands keep of an option, of a side or of what a pointer points to is admitted so.
+#[tactic(auto, using(crate::proofs::PathWays::enter_way_adds, crate::proofs::Paths::as_deep, crate::proofs::Paths::enter_adds, crate::proofs::Finishes::finish_keeps_path))]
 pub fn law_paths()
     ensures change { ChangingKeepsThePath }
     ensures enter { EnteringAddsAStep }
@@ -135,6 +144,7 @@ pub fn law_paths()
 /// Over a checked table, in a state that is in order: the tokens that the builder held and a
 /// command brought are those that it then holds (none after a refusal) and those that the command
 /// dropped; and so it is of `build`.
+#[tactic(auto, using(crate::proofs::Moves::step_keeps_tokens, crate::proofs::Moves::build_keeps_tokens))]
 pub fn law_removed()
     ensures step { StepKeepsTokens }
     ensures build { BuildKeepsTokens }
@@ -143,6 +153,7 @@ pub fn law_removed()
 /// A builder begins in a well state, whatever its table and its root. Over a checked table an
 /// admitted command keeps its state in order, if the command is fitting, and well, if it is fresh
 /// besides: what lies around the cursor rests, and no token stands twice.
+#[tactic(auto, using(crate::proofs::Moves::step_keeps_rest, crate::proofs::Moves::step_keeps_distinct, crate::proofs::Moves::start_is_well))]
 pub fn law_well()
     ensures start { StartIsWell }
     ensures in_order { StepKeepsOrder }
